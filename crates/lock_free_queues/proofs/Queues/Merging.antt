@@ -24,7 +24,7 @@ one_of_two [] t = refl
 one_of_two (Acted p (Queues Pop) answer ∷ es) t = refl
 one_of_two (e ∷ es) t = absurd (true≢false (sym t))
 
-few_taken : (es : List (Event ℕ)) → length (taken by_pop es) + length (taken by_push es) ≤ length (handed_out es)
+pub few_taken : (es : List (Event ℕ)) → length (taken by_pop es) + length (taken by_push es) ≤ length (handed_out es)
 few_taken [] = omega arith
 few_taken (HandedOut p x ∷ es) = go (by_pop (events_by p es)) (by_push (events_by p es)) refl refl (few_taken es)
   where
@@ -38,7 +38,7 @@ few_taken (HandedOut p x ∷ es) = go (by_pop (events_by p es)) (by_push (events
     go false false s t few = omega arith
 few_taken (e ∷ es) = few_taken es
 
-merged : (es : List (Event ℕ)) → length (taken by_pop es) + length (taken by_push es) ≡ length (handed_out es)
+pub merged : (es : List (Event ℕ)) → length (taken by_pop es) + length (taken by_push es) ≡ length (handed_out es)
     → Merges (taken by_pop es) (taken by_push es) (handed_out es)
 merged [] e = (refl, refl)
 merged (HandedOut p x ∷ es) e = go (by_pop (events_by p es)) (by_push (events_by p es)) refl refl (few_taken es) (λ k. merged es k) e
@@ -73,7 +73,7 @@ first_of_items (x ∷ xs) z rest e =
     let more : map item xs ≡ rest = cc in
     (xs, ap (λ w. w ∷ xs) same, sym more)
 
-numbers_merge : (xs ys zs : List ℕ) → Merges (map item xs) (map item ys) (map item zs) → Merges xs ys zs
+pub numbers_merge : (xs ys zs : List ℕ) → Merges (map item xs) (map item ys) (map item zs) → Merges xs ys zs
 numbers_merge xs ys [] h = (none_of xs h.0, none_of ys h.1)
 numbers_merge xs ys (z ∷ zs) (inl h) =
     let it = first_of_items xs z h.0 h.1 in

@@ -184,8 +184,9 @@ impl<'a> LoanSender<'a> {
         self.set.release_raw_index(sent, &mut self.pass);
     }
 
-    /// A value came back: an index that is Sent is given back to the set, and any other changes nothing.
-    fn settle(&mut self, value: u64)
+    /// A value came back: an index that is Sent is given back to the set, and any other changes nothing. `send` and
+    /// `take_back` do it; it is a call of its own for what `send_as` answers. At most 5 atomic steps.
+    pub fn settle(&mut self, value: u64)
         ensures places { places_of self.new ≡ returned value (places_of self.old) }
         ensures freed { InTurn HasFreed (sent_back value (places_of self.old)) (pass_view self.old) (pass_view self.new) }
         ensures queues { KeepsQueues self.old self.new }
@@ -230,6 +231,26 @@ impl<'a> LoanSender<'a> {
         if let Some(oldest) = answer {
             self.settle(oldest);
         }
+        answer
+    }
+
+    /// Sends a Loaned index as a number of the caller's, which the receiver pops in its place: the index is Sent. The answer
+    /// is that of the push, as of `send`, and no index is given back by it: `settle` does that. At most 6 atomic steps.
+    pub fn send_as(&mut self, index: u32, number: u64) -> Option<u64>
+        requires { IsLoaned index self.old }
+        ensures sent { places_of self.new ≡ slice_set (places_of self.old) index Sent }
+        ensures kept { pass_view self.new ≡ pass_view self.old }
+        ensures goes { 0 < (submission_of self.old).capacity
+            → sends.GoesOn (submission_of self.old).capacity (submission_view self.old) (submission_view self.new) }
+        ensures added { IfNone result (PushAdded number (submission_view self.old) (submission_view self.new)) }
+        ensures handed_back { IfSome result (λ y. PushHandedBack (submission_of self.old).capacity number y
+            (submission_view self.old) (submission_view self.new)) }
+        ensures completion { completion_view self.new ≡ completion_view self.old }
+        ensures same { IsSame self.old self.new }
+        ensures steps { TakesAtMost 6 (submission_view self.old) (submission_view self.new) }
+    {
+        let answer = self.submission.push(number);
+        self.places[index as usize] = Place::Sent;
         answer
     }
 
@@ -304,6 +325,25 @@ impl<'a> LoanSender<'a> {
             places: _,
         } = self;
         pass
+    }
+
+    /// Hands out the pass, which holds what is Loaned or Sent, and the guards of both queues. No atomic step.
+    pub fn into_parts(self) -> (Pass, overflow::Producer<'a>, index_queue::Consumer<'a>)
+        ensures view { view result.0 ≡ pass_view self.entry }
+        ensures set { set_of result.0 ≡ set_of_sender self.entry }
+        ensures submission { (sends.producer_queue result.1 ≡ submission_of self.entry)
+            × (sends.producer_view result.1 ≡ submission_view self.entry) }
+        ensures completion { (returns.consumer_queue result.2 ≡ completion_of self.entry)
+            × (returns.consumer_view result.2 ≡ completion_view self.entry) }
+    {
+        let LoanSender {
+            set: _,
+            pass,
+            submission,
+            completion,
+            places: _places,
+        } = self;
+        (pass, submission, completion)
     }
 
     /// Tells a caller's proof that the pass holds exactly the indices that are Loaned or Sent, each once. It does
