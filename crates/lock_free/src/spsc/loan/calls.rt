@@ -184,8 +184,8 @@ impl<'a> LoanSender<'a> {
         self.set.release_raw_index(sent, &mut self.pass);
     }
 
-    /// A value came back: an index that is Sent is given back to the set, and any other changes nothing. `send` and
-    /// `take_back` do it; it is a call of its own for what `send_as` answers. At most 5 atomic steps.
+    /// Gives an index that came back to the set if it is Sent. Any other value changes nothing. `send` and `take_back` do
+    /// so. It is a call of its own for what `send_as` answers. At most 5 atomic steps.
     pub fn settle(&mut self, value: u64)
         ensures places { places_of self.new ≡ returned value (places_of self.old) }
         ensures freed { InTurn HasFreed (sent_back value (places_of self.old)) (pass_view self.old) (pass_view self.new) }
@@ -234,14 +234,15 @@ impl<'a> LoanSender<'a> {
         answer
     }
 
-    /// Sends a Loaned index as a number of the caller's, which the receiver pops in its place: the index is Sent. The answer
-    /// is that of the push, as of `send`, and no index is given back by it: `settle` does that. At most 6 atomic steps.
+    /// Sends a Loaned index as a number of the caller's, and makes it Sent. The receiver pops this number in place of the
+    /// index. The answer is that of the push, as of `send`. It gives no index back, which `settle` does. At most 6 atomic
+    /// steps.
     pub fn send_as(&mut self, index: u32, number: u64) -> Option<u64>
         requires { IsLoaned index self.old }
         ensures sent { places_of self.new ≡ slice_set (places_of self.old) index Sent }
         ensures kept { pass_view self.new ≡ pass_view self.old }
         ensures goes { 0 < (submission_of self.old).capacity
-            → sends.GoesOn (submission_of self.old).capacity (submission_view self.old) (submission_view self.new) }
+            → Goes (submission_view self.old) (submission_view self.new) }
         ensures added { IfNone result (PushAdded number (submission_view self.old) (submission_view self.new)) }
         ensures handed_back { IfSome result (λ y. PushHandedBack (submission_of self.old).capacity number y
             (submission_view self.old) (submission_view self.new)) }
