@@ -1,8 +1,15 @@
+pub mod BitSet
+pub mod BitSetBridge
+pub mod CountingBitSet
+pub mod CountingBitSetBridge
 pub mod IndexQueue
 pub mod IndexQueueBridge
 pub mod Machine
 pub mod OverflowingQueue
 pub mod OverflowingQueueBridge
+pub mod Places
 pub mod Reading
+pub mod UniqueIndexSet
+pub mod UniqueIndexSetBridge
 pub mod Value
 pub mod ValueBridge
