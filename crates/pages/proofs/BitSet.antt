@@ -1,9 +1,9 @@
 -- The theorem of the bit set's page: what each stage does at a place.
-use Rattle.std.specs.List.{count_by, filter, range_with_len}
-use Rattle.std.proofs.Common.{◌*◌, ◌/◌, ◌%◌, ◌^◌, ◌-◌, ◌+◌, ◌<◌, ◌==◌, ◌≡◌, ◌≢◌, ◌≤◌, ◌⊎◌, ◌++◌, ◌∷◌, ◌∙◌, Bool, List, None, Option, Some, []}
-use Rattle.std.proofs.Common.{ap, arith, cond, false, fold, length, length-set, nat_lt, get_or-set_other, not, refl}
-use Rattle.std.proofs.Common.{replicate, set, slice_index, slice_set, subst, suc, sym, true, zero, ℕ, ⊎_elim}
-use Rattle.std.proofs.lemmas.Bool.{cases_eq, cases_lt}
+use Rattle.std.specs.List.{count_by}
+use Rattle.std.proofs.Common.{◌/◌, ◌%◌, ◌^◌, ◌-◌, ◌+◌, ◌<◌, ◌==◌, ◌≡◌, ◌≢◌, ◌≤◌, ◌++◌, ◌∙◌, Bool, List, None, Option, Some}
+use Rattle.std.proofs.Common.{ap, arith, cond, false, fold, length, length-set, nat_lt, refl}
+use Rattle.std.proofs.Common.{replicate, slice_index, slice_set, subst, suc, sym, true, zero, ℕ, ⊎_elim}
+use Rattle.std.proofs.lemmas.Bool.{cases_eq}
 use Rattle.std.proofs.lemmas.Bool.Decides.{nat_tests}
 use Rattle.std.proofs.lemmas.List.{length-replicate, set-get_or}
 use Rattle.std.proofs.lemmas.List.Sums.{sum_by-append}
@@ -17,7 +17,7 @@ use Rattle.pages.specs.Places.{Act, ActsAt}
 use Rattle.pages.proofs.Places.{Moves, Stays, Acts, Forgets, Begins, GoesOn, Goes, Law, words_then}
 use Rattle.pages.proofs.Places as places
 
-abbrev call_at : page.Stage → page.Call
+abbrev pub call_at : page.Stage → page.Call
 call_at (page.SetLoadsElement place) = page.Set place
 call_at (page.SetExchangesElement place element) = page.Set place
 call_at page.NextLoadsPosition = page.ResetNext

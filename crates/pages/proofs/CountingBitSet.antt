@@ -1,8 +1,7 @@
 -- The theorem of the counting bit set's page: what each stage does at a place. In fewer than 2^63 turns no count wraps.
-use Rattle.std.specs.List.{sum_by}
-use Rattle.std.proofs.Common.{◌%◌, ◌^◌, ◌-◌, ◌+◌, ◌<◌, ◌==◌, ◌≡◌, ◌≢◌, ◌≤◌, ◌++◌, ◌∷◌, ◌∙◌, Bool, List, None, Option, Some, []}
+use Rattle.std.proofs.Common.{◌%◌, ◌^◌, ◌+◌, ◌<◌, ◌==◌, ◌≡◌, ◌≢◌, ◌≤◌, ◌++◌, ◌∷◌, ◌∙◌, Bool, List, None, Option, Some, []}
 use Rattle.std.proofs.Common.{ap, arith, cond, false, fold, get_or-set_other, get_or-set_same, length, length-set, nat_lt, refl, replicate, slice_index}
-use Rattle.std.proofs.Common.{slice_set, subst, suc, sym, true, zero, ℕ, ⊎_elim}
+use Rattle.std.proofs.Common.{slice_set, subst, sym, true, ℕ, ⊎_elim}
 use Rattle.std.proofs.lemmas.Bool.{cases_eq}
 use Rattle.std.proofs.lemmas.Bool.Decides.{nat_tests}
 use Rattle.std.proofs.lemmas.List.{length-replicate}
@@ -14,9 +13,13 @@ use Rattle.pages.proofs.BitSet.{zeros}
 use Rattle.pages.proofs.Places.{Moves, Stays, Acts, Begins, Goes, Law, words_then}
 use Rattle.pages.proofs.Places as places
 
-abbrev call_at : page.Stage → page.Call
+abbrev pub call_at : page.Stage → page.Call
 call_at (page.SetAdds place) = page.Set place
 call_at (page.AllSwaps place counts) = page.ResetAll
+
+-- what is handed out of a place that counted this
+abbrev pub handed_then : ℕ → ℕ → List (ℕ × ℕ) → List (ℕ × ℕ)
+handed_then place old counts = cond (old == 0) counts (counts ++ (place, old) ∷ [])
 
 module _ (c b : ℕ) (below : b < c) where
   abbrev at : page.Call → page.Answer → Option Act
@@ -83,10 +86,6 @@ module _ (c b : ℕ) (below : b < c) where
             record { sized = length-set words place ((slice_index words place + 1) % 2 ^ 64) ∙ good.sized; low = omega arith },
             Stays refl stays,
           )
-
-  -- what is handed out of a place that counted this
-  abbrev handed_then : ℕ → ℕ → List (ℕ × ℕ) → List (ℕ × ℕ)
-  handed_then place old counts = cond (old == 0) counts (counts ++ (place, old) ∷ [])
 
   handed_more : (place old : ℕ) (counts : List (ℕ × ℕ)) → page.handed b (handed_then place old counts) ≡ page.handed b counts + cond (place == b) old 0
   handed_more place old counts = go (old == 0) refl

@@ -1,30 +1,24 @@
 -- Lists that grow, and the calls of a history that does.
-use Rattle.std.specs.List.{Contains, filter, sum_by}
-use Rattle.std.specs.Prelude.{IfSome}
-use Rattle.std.proofs.Common.{◌%◌, ◌-◌, ◌+◌, ◌<◌, ◌==◌, ◌≡◌, ◌≢◌, ◌≤◌, ◌⊎◌, ◌++◌, ◌∷◌, ◌∙◌, Bool, List, None, Option, Some, []}
-use Rattle.std.proofs.Common.{ap, arith, cond, false, get_or, inl, inr, length, map, not, is_some, refl, subst, suc, sym, true, zero, ℕ, ⊎_elim}
-use Rattle.std.proofs.lemmas.Bool.Decides.{nat_tests}
-use Rattle.std.proofs.lemmas.List.{length_push}
-use Rattle.std.proofs.lemmas.List.Sums.{sum_by-cons}
+use Rattle.std.specs.List.{Contains, filter}
+use Rattle.std.proofs.Common.{◌+◌, ◌==◌, ◌≡◌, ◌⊎◌, ◌++◌, ◌∷◌, Bool, List, None, Option, Some, []}
+use Rattle.std.proofs.Common.{ap, arith, cond, false, inl, inr, length, map, refl, subst, sym, true, ℕ, ⊎_elim}
+use Rattle.std.proofs.lemmas.List.Elements.{Contains-append_cases, Contains-append_left, Contains-append_right}
 use Rattle.model.proofs.Linearizable.Members.{AllLater, here, none_there, split, there}
 use Rattle.pages.specs.Machine.{Event, Invoked, Responded, Called, calls_from, response_in}
-use Rattle.pages.specs.Places.{Act, IsChain, IsConserved}
 
 -- ---- members of lists
 
 module _ {X : Type 0} where
   pub push_old : (xs : List X) (y z : X) → Contains xs z → Contains (xs ++ y ∷ []) z
-  push_old [] y z h = absurd (none_there z h)
-  push_old (x ∷ xs) y z h = ⊎_elim (λ e. here x z (xs ++ y ∷ []) e) (λ more. there x z (xs ++ y ∷ []) (push_old xs y z more)) (split x z xs h)
+  push_old xs y z h = Contains-append_left xs (y ∷ []) z h
 
   pub push_new : (xs : List X) (y : X) → Contains (xs ++ y ∷ []) y
-  push_new [] y = here y y [] refl
-  push_new (x ∷ xs) y = there x y (xs ++ y ∷ []) (push_new xs y)
+  push_new xs y = Contains-append_right xs (y ∷ []) y (here y y [] refl)
 
   pub pushed : (xs : List X) (y z : X) → Contains (xs ++ y ∷ []) z → Contains xs z ⊎ (y ≡ z)
-  pushed [] y z h = ⊎_elim (λ e. inr e) (λ more. absurd (none_there z more)) (split y z [] h)
-  pushed (x ∷ xs) y z h =
-      ⊎_elim (λ e. inl (here x z xs e)) (λ more. ⊎_elim (λ old. inl (there x z xs old)) (λ e. inr e) (pushed xs y z more)) (split x z (xs ++ y ∷ []) h)
+  pushed xs y z h =
+      ⊎_elim (λ old. inl old) (λ new. ⊎_elim (λ e. inr e) (λ more. absurd (none_there z more)) (split y z [] new))
+      (Contains-append_cases xs (y ∷ []) z h)
 
   pub filtered : (test : X → Bool) (xs : List X) (z : X) → Contains (filter test xs) z → Contains xs z × (test z ≡ true)
   filtered test [] z h = absurd (none_there z h)

@@ -1,16 +1,16 @@
 -- A log of what calls have done at one place, kept as a history grows: each call acts at one moment inside it.
 use Rattle.std.specs.List.{Contains, filter, sum_by}
 use Rattle.std.specs.Prelude.{IfSome}
-use Rattle.std.proofs.Common.{◌%◌, ◌-◌, ◌+◌, ◌<◌, ◌==◌, ◌≡◌, ◌≢◌, ◌≤◌, ◌⊎◌, ◌++◌, ◌∷◌, ◌∙◌, Bool, List, None, Option, Some, []}
-use Rattle.std.proofs.Common.{ap, arith, cond, false, get_or, inl, inr, length, map, not, is_some, refl, subst, suc, sym, true, zero, ℕ, ⊎_elim}
+use Rattle.std.proofs.Common.{◌-◌, ◌+◌, ◌<◌, ◌==◌, ◌≡◌, ◌≢◌, ◌≤◌, ◌⊎◌, ◌++◌, ◌∷◌, ◌∙◌, Bool, List, None, Option, Some, []}
+use Rattle.std.proofs.Common.{ap, arith, cond, false, length, map, not, is_some, refl, subst, sym, true, ℕ, ⊎_elim}
 use Rattle.std.proofs.lemmas.Bool.Decides.{nat_tests}
 use Rattle.std.proofs.lemmas.List.{length_push}
 use Rattle.std.proofs.lemmas.List.Sums.{sum_by-cons}
 use Rattle.model.proofs.Linearizable.Members.{AllLater, here, none_there, split, there}
-use Rattle.pages.specs.Machine.{Event, Invoked, Responded, Called, calls_from, response_in}
+use Rattle.pages.specs.Machine.{Event, Invoked, Responded, Called, calls_from}
 use Rattle.pages.proofs.Growing.{calls_begun, calls_done, filtered, later_filter, later_map, later_push, mapped}
 use Rattle.pages.proofs.Growing.{mapped_from, open_call, passes, push_new, push_old, pushed, respond, responded}
-use Rattle.pages.specs.Places.{Act, IsChain, IsConserved}
+use Rattle.pages.specs.Places.{Act, IsChain}
 
 -- ---- what is conserved
 

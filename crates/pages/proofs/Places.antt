@@ -1,8 +1,8 @@
 -- That the calls of a page's machine act at each place at one moment, from what each stage does there.
 use Rattle.std.specs.List.{Contains}
 use Rattle.std.specs.Prelude.{IfSome}
-use Rattle.std.proofs.Common.{◌-◌, ◌+◌, ◌<◌, ◌==◌, ◌≡◌, ◌≢◌, ◌≤◌, ◌⊎◌, ◌++◌, ◌∷◌, ◌∙◌, Bool, List, None, Option, Some, []}
-use Rattle.std.proofs.Common.{ap, arith, cond, false, fold, length, map, refl, slice_index, slice_set, subst, suc, sym, true, zero, ℕ}
+use Rattle.std.proofs.Common.{◌+◌, ◌<◌, ◌==◌, ◌≡◌, ◌≢◌, ◌≤◌, ◌++◌, ◌∷◌, Bool, List, None, Option, Some, []}
+use Rattle.std.proofs.Common.{ap, arith, cond, false, fold, length, refl, slice_index, slice_set, subst, sym, true, ℕ}
 use Rattle.std.proofs.lemmas.Bool.Decides.{nat_tests}
 use Rattle.pages.specs.Machine as machine
 use Rattle.pages.specs.Machine.{Structure, Turn, World, After, GoOn, Done, Begin, Next, Invoked, Responded, calls_from, written}

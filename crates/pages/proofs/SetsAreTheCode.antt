@@ -1,5 +1,5 @@
 -- The pages of the bit set and of the counting bit set are about the code: the tables stage by stage.
-use Rattle.std.proofs.Common.{◌==◌, ◌+◌, ◌<◌, ◌≡◌, ◌++◌, ◌∷◌, ◌∙◌, Bool, List, Some, []}
+use Rattle.std.proofs.Common.{◌==◌, ◌+◌, ◌≡◌, ◌++◌, ◌∷◌, Bool, List, Some, []}
 use Rattle.std.proofs.Common.{ap, arith, cond, false, map, nat_lt, refl, sym, true, ℕ}
 use Rattle.std.proofs.lemmas.Bool.Decides.{nat_tests}
 use Rattle.std.proofs.lemmas.List.{append-nil}

@@ -64,6 +64,9 @@ words_same words word (machine.Store new) = refl
 words_same words word (machine.Add by) = refl
 words_same words word (machine.Exchange from to) = refl
 words_same words word (machine.Swap new) = refl
+words_same words word (machine.Sub by) = refl
+words_same words word (machine.And bits) = refl
+words_same words word (machine.Or bits) = refl
 
 pub own_more : {T : Type 0} → (is_call : Start T → Bool) (es more : List (Event T)) → AllByRecursion (IsOwn is_call) es
     → AllByRecursion (IsOwn is_call) more → AllByRecursion (IsOwn is_call) (es ++ more)

@@ -1,5 +1,6 @@
 -- What the page of the bit set has to do with the code and with machines.
-use Rattle.std.specs.Prelude.{◌≡◌, ◌≤◌, ℕ, ◌+◌, ◌<◌, ◌/◌, ◌^◌, Some, None, List, [], ◌++◌, length, map, fold}
+use Rattle.std.specs.Prelude.{◌≡◌, ℕ, ◌+◌, ◌<◌, ◌^◌, Some, None, List, [], ◌++◌, length, map, fold}
+use Rattle.std.specs.List.{AllByRecursion}
 use Rattle.steps.specs.declared.ask.After.{After}
 use Rattle.steps.specs.declared.ask.After.TheVariants.{GoOn, Done}
 use Rattle.steps.specs.declared.bits.bit_set.SetStage as sets
@@ -11,20 +12,27 @@ use Rattle.steps.specs.Bits.Words.{elements}
 use Rattle.steps.specs.Routine.{went_on}
 use Rattle.model.specs.declared.event.Answer.{Answer}
 use Rattle.model.specs.declared.event.Answer.TheVariants as answers
-use Rattle.model.specs.declared.event.Event.{Event}
 use Rattle.model.specs.declared.event.Event.TheVariants.{Cleared}
+use Rattle.model.specs.declared.event.Start.{Start}
+use Rattle.model.specs.declared.event.Start.TheVariants.{Bits}
 use Rattle.model.specs.declared.families.bits.BitsStart.{BitsStart}
 use Rattle.model.specs.declared.families.bits.BitsStart.TheVariants as starts
 use Rattle.model.specs.declared.families.bits.calls.BitsFlight.{BitsFlight}
 use Rattle.model.specs.declared.families.bits.calls.BitsFlight.TheVariants as flights
+use Rattle.model.specs.declared.turn.Kind as kinds
+use Rattle.model.specs.declared.turn.Turn.{Turn}
+use Rattle.model.specs.declared.turn.Turn.TheVariants.{Begin, Next}
+use Rattle.model.specs.Coding.{one_word}
 use Rattle.model.specs.Families.{ask_of}
 use Rattle.model.specs.Families.Bits.Calls.{after, reset_answer, want}
 use Rattle.model.specs.Families.Bits.Steps.{effects_of}
 use Rattle.model.specs.Families.Queues.Calls.{as_it_is}
 use Rattle.model.specs.Step.{as_call}
+use Rattle.model.specs.Turns.{run}
+use Rattle.model.specs.World.{Trace, opening}
 use Rattle.pages.specs.BitSet as page
 use Rattle.pages.specs.Machine as machine
-use Rattle.pages.specs.Reading.{asked}
+use Rattle.pages.specs.Reading.{IsSame, Reading, asked}
 
 -- ---- stage by stage
 
@@ -105,3 +113,52 @@ AllsByTable =
     × (after {T = ℕ} (emptying c found word) old
     ≡ as_call flights.ResetAll (λ _. answers.Done)
     (went_on as_it_is tt (reset_all_kept (record { 0 = found }) old) (reset_all_after (record { word = word; end = 1 + elements c }) old)))
+
+-- ---- turn by turn
+
+abbrev pub call_seen : Start ℕ → page.Call
+call_seen (Bits (starts.Set place)) = page.Set place
+call_seen (Bits starts.ResetNext) = page.ResetNext
+call_seen other = page.ResetAll
+
+abbrev pub answer_seen : Answer ℕ → page.Answer
+answer_seen (answers.Truth new) = page.WasSet new
+answer_seen (answers.Reset place) = page.WasReset (Some place)
+answer_seen answers.ResetNone = page.WasReset None
+answer_seen other = page.WereReset []
+
+abbrev pub reading : Reading page.Call page.Answer
+reading = record { call = call_seen; answer = answer_seen }
+
+-- a machine's response does not say what a reset of all handed out
+abbrev pub without_places : machine.Event page.Call page.Answer → machine.Event page.Call page.Answer
+without_places (machine.Responded p (page.WereReset places)) = machine.Responded p (page.WereReset [])
+without_places e = e
+
+-- a turn of the page as one of the model
+abbrev pub as_turn : (machine.Turn page.Call) → Turn ℕ
+as_turn (machine.Begin p call) = Begin p (Bits (bits_start call))
+as_turn (machine.Next p) = Next p
+
+abbrev pub IsWithin : {Call : Type 0} → ℕ → machine.Turn Call → Type 0
+IsWithin parties (machine.Begin p call) = p < parties
+IsWithin parties (machine.Next p) = Unit {0}
+
+-- there is a party for each of these turns
+abbrev pub AreWithin : {Call : Type 0} → ℕ → List (machine.Turn Call) → Type 0
+AreWithin parties turns = AllByRecursion (IsWithin parties) turns
+
+abbrev pub BitSetRunsAsTheMachine : Type 0
+BitSetRunsAsTheMachine =
+    (c parties : ℕ) (turns : List (machine.Turn page.Call)) → 0 < c → c < 2 ^ 32 → AreWithin parties turns → length turns < 2 ^ 63
+    → (let w = fold (machine.turned (page.bit_set c)) (machine.opening (page.bit_set c)) turns in
+    IsSame reading [] (run (map as_turn turns) (opening one_word kinds.TheVariants.Bits c parties))
+    (record w { history = map without_places w.history }))
+
+-- where this is a run of such turns
+abbrev pub BitSetIsRun : Trace ℕ → Type 0
+BitSetIsRun t =
+    (c parties : ℕ) (turns : List (machine.Turn page.Call)) → 0 < c → c < 2 ^ 32 → AreWithin parties turns → length turns < 2 ^ 63
+    → t ≡ run (map as_turn turns) (opening one_word kinds.TheVariants.Bits c parties)
+    → (let w = fold (machine.turned (page.bit_set c)) (machine.opening (page.bit_set c)) turns in
+    IsSame reading [] t (record w { history = map without_places w.history }))

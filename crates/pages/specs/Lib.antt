@@ -12,5 +12,7 @@ pub mod Queue
 pub mod QueueBridge
 pub mod Reading
 pub mod RolesBridge
+pub mod UniqueIndexSet
+pub mod UniqueIndexSetBridge
 pub mod Value
 pub mod ValueBridge

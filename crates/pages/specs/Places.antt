@@ -1,5 +1,5 @@
 -- What calls do at one place of a structure that has many: there each acts at one moment, and what was put there is conserved.
-use Rattle.std.specs.Prelude.{◌≡◌, ◌≢◌, ◌≤◌, ℕ, ◌+◌, ◌-◌, Option, Some, None, IfSome, List, [], ◌∷◌, All, map}
+use Rattle.std.specs.Prelude.{◌≡◌, ◌≢◌, ◌≤◌, ℕ, ◌+◌, ◌-◌, Option, Some, IfSome, List, [], ◌∷◌, All, map}
 use Rattle.std.specs.List.{AllPairs, Contains, sum_by}
 use Rattle.pages.specs.Machine.{Event, Called, calls_from}
 

@@ -3,7 +3,7 @@ use Rattle.std.specs.Prelude.{◌≡◌, ℕ, List, [], ◌∷◌, ◌++◌}
 use Rattle.std.specs.List.{flat_map}
 use Rattle.steps.specs.declared.ask.Ask.{Ask}
 use Rattle.steps.specs.declared.ask.Op.{Op}
-use Rattle.steps.specs.declared.ask.Op.TheVariants.{Load, Store, Add, Exchange, Swap}
+use Rattle.steps.specs.declared.ask.Op.TheVariants.{Load, Store, Add, Exchange, Swap, Sub, And, Or}
 use Rattle.model.specs.declared.event.Answer as answers
 use Rattle.model.specs.declared.event.Event.{Event}
 use Rattle.model.specs.declared.event.Event.TheVariants.{Begun, Finished}
@@ -17,6 +17,9 @@ operation (machine.Store new) = Store new
 operation (machine.Add by) = Add by
 operation (machine.Exchange from to) = Exchange from to
 operation (machine.Swap new) = Swap new
+operation (machine.Sub by) = Sub by
+operation (machine.And bits) = And bits
+operation (machine.Or bits) = Or bits
 
 abbrev pub asked : ℕ → machine.Operation → Ask
 asked word op = record { word = word; op = operation op }

@@ -3,37 +3,40 @@
 //! and no version comes to its last number, at which a push and a store are refused.
 #![tactic(auto)]
 
-ghost use Rattle.std.specs.Prelude.{◌≡◌, ℕ, ◌<◌, ◌^◌, List, length, map, fold, slice_index};
+ghost use Rattle.std.specs.Prelude.{◌≡◌, ℕ, ◌<◌, ◌^◌, List, length, map, fold, slice_index, ◌-◌};
+ghost use Rattle.model.specs.Coding.{one_word};
 ghost use Rattle.model.specs.Turns.{run};
 ghost use Rattle.model.specs.World.{trace_in};
+ghost use Rattle.model.specs.World as model;
+ghost use Rattle.model.specs.declared.turn.Kind.TheVariants.{Atomic, IndexQueue, Overflow, Queue};
 ghost use Rattle.pages.specs.BitSet.{bit_set};
 ghost use Rattle.pages.specs.BitSet as bits;
 ghost use Rattle.pages.specs.BitSetBridge as bits_bridge;
 ghost use Rattle.pages.specs.CountingBitSet.{counting_bit_set};
 ghost use Rattle.pages.specs.CountingBitSet as counts;
 ghost use Rattle.pages.specs.CountingBitSetBridge as counts_bridge;
-ghost use Rattle.model.specs.declared.turn.Kind.TheVariants.{Atomic, IndexQueue, Overflow, Queue};
-ghost use Rattle.model.specs.Coding.{one_word};
-ghost use Rattle.model.specs.World as model;
-ghost use Rattle.pages.specs.RolesBridge.{RunsByRole};
 ghost use Rattle.pages.specs.IndexQueue.{index_queue, bounded_list};
 ghost use Rattle.pages.specs.IndexQueue as queue;
+ghost use Rattle.pages.specs.IndexQueueBridge.{DoesAsTheCode, PopsByTable, PushesByTable, RunsAsTheMachine, acquired, as_turn, reading, roles_told, by_role};
 ghost use Rattle.pages.specs.Machine.{Turn, opening, turned, IsLinearizable};
 ghost use Rattle.pages.specs.OverflowingQueue.{overflowing_list};
 ghost use Rattle.pages.specs.OverflowingQueue as overflowing;
-ghost use Rattle.pages.specs.OverflowingQueueBridge as overflowing_bridge;
 ghost use Rattle.pages.specs.OverflowingQueueBridge.{OverflowingDoesAsTheCode, OverflowingPopsByTable, OverflowingPushesByTable, OverflowingRunsAsTheMachine};
+ghost use Rattle.pages.specs.OverflowingQueueBridge as overflowing_bridge;
+ghost use Rattle.pages.specs.Places.{ActsAt};
 ghost use Rattle.pages.specs.Queue.{Written};
 ghost use Rattle.pages.specs.Queue as values;
-ghost use Rattle.pages.specs.QueueBridge as values_bridge;
 ghost use Rattle.pages.specs.QueueBridge.{QueueDoesAsTheCode, QueuePopsByTable, QueuePushesByTable, QueueRunsAsTheMachine};
+ghost use Rattle.pages.specs.QueueBridge as values_bridge;
+ghost use Rattle.pages.specs.Reading.{IsSame};
+ghost use Rattle.pages.specs.RolesBridge.{RunsByRole};
+ghost use Rattle.pages.specs.UniqueIndexSet.{Each, HoldsAlone, ReleasesOwn, unique_index_set};
+ghost use Rattle.pages.specs.UniqueIndexSet as unique;
+ghost use Rattle.pages.specs.UniqueIndexSetBridge as unique_bridge;
 ghost use Rattle.pages.specs.Value.{value, register};
 ghost use Rattle.pages.specs.Value as single;
-ghost use Rattle.pages.specs.ValueBridge as single_bridge;
 ghost use Rattle.pages.specs.ValueBridge.{LoadsByTable, StoresByTable, ValueDoesAsTheCode, ValueRunsAsTheMachine};
-ghost use Rattle.pages.specs.IndexQueueBridge.{DoesAsTheCode, PopsByTable, PushesByTable, RunsAsTheMachine, acquired, as_turn, reading, roles_told, by_role};
-ghost use Rattle.pages.specs.Places.{ActsAt};
-ghost use Rattle.pages.specs.Reading.{IsSame};
+ghost use Rattle.pages.specs.ValueBridge as single_bridge;
 
 use machine::Machine;
 use model::coding::Coded;
@@ -116,6 +119,7 @@ pub fn bit_set_is_the_code()
     ensures sets { bits_bridge.SetsByTable }
     ensures nexts { bits_bridge.NextsByTable }
     ensures alls { bits_bridge.AllsByTable }
+    ensures machine { bits_bridge.BitSetRunsAsTheMachine }
 {}
 
 /// The counting bit set, of any parties: the theorem of its page. At each place each call acts at one moment inside it, and
@@ -132,6 +136,34 @@ pub fn counting_bit_set_is_the_code()
     ensures hands_out { counts_bridge.HandsOutAsTheMachine }
     ensures sets { counts_bridge.CountsByTable }
     ensures takes { counts_bridge.TakesByTable }
+    ensures machine { counts_bridge.CountingRunsAsTheMachine }
+{}
+
+/// The unique index set, of any parties of which each releases what it holds: the theorem of its page. An index has a holder
+/// from the response of an acquire to the invocation of its release, and never two. None is acquired once the set is locked,
+/// and none has a holder as it is. The function does nothing: its contract is a law.
+pub fn unique_index_set()
+    ensures { (capacity : ℕ) (turns : List (Turn unique.Call)) → 0 < capacity → capacity < 2 ^ 24 - 1 → length turns < 2 ^ 63
+        → Each ReleasesOwn (fold (turned (unique_index_set capacity)) (opening (unique_index_set capacity)) turns).history
+        → Each (HoldsAlone capacity) (fold (turned (unique_index_set capacity)) (opening (unique_index_set capacity)) turns).history }
+{}
+
+/// The page of the unique index set is about the code, and about machines.
+pub fn unique_index_set_is_the_code()
+    ensures code { unique_bridge.UniqueDoesAsTheCode }
+    ensures acquires { unique_bridge.AcquiresByTable }
+    ensures releases { unique_bridge.ReleasesByTable }
+    ensures locking_releases { unique_bridge.LockingReleasesByTable }
+    ensures machine { unique_bridge.UniqueRunsAsTheMachine }
+{}
+
+/// What a `Machine` of a bit set, of a counting bit set or of a unique index set has taken is a run of its page: if it took
+/// these turns from its making on, its words, the invocations and the responses are those of the page's machine over the same
+/// turns, except that a machine's response does not say what a reset of all handed out. The function does nothing.
+pub fn a_machine_runs_the_sets(machine: &Machine<u64>)
+    ensures bits { bits_bridge.BitSetIsRun (trace_in ⟦<u64 as Coded>⟧.coding machine.now) }
+    ensures counts { counts_bridge.CountingIsRun (trace_in ⟦<u64 as Coded>⟧.coding machine.now) }
+    ensures unique { unique_bridge.UniqueIsRun (trace_in ⟦<u64 as Coded>⟧.coding machine.now) }
 {}
 
 /// The queue of values of any type that is written in 1 to 128 words, with one producer and one consumer: the theorem of its

@@ -1,4 +1,5 @@
 use Rattle.pages.proofs.SetsAreTheCode as sets
+use Rattle.pages.proofs.BitSetRuns.{bits_runs}
 use Rattle.pages.proofs.bit_set_is_the_code.Goals as goal
 
 pub returns-clause-code : goal.returns-clause-code
@@ -15,3 +16,6 @@ returns-clause-nexts c = sets.bits_nexts
 
 pub returns-clause-alls : goal.returns-clause-alls
 returns-clause-alls c = sets.bits_alls
+
+pub returns-clause-machine : goal.returns-clause-machine
+returns-clause-machine c = bits_runs

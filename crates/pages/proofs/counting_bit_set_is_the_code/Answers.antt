@@ -1,4 +1,5 @@
 use Rattle.pages.proofs.SetsAreTheCode as sets
+use Rattle.pages.proofs.CountingBitSetRuns.{counts_runs}
 use Rattle.pages.proofs.counting_bit_set_is_the_code.Goals as goal
 
 pub returns-clause-code : goal.returns-clause-code
@@ -12,3 +13,6 @@ returns-clause-sets c = sets.counts_sets
 
 pub returns-clause-takes : goal.returns-clause-takes
 returns-clause-takes c = sets.counts_takes
+
+pub returns-clause-machine : goal.returns-clause-machine
+returns-clause-machine c = counts_runs

@@ -1,0 +1,238 @@
+-- The page of the counting bit set is about machines: turn by turn.
+use Rattle.std.specs.List.{AllByRecursion}
+use Rattle.std.proofs.Common.{is_some, nat_le, nat_lt, slice_set, ◌^◌}
+use Rattle.std.proofs.lemmas.Bool.Decides.{nat_tests}
+use Rattle.model.proofs.Names.{Bool, List, None, Option, Some, Trace, [], ap, arith, cond, false, first_of, first_row, fold}
+use Rattle.model.proofs.Names.{length, map, one_word, opening, refl, slice_index, step_of, subst, sym, true, ℕ, ◌+◌, ◌<◌, ◌==◌, ◌∙◌, ◌∷◌, ◌≡◌}
+use Rattle.model.proofs.Reached.{reached_opening}
+use Rattle.model.specs.declared.event.Answer.{Answer}
+use Rattle.model.specs.declared.event.Event.{Event}
+use Rattle.model.specs.declared.event.Event as events
+use Rattle.model.specs.declared.event.Event.TheVariants.{Begun}
+use Rattle.model.specs.declared.event.Start.TheVariants.{Bits}
+use Rattle.model.specs.declared.families.Flight as flights
+use Rattle.model.specs.declared.families.Registry as registries
+use Rattle.model.specs.declared.turn.Kind as kinds
+use Rattle.model.specs.Families.{begin_rows}
+use Rattle.model.specs.Families.Bits.Steps.{effects_of}
+use Rattle.model.specs.Step.{as_call}
+use Rattle.model.specs.Turns.{run}
+use Rattle.pages.specs.BitSetBridge as bits_bridge
+use Rattle.pages.specs.CountingBitSet as counts
+use Rattle.pages.specs.CountingBitSetBridge as counts_bridge
+use Rattle.pages.specs.Machine as machine
+use Rattle.pages.specs.Reading.{IsSame, all_seen}
+use Rattle.pages.proofs.CountingBitSet as counts_law
+use Rattle.pages.proofs.Relates.{AllRules, IsWithin, Meets, Relation, StepsRight, all_turns}
+use Rattle.pages.proofs.Relates as relates
+use Rattle.pages.proofs.SetsAreTheCode.{counts_after, counts_asks}
+use Rattle.pages.proofs.Simulates.{went}
+use Rattle.pages.proofs.Told.{told_by_step, told_more}
+use Rattle.pages.proofs.BitSetRuns.{coded, fails_row, nothing, passes_row}
+
+module _ (c : ℕ) (some : 0 < c) where
+  abbrev CountsPage : Type 0
+  CountsPage = machine.World counts.Call counts.Stage counts.Answer
+
+  abbrev counts_flight : ℕ → counts.Stage → flights.Flight ℕ
+  counts_flight found stage = flights.TheVariants.Bits (counts_bridge.flight c found stage)
+
+  abbrev CountsRelated : List (Event ℕ) → registries.Registry ℕ → CountsPage → Type 0
+  CountsRelated events k w = (k ≡ nothing) × (all_seen counts_bridge.reading events ≡ map counts_bridge.without_counts w.history)
+
+  counts_unseen : (p found : ℕ) (stage : counts.Stage) (old : ℕ) → all_seen counts_bridge.reading (effects_of p (counts_bridge.flight c found stage) old) ≡ []
+  counts_unseen p found (counts.SetAdds place) old = refl
+  counts_unseen p found (counts.AllSwaps place taken) old = go (old == 0)
+    where
+      go : (b : Bool) → all_seen counts_bridge.reading (cond b [] (events.TheVariants.TakenOut p place old ∷ [])) ≡ []
+      go true = refl
+      go false = refl
+
+  abbrev CountsGoRight : counts.Stage → machine.After counts.Stage counts.Answer → Type 0
+  CountsGoRight stage (machine.GoOn next) = (counts_law.call_at next ≡ counts_law.call_at stage) × counts_bridge.Fits c next
+  CountsGoRight stage (machine.Done answer) = Unit {0}
+
+  counts_right : (stage : counts.Stage) (old : ℕ) → counts_bridge.Fits c stage → CountsGoRight stage ((counts.does c stage).2 old)
+  counts_right (counts.SetAdds place) old fits = tt
+  counts_right (counts.AllSwaps place taken) old fits = go (nat_lt (place + 1) c) refl
+    where
+      go : (b : Bool) → nat_lt (place + 1) c ≡ b
+          → CountsGoRight (counts.AllSwaps place taken)
+          (cond b (machine.GoOn (counts.AllSwaps (place + 1) (counts_law.handed_then place old taken)))
+          (machine.Done (counts.WereReset (counts_law.handed_then place old taken))))
+      go true t = (refl, grind (arith, nat_tests))
+      go false t = tt
+
+  counts_went : (found : ℕ) (a : machine.After counts.Stage counts.Answer)
+      → as_call flights.TheVariants.Bits (λ (answer : Answer ℕ). answer) (counts_bridge.went c found a)
+      ≡ went (counts_flight found) counts_bridge.answered a
+  counts_went found (machine.GoOn stage) = refl
+  counts_went found (machine.Done answer) = refl
+
+  counts_reads : (answer : counts.Answer) (p : ℕ)
+      → counts_bridge.without_counts (machine.Responded p answer)
+      ≡ machine.Responded p (counts_bridge.answer_seen (counts_bridge.answered answer))
+  counts_reads (counts.Counted before) p = refl
+  counts_reads (counts.WereReset taken) p = refl
+
+  counts_relation : Relation ℕ (counts.counting_bit_set c) kinds.TheVariants.Counts c
+  counts_relation =
+      record {
+        call_at = counts_law.call_at;
+        start = λ call. Bits (counts_bridge.counts_start call);
+        room = 0;
+        flight = counts_flight;
+        answered = counts_bridge.answered;
+        Fits = counts_bridge.Fits c;
+        Related = CountsRelated;
+        Rule = λ w turn. Unit {0};
+        Known = λ events k. Unit {0};
+        known = λ t r kind capacity. tt;
+        first_at = first_at;
+        first_fits = first_fits;
+        begins = begins;
+        keeps = λ k p call. refl;
+        refuses =
+            λ events k w p call related may. subst
+            (λ k. is_some (first_row (begin_rows kinds.TheVariants.Counts c k p (Bits (counts_bridge.counts_start call)))) ≡ true)
+            (sym related.0) (refuses p call may);
+        admits =
+            λ events k w p call related known may free rule. subst
+            (λ k. first_row (begin_rows kinds.TheVariants.Counts c k p (Bits (counts_bridge.counts_start call))) ≡ None)
+            (sym related.0) (admits p call may);
+        begun = λ events k w p call related may free rule. (
+          related.0,
+          told_more (counts.counting_bit_set c) counts_bridge.reading counts_bridge.without_counts events
+              (Begun p (Bits (counts_bridge.counts_start call)) ∷ []) w.history
+              (machine.Invoked p call ∷ []) related.1 (begun_seen p call),
+        );
+        asks = counts_asks c;
+        rows = λ k r stage. refl;
+        steps = λ events k w beside p r stage related known pending fits.
+            subst (λ k. StepsRight ℕ (counts.counting_bit_set c) kinds.TheVariants.Counts c counts_law.call_at
+            (λ call. Bits (counts_bridge.counts_start call)) counts_flight
+            counts_bridge.answered (counts_bridge.Fits c) (λ events k. Unit {0}) CountsRelated events w p stage
+            (step_of one_word w.words beside p (Bits (counts_bridge.counts_start (counts_law.call_at stage))) (counts_flight r stage)
+            (slice_index w.words (counts.does c stage).0) k))
+            (sym related.0) (steps events w beside p r stage related.1 fits);
+      }
+    where
+      first_at : (call : counts.Call) → counts_law.call_at (counts.first call) ≡ call
+      first_at (counts.Set place) = refl
+      first_at counts.ResetAll = refl
+
+      first_fits : (call : counts.Call) → counts_bridge.Fits c (counts.first call)
+      first_fits (counts.Set place) = tt
+      first_fits counts.ResetAll = some
+
+      begins : (k : registries.Registry ℕ) (call : counts.Call)
+          → first_of kinds.TheVariants.Counts c (Bits (counts_bridge.counts_start call)) k ≡ Some (counts_flight 0 (counts.first call))
+      begins k (counts.Set place) = refl
+      begins k counts.ResetAll = refl
+
+      refuses : (p : ℕ) (call : counts.Call) → counts.may c p call ≡ false
+          → is_some (first_row (begin_rows kinds.TheVariants.Counts c nothing p (Bits (counts_bridge.counts_start call)))) ≡ true
+      refuses p (counts.Set place) may = fails_row (nat_le c place) (grind (arith, nat_tests))
+      refuses p counts.ResetAll may = absurd (cc)
+
+      admits : (p : ℕ) (call : counts.Call) → counts.may c p call ≡ true
+          → first_row (begin_rows kinds.TheVariants.Counts c nothing p (Bits (counts_bridge.counts_start call))) ≡ None
+      admits p (counts.Set place) may = passes_row (nat_le c place) (grind (arith, nat_tests))
+      admits p counts.ResetAll may = refl
+
+      begun_seen : (p : ℕ) (call : counts.Call)
+          → all_seen counts_bridge.reading (Begun p (Bits (counts_bridge.counts_start call)) ∷ [])
+          ≡ map counts_bridge.without_counts (machine.Invoked p call ∷ [])
+      begun_seen p (counts.Set place) = refl
+      begun_seen p counts.ResetAll = refl
+
+      steps : (events : List (Event ℕ)) (w : CountsPage) (beside : Option (ℕ × ℕ)) (p r : ℕ) (stage : counts.Stage)
+          → all_seen counts_bridge.reading events ≡ map counts_bridge.without_counts w.history → counts_bridge.Fits c stage
+          → StepsRight ℕ (counts.counting_bit_set c) kinds.TheVariants.Counts c counts_law.call_at
+          (λ call. Bits (counts_bridge.counts_start call)) counts_flight
+          counts_bridge.answered (counts_bridge.Fits c) (λ events k. Unit {0}) CountsRelated events w p stage
+          (step_of one_word w.words beside p (Bits (counts_bridge.counts_start (counts_law.call_at stage))) (counts_flight r stage)
+          (slice_index w.words (counts.does c stage).0) nothing)
+      steps events w beside p r stage told fits =
+          let old = slice_index w.words (counts.does c stage).0 in
+          let a = (counts.does c stage).2 old in
+          let is = ap (as_call flights.TheVariants.Bits (λ (answer : Answer ℕ). answer)) (counts_after c r stage old) ∙ counts_went old a in
+          record {
+            room = old;
+            after_is = is;
+            goes = λ next e. subst (CountsGoRight stage) e (counts_right stage old fits);
+            related = λ known. (
+              refl,
+              told_by_step (counts.counting_bit_set c) counts_bridge.reading counts_bridge.without_counts
+                  (counts_flight old) counts_bridge.answered counts_reads events
+                  (effects_of p (counts_bridge.flight c r stage) old) w p (Bits (counts_bridge.counts_start (counts_law.call_at stage)))
+                  (slice_set w.words (counts.does c stage).0 (machine.written (counts.does c stage).1 old)) told (counts_unseen p r stage old) a _ is,
+            );
+          }
+
+  counts_same_turns : (parties : ℕ) (turns : List (machine.Turn counts.Call))
+      → map (relates.as_turn ℕ (counts.counting_bit_set c) kinds.TheVariants.Counts c counts_relation parties) turns
+      ≡ map counts_bridge.as_turn turns
+  unfolding counts_relation
+  counts_same_turns parties [] = refl
+  counts_same_turns parties (machine.Begin p call ∷ turns) = ap (λ ts. counts_bridge.as_turn (machine.Begin p call) ∷ ts) (counts_same_turns parties turns)
+  counts_same_turns parties (machine.Next p ∷ turns) = ap (λ ts. counts_bridge.as_turn (machine.Next p) ∷ ts) (counts_same_turns parties turns)
+
+  counts_within : (parties : ℕ) (turns : List (machine.Turn counts.Call)) → bits_bridge.AreWithin parties turns
+      → AllByRecursion (IsWithin ℕ (counts.counting_bit_set c) kinds.TheVariants.Counts c counts_relation parties) turns
+  counts_within parties [] within = tt
+  counts_within parties (machine.Begin p call ∷ turns) within = (within.0, counts_within parties turns within.1)
+  counts_within parties (machine.Next p ∷ turns) within = (tt, counts_within parties turns within.1)
+
+  counts_rules : (parties : ℕ) (turns : List (machine.Turn counts.Call)) (w : CountsPage)
+      → AllRules ℕ (counts.counting_bit_set c) kinds.TheVariants.Counts c counts_relation parties w turns
+  unfolding counts_relation
+  counts_rules parties [] w = tt
+  counts_rules parties (turn ∷ turns) w = (tt, counts_rules parties turns (machine.turned (counts.counting_bit_set c) w turn))
+
+  counts_opens : (parties : ℕ) → c < 2 ^ 32
+      → Meets ℕ (counts.counting_bit_set c) kinds.TheVariants.Counts c counts_relation parties (machine.opening (counts.counting_bit_set c)) 0
+      (opening one_word kinds.TheVariants.Counts c parties)
+  unfolding counts_relation
+  counts_opens parties few =
+      record {
+        latest = [];
+        changes = 0;
+        turns = 0;
+        kept = nothing;
+        events = [];
+        few = omega arith;
+        is = refl;
+        reached = reached_opening one_word kinds.TheVariants.Counts c parties coded (grind (arith, nat_tests));
+        related = (refl, refl);
+        matches = λ p. refl;
+      }
+
+  counts_meets : (parties : ℕ) (turns : List (machine.Turn counts.Call)) → c < 2 ^ 32 → bits_bridge.AreWithin parties turns → length turns < 2 ^ 63
+      → Meets ℕ (counts.counting_bit_set c) kinds.TheVariants.Counts c counts_relation parties
+      (fold (machine.turned (counts.counting_bit_set c)) (machine.opening (counts.counting_bit_set c)) turns) (0 + length turns)
+      (run (map counts_bridge.as_turn turns) (opening one_word kinds.TheVariants.Counts c parties))
+  counts_meets parties turns few within small =
+      subst (λ ts. Meets ℕ (counts.counting_bit_set c) kinds.TheVariants.Counts c counts_relation parties
+      (fold (machine.turned (counts.counting_bit_set c)) (machine.opening (counts.counting_bit_set c)) turns) (0 + length turns)
+      (run ts (opening one_word kinds.TheVariants.Counts c parties))) (counts_same_turns parties turns)
+      (all_turns ℕ (counts.counting_bit_set c) kinds.TheVariants.Counts c counts_relation parties turns (counts_within parties turns within)
+      (machine.opening (counts.counting_bit_set c)) 0 (opening one_word kinds.TheVariants.Counts c parties)
+      (counts_rules parties turns (machine.opening (counts.counting_bit_set c))) (omega arith) (counts_opens parties few))
+
+pub counts_runs : counts_bridge.CountingRunsAsTheMachine
+unfolding counts_relation
+counts_runs c parties turns some few within small =
+    let s = counts_meets c some parties turns few within small in
+    record {
+      events = s.events;
+      is = ap (λ (t : Trace ℕ). t.events) s.is;
+      history = s.related.1;
+      words = ap (λ (t : Trace ℕ). t.world.words) s.is;
+    }
+
+pub counts_is_run : (t : Trace ℕ) → counts_bridge.CountingIsRun t
+counts_is_run t c parties turns some few within small is =
+    let w = fold (machine.turned (counts.counting_bit_set c)) (machine.opening (counts.counting_bit_set c)) turns in
+    subst (λ t. IsSame counts_bridge.reading [] t (record w { history = map counts_bridge.without_counts w.history })) (sym is)
+    (counts_runs c parties turns some few within small)

@@ -1,0 +1,463 @@
+-- The page of the unique index set is about machines, turn by turn, and so no index has two holders.
+use Rattle.std.specs.List.{AllByRecursion}
+use Rattle.std.specs.Prelude.{replicate, slice_index_or}
+use Rattle.std.proofs.Common.{nat_le, nat_lt, slice_set, ◌^◌, ◌%◌, ◌/◌}
+use Rattle.std.proofs.lemmas.Bool.Decides.{nat_tests}
+use Rattle.model.proofs.Names.{Bool, IsCoding, IsReached, List, None, Option, Some, Trace, [], answer_in, ap, append-nil, append_assoc, arith}
+use Rattle.model.proofs.Names.{cond, false, first_of, first_row, fold, length, map, not, one_word, opening, refl, slice_index, step_of, subst, sym, true}
+use Rattle.model.proofs.Names.{ℕ, ◌++◌, ◌+◌, ◌-◌, ◌<◌, ◌==◌, ◌∙◌, ◌∷◌, ◌≡◌, ◌≤◌}
+use Rattle.model.proofs.Reached.{reached_opening}
+use Rattle.model.specs.declared.event.Answer.{Answer}
+use Rattle.model.specs.declared.event.Event.{Event}
+use Rattle.model.specs.declared.event.Event.TheVariants.{Begun, Freed}
+use Rattle.model.specs.declared.event.Start.{Start}
+use Rattle.model.specs.declared.event.Start.TheVariants.{Indices}
+use Rattle.model.specs.declared.families.Flight as flights
+use Rattle.model.specs.declared.families.Registry as registries
+use Rattle.model.specs.declared.turn.Kind as kinds
+use Rattle.model.specs.declared.turn.Refusal.TheVariants.{BadIndex, NotHeld, WrongCall}
+use Rattle.model.specs.Families.{begin_rows}
+use Rattle.model.specs.Families.Indices.Calls.{after}
+use Rattle.model.specs.Families.Indices.Promises.{HoldsRight, IsIndexSet}
+use Rattle.model.specs.Families.Indices.Steps.{effects, frees, wrote}
+use Rattle.model.specs.Families.Queues.Opening.{holds}
+use Rattle.model.specs.Promises.Families.{promise_of}
+use Rattle.model.specs.Reading as readings
+use Rattle.model.specs.Step.{as_call}
+use Rattle.model.specs.Turns.{ending_of, run}
+use Rattle.laws_indices.proofs.Sound.{index_keeps}
+use Rattle.pages.specs.BitSetBridge.{AreWithin}
+use Rattle.pages.specs.Machine as machine
+use Rattle.pages.specs.Reading.{IsSame}
+use Rattle.pages.specs.UniqueIndexSet as page
+use Rattle.pages.specs.UniqueIndexSetBridge as bridge
+use Rattle.pages.proofs.Holders.{History, Knows, Page, Rel, Related, begins_acquire, begins_release, frees_it, goes_on, no_end, responds, told_of}
+use Rattle.pages.proofs.Relates.{AllRules, IsWithin, Meets, Relation, StepsRight, all_turns}
+use Rattle.pages.proofs.Relates as relates
+use Rattle.pages.proofs.Simulates.{went}
+use Rattle.pages.proofs.UniqueIndexSet.{after_same, asks_same}
+
+-- ---- turn by turn
+
+module _ (c : ℕ) where
+  abbrev call_at : page.Stage → page.Call
+  call_at page.AcquireLoadsHead = page.Acquire
+  call_at (page.AcquireLoadsNext head) = page.Acquire
+  call_at (page.AcquireExchangesHead head next) = page.Acquire
+  call_at (page.AcquireClaims index) = page.Acquire
+  call_at (page.AcquireScans index) = page.Acquire
+  call_at (page.ReleaseClearsFlag index l) = page.Release index l
+  call_at (page.ReleaseLoadsHead index l) = page.Release index l
+  call_at (page.ReleaseStoresNext index l head) = page.Release index l
+  call_at (page.ReleaseExchangesHead index l head) = page.Release index l
+  call_at (page.ReleaseSubtracts index) = page.Release index false
+
+  abbrev the_flight : Unit {0} → page.Stage → flights.Flight ℕ
+  the_flight room stage = flights.TheVariants.Indices (bridge.flight c stage)
+
+  abbrev is_clearing : page.Stage → Bool
+  is_clearing (page.ReleaseClearsFlag index l) = true
+  is_clearing stage = false
+
+  -- where a call goes on it is the same call, and clears no flag next
+  abbrev GoesRight : page.Stage → machine.After page.Stage page.Answer → Type 0
+  GoesRight stage (machine.GoOn next) = (call_at next ≡ call_at stage) × (is_clearing next ≡ false)
+  GoesRight stage (machine.Done answer) = Unit {0}
+
+  sees_right : (stage : page.Stage) (old : ℕ) → call_at stage ≡ page.Acquire → GoesRight stage (page.sees c old)
+  sees_right stage old is = go (old % 2 ^ 24 == 2 ^ 24 - 1) (old % 2 ^ 24 == c) (nat_lt (old / 2 ^ 40) c)
+    where
+      go : (x y z : Bool)
+          → GoesRight stage
+          (cond x (machine.Done page.IsLocked) (cond y (machine.Done page.OutOfIndices)
+          (cond z (machine.GoOn (page.AcquireLoadsNext old)) (machine.GoOn (page.AcquireExchangesHead old (old / 2 ^ 40))))))
+      go true y z = tt
+      go false true z = tt
+      go false false true = (sym is, refl)
+      go false false false = (sym is, refl)
+
+  right : (stage : page.Stage) (old : ℕ) → GoesRight stage ((page.does c stage).2 old)
+  right page.AcquireLoadsHead old = sees_right page.AcquireLoadsHead old refl
+  right (page.AcquireLoadsNext head) old = (refl, refl)
+  right (page.AcquireExchangesHead head next) old = go (old == head) (nat_lt (head / 2 ^ 40) c) (sees_right (page.AcquireExchangesHead head next) old refl)
+    where
+      go : (x y : Bool) → GoesRight (page.AcquireExchangesHead head next) (page.sees c old)
+          → GoesRight (page.AcquireExchangesHead head next)
+          (cond x (machine.GoOn (cond y (page.AcquireClaims (head / 2 ^ 40)) (page.AcquireScans 0))) (page.sees c old))
+      go true true more = (refl, refl)
+      go true false more = (refl, refl)
+      go false y more = more
+  right (page.AcquireClaims index) old = go (page.has_flag old index)
+    where
+      go : (x : Bool) → GoesRight (page.AcquireClaims index) (cond x (machine.GoOn (page.AcquireScans 0)) (machine.Done (page.Acquired index)))
+      go true = (refl, refl)
+      go false = tt
+  right (page.AcquireScans index) old = go (page.has_flag old index)
+    where
+      go : (x : Bool)
+          → GoesRight (page.AcquireScans index)
+          (cond x (machine.GoOn (page.AcquireScans (cond (nat_lt (index + 1) c) (index + 1) 0))) (machine.Done (page.Acquired index)))
+      go true = (refl, refl)
+      go false = tt
+  right (page.ReleaseClearsFlag index l) old = (refl, refl)
+  right (page.ReleaseLoadsHead index l) old = (refl, refl)
+  right (page.ReleaseStoresNext index l head) old = (refl, refl)
+  right (page.ReleaseExchangesHead index l head) old = go (old == head) l
+    where
+      go : (x l : Bool)
+          → GoesRight (page.ReleaseExchangesHead index l head)
+          (cond x (machine.Done (page.Released (page.locks l head)))
+          (cond l (machine.GoOn (page.ReleaseStoresNext index l old)) (machine.GoOn (page.ReleaseSubtracts index))))
+      go true l = tt
+      go false true = (refl, refl)
+      go false false = (refl, refl)
+  right (page.ReleaseSubtracts index) old = tt
+
+  -- what a step writes: the index that it frees, or what its answer says
+  abbrev freed_by : page.Stage → Option ℕ
+  freed_by (page.ReleaseClearsFlag index l) = Some index
+  freed_by stage = None
+
+  abbrev wrote_of : ℕ → Option ℕ → machine.After page.Stage page.Answer → List (Event ℕ)
+  wrote_of p (Some index) a = Freed p index ∷ []
+  wrote_of p None (machine.Done answer) = told_of c p answer
+  wrote_of p None (machine.GoOn next) = []
+
+  effects_same : (p : ℕ) (o : Option ℕ) (a : machine.After page.Stage page.Answer) → effects p o (answer_in (bridge.went c a)) ≡ wrote_of p o a
+  effects_same p (Some index) a = refl
+  effects_same p None (machine.GoOn next) = refl
+  effects_same p None (machine.Done (page.Acquired index)) = refl
+  effects_same p None (machine.Done page.OutOfIndices) = refl
+  effects_same p None (machine.Done page.IsLocked) = refl
+  effects_same p None (machine.Done (page.Released true)) = refl
+  effects_same p None (machine.Done (page.Released false)) = refl
+
+  frees_same : (stage : page.Stage) → frees (bridge.flight c stage) ≡ freed_by stage
+  frees_same page.AcquireLoadsHead = refl
+  frees_same (page.AcquireLoadsNext head) = refl
+  frees_same (page.AcquireExchangesHead head next) = refl
+  frees_same (page.AcquireClaims index) = refl
+  frees_same (page.AcquireScans index) = refl
+  frees_same (page.ReleaseClearsFlag index true) = refl
+  frees_same (page.ReleaseClearsFlag index false) = refl
+  frees_same (page.ReleaseLoadsHead index true) = refl
+  frees_same (page.ReleaseLoadsHead index false) = refl
+  frees_same (page.ReleaseStoresNext index true head) = refl
+  frees_same (page.ReleaseStoresNext index false head) = refl
+  frees_same (page.ReleaseExchangesHead index true head) = refl
+  frees_same (page.ReleaseExchangesHead index false head) = refl
+  frees_same (page.ReleaseSubtracts index) = refl
+
+  wrote_same : (p : ℕ) (stage : page.Stage) (old : ℕ) → wrote p (bridge.flight c stage) old ≡ wrote_of p (freed_by stage) ((page.does c stage).2 old)
+  wrote_same p stage old =
+      ap (λ o. effects p o (answer_in (after (bridge.flight c stage) old))) (frees_same stage)
+      ∙ (ap (λ a. effects p (freed_by stage) (answer_in a)) (after_same c stage old) ∙ effects_same p (freed_by stage) ((page.does c stage).2 old))
+
+  went_same : (a : machine.After page.Stage page.Answer)
+      → as_call flights.TheVariants.Indices (λ (answer : Answer ℕ). answer) (bridge.went c a) ≡ went (the_flight tt) bridge.answered a
+  went_same (machine.GoOn stage) = refl
+  went_same (machine.Done answer) = refl
+
+  -- ---- what a step leaves of the relation
+
+  abbrev events_then : List (Event ℕ) → ℕ → page.Stage → machine.After page.Stage page.Answer → List (Event ℕ)
+  events_then events p stage a =
+      events ++ (wrote_of p (freed_by stage) a
+      ++ ending_of p (Indices (bridge.index_start (call_at stage))) (answer_in (went (the_flight tt) bridge.answered a)))
+
+  abbrev RelThen : List (Event ℕ) → Page c → ℕ → page.Stage → List ℕ → machine.After page.Stage page.Answer → Type 0
+  RelThen events w p stage words a =
+      Rel c (events_then events p stage a) (machine.gone (page.unique_index_set c) w p words a).history
+      (machine.gone (page.unique_index_set c) w p words a).pending
+
+  frees_none : (events : List (Event ℕ)) (w : Page c) (p : ℕ) (start : Start ℕ) (words : List ℕ) (a : machine.After page.Stage page.Answer)
+      → Rel c events w.history w.pending → ((next : page.Stage) → a ≡ machine.GoOn next → is_clearing next ≡ false)
+      → readings.Each (HoldsRight c) (events ++ (wrote_of p None a ++ ending_of p start (answer_in (went (the_flight tt) bridge.answered a))))
+      → Rel c (events ++ (wrote_of p None a ++ ending_of p start (answer_in (went (the_flight tt) bridge.answered a))))
+      (machine.gone (page.unique_index_set c) w p words a).history (machine.gone (page.unique_index_set c) w p words a).pending
+  frees_none events w p start words (machine.GoOn next) r goes knows =
+      goes_on c events w.history w.pending p next r (λ j l e. (let t : is_clearing next ≡ true = ap is_clearing e in
+      let clash : false ≡ true = sym (goes next refl) ∙ t in absurd (cc)))
+  frees_none events w p start words (machine.Done answer) r goes knows = responds c events w.history w.pending start p answer r knows
+
+  related_then : (events : List (Event ℕ)) (w : Page c) (p : ℕ) (stage : page.Stage) (words : List ℕ) (old : ℕ)
+      → Rel c events w.history w.pending → w.pending p ≡ Some stage
+      → readings.Each (HoldsRight c) (events_then events p stage ((page.does c stage).2 old))
+      → RelThen events w p stage words ((page.does c stage).2 old)
+  related_then events w p (page.ReleaseClearsFlag index l) words old r here knows = frees_it c events w.history w.pending p index l r here
+  related_then events w p page.AcquireLoadsHead words old r here knows =
+      frees_none events w p (Indices (bridge.index_start (call_at page.AcquireLoadsHead))) words ((page.does c page.AcquireLoadsHead).2 old) r
+      (λ then e. (subst (GoesRight page.AcquireLoadsHead) e (right page.AcquireLoadsHead old)).1) knows
+  related_then events w p (page.AcquireLoadsNext head) words old r here knows =
+      frees_none events w p (Indices (bridge.index_start (call_at (page.AcquireLoadsNext head)))) words ((page.does c (page.AcquireLoadsNext head)).2 old) r
+      (λ then e. (subst (GoesRight (page.AcquireLoadsNext head)) e (right (page.AcquireLoadsNext head) old)).1) knows
+  related_then events w p (page.AcquireExchangesHead head next) words old r here knows =
+      frees_none events w p (Indices (bridge.index_start (call_at (page.AcquireExchangesHead head next)))) words
+      ((page.does c (page.AcquireExchangesHead head next)).2 old) r
+      (λ then e. (subst (GoesRight (page.AcquireExchangesHead head next)) e (right (page.AcquireExchangesHead head next) old)).1) knows
+  related_then events w p (page.AcquireClaims index) words old r here knows =
+      frees_none events w p (Indices (bridge.index_start (call_at (page.AcquireClaims index)))) words ((page.does c (page.AcquireClaims index)).2 old) r
+      (λ then e. (subst (GoesRight (page.AcquireClaims index)) e (right (page.AcquireClaims index) old)).1) knows
+  related_then events w p (page.AcquireScans index) words old r here knows =
+      frees_none events w p (Indices (bridge.index_start (call_at (page.AcquireScans index)))) words ((page.does c (page.AcquireScans index)).2 old) r
+      (λ then e. (subst (GoesRight (page.AcquireScans index)) e (right (page.AcquireScans index) old)).1) knows
+  related_then events w p (page.ReleaseLoadsHead index l) words old r here knows =
+      frees_none events w p (Indices (bridge.index_start (call_at (page.ReleaseLoadsHead index l)))) words
+      ((page.does c (page.ReleaseLoadsHead index l)).2 old) r
+      (λ then e. (subst (GoesRight (page.ReleaseLoadsHead index l)) e (right (page.ReleaseLoadsHead index l) old)).1) knows
+  related_then events w p (page.ReleaseStoresNext index l head) words old r here knows =
+      frees_none events w p (Indices (bridge.index_start (call_at (page.ReleaseStoresNext index l head)))) words
+      ((page.does c (page.ReleaseStoresNext index l head)).2 old) r
+      (λ then e. (subst (GoesRight (page.ReleaseStoresNext index l head)) e (right (page.ReleaseStoresNext index l head) old)).1) knows
+  related_then events w p (page.ReleaseExchangesHead index l head) words old r here knows =
+      frees_none events w p (Indices (bridge.index_start (call_at (page.ReleaseExchangesHead index l head)))) words
+      ((page.does c (page.ReleaseExchangesHead index l head)).2 old) r
+      (λ then e. (subst (GoesRight (page.ReleaseExchangesHead index l head)) e (right (page.ReleaseExchangesHead index l head) old)).1) knows
+  related_then events w p (page.ReleaseSubtracts index) words old r here knows =
+      frees_none events w p (Indices (bridge.index_start (call_at (page.ReleaseSubtracts index)))) words ((page.does c (page.ReleaseSubtracts index)).2 old) r
+      (λ then e. (subst (GoesRight (page.ReleaseSubtracts index)) e (right (page.ReleaseSubtracts index) old)).1) knows
+
+  -- ---- the relation
+
+  knows_of : (t : Trace ℕ) → IsReached t → t.world.kind ≡ kinds.TheVariants.Indices → t.world.capacity ≡ c → Knows c t.events t.world.kept
+  knows_of t r is same =
+      let kept = (index_keeps {T = ℕ}).kept t is r in
+      let set : IsIndexSet t = subst (λ k. (promise_of k).holds t) is kept.promised in
+      record { holds = subst (λ n. readings.Each (HoldsRight n) t.events) same set.holds; keeps = set.holders }
+
+  abbrev Rule : Page c → machine.Turn page.Call → Type 0
+  Rule w (machine.Begin p (page.Release index l)) = w.pending p ≡ None → page.holder index w.history ≡ Some p
+  Rule w turn = Unit {0}
+
+  abbrev StepIs : List (Event ℕ) → Page c → ℕ → page.Stage → Option (ℕ × ℕ) → registries.Registry ℕ → Type 0
+  StepIs events w p stage beside k =
+      StepsRight (Unit {0}) (page.unique_index_set c) kinds.TheVariants.Indices c call_at (λ call. Indices (bridge.index_start call)) the_flight
+      bridge.answered (λ stage. Unit {0}) (Knows c) (Related c) events w p stage
+      (step_of one_word w.words beside p (Indices (bridge.index_start (call_at stage))) (the_flight tt stage)
+      (slice_index w.words (page.does c stage).0) k)
+
+  holds_row : (a b : Bool) → a ≡ false → b ≡ true → first_row ((false, WrongCall) ∷ (a, BadIndex) ∷ (not b, NotHeld) ∷ []) ≡ None
+  holds_row a b e f = rw (e, f) refl
+
+  is_holder : (o : Option ℕ) (p : ℕ) → o ≡ Some p → holds o p ≡ true
+  is_holder o p e = rw e (grind (arith, nat_tests))
+
+  step_by : (events : List (Event ℕ)) (w : Page c) (p : ℕ) (stage : page.Stage) (beside : Option (ℕ × ℕ)) (holders : List (Option ℕ))
+      → Rel c events w.history w.pending → w.pending p ≡ Some stage → StepIs events w p stage beside (registries.TheVariants.Indices holders)
+  step_by events w p stage beside holders r here =
+      let old = slice_index w.words (page.does c stage).0 in
+      let a = (page.does c stage).2 old in
+      let words = slice_set w.words (page.does c stage).0 (machine.written (page.does c stage).1 old) in
+      let start = Indices (bridge.index_start (call_at stage)) in
+      let is = ap (as_call flights.TheVariants.Indices (λ (answer : Answer ℕ). answer)) (after_same c stage old) ∙ went_same a in
+      let es = ap (λ z. wrote p (bridge.flight c stage) old ++ ending_of p start (answer_in z)) is
+      ∙ ap (λ xs. xs ++ ending_of p start (answer_in (went (the_flight tt) bridge.answered a))) (wrote_same p stage old) in
+      record {
+        room = tt;
+        after_is = is;
+        goes = λ next e. ((subst (GoesRight stage) e (right stage old)).0, tt);
+        related = λ known.
+            subst (λ xs. Rel c (events ++ xs) (machine.gone (page.unique_index_set c) w p words a).history
+            (machine.gone (page.unique_index_set c) w p words a).pending) (sym es)
+            (related_then events w p stage words old r here (subst (λ xs. readings.Each (HoldsRight c) (events ++ xs)) es known.holds));
+      }
+
+  relation : Relation (Unit {0}) (page.unique_index_set c) kinds.TheVariants.Indices c
+  relation =
+      record {
+        call_at = call_at;
+        start = λ call. Indices (bridge.index_start call);
+        room = tt;
+        flight = the_flight;
+        answered = bridge.answered;
+        Fits = λ stage. Unit {0};
+        Related = Related c;
+        Rule = Rule;
+        Known = Knows c;
+        known = knows_of;
+        first_at = first_at;
+        first_fits = λ call. tt;
+        begins = begins;
+        keeps = λ k p call. refl;
+        refuses = λ events k w p call related may. absurd (cc);
+        admits = admits;
+        begun = begun;
+        asks = λ r stage fits. asks_same c stage;
+        rows = λ k r stage. refl;
+        steps = λ events k w beside p r stage related known pending fits. steps events k w beside p stage related known pending;
+      }
+    where
+      first_at : (call : page.Call) → call_at (page.first call) ≡ call
+      first_at page.Acquire = refl
+      first_at (page.Release index l) = refl
+
+      begins : (k : registries.Registry ℕ) (call : page.Call)
+          → first_of kinds.TheVariants.Indices c (Indices (bridge.index_start call)) k ≡ Some (the_flight tt (page.first call))
+      begins k page.Acquire = refl
+      begins k (page.Release index true) = refl
+      begins k (page.Release index false) = refl
+
+      admits : (events : List (Event ℕ)) (k : registries.Registry ℕ) (w : Page c) (p : ℕ) (call : page.Call) → Related c events k w → Knows c events k
+          → true ≡ true → w.pending p ≡ None → Rule w (machine.Begin p call)
+          → first_row (begin_rows kinds.TheVariants.Indices c k p (Indices (bridge.index_start call))) ≡ None
+      admits events (registries.TheVariants.Indices holders) w p page.Acquire r known may free rule = refl
+      admits events (registries.TheVariants.Indices holders) w p (page.Release index true) r known may free rule =
+          let had = r.held index p (rule free) in
+          holds_row (nat_le c index) (holds (slice_index_or holders index None) p) (let lt = had.1 in grind (arith, nat_tests))
+          (is_holder (slice_index_or holders index None) p (known.keeps index ∙ had.0))
+      admits events (registries.TheVariants.Indices holders) w p (page.Release index false) r known may free rule =
+          let had = r.held index p (rule free) in
+          holds_row (nat_le c index) (holds (slice_index_or holders index None) p) (let lt = had.1 in grind (arith, nat_tests))
+          (is_holder (slice_index_or holders index None) p (known.keeps index ∙ had.0))
+      admits events k w p call r known may free rule = absurd (known.keeps)
+
+      begun : (events : List (Event ℕ)) (k : registries.Registry ℕ) (w : Page c) (p : ℕ) (call : page.Call) → Related c events k w → true ≡ true
+          → w.pending p ≡ None → Rule w (machine.Begin p call)
+          → Related c (events ++ Begun p (Indices (bridge.index_start call)) ∷ []) k (machine.begun (page.unique_index_set c) w p call true None)
+      begun events k w p page.Acquire r may free rule = begins_acquire c events w.history w.pending p r
+      begun events k w p (page.Release index l) r may free rule = begins_release c events w.history w.pending p index l r (rule free)
+
+      steps : (events : List (Event ℕ)) (k : registries.Registry ℕ) (w : Page c) (beside : Option (ℕ × ℕ)) (p : ℕ) (stage : page.Stage)
+          → Related c events k w → Knows c events k → w.pending p ≡ Some stage → StepIs events w p stage beside k
+      steps events (registries.TheVariants.Indices holders) w beside p stage r known here = step_by events w p stage beside holders r here
+      steps events k w beside p stage r known here = absurd (known.keeps)
+
+  -- ---- the rule of the callers, from the history at the end
+
+  turn_extends : (w : Page c) (turn : machine.Turn page.Call)
+      → (more : History) × ((machine.turned (page.unique_index_set c) w turn).history ≡ w.history ++ more)
+  turn_extends w (machine.Begin p call) = go (w.pending p)
+    where
+      go : (o : Option page.Stage) → (more : History) × ((machine.begun (page.unique_index_set c) w p call true o).history ≡ w.history ++ more)
+      go None = (machine.Invoked p call ∷ [], refl)
+      go (Some stage) = ([], sym (append-nil w.history))
+  turn_extends w (machine.Next p) = go (w.pending p)
+    where
+      gone : (words : List ℕ) (a : machine.After page.Stage page.Answer)
+          → (more : History) × ((machine.gone (page.unique_index_set c) w p words a).history ≡ w.history ++ more)
+      gone words (machine.GoOn stage) = ([], sym (append-nil w.history))
+      gone words (machine.Done answer) = (machine.Responded p answer ∷ [], refl)
+
+      go : (o : Option page.Stage) → (more : History) × ((machine.stepped (page.unique_index_set c) w p o).history ≡ w.history ++ more)
+      go None = ([], sym (append-nil w.history))
+      go (Some stage) =
+          gone (slice_set w.words (page.does c stage).0 (machine.written (page.does c stage).1 (slice_index w.words (page.does c stage).0)))
+          ((page.does c stage).2 (slice_index w.words (page.does c stage).0))
+
+  extends : (turns : List (machine.Turn page.Call)) (w : Page c)
+      → (more : History) × ((fold (machine.turned (page.unique_index_set c)) w turns).history ≡ w.history ++ more)
+  extends [] w = ([], sym (append-nil w.history))
+  extends (turn ∷ turns) w =
+      let one = turn_extends w turn in
+      let rest = extends turns (machine.turned (page.unique_index_set c) w turn) in
+      (one.0 ++ rest.0, rest.1 ∙ (ap (λ h. h ++ rest.0) one.1 ∙ append_assoc w.history one.0 rest.0))
+
+  rules_of : (parties : ℕ) (turns : List (machine.Turn page.Call)) (w : Page c)
+      → page.Each page.ReleasesOwn (fold (machine.turned (page.unique_index_set c)) w turns).history
+      → AllRules (Unit {0}) (page.unique_index_set c) kinds.TheVariants.Indices c relation parties w turns
+  unfolding relation
+  rules_of parties [] w own = tt
+  rules_of parties (turn ∷ turns) w own = (rule turn own, rules_of parties turns (machine.turned (page.unique_index_set c) w turn) own)
+    where
+      rule : (turn : machine.Turn page.Call)
+          → page.Each page.ReleasesOwn (fold (machine.turned (page.unique_index_set c)) (machine.turned (page.unique_index_set c) w turn) turns).history
+          → Rule w turn
+      rule (machine.Begin p page.Acquire) own = tt
+      rule (machine.Begin p (page.Release index l)) own =
+          λ free.
+          (let rest = extends turns (machine.turned (page.unique_index_set c) w (machine.Begin p (page.Release index l))) in
+          let now = ap (λ o. (machine.begun (page.unique_index_set c) w p (page.Release index l) true o).history) free in
+          own w.history rest.0 (machine.Invoked p (page.Release index l))
+          (rest.1 ∙ (ap (λ h. h ++ rest.0) now ∙ append_assoc w.history (machine.Invoked p (page.Release index l) ∷ []) rest.0)))
+      rule (machine.Next p) own = tt
+
+  -- ---- every list of turns
+
+  abbrev world_of : List (machine.Turn page.Call) → Page c
+  world_of turns = fold (machine.turned (page.unique_index_set c)) (machine.opening (page.unique_index_set c)) turns
+
+  same_turns : (parties : ℕ) (turns : List (machine.Turn page.Call))
+      → map (relates.as_turn (Unit {0}) (page.unique_index_set c) kinds.TheVariants.Indices c relation parties) turns ≡ map bridge.as_turn turns
+  unfolding relation
+  same_turns parties [] = refl
+  same_turns parties (machine.Begin p call ∷ turns) = ap (λ ts. bridge.as_turn (machine.Begin p call) ∷ ts) (same_turns parties turns)
+  same_turns parties (machine.Next p ∷ turns) = ap (λ ts. bridge.as_turn (machine.Next p) ∷ ts) (same_turns parties turns)
+
+  within_of : (parties : ℕ) (turns : List (machine.Turn page.Call)) → AreWithin parties turns
+      → AllByRecursion (IsWithin (Unit {0}) (page.unique_index_set c) kinds.TheVariants.Indices c relation parties) turns
+  within_of parties [] within = tt
+  within_of parties (machine.Begin p call ∷ turns) within = (within.0, within_of parties turns within.1)
+  within_of parties (machine.Next p ∷ turns) within = (tt, within_of parties turns within.1)
+
+  coded : IsCoding one_word
+  coded = grind arith
+
+  opens : (parties : ℕ) → 0 < c → c < 2 ^ 24 - 1
+      → Meets (Unit {0}) (page.unique_index_set c) kinds.TheVariants.Indices c relation parties (machine.opening (page.unique_index_set c)) 0
+      (opening one_word kinds.TheVariants.Indices c parties)
+  unfolding relation
+  opens parties some few =
+      record {
+        latest = [];
+        changes = 0;
+        turns = 0;
+        kept = registries.TheVariants.Indices (replicate c None);
+        events = [];
+        few = omega arith;
+        is = refl;
+        reached = reached_opening one_word kinds.TheVariants.Indices c parties coded (grind (arith, nat_tests));
+        related = record {
+          told = refl;
+          held = λ i p e. absurd (cc);
+          locked = λ e. absurd (cc);
+          right = λ before after e is. absurd (no_end e before after is);
+          releasing = λ p i l e. absurd (cc);
+        };
+        matches = λ p. refl;
+      }
+
+  meets : (parties : ℕ) (turns : List (machine.Turn page.Call)) → 0 < c → c < 2 ^ 24 - 1 → AreWithin parties turns → length turns < 2 ^ 63
+      → page.Each page.ReleasesOwn (world_of turns).history
+      → Meets (Unit {0}) (page.unique_index_set c) kinds.TheVariants.Indices c relation parties (world_of turns) (0 + length turns)
+      (run (map bridge.as_turn turns) (opening one_word kinds.TheVariants.Indices c parties))
+  meets parties turns some few within small own =
+      subst (λ ts. Meets (Unit {0}) (page.unique_index_set c) kinds.TheVariants.Indices c relation parties (world_of turns) (0 + length turns)
+      (run ts (opening one_word kinds.TheVariants.Indices c parties))) (same_turns parties turns)
+      (all_turns (Unit {0}) (page.unique_index_set c) kinds.TheVariants.Indices c relation parties turns (within_of parties turns within)
+      (machine.opening (page.unique_index_set c)) 0 (opening one_word kinds.TheVariants.Indices c parties)
+      (rules_of parties turns (machine.opening (page.unique_index_set c)) own) (omega arith) (opens parties some few))
+
+pub runs : bridge.UniqueRunsAsTheMachine
+unfolding relation
+runs c parties turns some few within small own =
+    let s = meets c parties turns some few within small own in
+    record {
+      events = s.events;
+      is = ap (λ (t : Trace ℕ). t.events) s.is;
+      history = s.related.told;
+      words = ap (λ (t : Trace ℕ). t.world.words) s.is;
+    }
+
+pub is_run : (t : Trace ℕ) → bridge.UniqueIsRun t
+is_run t c parties turns some few within small own is =
+    subst (λ t. IsSame bridge.reading [] t (fold (machine.turned (page.unique_index_set c)) (machine.opening (page.unique_index_set c)) turns)) (sym is)
+    (runs c parties turns some few within small own)
+
+-- a party for each of these turns
+abbrev parties_of : List (machine.Turn page.Call) → ℕ
+parties_of [] = 0
+parties_of (machine.Begin p call ∷ turns) = p + 1 + parties_of turns
+parties_of (machine.Next p ∷ turns) = parties_of turns
+
+all_within : (n : ℕ) (turns : List (machine.Turn page.Call)) → parties_of turns ≤ n → AreWithin n turns
+all_within n [] le = tt
+all_within n (machine.Begin p call ∷ turns) le = ((omega arith), all_within n turns (omega arith))
+all_within n (machine.Next p ∷ turns) le = (tt, all_within n turns le)
+
+pub holds_alone : (c : ℕ) (turns : List (machine.Turn page.Call)) → 0 < c → c < 2 ^ 24 - 1 → length turns < 2 ^ 63
+    → page.Each page.ReleasesOwn (fold (machine.turned (page.unique_index_set c)) (machine.opening (page.unique_index_set c)) turns).history
+    → page.Each (page.HoldsAlone c) (fold (machine.turned (page.unique_index_set c)) (machine.opening (page.unique_index_set c)) turns).history
+unfolding relation
+holds_alone c turns some few small own =
+    let n = parties_of turns in
+    (meets c n turns some few (all_within n turns (omega arith)) small own).related.right
