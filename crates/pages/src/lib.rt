@@ -1,6 +1,6 @@
-//! Theorems on pages, of three structures: `Machine.antt` of `specs` says what a run is and what linearizable means, and a file
-//! for each structure what its machine is. Both together cite the standard library alone. In fewer than 2^63 turns no position
-//! and no version comes to its last number, at which a push and a store are refused.
+//! Theorems on pages, of seven structures: `Machine.antt` of `specs` says what a run is and what linearizable means, and a file
+//! for each structure what its machine is. For the two bit sets `Places.antt` says what holds at one place. These files cite
+//! the standard library alone. In fewer than 2^63 turns no position, no version and no count comes to its last number.
 #![tactic(auto)]
 
 ghost use Rattle.std.specs.Prelude.{◌≡◌, ℕ, ◌<◌, ◌^◌, List, length, map, fold, slice_index, ◌-◌};
