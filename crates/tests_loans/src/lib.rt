@@ -6,7 +6,11 @@ mod examples;
 #[cfg(test)]
 mod pool;
 #[cfg(test)]
+mod readers;
+#[cfg(test)]
 mod rooms;
+#[cfg(test)]
+mod sizes;
 #[cfg(test)]
 mod slots;
 #[cfg(test)]

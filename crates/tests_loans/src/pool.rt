@@ -63,13 +63,13 @@ fn comes(rt: &impl Wait, lender: &mut Lender<'_, String>, place: u32) -> Option<
 fn comes_empty(rt: &impl Wait, lender: &mut Lender<'_, String>, place: u32) -> Option<bool> {
     let buffer = lender.acquire(rt).ok()?;
     let is_empty = buffer.place() == place && buffer.value.is_none();
-    Some(is_empty & buffer.give_back().is_none())
+    Some(is_empty & buffer.give_back().is_ok())
 }
 
 /// Whether the place of one buffer comes with its value, and then empty, while another has the other place.
 fn keeps(rt: &impl Wait, lender: &mut Lender<'_, String>, one: Buffer<'_, String>) -> bool {
     let place = one.place();
-    let mut right = one.give_back().is_none();
+    let mut right = one.give_back().is_ok();
     right &= comes(rt, lender, place) == Some(true);
     right & (comes_empty(rt, lender, place) == Some(true))
 }
@@ -80,7 +80,7 @@ fn two_keep(rt: &impl Wait, alloc: Global, lender: &mut Lender<'_, String>) -> O
     let mut right = one.place() != other.place();
     right &= has_none(rt, lender);
     right &= keeps(rt, lender, one);
-    Some(right & other.give_back().is_none())
+    Some(right & other.give_back().is_ok())
 }
 
 /// Each place is taken by one at a time, and what was laid back lies there with its number. After a drop nothing lies
@@ -97,7 +97,7 @@ fn a_buffer_keeps_its_value(rt: HostRuntime) -> Result<(), Fail> {
 fn lays_two(rt: &impl Wait, alloc: Global, lender: &mut Lender<'_, String>) -> Option<u32> {
     let (one, other) = two(rt, alloc, lender)?;
     let place = one.place();
-    let are_laid = one.give_back().is_none() & other.give_back().is_none();
+    let are_laid = one.give_back().is_ok() & other.give_back().is_ok();
     if are_laid { Some(place) } else { None }
 }
 
@@ -125,7 +125,7 @@ fn places_keep_their_own(rt: HostRuntime) -> Result<(), Fail> {
 /// Whether a buffer has so many letters, and can be given back.
 fn has_and_gives_back(buffer: Buffer<'_, String>, letters: u64) -> bool {
     let is_right = has(&buffer, letters);
-    is_right & buffer.give_back().is_none()
+    is_right & buffer.give_back().is_ok()
 }
 
 /// Two threads fill a buffer each.

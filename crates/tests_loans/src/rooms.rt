@@ -92,7 +92,7 @@ fn writes(loan: &mut Loan<'_, String>, text: &str) -> bool {
 /// Sends what was loaned: the answer of the channel. None where the loan is another's.
 fn sends_loan<'a>(sender: &mut Sender<'a, String>, loan: Loan<'a, String>) -> Option<Option<u64>> {
     if sender.is_loaned(&loan) {
-        Some(sender.send(loan))
+        Some(sender.send(loan).map(|back| back.place as u64))
     } else {
         None
     }
@@ -111,8 +111,12 @@ pub fn sends(rt: &impl Wait, sender: &mut Sender<'_, String>, text: &str) -> Opt
 /// Whether a sample is this text, with this number.
 fn is_text(receiver: &Receiver<'_, String>, sample: &Sample, number: u64, text: &str) -> bool {
     match receiver.read(sample) {
-        Some(reading) => reading.number() == number && reading.get().as_str() == text,
-        None => false,
+        Ok(reading) => {
+            sample.number() == number
+                && reading.number() == number
+                && reading.get().as_str() == text
+        }
+        Err(_) => false,
     }
 }
 
@@ -130,11 +134,11 @@ pub fn reads(rt: &impl Wait, receiver: &mut Receiver<'_, String>, number: u64, t
 /// Whether a reading could be forgotten.
 fn forgets(receiver: &Receiver<'_, String>, sample: &Sample) -> bool {
     match receiver.read(sample) {
-        Some(reading) => {
+        Ok(reading) => {
             forget(reading);
             true
         }
-        None => false,
+        Err(_) => false,
     }
 }
 

@@ -5,29 +5,34 @@ use uses_slots::Slots;
 
 /// Whether a slot can be read.
 fn is_readable(slots: &Slots<u64>, slot: u32) -> bool {
-    slots.read(slot).is_some()
+    slots.read(slot).is_ok()
 }
 
 /// Whether a slot can be taken: it is left empty then.
 fn is_takable(slots: &Slots<u64>, slot: u32) -> bool {
-    slots.take(slot).is_some()
+    slots.take(slot).is_ok()
 }
 
 /// The first slot's value, with its number. None where none lies there.
 fn found(slots: &Slots<u64>) -> Option<(u64, u64)> {
-    let reading = slots.read(0)?;
+    let reading = slots.read(0).ok()?;
     Some((reading.number(), *reading.get()))
 }
 
 /// Lays a value into the first slot: what lay there. None where the slot is not to be had.
 fn puts(slots: &Slots<u64>, number: u64, value: u64) -> Option<Option<(u64, u64)>> {
-    let writing = slots.take(0)?;
-    Some(writing.put(number, value))
+    let writing = slots.take(0).ok()?;
+    let (laid, before) = writing.put(number, value);
+    if laid.slot() == 0 && laid.number() == number {
+        Some(before)
+    } else {
+        None
+    }
 }
 
 /// Leaves the first slot empty: what lay there. None where nothing did, or the slot is not to be had.
 fn emptied(slots: &Slots<u64>) -> Option<(u64, u64)> {
-    slots.take(0)?.empty()
+    slots.take(0).ok()?.empty()
 }
 
 /// Whether a value lies in the first slot, and in no other, as soon as it is put there.
@@ -58,7 +63,7 @@ fn a_value_comes_with_its_number(rt: HostRuntime) -> Result<(), Fail> {
 
 /// Whether a slot that is taken can neither be taken nor read. A value is put there.
 fn is_written_alone(slots: &Slots<u64>) -> Option<bool> {
-    let writing = slots.take(0)?;
+    let writing = slots.take(0).ok()?;
     let alone = !is_takable(slots, 0) & !is_readable(slots, 0);
     writing.put(1, 10);
     Some(alone)
@@ -66,7 +71,7 @@ fn is_written_alone(slots: &Slots<u64>) -> Option<bool> {
 
 /// Whether two read the value at once, and the slot cannot be taken until both have ended.
 fn is_read_by_two(slots: &Slots<u64>) -> Option<bool> {
-    let (one, other) = (slots.read(0)?, slots.read(0)?);
+    let (one, other) = (slots.read(0).ok()?, slots.read(0).ok()?);
     let mut right = *one.get() == 10 && *other.get() == 10;
     right &= !is_takable(slots, 0);
     drop(one);
@@ -77,7 +82,7 @@ fn is_read_by_two(slots: &Slots<u64>) -> Option<bool> {
 
 /// Whether a slot that was taken and left is empty, and can be taken.
 fn is_left(slots: &Slots<u64>) -> Option<bool> {
-    drop(slots.take(0)?);
+    drop(slots.take(0).ok()?);
     Some(!is_readable(slots, 0) & is_takable(slots, 0))
 }
 
@@ -93,13 +98,13 @@ fn a_slot_is_read_or_written(rt: HostRuntime) -> Result<(), Fail> {
 
 /// Forgets a reading of the first slot. None where it is not to be had.
 fn forgets_reading(slots: &Slots<u64>) -> Option<()> {
-    forget(slots.read(0)?);
+    forget(slots.read(0).ok()?);
     Some(())
 }
 
 /// The same of a writing.
 fn forgets_writing(slots: &Slots<u64>) -> Option<()> {
-    forget(slots.take(0)?);
+    forget(slots.take(0).ok()?);
     Some(())
 }
 

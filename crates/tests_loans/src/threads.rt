@@ -109,7 +109,7 @@ fn sends_all(rt: &impl Wait, sender: &mut Sender<'_, Note, OwnNumber>) -> bool {
 fn numbers_of(receiver: &Receiver<'_, Note, OwnNumber>, sample: &Sample) -> Option<(u64, u64)>
     ensures { IfSome result (λ r. r.0 ≡ r.1) }
 {
-    let reading = receiver.read(sample)?;
+    let reading = receiver.read(sample).ok()?;
     let note = reading.get();
     if note.text.len() as u64 != note.number % 64 {
         return None;

@@ -131,13 +131,13 @@ fn stays_loaned(
     sample: &Sample,
 ) -> bool {
     match receiver.read(sample) {
-        Some(reading) => {
+        Ok(reading) => {
             let mut right = reading.get().as_str() == "one";
             right &= is_still_read(rt, sender, 0);
             right &= reading.get().as_str() == "one";
             right & !sender.regain(0)
         }
-        None => false,
+        Err(_) => false,
     }
 }
 

@@ -39,7 +39,7 @@ fn fills(alloc: Global, mut buffer: Buffer<'_, Filled, ByNumber>, by: u8) -> boo
         by: by as u64,
         bytes,
     });
-    buffer.give_back().is_none()
+    buffer.give_back().is_ok()
 }
 
 /// What a thread has read: the number that a buffer came with, who has filled it, and what its bytes add up to.

@@ -204,7 +204,7 @@ impl<'a, X: Drop, K: Keeps<X>> Publisher<'a, X, K> {
             Ok(slot) => slot,
             Err(failure) => return Err(LoanFailure::NoSlot(failure)),
         };
-        let Some(writing) = self.records.take(slot) else {
+        let Ok(writing) = self.records.take(slot) else {
             return Err(LoanFailure::StillRead(slot));
         };
         let Some(value) = self.spares.pop() else {
@@ -241,7 +241,8 @@ impl<'a, X: Drop, K: Keeps<X>> Publisher<'a, X, K> {
         let slot = loan.slot;
         let (value, writing) = loan.into_parts();
         let number = self.next;
-        keep(&mut self.spares, writing.put(number, value));
+        let (_, before) = writing.put(number, value);
+        keep(&mut self.spares, before);
         self.next = number.saturating_add(1);
         let gained = send_to_all(&mut self.outlets, &mut self.pool, slot);
         self.pool.put_back(slot as u64, Holder::publisher());
@@ -278,7 +279,7 @@ impl<'a, X: Drop, K: Keeps<X>> Publisher<'a, X, K> {
         if !self.pool.has(slot, Holder::publisher()) {
             return false;
         }
-        let Some(writing) = self.records.take(slot) else {
+        let Ok(writing) = self.records.take(slot) else {
             return false;
         };
         keep(&mut self.spares, writing.empty());

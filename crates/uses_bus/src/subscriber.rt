@@ -155,7 +155,7 @@ impl<'a, X: Drop, K: Keeps<X>> Subscriber<'a, X, K> {
     /// A load and a compare-exchange, again for each time that another subscriber comes to the slot or leaves it in between; and
     /// a subtraction as the reading is dropped. A reading that is forgotten keeps its slot for good (`StillRead`).
     pub fn read(&self, sample: &Sample) -> Option<Reading<'_, X, K>> {
-        self.records.read(sample.slot)
+        self.records.read(sample.slot).ok()
     }
 
     /// Gives a record back: true, since there is room for each slot (by no clause); false only where the queue is full, or at

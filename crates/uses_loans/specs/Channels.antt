@@ -1,9 +1,17 @@
--- What clauses see of a channel: its parts, and how many places it has.
-use Rattle.std.specs.Prelude.{ℕ}
-use Rattle.lock_free.specs.Queues.Rings.{QueueId, queue_id}
-use Rattle.lock_free.specs.UniqueIndexSet.{capacity_of}
+-- What clauses see of a channel: its parts, how many places it has, and what is known of all that went through it.
+use Rattle.std.specs.Prelude.{◌≡◌, ℕ, List}
+use Rattle.lock_free.specs.HistoryView.View.{View}
+use Rattle.lock_free.specs.Queues.Contracts.{HasJoined, HasSplit}
+use Rattle.lock_free.specs.Queues.Overflowing.{HasHistory, MissesNothing}
+use Rattle.lock_free.specs.Queues.Rings.{QueueId, queue_id, queue_of, view}
+use Rattle.lock_free.specs.UniqueIndexSet.{capacity_of, IsPassOf}
 use Rattle.lock_free.specs.declared.mpmc.unique_index_set.UniqueIndexSet.{UniqueIndexSet}
 use Rattle.uses_loans.specs.declared.channel.Channel.{Channel}
+use Rattle.uses_loans.specs.declared.receiver.ReceiverParts.{ReceiverParts}
+use Rattle.uses_loans.specs.declared.sender.SenderParts.{SenderParts}
+use Rattle.uses_loans.specs.declared.words.Layout.{Layout}
+use Rattle.uses_loans.specs.Ends.{received_queue, received_view, sent_queue, sent_view}
+use Rattle.uses_loans.specs.Numbers.{Shape, HasAll}
 use Rattle.uses_slots.specs.declared.Keeps.{Ghosts}
 
 module _ {X K : Type 0} {rule : Ghosts K X} where
@@ -18,3 +26,53 @@ module _ {X K : Type 0} {rule : Ghosts K X} where
 
   abbrev pub places_of : Channel X K rule → ℕ
   places_of c = capacity_of (set_in c)
+
+  -- the number that the next sender begins with
+  abbrev pub next_in : Channel X K rule → ℕ
+  next_in c = c.next
+
+  -- how its words are made
+  abbrev pub layout_of : Channel X K rule → Layout
+  layout_of c = c.layout
+
+  abbrev pub shape_of : Channel X K rule → Shape
+  shape_of c =
+      record { room = (layout_of c).room; places = places_of c; capacity = (submission_in c).capacity }
+
+  -- what it knows of the queue by which values are sent
+  abbrev pub sending_view : Channel X K rule → View ℕ
+  sending_view c = view c.sending
+
+  -- it knows that values of these numbers were sent, came back and were received, and no others
+  abbrev pub HasPassedOn : List ℕ → List ℕ → List ℕ → Channel X K rule → Type 0
+  HasPassedOn sent back received c = HasAll (shape_of c) sent back received (sending_view c)
+
+  -- the parts are passes of its set and its queues
+  abbrev pub IsSenderOf : Channel X K rule → SenderParts → Type 0
+  IsSenderOf c parts =
+      IsPassOf (set_in c) parts.pass × (sent_queue parts ≡ submission_in c) × (queue_of parts.completion ≡ completion_in c)
+
+  abbrev pub IsReceiverOf : Channel X K rule → ReceiverParts → Type 0
+  IsReceiverOf c parts = (received_queue parts ≡ submission_in c) × (queue_of parts.completion ≡ completion_in c)
+
+  -- its parts stay
+  abbrev pub IsSameChannel : Channel X K rule → Channel X K rule → Type 0
+  IsSameChannel old new =
+      (set_in new ≡ set_in old) × (submission_in new ≡ submission_in old) × (completion_in new ≡ completion_in old)
+      × (layout_of new ≡ layout_of old)
+
+  -- Passes were split off for both ends, one after the other.
+  pub record HasOpened (old new : Channel X K rule) (sends : SenderParts) (receives : ReceiverParts) : Type 0 where
+    pub half : View ℕ
+    pub cut : HasSplit (sending_view old) half (sent_view sends)
+    pub again : HasSplit half (sending_view new) (received_view receives)
+    pub next : sends.next ≡ next_in old
+
+  -- The passes of both were taken in again: all that they sent and received is known, and nothing else was.
+  pub record HasRejoined (old new : Channel X K rule) (sends : SenderParts) (receives : ReceiverParts) : Type 0 where
+    pub half : View ℕ
+    pub taken_in : HasJoined (sending_view old) (sent_view sends) half
+    pub both : HasJoined half (received_view receives) (sending_view new)
+    pub history : HasHistory (submission_in old).capacity (sending_view new)
+    pub all : MissesNothing (sending_view new)
+    pub next : next_in new ≡ sends.next

@@ -9,3 +9,4 @@ pub mod error;
 pub mod pool;
 pub mod receiver;
 pub mod sender;
+pub mod words;

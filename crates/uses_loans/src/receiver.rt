@@ -1,24 +1,43 @@
 //! The end of the channel that receives values and reads them.
-ghost use Rattle.std.specs.Prelude.{◌≡◌, ◌<◌, IsTrue, IsFalse, IfSome, IfNone};
+ghost use Rattle.std.specs.Prelude.{◌≡◌, ◌<◌, IsTrue, IsFalse, IfOk, IfErr, IfSome, IfNone, []};
 ghost use Rattle.lock_free.specs.Queues.Item.TheVariants.{Index};
-ghost use Rattle.lock_free.specs.Queues.Rings.{consumer_queue, consumer_view, producer_queue, producer_view};
-ghost use Rattle.lock_free.specs.Queues.Contracts.{PushDone, HasTakenFirst};
-ghost use Rattle.uses_slots.specs.Slots.{slots_in};
+ghost use Rattle.lock_free.specs.Queues.Overflowing.{GoesOn};
+ghost use Rattle.lock_free.specs.Queues.Rings.{consumer_queue, consumer_view, producer_queue, producer_view, queue_of};
+ghost use Rattle.lock_free.specs.Queues.Role.TheVariants as roles;
+ghost use Rattle.lock_free.specs.Queues.Contracts.{HasReleased, PopOldest, PushDone};
+ghost use Rattle.uses_slots.specs.Slots.{number_in, slot_in, slots_in};
 
+use crate::error::ReadFailure;
+use crate::words::Layout;
 use lock_free::spsc::{index_queue, safely_overflowing_index_queue as overflow};
 use std::sync::Wait;
 use uses_slots::{Anything, Keeps, Reading, Slots};
 
-/// A place whose value may be read, until it is given back. It is a number, and may be sent to another thread. One that is
-/// dropped or forgotten leaves its place Sent until its receiver is gone and the sender reclaims, which that of a `Channel`
-/// cannot.
+/// A value that was sent, by its number and its place, which may be read until it is given back. It may be sent to another thread.
+/// One that is dropped or forgotten leaves its place Sent until its receiver is gone and the sender reclaims, which that of a
+/// `Channel` cannot.
 #[derive(Debug, Drop)]
 pub struct Sample {
+    number: u64,
     place: u32,
 }
 
+/// What a receiver is made of, beside the channel: a pass of each queue.
+#[derive(Drop)]
+pub struct ReceiverParts {
+    pub submission: overflow::Pass,
+    pub completion: index_queue::Pass,
+}
+
 impl Sample {
-    ghost use Rattle.uses_loans.specs.Ends.{received};
+    ghost use Rattle.uses_loans.specs.Ends.{number_of, received};
+
+    /// The number that the value was sent with. No atomic step.
+    pub fn number(&self) -> u64
+        ensures { result ≡ number_of self.now }
+    {
+        self.number
+    }
 
     /// The number of the place. No atomic step.
     pub fn place(&self) -> u32
@@ -33,6 +52,8 @@ pub struct Receiver<'a, X: Drop, K: Keeps<X> = Anything> {
     receives: overflow::Consumer<'a>,
     returns: index_queue::Producer<'a>,
     slots: &'a Slots<X, K>,
+    layout: Layout,
+    ghost sized: { layout.places ≡ slots_in slots.now },
 }
 
 impl<'a, X: Drop, K: Keeps<X>> Drop for Receiver<'a, X, K> {
@@ -41,12 +62,15 @@ impl<'a, X: Drop, K: Keeps<X>> Drop for Receiver<'a, X, K> {
             receives: _receives,
             returns: _returns,
             slots: _,
+            layout: _,
         } = self;
     }
 }
 
 impl<'a, X: Drop, K: Keeps<X>> Receiver<'a, X, K> {
-    ghost use Rattle.uses_loans.specs.Ends.{places_in, received, receives_queue, receives_view, returns_queue, returns_view, ReceivedNone, TookNoneBack};
+    ghost use Rattle.uses_loans.specs.Ends.{layout_in, number_of, numbers_of, places_in, received, received_queue, received_view, receives_queue};
+    ghost use Rattle.uses_loans.specs.Ends.{receives_view, returns_queue, returns_view, word_in, HasReceived, HasReceivedAll, IsUnread, KeepsReceives};
+    ghost use Rattle.uses_loans.specs.Ends.{ReceivedNone, TookNoneBack};
 
     /// A receiver of what is sent through the one queue, which gives back through the other. No atomic step.
     pub fn new(
@@ -60,10 +84,30 @@ impl<'a, X: Drop, K: Keeps<X>> Receiver<'a, X, K> {
         ensures returns { (returns_queue result ≡ producer_queue returns.entry)
             × (returns_view result ≡ producer_view returns.entry) }
     {
+        let layout = Layout::new(slots.number());
+        Receiver::of(receives, returns, slots, layout)
+    }
+
+    /// The same, with the way in which the words are made.
+    pub(crate) fn of(
+        receives: overflow::Consumer<'a>,
+        returns: index_queue::Producer<'a>,
+        slots: &'a Slots<X, K>,
+        layout: Layout,
+    ) -> Receiver<'a, X, K>
+        requires { layout.places ≡ slots_in slots.now }
+        ensures places { places_in result ≡ slots_in slots.now }
+        ensures receives { (receives_queue result ≡ consumer_queue receives.entry)
+            × (receives_view result ≡ consumer_view receives.entry) }
+        ensures returns { (returns_queue result ≡ producer_queue returns.entry)
+            × (returns_view result ≡ producer_view returns.entry) }
+        ensures layout { layout_in result ≡ layout }
+    {
         Receiver {
             receives,
             returns,
             slots,
+            layout,
         }
     }
 
@@ -72,29 +116,45 @@ impl<'a, X: Drop, K: Keeps<X>> Receiver<'a, X, K> {
     pub fn receive(&mut self, rt: &impl Wait) -> Option<Sample>
         ensures within { IfSome result (λ s. received s < places_in self.old) }
         ensures oldest { IfSome result
-            (λ s. HasTakenFirst (Index (received s)) (receives_view self.old) (receives_view self.new)) }
+            (λ s. PopOldest (Index (word_in self.old s)) (receives_view self.old) (receives_view self.new)) }
         ensures none { IfNone result (ReceivedNone self.old self.new) }
+        ensures goes { 0 < (receives_queue self.old).capacity
+            → GoesOn (receives_queue self.old).capacity (receives_view self.old) (receives_view self.new) }
+        ensures receives { HasReceived (numbers_of result) self.old self.new }
+        ensures queues { (receives_queue self.new ≡ receives_queue self.old) × (returns_queue self.new ≡ returns_queue self.old) }
         ensures same { places_in self.new ≡ places_in self.old }
     {
-        let number = self.receives.pop(rt)?;
-        if number < self.slots.number() as u64 {
-            Some(Sample {
-                place: number as u32,
-            })
+        let word = self.receives.pop(rt)?;
+        let (number, place) = self.layout.parts(word);
+        if place < self.layout.places() {
+            Some(Sample { number, place })
         } else {
             None
         }
     }
 
-    /// Reads a value that was received, where it lies: its number, and the value that keeps its rule with it. As long as it is
-    /// read, this receiver receives and gives back nothing and is not dropped, since the reading borrows it. None where there is
-    /// no such place, or it is empty or written, or 2^30 - 1 read it already, which of a sample in hand here only tests rule out.
+    /// Reads a value that was received, where it lies: the one that was laid in its place with its number, which keeps its rule. As
+    /// long as it is read, this receiver receives and gives back nothing and is not dropped, since the reading borrows it. Refused
+    /// where the slot is (`Slot`): there is no such place, or its word says that it is empty or written, or that 2^30 - 1 read it;
+    /// and where a value of another number lies there (`Other`). Of a sample in hand here the first is ruled out by clauses
+    /// (`within` of `receive`), and the others by tests alone.
     ///
     /// A load and a compare-exchange, again for each time that another reader comes or leaves, and a subtraction as the reading is
-    /// dropped. A reading that is forgotten keeps its place for
-    /// good (`StillRead`).
-    pub fn read(&self, sample: &Sample) -> Option<Reading<'_, X, K>> {
-        self.slots.read(sample.place)
+    /// dropped. A reading that is forgotten keeps its place for good (`StillRead`).
+    pub fn read(&self, sample: &Sample) -> Result<Reading<'_, X, K>, ReadFailure>
+        ensures sent { IfOk result (λ r. (number_in r ≡ number_of sample.now) × (slot_in r ≡ received sample.now)) }
+        ensures refused { IfErr result (IsUnread self.now sample.now) }
+    {
+        let reading = match self.slots.read(sample.place) {
+            Ok(reading) => reading,
+            Err(failure) => return Err(ReadFailure::Slot(failure)),
+        };
+        let number = reading.number();
+        if number == sample.number {
+            Ok(reading)
+        } else {
+            Err(ReadFailure::Other(number))
+        }
     }
 
     /// Gives a place back: true where the queue has room for each place (by no clause); false only where the queue is full, or at
@@ -104,9 +164,30 @@ impl<'a, X: Drop, K: Keeps<X>> Receiver<'a, X, K> {
         ensures given { IsTrue result
             → PushDone (Index (received sample)) (returns_view self.old) (returns_view self.new) }
         ensures full { IsFalse result → TookNoneBack (received sample) self.old self.new }
+        ensures receives { KeepsReceives self.old self.new }
+        ensures queues { (receives_queue self.new ≡ receives_queue self.old) × (returns_queue self.new ≡ returns_queue self.old) }
         ensures same { places_in self.new ≡ places_in self.old }
     {
-        let Sample { place } = sample;
+        let Sample { number: _, place } = sample;
         self.returns.push(place as u64)
+    }
+
+    /// Hands out the passes of the two queues, for `Channel::relayed`; both roles are free. Two atomic steps.
+    pub fn finish(self) -> ReceiverParts
+        ensures goes { GoesOn (receives_queue self.entry).capacity (receives_view self.entry) (received_view result) }
+        ensures released { HasReleased roles.Consumer (receives_view self.entry) (received_view result) }
+        ensures queues { (received_queue result ≡ receives_queue self.entry) × (queue_of result.completion ≡ returns_queue self.entry) }
+        ensures receives { HasReceivedAll [] self.entry result }
+    {
+        let Receiver {
+            receives,
+            returns,
+            slots: _,
+            layout: _,
+        } = self;
+        ReceiverParts {
+            submission: receives.release(),
+            completion: returns.release(),
+        }
     }
 }

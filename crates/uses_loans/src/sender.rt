@@ -1,19 +1,24 @@
 //! The end of the channel that loans and sends.
 ghost use Rattle.std.specs.Prelude.{◌≡◌, ◌+◌, ◌-◌, ◌^◌, ◌<◌, ◌↔◌, IsTrue, IsFalse, IfOk, IfErr, IfSome, IfNone};
-ghost use Rattle.std.specs.Prelude.{count_by, map, slice_set, vec_len};
+ghost use Rattle.std.specs.Prelude.{[], count_by, map, slice_set, vec_len};
 ghost use Rattle.lock_free.specs.Loan.Contracts.{HasEmptied};
 ghost use Rattle.lock_free.specs.Loan.Places.{is_sent, place_at, reclaimed, returned};
-ghost use Rattle.lock_free.specs.Loan.Sender.{completion_view, pass_view, set_of_sender, submission_of, submission_view, IsLoaned, IsSame};
+ghost use Rattle.lock_free.specs.Loan.Sender.{completion_of, completion_view, pass_view, set_of_sender, submission_of, submission_view, IsLoaned, IsSame};
 ghost use Rattle.lock_free.specs.declared.spsc.loan.places.Place.TheVariants.{Free, Loaned, Sent};
 ghost use Rattle.lock_free.specs.Queues.Item.TheVariants.{Index};
-ghost use Rattle.lock_free.specs.Queues.Overflowing.{consumer_queue, consumer_view, PushAdded, PushHandedBack, SameConsumerByCapacity};
-ghost use Rattle.lock_free.specs.Queues.Contracts.{PopDone, PopEmpty};
+ghost use Rattle.lock_free.specs.Queues.Overflowing.{consumer_queue, consumer_view, GoesOn, PushAdded, SameConsumerByCapacity};
+ghost use Rattle.lock_free.specs.Queues.Contracts.{HasReleased, PopDone, PopEmpty};
+ghost use Rattle.lock_free.specs.Queues.Reading.{published};
+ghost use Rattle.lock_free.specs.Queues.Rings as queues;
+ghost use Rattle.lock_free.specs.Queues.Role.TheVariants as roles;
 ghost use Rattle.lock_free.specs.UniqueIndexSet.{set_of, view};
+ghost use Rattle.uses_slots.specs.Slots.{slots_in, slot_of};
 
 use crate::error::LoanFailure;
+use crate::words::Layout;
 use lock_free::mpmc::unique_index_set::Pass;
 use lock_free::spsc::loan::LoanSender;
-use lock_free::spsc::safely_overflowing_index_queue as overflow;
+use lock_free::spsc::{index_queue, safely_overflowing_index_queue as overflow};
 use std::sync::Wait;
 use uses_slots::{Anything, Keeps, Slots, Writing};
 
@@ -25,6 +30,7 @@ pub struct Loan<'a, X: Drop, K: Keeps<X> = Anything> {
     /// The value, where it is written. It was sent or given up before, or is a spare as the sender was given it.
     pub value: X,
     writing: Writing<'a, X, K>,
+    ghost at: { slot_of writing ≡ place },
 }
 
 impl<'a, X: Drop, K: Keeps<X>> Drop for Loan<'a, X, K> {
@@ -48,7 +54,8 @@ impl<'a, X: Drop, K: Keeps<X>> Loan<'a, X, K> {
     }
 
     fn into_parts(self) -> (X, Writing<'a, X, K>)
-        ensures { result.0 ≡ self.entry.value }
+        ensures value { result.0 ≡ self.entry.value }
+        ensures at { slot_of result.1 ≡ loaned self.entry }
     {
         let Self {
             place: _,
@@ -57,6 +64,22 @@ impl<'a, X: Drop, K: Keeps<X>> Loan<'a, X, K> {
         } = self;
         (value, writing)
     }
+}
+
+/// A value that is not received: its number, and the place that it lay in.
+#[derive(Debug, Clone, Copy, PartialEq, Eq)]
+pub struct Back {
+    pub number: u64,
+    pub place: u32,
+}
+
+/// What a sender is made of, beside the channel: a pass of the set and one of each queue, and the number that comes next.
+#[derive(Drop)]
+pub struct SenderParts {
+    pub pass: Pass,
+    pub submission: overflow::Pass,
+    pub completion: index_queue::Pass,
+    pub next: u64,
 }
 
 /// Keeps what lay in a place, if anything did, to be written again.
@@ -71,6 +94,7 @@ pub struct Sender<'a, X: Drop, K: Keeps<X> = Anything> {
     loans: LoanSender<'a>,
     slots: &'a Slots<X, K>,
     spares: Vec<X>,
+    layout: Layout,
     next: u64,
 }
 
@@ -80,13 +104,15 @@ impl<'a, X: Drop, K: Keeps<X>> Drop for Sender<'a, X, K> {
             loans: _loans,
             slots: _,
             spares: _spares,
+            layout: _,
             next: _,
         } = self;
     }
 }
 
 impl<'a, X: Drop, K: Keeps<X>> Sender<'a, X, K> {
-    ghost use Rattle.uses_loans.specs.Ends.{loaned, next_of, places_of, sender_of, spares_in, IsRefused};
+    ghost use Rattle.uses_loans.specs.Ends.{layout_of, loaned, next_of, numbers_back, places_of, sender_of, sends_queue, sends_view, sent_queue, sent_view};
+    ghost use Rattle.uses_loans.specs.Ends.{slots_of, spares_in, word_next, HandsBack, HasSent, HasSentAll, HasWord, IsRefused, KeepsSends};
 
     /// A sender of values, over slots that are meant to be as many as the set of the `LoanSender` has indices, and with values to
     /// write, which need not keep the rule yet: one more than there are slots, and one more for each further loan that is in hand
@@ -95,12 +121,31 @@ impl<'a, X: Drop, K: Keeps<X>> Sender<'a, X, K> {
         ensures loans { sender_of result ≡ loans.entry }
         ensures spares { spares_in result ≡ vec_len spares }
         ensures next { next_of result ≡ 0 }
+        ensures slots { slots_of result ≡ slots_in slots.now }
+    {
+        let layout = Layout::new(slots.number());
+        Sender::of(loans, slots, spares, layout, 0)
+    }
+
+    /// The same, with the way in which the words are made and the number that comes next.
+    pub(crate) fn of(
+        loans: LoanSender<'a>,
+        slots: &'a Slots<X, K>,
+        spares: Vec<X>,
+        layout: Layout,
+        next: u64,
+    ) -> Sender<'a, X, K>
+        ensures loans { sender_of result ≡ loans.entry }
+        ensures spares { spares_in result ≡ vec_len spares }
+        ensures layout { layout_of result ≡ layout }
+        ensures next { next_of result ≡ next }
     {
         Sender {
             loans,
             slots,
             spares,
-            next: 0,
+            layout,
+            next,
         }
     }
 
@@ -120,6 +165,7 @@ impl<'a, X: Drop, K: Keeps<X>> Sender<'a, X, K> {
         ensures refused { IfErr result (IsRefused self.old self.new) }
         ensures next { next_of self.new ≡ next_of self.old }
         ensures same { IsSame (sender_of self.old) (sender_of self.new) }
+        ensures sends { KeepsSends self.old self.new }
     {
         if self.spares.is_empty() {
             return Err(LoanFailure::NoValue);
@@ -128,7 +174,7 @@ impl<'a, X: Drop, K: Keeps<X>> Sender<'a, X, K> {
             Ok(place) => place,
             Err(failure) => return Err(LoanFailure::NoPlace(failure)),
         };
-        let Some(writing) = self.slots.take(place) else {
+        let Ok(writing) = self.slots.take(place) else {
             return Err(LoanFailure::StillRead(place));
         };
         let Some(value) = self.spares.pop() else {
@@ -150,31 +196,45 @@ impl<'a, X: Drop, K: Keeps<X>> Sender<'a, X, K> {
     }
 
     /// Sends a value, which keeps its rule with the number that comes next: its place is Sent. Where the queue is full, the
-    /// answer is the oldest number that waited, and where it takes none (it has no capacity, or is at its last position) the
-    /// place itself: Free again where it is a place that is Sent, while any other number changes nothing. The numbers of values
-    /// rise by one with each, up to 2^64 - 1.
+    /// answer is the oldest value that waited, and where it takes none (it has no capacity, or is at its last position) the value
+    /// itself: its place is Free again where it is Sent, and else nothing changes. The numbers of values rise by one with each.
+    ///
+    /// A number and a place go into one word, so there are 2^64 numbers divided by the places rounded up to a power of two (at
+    /// least 2). From the one past the last nothing is sent any more (`IsUnsent`): each value comes back at once, its place Free.
     ///
     /// One step on the slot, and those of `LoanSender::send`.
-    pub fn send(&mut self, loan: Loan<'a, X, K>) -> Option<u64>
+    pub fn send(&mut self, loan: Loan<'a, X, K>) -> Option<Back>
         requires fits { K.holds (next_of self.old) loan.value }
         requires loaned { IsLoaned (loaned loan) (sender_of self.old) }
         ensures sent { IfNone result
             (places_of self.new ≡ slice_set (places_of self.old) (loaned loan.entry) Sent) }
         ensures back { IfSome result (λ y. places_of self.new
-            ≡ returned y (slice_set (places_of self.old) (loaned loan.entry) Sent)) }
-        ensures added { IfNone result
-            (PushAdded (loaned loan.entry) (submission_view (sender_of self.old)) (submission_view (sender_of self.new))) }
-        ensures handed_back { IfSome result (λ y. PushHandedBack (submission_of (sender_of self.old)).capacity (loaned loan.entry) y
-            (submission_view (sender_of self.old)) (submission_view (sender_of self.new))) }
-        ensures next { next_of self.old < 2 ^ 64 - 1 → next_of self.new ≡ next_of self.old + 1 }
+            ≡ returned y.place (slice_set (places_of self.old) (loaned loan.entry) Sent)) }
+        ensures added { IfNone result (HasWord self.old (loaned loan.entry)
+            × PushAdded (word_next self.old (loaned loan.entry)) (sends_view self.old) (sends_view self.new)) }
+        ensures handed_back { IfSome result (λ y. HandsBack (loaned loan.entry) y self.old self.new) }
+        ensures goes { HasWord self.old (loaned loan.entry) → 0 < (sends_queue self.old).capacity
+            → GoesOn (sends_queue self.old).capacity (sends_view self.old) (sends_view self.new) }
+        ensures next { HasWord self.old (loaned loan.entry) → next_of self.new ≡ next_of self.old + 1 }
+        ensures sends { HasWord self.old (loaned loan.entry) → HasSent 1 (numbers_back result) self.old self.new }
+        ensures layout { layout_of self.new ≡ layout_of self.old }
         ensures same { IsSame (sender_of self.old) (sender_of self.new) }
     {
         let place = loan.place;
-        let (value, writing) = loan.into_parts();
         let number = self.next;
-        keep(&mut self.spares, writing.put(number, value));
-        self.next = number.saturating_add(1);
-        self.loans.send(place)
+        if !self.layout.has(number, place) {
+            self.give_up(loan);
+            return Some(Back { number, place });
+        }
+        let (value, writing) = loan.into_parts();
+        let (laid, before) = writing.put(number, value);
+        keep(&mut self.spares, before);
+        self.next = number + 1;
+        let word = self.layout.word(&laid);
+        let back = self.loans.send_as(place, word)?;
+        let (number, place) = self.layout.parts(back);
+        self.loans.settle(place as u64);
+        Some(Back { number, place })
     }
 
     /// Gives a loan up: its place is Free, and its value and what lay in its slot are kept to be written again (by no clause). One
@@ -184,6 +244,7 @@ impl<'a, X: Drop, K: Keeps<X>> Sender<'a, X, K> {
         ensures places { places_of self.new ≡ slice_set (places_of self.old) (loaned loan.entry) Free }
         ensures next { next_of self.new ≡ next_of self.old }
         ensures same { IsSame (sender_of self.old) (sender_of self.new) }
+        ensures sends { KeepsSends self.old self.new }
     {
         let place = loan.place;
         let (value, writing) = loan.into_parts();
@@ -202,11 +263,12 @@ impl<'a, X: Drop, K: Keeps<X>> Sender<'a, X, K> {
         ensures refused { IsFalse result → places_of self.new ≡ places_of self.old }
         ensures next { next_of self.new ≡ next_of self.old }
         ensures same { IsSame (sender_of self.old) (sender_of self.new) }
+        ensures sends { KeepsSends self.old self.new }
     {
         if !self.loans.is_loaned(place) {
             return false;
         }
-        let Some(writing) = self.slots.take(place) else {
+        let Ok(writing) = self.slots.take(place) else {
             return false;
         };
         keep(&mut self.spares, writing.empty());
@@ -226,6 +288,7 @@ impl<'a, X: Drop, K: Keeps<X>> Sender<'a, X, K> {
         ensures next { next_of self.new ≡ next_of self.old }
         ensures spares { spares_in self.new ≡ spares_in self.old }
         ensures same { IsSame (sender_of self.old) (sender_of self.new) }
+        ensures sends { KeepsSends self.old self.new }
     {
         self.loans.take_back()
     }
@@ -244,6 +307,7 @@ impl<'a, X: Drop, K: Keeps<X>> Sender<'a, X, K> {
         ensures next { next_of self.new ≡ next_of self.old }
         ensures spares { spares_in self.new ≡ spares_in self.old }
         ensures same { IsSame (sender_of self.old) (sender_of self.new) }
+        ensures sends { KeepsSends self.old self.new }
     {
         self.loans.reclaim(rt, receiver)
     }
@@ -266,8 +330,39 @@ impl<'a, X: Drop, K: Keeps<X>> Sender<'a, X, K> {
             loans,
             slots: _,
             spares,
+            layout: _,
             next: _,
         } = self;
         (loans.finish(), spares)
+    }
+
+    /// The same, with the passes of both queues and the number that comes next, for `Channel::relayed`.
+    pub fn finish_all(self) -> (SenderParts, Vec<X>)
+        ensures view { view result.0.pass ≡ pass_view (sender_of self.entry) }
+        ensures set { set_of result.0.pass ≡ set_of_sender (sender_of self.entry) }
+        ensures goes { GoesOn (sends_queue self.entry).capacity (sends_view self.entry) (sent_view result.0) }
+        ensures released { HasReleased roles.Producer (sends_view self.entry) (sent_view result.0) }
+        ensures list { published (sent_view result.0).seen ≡ published (sends_view self.entry).seen }
+        ensures queues { (sent_queue result.0 ≡ sends_queue self.entry)
+            × (queues.queue_of result.0.completion ≡ completion_of (sender_of self.entry)) }
+        ensures sends { HasSentAll 0 [] self.entry result.0 }
+        ensures next { result.0.next ≡ next_of self.entry }
+        ensures spares { vec_len result.1 ≡ spares_in self.entry }
+    {
+        let Sender {
+            loans,
+            slots: _,
+            spares,
+            layout: _,
+            next,
+        } = self;
+        let (pass, producer, consumer) = loans.into_parts();
+        let parts = SenderParts {
+            pass,
+            submission: producer.release(),
+            completion: consumer.release(),
+            next,
+        };
+        (parts, spares)
     }
 }

@@ -1,9 +1,16 @@
 -- What clauses see of slots.
-use Rattle.std.specs.Prelude.{ℕ, Option, Some, None}
+use Rattle.std.specs.Prelude.{◌≡◌, ◌≢◌, ◌⊎◌, ℕ, ◌-◌, ◌^◌, ◌%◌, ◌≤◌, Option, Some, None}
+use Rattle.counted_slot.specs.Counting.{readers}
+use Rattle.uses_slots.specs.declared.error.ReadFailure.{ReadFailure}
+use Rattle.uses_slots.specs.declared.error.ReadFailure.TheVariants as reads
+use Rattle.uses_slots.specs.declared.error.TakeFailure.{TakeFailure}
+use Rattle.uses_slots.specs.declared.error.TakeFailure.TheVariants as takes
 use Rattle.uses_slots.specs.declared.Keeps.{Ghosts}
 use Rattle.uses_slots.specs.declared.Kept.{Kept}
+use Rattle.uses_slots.specs.declared.Laid.{Laid}
 use Rattle.uses_slots.specs.declared.Reading.{Reading}
 use Rattle.uses_slots.specs.declared.Slots.{Slots}
+use Rattle.uses_slots.specs.declared.Writing.{Writing}
 
 -- the number that a value lies there with
 abbrev pub number_of : {X K : Type 0} → Option (Option (Kept X K)) → ℕ
@@ -18,3 +25,31 @@ number_in reading = number_of reading.claim.value
 -- how many slots there are
 abbrev pub slots_in : {X K : Type 0} {rule : Ghosts K X} → Slots X K rule → ℕ
 slots_in slots = slots.number
+
+-- the slot that is read, and the one that is written
+abbrev pub slot_in : {X K : Type 0} → Reading X K → ℕ
+slot_in reading = reading.claim.tag
+
+abbrev pub slot_of : {X K : Type 0} → Writing X K → ℕ
+slot_of writing = writing.claim.tag
+
+-- the slot that a value was laid into, and the number that it was laid there with
+abbrev pub laid_slot : Laid → ℕ
+laid_slot laid = laid.slot
+
+abbrev pub laid_number : Laid → ℕ
+laid_number laid = laid.number
+
+-- why a slot is not read: there is none, or its word says that no value lies there, or that 2^30 - 1 read it; or it changed in
+-- each of 2^64 - 1 tries
+abbrev pub IsUnreadable : {X K : Type 0} {rule : Ghosts K X} → Slots X K rule → ℕ → ReadFailure → Type 0
+IsUnreadable slots slot reads.NoSlot = slots_in slots ≤ slot
+IsUnreadable slots slot (reads.NotThere word) = word % 4 ≢ 1
+IsUnreadable slots slot (reads.TooMany word) = readers word ≡ 2 ^ 30 - 1
+IsUnreadable slots slot (reads.Busy tries) = tries ≡ 2 ^ 64 - 1
+
+-- why a slot is not to be written: there is none, or its word says that it is written or read, or it changed
+abbrev pub IsUntaken : {X K : Type 0} {rule : Ghosts K X} → Slots X K rule → ℕ → TakeFailure → Type 0
+IsUntaken slots slot takes.NoSlot = slots_in slots ≤ slot
+IsUntaken slots slot (takes.InUse word) = (word % 4 ≡ 3) ⊎ (readers word ≢ 0)
+IsUntaken slots slot (takes.Changed seen found) = found ≢ seen

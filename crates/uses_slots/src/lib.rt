@@ -3,10 +3,14 @@
 //! the fact of the user's rule about both, which whoever laid them there has shown.
 #![tactic(auto)]
 
-ghost use Rattle.std.specs.Prelude.{◌≡◌, ℕ, ◌<◌, ◌-◌, ◌%◌, ◌≤◌, vec_len, IsSome, IsSomeAnd, IfOk, IfSome};
+pub mod error;
+
+ghost use Rattle.std.specs.Prelude.{◌≡◌, ℕ, ◌<◌, ◌-◌, ◌%◌, ◌≤◌, IsSome, IsSomeAnd, IfOk, IfErr, IfSome};
+ghost use Rattle.std.specs.List.{range_with_len};
 ghost use Rattle.std.proofs.Props.{props};
 ghost use Rattle.counted_slot.specs.Counting.{readers};
 
+use crate::error::{ReadFailure, TakeFailure};
 use counted_slot::{Claim, Counted, FREE, Fits, MOST_READERS, ONE_READER, PRESENT, TAKEN};
 use std::alloc::{AllocError, Global};
 use std::marker::PhantomData;
@@ -33,7 +37,8 @@ pub struct Kept<X, K: Keeps<X>> {
 }
 
 impl<X, K: Keeps<X>> Fits for Kept<X, K> {
-    type Tag = ();
+    /// The slot that it lies in.
+    type Tag = u32;
 
     ghost fits = { λ _ k. K.holds k.number k.value };
 }
@@ -43,10 +48,10 @@ impl<X, K: Keeps<X>> Fits for Kept<X, K> {
 ///
 /// A slot may be read by many at once, or written by one. A value lies in its slot until another is laid there, the slot is
 /// left empty, or all slots are dropped.
-pub struct Slots<X: Drop, K: Keeps<X> = Anything> {
+pub struct Slots<X, K: Keeps<X> = Anything> {
     cells: Vec<Counted<Option<Kept<X, K>>>>,
     number: u32,
-    ghost sized: { vec_len cells ≡ number },
+    ghost numbered: { cells.items ≡ range_with_len 0 number },
 }
 
 impl<X: Drop, K: Keeps<X>> Drop for Slots<X, K> {
@@ -72,9 +77,18 @@ pub struct Reading<'a, X, K: Keeps<X> = Anything> {
 /// leaves the slot empty and drops what lay there, by one atomic step.
 ///
 /// Where one is forgotten (`std::mem::forget`), its slot is never read or written again.
-pub struct Writing<'a, X: Drop, K: Keeps<X> = Anything> {
+pub struct Writing<'a, X, K: Keeps<X> = Anything> {
+    slot: u32,
     claim: Claim<'a, Option<Kept<X, K>>>,
     ghost writes: { claim.right ≡ 2 },
+    ghost at: { claim.tag ≡ slot },
+}
+
+/// That a value was laid into a slot with a number. Only `put` makes one, so what asks for it comes after that.
+#[derive(Debug, Drop)]
+pub struct Laid {
+    slot: u32,
+    number: u64,
 }
 
 impl<'a, X, K: Keeps<X>> Reading<'a, X, K> {
@@ -108,23 +122,46 @@ impl<'a, X, K: Keeps<X>> Drop for Reading<'a, X, K> {
     }
 }
 
-impl<'a, X: Drop, K: Keeps<X>> Writing<'a, X, K> {
+// X need not be `Drop` here, so no value can be dropped: what is passed is laid down, and what lay there is handed out.
+impl<'a, X, K: Keeps<X>> Writing<'a, X, K> {
+    ghost use Rattle.uses_slots.specs.Slots.{laid_number, laid_slot, slot_of};
+
     /// Lays a value there with its number, which may be read from now on, and hands out those that lay there, if any did. One
     /// atomic step.
-    pub fn put(self, number: u64, value: X) -> Option<(u64, X)>
+    pub fn put(self, number: u64, value: X) -> (Laid, Option<(u64, X)>)
         requires fits { K.holds number value }
-        ensures fits { IfSome result (λ r. K.holds r.0 r.1) }
+        ensures laid { (laid_slot result.0 ≡ slot_of self.entry) × (laid_number result.0 ≡ number) }
+        ensures fits { IfSome result.1 (λ r. K.holds r.0 r.1) }
     {
-        let Self { claim } = self;
-        value_of(claim.put(Some(with_rule(number, value)), PRESENT))
+        let Self { slot, claim } = self;
+        let before = value_of(claim.put(Some(with_rule(number, value)), PRESENT));
+        (Laid { slot, number }, before)
     }
 
     /// Leaves the slot empty, and hands out what lay there with its number, if anything did. One atomic step.
     pub fn empty(self) -> Option<(u64, X)>
         ensures fits { IfSome result (λ r. K.holds r.0 r.1) }
     {
-        let Self { claim } = self;
+        let Self { slot: _, claim } = self;
         value_of(claim.put(None, FREE))
+    }
+}
+
+impl Laid {
+    ghost use Rattle.uses_slots.specs.Slots.{laid_number, laid_slot};
+
+    /// The slot. No atomic step.
+    pub fn slot(&self) -> u32
+        ensures { result ≡ laid_slot self.now }
+    {
+        self.slot
+    }
+
+    /// The number. No atomic step.
+    pub fn number(&self) -> u64
+        ensures { result ≡ laid_number self.now }
+    {
+        self.number
     }
 }
 
@@ -145,7 +182,7 @@ fn with_rule<X, K: Keeps<X>>(number: u64, value: X) -> Kept<X, K>
     }
 }
 
-fn value_of<X: Drop, K: Keeps<X>>(kept: Option<Kept<X, K>>) -> Option<(u64, X)>
+fn value_of<X, K: Keeps<X>>(kept: Option<Kept<X, K>>) -> Option<(u64, X)>
     requires { IfSome kept (λ k. K.holds k.number k.value) }
     ensures { IfSome result (λ r. K.holds r.0 r.1) }
 {
@@ -175,11 +212,15 @@ impl<X: Drop, K: Keeps<X>> Slots<X, K> {
         ensures slots { IfOk result (λ s. slots_in s ≡ number) }
     {
         let mut cells = Vec::with_capacity(alloc, number as usize)?;
-        for _ in 0..number {
-            cells.push(Counted::new(None, &()))?;
+        for slot in 0..number {
+            cells.push(Counted::new(None, &slot))?;
         }
         Ok(Slots { cells, number })
     }
+}
+
+impl<X, K: Keeps<X>> Slots<X, K> {
+    ghost use Rattle.uses_slots.specs.Slots.{slot_in, slot_of, slots_in, IsUnreadable, IsUntaken};
 
     /// How many slots there are. No atomic step.
     pub fn number(&self) -> u32
@@ -188,46 +229,63 @@ impl<X: Drop, K: Keeps<X>> Slots<X, K> {
         self.number
     }
 
-    /// Reads a slot's value. None where there is no such slot, where it is empty or somebody writes it, or where 2^30 - 1 read
-    /// it already; then nothing changes. That it is Some otherwise, tests say and no clause does.
+    /// Reads the value of this slot. Refused where there is no such slot (`NoSlot`), where the word says that it is empty or
+    /// written (`NotThere`) or that 2^30 - 1 read it already (`TooMany`), and where it changed between the two steps of each of
+    /// 2^64 - 1 tries (`Busy`). Then nothing changes.
     ///
     /// A load and a compare-exchange where nobody comes to the slot or leaves it in between, and two more for each time that
     /// somebody does.
-    pub fn read(&self, slot: u32) -> Option<Reading<'_, X, K>> {
-        let cell: &Counted<Option<Kept<X, K>>> = self.cells.get(slot as usize)?;
+    pub fn read(&self, slot: u32) -> Result<Reading<'_, X, K>, ReadFailure>
+        ensures slot { IfOk result (λ r. (slot_in r ≡ slot) × (slot < slots_in self.now)) }
+        ensures refused { IfErr result (IsUnreadable self.now slot) }
+    {
+        let Some(cell) = self.cells.get(slot as usize) else {
+            return Err(ReadFailure::NoSlot);
+        };
+        let cell: &Counted<Option<Kept<X, K>>> = cell;
         for _ in 0..u64::MAX {
             let seen = cell.load();
-            if seen % 4 != PRESENT || reader_count(seen) == MOST_READERS {
-                return None;
+            if seen % 4 != PRESENT {
+                return Err(ReadFailure::NotThere(seen));
+            }
+            if reader_count(seen) == MOST_READERS {
+                return Err(ReadFailure::TooMany(seen));
             }
             let (found, claim) = cell.turn(seen, seen + ONE_READER);
-            if found == seen {
-                if claim.get().is_some() {
-                    return Some(Reading { claim });
-                }
-                claim.leave();
-                return None;
+            if found != seen {
+                claim.done();
+                continue;
             }
-            claim.done();
+            if claim.get().is_some() {
+                return Ok(Reading { claim });
+            }
+            // (no call leaves a slot PRESENT and empty)
+            claim.leave();
         }
-        None
+        Err(ReadFailure::Busy(u64::MAX))
     }
 
-    /// The right to write a slot. None where there is no such slot, or where somebody reads or writes it, or came to it between
-    /// the two steps; then nothing changes. That it is Some otherwise, tests say and no clause does.
+    /// The right to write this slot. Refused where there is no such slot (`NoSlot`), where the word says that somebody reads or
+    /// writes it (`InUse`), and where it changed between the two steps (`Changed`). Then nothing changes.
     ///
     /// A load and at most one compare-exchange.
-    pub fn take(&self, slot: u32) -> Option<Writing<'_, X, K>> {
-        let cell: &Counted<Option<Kept<X, K>>> = self.cells.get(slot as usize)?;
+    pub fn take(&self, slot: u32) -> Result<Writing<'_, X, K>, TakeFailure>
+        ensures slot { IfOk result (λ w. (slot_of w ≡ slot) × (slot < slots_in self.now)) }
+        ensures refused { IfErr result (IsUntaken self.now slot) }
+    {
+        let Some(cell) = self.cells.get(slot as usize) else {
+            return Err(TakeFailure::NoSlot);
+        };
+        let cell: &Counted<Option<Kept<X, K>>> = cell;
         let seen = cell.load();
         if seen % 4 == TAKEN || reader_count(seen) != 0 {
-            return None;
+            return Err(TakeFailure::InUse(seen));
         }
         let (found, claim) = cell.turn(seen, seen - seen % 4 + TAKEN);
         if found != seen {
             claim.done();
-            return None;
+            return Err(TakeFailure::Changed(seen, found));
         }
-        Some(Writing { claim })
+        Ok(Writing { slot, claim })
     }
 }

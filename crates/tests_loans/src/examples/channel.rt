@@ -24,7 +24,7 @@ fn send(rt: &impl Wait, sender: &mut Sender<'_, Vec<u8>>) -> u8 {
 fn receive(rt: &impl Wait, receiver: &mut Receiver<'_, Vec<u8>>) -> Option<u8> {
     for _ in rt.forever() {
         if let Some(sample) = receiver.receive(rt) {
-            let first = *receiver.read(&sample)?.get().first()?;
+            let first = *receiver.read(&sample).ok()?.get().first()?;
             receiver.give_back(sample);
             if first == 9 {
                 return Some(first);

@@ -15,7 +15,7 @@ fn fill(rt: &impl Wait, alloc: Global, lender: &mut Lender<'_, Vec<u8>>, byte: u
         Some(bytes) => bytes.fill(byte),
         None => buffer.value = vec![in alloc; byte; 4096].ok(),
     }
-    buffer.give_back().is_none()
+    buffer.give_back().is_ok()
 }
 
 /// Takes a buffer, and returns the first byte that lies there. It is dropped here, and its place is empty then.

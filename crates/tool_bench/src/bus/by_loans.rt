@@ -62,7 +62,7 @@ impl<'a> Writer for Sends<'a> {
 /// The sum of the words of a record.
 #[inline(always)]
 fn sum_of(receiver: &Receiver<'_, Vec<u64>>, sample: &Sample) -> Option<u64> {
-    let reading = receiver.read(sample)?;
+    let reading = receiver.read(sample).ok()?;
     let mut sum = 0u64;
     for word in reading.get().iter() {
         sum = sum.wrapping_add(*word);

@@ -97,7 +97,7 @@ impl<'a> Uses for UsesPool<'a> {
         if let Some(stop) = stop {
             stop.sleep(rt);
         }
-        buffer.give_back().is_none()
+        buffer.give_back().is_ok()
     }
 }
 

@@ -1,0 +1,30 @@
+//! Two threads that read one slot at once.
+use std::test::Fail;
+use std::thread;
+use uses_slots::Slots;
+
+/// How often each of them reads.
+const TIMES: u64 = 300_000;
+
+/// Whether each reading finds the value, though another reader comes and leaves between the steps of a read.
+fn reads_always(slots: &Slots<u64>) -> bool {
+    for _ in 0..TIMES {
+        match slots.read(0) {
+            Ok(reading) if *reading.get() == 7 => {}
+            _ => return false,
+        }
+    }
+    true
+}
+
+#[test]
+fn readers_do_not_refuse_each_other(rt: HostRuntime) -> Result<(), Fail> {
+    let slots: Slots<u64> = Slots::new(rt.alloc(), 1)?;
+    let Ok(writing) = slots.take(0) else {
+        return Err(Fail::from("not to be had"));
+    };
+    writing.put(1, 7);
+    let both = thread::join(&rt, || reads_always(&slots), || reads_always(&slots));
+    assert!(rt; both == (true, true));
+    Ok(())
+}

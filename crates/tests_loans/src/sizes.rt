@@ -1,0 +1,256 @@
+//! Slots, channels and pools of more places than fit into one word of bits.
+use std::alloc::Global;
+use std::sync::Wait;
+use std::test::Fail;
+use uses_loans::channel::Channel;
+use uses_loans::error::PoolFailure;
+use uses_loans::pool::{Buffer, Lender, Pool};
+use uses_loans::receiver::{Receiver, Sample};
+use uses_loans::sender::Sender;
+use uses_slots::Slots;
+use uses_slots::error::{ReadFailure, TakeFailure};
+
+// ---- slots
+
+/// What is laid into a slot.
+fn of_slot(slot: u32) -> u64 {
+    slot as u64 * 3 + 1
+}
+
+/// Lays a value into a slot in which nothing lies.
+fn lays(slots: &Slots<u64>, slot: u32) -> bool {
+    let Ok(writing) = slots.take(slot) else {
+        return false;
+    };
+    let (laid, before) = writing.put(slot as u64, of_slot(slot));
+    before.is_none() && laid.slot() == slot && laid.number() == slot as u64
+}
+
+/// Whether its own value lies in a slot.
+fn has_own(slots: &Slots<u64>, slot: u32) -> bool {
+    let Ok(reading) = slots.read(slot) else {
+        return false;
+    };
+    reading.number() == slot as u64 && *reading.get() == of_slot(slot)
+}
+
+/// Whether its own value comes out of a slot, in which nothing lies then.
+fn gives_own(slots: &Slots<u64>, slot: u32) -> bool {
+    let Ok(writing) = slots.take(slot) else {
+        return false;
+    };
+    writing.empty() == Some((slot as u64, of_slot(slot)))
+        && matches!(&slots.read(slot), Err(ReadFailure::NotThere(_)))
+}
+
+/// Whether a slot past the last is neither read nor written.
+fn is_past(slots: &Slots<u64>, slot: u32) -> bool {
+    matches!(&slots.read(slot), Err(ReadFailure::NoSlot))
+        && matches!(&slots.take(slot), Err(TakeFailure::NoSlot))
+}
+
+/// Whether each slot of so many keeps its own value.
+fn all_keep(slots: &Slots<u64>, number: u32) -> bool {
+    let mut right = is_past(slots, number);
+    for slot in 0..number {
+        right &= lays(slots, slot);
+    }
+    for slot in 0..number {
+        right &= has_own(slots, slot);
+    }
+    for slot in 0..number {
+        right &= gives_own(slots, slot);
+    }
+    right
+}
+
+#[test]
+fn each_slot_keeps_its_value(rt: HostRuntime) -> Result<(), Fail> {
+    for number in [64, 65, 300, 5_000] {
+        let slots: Slots<u64> = Slots::new(rt.alloc(), number)?;
+        assert!(rt; all_keep(&slots, number));
+    }
+    Ok(())
+}
+
+// ---- channels
+
+/// Sends a value of the next number. False where it comes back.
+fn sends(rt: &impl Wait, sender: &mut Sender<'_, u64>) -> bool {
+    let number = sender.next_number();
+    let Ok(mut loan) = sender.loan(rt) else {
+        return false;
+    };
+    loan.value = number.wrapping_mul(3);
+    sender.is_loaned(&loan) && sender.send(loan).is_none()
+}
+
+/// The next sample, if it has this number and can be read.
+fn comes(rt: &impl Wait, receiver: &mut Receiver<'_, u64>, number: u64) -> Option<Sample> {
+    let sample = receiver.receive(rt)?;
+    let is_right = match receiver.read(&sample) {
+        Ok(reading) => { reading.number() == number && *reading.get() == number.wrapping_mul(3) }
+        Err(_) => false,
+    };
+    if is_right && sample.number() == number {
+        Some(sample)
+    } else {
+        None
+    }
+}
+
+/// Fills all places with values from this number on, receives them all while none is given back, and then gives them back.
+fn goes_round(
+    rt: &impl Wait,
+    alloc: Global,
+    sender: &mut Sender<'_, u64>,
+    receiver: &mut Receiver<'_, u64>,
+    places: u64,
+    first: u64,
+) -> Option<bool> {
+    let mut right = true;
+    for _ in 0..places {
+        right &= sends(rt, sender);
+    }
+    right &= !sends(rt, sender);
+    let mut samples = Vec::new(alloc);
+    for at in 0..places {
+        samples
+            .push(comes(rt, receiver, first.wrapping_add(at))?)
+            .ok()?;
+    }
+    right &= receiver.receive(rt).is_none();
+    for sample in samples {
+        right &= receiver.give_back(sample);
+    }
+    for _ in 0..places {
+        right &= sender.take_back().is_some();
+    }
+    Some(right & sender.take_back().is_none())
+}
+
+/// Two rounds through a channel of so many places.
+fn through(rt: &impl Wait, alloc: Global, places: u32) -> Option<bool> {
+    let mut channel: Channel<u64> = Channel::new(alloc, places as usize, places as usize).ok()?;
+    let mut spares = Vec::new(alloc);
+    for _ in 0..places {
+        spares.push(0u64).ok()?;
+    }
+    spares.push(0u64).ok()?;
+    let (mut sender, mut receiver) = channel.ends(alloc, spares)?;
+    let many = places as u64;
+    let one = goes_round(rt, alloc, &mut sender, &mut receiver, many, 0)?;
+    let other = goes_round(rt, alloc, &mut sender, &mut receiver, many, many)?;
+    Some(one & other)
+}
+
+#[test]
+fn all_places_are_used(rt: HostRuntime) -> Result<(), Fail> {
+    for places in [1, 9, 64, 65, 100, 300] {
+        assert!(rt; through(&rt, rt.alloc(), places) == Some(true));
+    }
+    Ok(())
+}
+
+/// The value that waits, after which none does.
+fn last_one(rt: &impl Wait, receiver: &mut Receiver<'_, u64>, number: u64) -> bool {
+    match comes(rt, receiver, number) {
+        Some(sample) => receiver.give_back(sample) & receiver.receive(rt).is_none(),
+        None => false,
+    }
+}
+
+/// Sends two values by the ends of a channel, of which one is received, and hands their parts in: whether both came through, and
+/// the numbers went on from this one.
+fn in_turn(rt: &impl Wait, alloc: Global, channel: &mut Channel<u64>, first: u64) -> Option<bool> {
+    let (sends_of, receives_of) = channel.open()?;
+    let spares = vec![in alloc; 0u64; 10].ok()?;
+    let (mut sender, mut receiver) = channel.ends_with(alloc, spares, sends_of, receives_of)?;
+    let mut right = sender.next_number() == first;
+    right &= sends(rt, &mut sender);
+    right &= sends(rt, &mut sender);
+    // (the second one of the ends before waits first)
+    if first > 0 {
+        let before = comes(rt, &mut receiver, first.wrapping_sub(1))?;
+        right &= receiver.give_back(before);
+    }
+    let sample = comes(rt, &mut receiver, first)?;
+    right &= receiver.give_back(sample);
+    let (left, _) = sender.finish_all();
+    let other = receiver.finish();
+    channel.relayed(left, other);
+    Some(right)
+}
+
+/// Numbers go on with the next ends of a channel, and what waited comes with its own.
+fn goes_on(rt: &impl Wait, alloc: Global) -> Option<bool> {
+    let mut channel: Channel<u64> = Channel::new(alloc, 9, 9).ok()?;
+    let mut right = true;
+    for at in 0..4u64 {
+        right &= in_turn(rt, alloc, &mut channel, at.wrapping_mul(2))?;
+    }
+    let (sends_of, receives_of) = channel.open()?;
+    let (_sender, mut receiver) = channel.ends_with(alloc, Vec::new(alloc), sends_of, receives_of)?;
+    Some(right & last_one(rt, &mut receiver, 7))
+}
+
+#[test]
+fn numbers_go_on(rt: HostRuntime) -> Result<(), Fail> {
+    assert!(rt; goes_on(&rt, rt.alloc()) == Some(true));
+    Ok(())
+}
+
+// ---- pools
+
+/// Takes all places, and lays in each what `of_slot` says of it.
+fn fills_all(
+    rt: &impl Wait,
+    alloc: Global,
+    lender: &mut Lender<'_, u64>,
+    places: u32,
+) -> Option<bool> {
+    let mut buffers = Vec::new(alloc);
+    for _ in 0..places {
+        let mut buffer = lender.acquire(rt).ok()?;
+        buffer.number = buffer.place() as u64;
+        buffer.value = Some(of_slot(buffer.place()));
+        buffers.push(buffer).ok()?;
+    }
+    let mut right = matches!(&lender.acquire(rt), Err(PoolFailure::NoPlace(_)));
+    for buffer in buffers {
+        let place = buffer.place();
+        right &=
+            matches!(&buffer.give_back(), Ok(Some(laid)) if laid.slot() == place && laid.number() == place as u64);
+    }
+    Some(right)
+}
+
+/// Whether a buffer has what lay in its place, and can be given back.
+fn is_own(buffer: Buffer<'_, u64>) -> bool {
+    let is_right = buffer.number == buffer.place() as u64
+        && buffer.value == Some(of_slot(buffer.place()));
+    is_right & buffer.give_back().is_ok()
+}
+
+/// Whether each place of a pool of so many keeps its own value.
+fn keep_own(rt: &impl Wait, alloc: Global, places: u32) -> Option<bool> {
+    let mut pool: Pool<u64> = Pool::new(alloc, places as usize).ok()?;
+    let mut lender = pool.lender()?;
+    let mut right = fills_all(rt, alloc, &mut lender, places)?;
+    let mut buffers = Vec::new(alloc);
+    for _ in 0..places {
+        buffers.push(lender.acquire(rt).ok()?).ok()?;
+    }
+    for buffer in buffers {
+        right &= is_own(buffer);
+    }
+    Some(right)
+}
+
+#[test]
+fn each_place_of_a_pool_keeps_its_value(rt: HostRuntime) -> Result<(), Fail> {
+    for places in [5, 64, 65, 1_000] {
+        assert!(rt; keep_own(&rt, rt.alloc(), places) == Some(true));
+    }
+    Ok(())
+}

@@ -1,0 +1,6 @@
+pub mod Ends
+pub mod Merged
+pub mod Numbers
+mod Places
+pub mod Relayed
+mod Shares

@@ -1,0 +1,10 @@
+-- What goes through the submission queue: a value's number and its place, as one number. `room` is a power of two that no place
+-- reaches.
+use Rattle.std.specs.Prelude.{ℕ, ◌+◌, ◌*◌, ◌^◌, ◌<◌}
+
+abbrev pub word_of : ℕ → ℕ → ℕ → ℕ
+word_of room number place = number * room + place
+
+-- there is such a place, and the number is not past the last one
+abbrev pub IsWord : ℕ → ℕ → ℕ → ℕ → Type 0
+IsWord room places number place = (place < places) × (word_of room number place < 2 ^ 64)

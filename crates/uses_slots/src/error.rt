@@ -1,0 +1,26 @@
+//! Why a slot is not read, or not to be written.
+use thiserror::Error;
+
+/// Why a slot is not read, with the word that said so.
+#[derive(Debug, Drop, Error)]
+pub enum ReadFailure {
+    #[error("no such slot")]
+    NoSlot,
+    #[error("it is empty or written: word {0}")]
+    NotThere(u64),
+    #[error("no further reader can be counted: word {0}")]
+    TooMany(u64),
+    #[error("it changed between the steps of {0} tries")]
+    Busy(u64),
+}
+
+/// Why a slot is not to be written, with the words that said so.
+#[derive(Debug, Drop, Error)]
+pub enum TakeFailure {
+    #[error("no such slot")]
+    NoSlot,
+    #[error("it is read or written: word {0}")]
+    InUse(u64),
+    #[error("it changed from word {0} to word {1}")]
+    Changed(u64, u64),
+}
