@@ -8,7 +8,8 @@ use Rattle.model.specs.declared.event.Item.TheVariants.{Index}
 use Rattle.lock_free_queues.specs.Queues.Contracts.{HasAcquired, HasPopped, HasReleased}
 use Rattle.model.specs.Families.Queues.Reading.{published}
 use Rattle.steps.specs.declared.queues.roles.Role.TheVariants as roles
-use Rattle.lock_free_queues.specs.Queues.Overflowing.{GoesOn, PushAdded, PushHandedBack}
+use Rattle.history.specs.Passes.{Goes}
+use Rattle.lock_free_queues.specs.Queues.Overflowing.{PushAdded, PushHandedBack}
 use Rattle.lock_free_queues.specs.Queues.Rings.{QueueId}
 use Rattle.history.specs.declared.view.View.{View}
 use Rattle.uses_loans.specs.declared.channel.Channel.{Channel}
@@ -52,7 +53,7 @@ module _ {X K : Type 0} {rule : Ghosts K X} where
   pub sent_one : (place word : ℕ) (answer : Option Back) (old new : Sender X K rule) → answer ≡ None → HasWord old place
       → slots_of old ≤ (layout_of old).room → IsSame (sender_of old) (sender_of new) → layout_of new ≡ layout_of old
       → next_of new ≡ next_of old + 1
-      → (0 < (sends_queue old).capacity → GoesOn (sends_queue old).capacity (sends_view old) (sends_view new))
+      → (0 < (sends_queue old).capacity → Goes (sends_view old) (sends_view new))
       → word ≡ word_next old place → PushAdded word (sends_view old) (sends_view new) → HasSent 1 (numbers_back answer) old new
   sent_one place word answer old new none has fits same layout next goes is p =
       record {
@@ -68,7 +69,7 @@ module _ {X K : Type 0} {rule : Ghosts K X} where
 
   pub sent_back : (place word other at back : ℕ) (old new : Sender X K rule) → HasWord old place → slots_of old ≤ (layout_of old).room
       → at < (layout_of old).room → IsSame (sender_of old) (sender_of new) → layout_of new ≡ layout_of old → next_of new ≡ next_of old + 1
-      → (0 < (sends_queue old).capacity → GoesOn (sends_queue old).capacity (sends_view old) (sends_view new))
+      → (0 < (sends_queue old).capacity → Goes (sends_view old) (sends_view new))
       → word ≡ word_next old place → word_of (layout_of old).room other at ≡ back
       → PushHandedBack (sends_queue old).capacity word back (sends_view old) (sends_view new) → HasSent 1 (other ∷ []) old new
   sent_back place word other at back old new has fits below same layout next goes is parts p =
@@ -121,23 +122,23 @@ module _ {X K : Type 0} {rule : Ghosts K X} where
       }
 
   -- its role was taken, and given back
-  pub begins : (s : Sender X K rule) (p : SenderParts) (c : ℕ) (w : View ℕ) → IsOfSender s p → next_of s ≡ p.next → sends_view s ≡ w
-      → GoesOn c (sent_view p) w → HasAcquired roles.Producer true (sent_view p) w → HasBegun p s
-  begins s p c w of next is goes h =
+  pub begins : (s : Sender X K rule) (p : SenderParts) (w : View ℕ) → IsOfSender s p → next_of s ≡ p.next → sends_view s ≡ w
+      → Goes (sent_view p) w → HasAcquired roles.Producer true (sent_view p) w → HasBegun p s
+  begins s p w of next is goes h =
       record {
         of = of;
         next = next;
-        sent = subst (HasSentNumbers (sends_shape s) [] [] (sent_view p)) (sym is) (sent_none (sends_shape s) (sent_view p) w c roles.Producer goes h);
+        sent = subst (HasSentNumbers (sends_shape s) [] [] (sent_view p)) (sym is) (sent_none (sends_shape s) (sent_view p) w roles.Producer goes h);
       }
 
   pub finishes : (s : Sender X K rule) (p : SenderParts) → IsOfSender s p → p.next ≡ next_of s
-      → GoesOn (sends_queue s).capacity (sends_view s) (sent_view p) → HasReleased roles.Producer (sends_view s) (sent_view p)
+      → Goes (sends_view s) (sent_view p) → HasReleased roles.Producer (sends_view s) (sent_view p)
       → published (sent_view p).seen ≡ published (sends_view s).seen → HasSentAll 0 [] s p
   finishes s p of next goes h list =
       record {
         of = of;
         next = (let n = next in omega arith);
-        sends = λ some. sends_all (sends_shape s) (sends_queue s).capacity roles.Producer (sends_view s) (sent_view p) goes h list;
+        sends = λ some. sends_all (sends_shape s) roles.Producer (sends_view s) (sent_view p) goes h list;
       }
 
   -- ---- the receiver
@@ -158,7 +159,7 @@ module _ {X K : Type 0} {rule : Ghosts K X} where
   -- a pop: the value of a sample, a word with no place, or nothing
   pub received_one : (number place word : ℕ) (old new : Receiver X K rule) → place < (layout_in old).room → IsSameReceiver old new
       → layout_in new ≡ layout_in old → places_in new ≡ places_in old
-      → (0 < (receives_queue old).capacity → GoesOn (receives_queue old).capacity (receives_view old) (receives_view new))
+      → (0 < (receives_queue old).capacity → Goes (receives_view old) (receives_view new))
       → word_of (layout_in old).room number place ≡ word → HasPopped (Some (Index word)) (receives_view old) (receives_view new)
       → HasReceived (number ∷ []) old new
   received_one number place word old new within same layout places goes is p =
@@ -168,13 +169,13 @@ module _ {X K : Type 0} {rule : Ghosts K X} where
         places = places;
         receives =
             λ some.
-            receives_one (receives_shape old) (receives_queue old).capacity (receives_view old) (receives_view new) number place within (goes some)
+            receives_one (receives_shape old) (receives_view old) (receives_view new) number place within (goes some)
             (subst (λ w. HasPopped (Some (Index w)) (receives_view old) (receives_view new)) (sym is) p);
       }
 
   pub received_none : (answer : Option Sample) (old new : Receiver X K rule) → answer ≡ None → IsSameReceiver old new
       → layout_in new ≡ layout_in old → places_in new ≡ places_in old
-      → (0 < (receives_queue old).capacity → GoesOn (receives_queue old).capacity (receives_view old) (receives_view new))
+      → (0 < (receives_queue old).capacity → Goes (receives_view old) (receives_view new))
       → ReceivedNone old new → HasReceived (numbers_of answer) old new
   received_none answer old new is same layout places goes h =
       record {
@@ -186,10 +187,10 @@ module _ {X K : Type 0} {rule : Ghosts K X} where
       }
     where
       none : ReceivedNone old new → 0 < (receives_queue old).capacity → ReceivesOn (receives_shape old) [] (receives_view old) (receives_view new)
-      none (inl p) some = receives_nothing (receives_shape old) (receives_queue old).capacity (receives_view old) (receives_view new) (goes some) p.0
+      none (inl p) some = receives_nothing (receives_shape old) (receives_view old) (receives_view new) (goes some) p.0
       none (inr (inl p)) some = receives_still (receives_shape old) (receives_view old) (receives_view new) p.1
       none (inr (inr p)) some =
-          receives_other (receives_shape old) (receives_queue old).capacity (receives_view old) (receives_view new) p.0 p.1 (goes some) p.2.0
+          receives_other (receives_shape old) (receives_view old) (receives_view new) p.0 p.1 (goes some) p.2.0
 
   pub received_then : (xs ys : List ℕ) (s t u : Receiver X K rule) → HasReceived xs s t → HasReceived ys t u → HasReceived (xs ++ ys) s u
   received_then xs ys s t u h k =
@@ -224,22 +225,22 @@ module _ {X K : Type 0} {rule : Ghosts K X} where
       }
 
   -- its role was taken, and given back
-  pub waits : (r : Receiver X K rule) (p : ReceiverParts) (c : ℕ) (w : View ℕ) → IsOfReceiver r p → receives_view r ≡ w
-      → GoesOn c (received_view p) w → HasAcquired roles.Consumer true (received_view p) w → HasWaited p r
-  waits r p c w of is goes h =
+  pub waits : (r : Receiver X K rule) (p : ReceiverParts) (w : View ℕ) → IsOfReceiver r p → receives_view r ≡ w
+      → Goes (received_view p) w → HasAcquired roles.Consumer true (received_view p) w → HasWaited p r
+  waits r p w of is goes h =
       record {
         of = of;
         received =
             subst (HasReceivedNumbers (receives_shape r) [] (received_view p)) (sym is)
-            (received_nothing_yet (receives_shape r) (received_view p) w c roles.Consumer goes h);
+            (received_nothing_yet (receives_shape r) (received_view p) w roles.Consumer goes h);
       }
 
-  pub ends : (r : Receiver X K rule) (p : ReceiverParts) → IsOfReceiver r p → GoesOn (receives_queue r).capacity (receives_view r) (received_view p)
+  pub ends : (r : Receiver X K rule) (p : ReceiverParts) → IsOfReceiver r p → Goes (receives_view r) (received_view p)
       → HasReleased roles.Consumer (receives_view r) (received_view p) → HasReceivedAll [] r p
   ends r p of goes h =
       record {
         of = of;
-        receives = λ some. receives_all (receives_shape r) (receives_queue r).capacity roles.Consumer (receives_view r) (received_view p) goes h;
+        receives = λ some. receives_all (receives_shape r) roles.Consumer (receives_view r) (received_view p) goes h;
       }
 
   -- ---- the channel

@@ -13,7 +13,8 @@ use Rattle.steps.specs.declared.queues.roles.Role.{Role}
 use Rattle.history.specs.declared.view.View.{View}
 use Rattle.lock_free_queues.specs.Queues.Merges.{HasPushedUpTo}
 use Rattle.lock_free_queues.specs.Queues.Contracts.{HasAcquired, HasReleased, HasPopped}
-use Rattle.lock_free_queues.specs.Queues.Overflowing.{GoesOn, PushAdded, PushHandedBack}
+use Rattle.history.specs.Passes.{Goes}
+use Rattle.lock_free_queues.specs.Queues.Overflowing.{PushAdded, PushHandedBack}
 use Rattle.lock_free_queues.proofs.Queues.TakenOut.{adds, returns_one, takes_none, takes_one, takes_nothing, takes_all, pushed_none, pushed_all}
 use Rattle.uses_loans.specs.Numbers.{Shape, numbers_in, HasPlace, HavePlaces, HasSentNumbers, HasReceivedNumbers, SendsOn, ReceivesOn}
 use Rattle.uses_loans.specs.Words.{word_of}
@@ -32,23 +33,23 @@ module _ (s : Shape) where
   also : (words : List ℕ) (word : ℕ) → HavePlaces s words → word % s.room < s.places → HavePlaces s (words ++ word ∷ [])
   also words word all here = All-append (HasPlace s) words (word ∷ []) all (All-cons (HasPlace s) word [] here (All-nil (HasPlace s)))
 
-  pub sent_none : (v w : View ℕ) (c : ℕ) (role : Role) → GoesOn c v w → HasAcquired role true v w → HasSentNumbers s [] [] v w
-  sent_none v w c role goes h =
+  pub sent_none : (v w : View ℕ) (role : Role) → Goes v w → HasAcquired role true v w → HasSentNumbers s [] [] v w
+  sent_none v w role goes h =
       record {
         words = [];
         words_back = [];
         numbers = refl;
         returned = refl;
         places = All-nil (HasPlace s);
-        pushed = pushed_none c [] role v w goes h;
+        pushed = pushed_none [] role v w goes h;
       }
 
-  pub received_nothing_yet : (v w : View ℕ) (c : ℕ) (role : Role) → GoesOn c v w → HasAcquired role true v w → HasReceivedNumbers s [] v w
-  received_nothing_yet v w c role goes h = record { words = []; numbers = λ all. refl; taken = takes_none c role v w goes h }
+  pub received_nothing_yet : (v w : View ℕ) (role : Role) → Goes v w → HasAcquired role true v w → HasReceivedNumbers s [] v w
+  received_nothing_yet v w role goes h = record { words = []; numbers = λ all. refl; taken = takes_none role v w goes h }
 
   -- ---- sends
 
-  module _ (c : ℕ) (some : 0 < c) (w u : View ℕ) (goes : GoesOn c w u) (number place : ℕ) (lt : place < s.places) (within : place < s.room) where
+  module _ (c : ℕ) (some : 0 < c) (w u : View ℕ) (goes : Goes w u) (number place : ℕ) (lt : place < s.places) (within : place < s.room) where
     -- a value more is sent, and nothing comes back
     pub sends_one : PushAdded (word_of s.room number place) w u → SendsOn s (number ∷ []) [] w u
     sends_one p v sent back h =
@@ -83,9 +84,9 @@ module _ (s : Shape) where
       (subst (λ xs. HasSentNumbers s sent xs v w) (sym (append-nil back)) h))
 
   -- the role is given back
-  pub sends_all : (c : ℕ) (role : Role) (w u : View ℕ) → GoesOn c w u → HasReleased role w u → published u.seen ≡ published w.seen
+  pub sends_all : (role : Role) (w u : View ℕ) → Goes w u → HasReleased role w u → published u.seen ≡ published w.seen
       → SendsOn s [] [] w u
-  sends_all c role w u goes h is v sent back k =
+  sends_all role w u goes h is v sent back k =
       let all : take (length k.words) k.words ≡ k.words = take_all (length k.words) k.words (omega arith) in
       record {
         words = k.words;
@@ -94,7 +95,7 @@ module _ (s : Shape) where
         returned = k.returned ∙ sym (append-nil back);
         places = k.places;
         pushed =
-            pushed_all c k.words (length k.words) k.words_back role v w u (omega arith)
+            pushed_all k.words (length k.words) k.words_back role v w u (omega arith)
             (subst (λ xs. HasPushedUpTo xs k.words_back v w) (sym all) k.pushed) goes h is;
       }
 
@@ -107,13 +108,13 @@ module _ (s : Shape) where
   -- ---- receives
 
   -- a value more is received
-  pub receives_one : (c : ℕ) (w u : View ℕ) (number place : ℕ) → place < s.room → GoesOn c w u
+  pub receives_one : (w u : View ℕ) (number place : ℕ) → place < s.room → Goes w u
       → HasPopped (Some (Index (word_of s.room number place))) w u → ReceivesOn s (number ∷ []) w u
-  receives_one c w u number place within goes p v received h =
+  receives_one w u number place within goes p v received h =
       record {
         words = h.words ++ word_of s.room number place ∷ [];
         numbers = λ all. one_more number place h.words received within (h.numbers (earlier_ones h.words _ all));
-        taken = takes_one c h.words (word_of s.room number place) v w u h.taken goes p;
+        taken = takes_one h.words (word_of s.room number place) v w u h.taken goes p;
       }
     where
       earlier_ones : (xs ys : List ℕ) → HavePlaces s (xs ++ ys) → HavePlaces s xs
@@ -122,13 +123,13 @@ module _ (s : Shape) where
           All-cons (HasPlace s) x xs (All-head (HasPlace s) x (xs ++ ys) all) (earlier_ones xs ys (All-tail (HasPlace s) x (xs ++ ys) all))
 
   -- what came has no place, and is none that was sent
-  pub receives_other : (c : ℕ) (w u : View ℕ) (word : ℕ) → s.places ≤ word % s.room → GoesOn c w u
+  pub receives_other : (w u : View ℕ) (word : ℕ) → s.places ≤ word % s.room → Goes w u
       → HasPopped (Some (Index word)) w u → ReceivesOn s [] w u
-  receives_other c w u word past goes p v received h =
+  receives_other w u word past goes p v received h =
       record {
         words = h.words ++ word ∷ [];
         numbers = λ all. (let here = All-head (HasPlace s) word [] (later_ones h.words (word ∷ []) all) in absurd (omega arith));
-        taken = takes_one c h.words word v w u h.taken goes p;
+        taken = takes_one h.words word v w u h.taken goes p;
       }
     where
       later_ones : (xs ys : List ℕ) → HavePlaces s (xs ++ ys) → HavePlaces s ys
@@ -136,12 +137,12 @@ module _ (s : Shape) where
       later_ones (x ∷ xs) ys all = later_ones xs ys (All-tail (HasPlace s) x (xs ++ ys) all)
 
   -- a pop found nothing
-  pub receives_nothing : (c : ℕ) (w u : View ℕ) → GoesOn c w u → HasPopped None w u → ReceivesOn s [] w u
-  receives_nothing c w u goes p v received h =
+  pub receives_nothing : (w u : View ℕ) → Goes w u → HasPopped None w u → ReceivesOn s [] w u
+  receives_nothing w u goes p v received h =
       record {
         words = h.words;
         numbers = λ all. h.numbers all ∙ sym (append-nil received);
-        taken = takes_nothing c h.words v w u h.taken goes p;
+        taken = takes_nothing h.words v w u h.taken goes p;
       }
 
   pub receives_still : (w u : View ℕ) → u ≡ w → ReceivesOn s [] w u
@@ -149,12 +150,12 @@ module _ (s : Shape) where
       subst (λ t. HasReceivedNumbers s (received ++ []) v t) (sym is)
       (subst (λ xs. HasReceivedNumbers s xs v w) (sym (append-nil received)) h)
 
-  pub receives_all : (c : ℕ) (role : Role) (w u : View ℕ) → GoesOn c w u → HasReleased role w u → ReceivesOn s [] w u
-  receives_all c role w u goes h v received k =
+  pub receives_all : (role : Role) (w u : View ℕ) → Goes w u → HasReleased role w u → ReceivesOn s [] w u
+  receives_all role w u goes h v received k =
       record {
         words = k.words;
         numbers = λ all. k.numbers all ∙ sym (append-nil received);
-        taken = takes_all c k.words role v w u k.taken goes h;
+        taken = takes_all k.words role v w u k.taken goes h;
       }
 
   pub receives_then : (xs ys : List ℕ) (w u t : View ℕ) → ReceivesOn s xs w u → ReceivesOn s ys u t → ReceivesOn s (xs ++ ys) w t

@@ -222,6 +222,7 @@ impl<X: Drop, K: Keeps<X>> Channel<X, K> {
         self.sending.join(receives.submission);
         self.returning.join(sends.completion);
         self.returning.join(receives.completion);
+        self.sending.history();
     }
 
     /// Tells a caller's proof that what was received and what came back merge, each once and in its order, to a beginning of what

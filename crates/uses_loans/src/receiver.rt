@@ -1,7 +1,7 @@
 //! The end of the channel that receives values and reads them.
 ghost use Rattle.std.specs.Prelude.{◌≡◌, ◌<◌, IsTrue, IsFalse, IfOk, IfErr, IfSome, IfNone, []};
 ghost use Rattle.lock_free.specs.Queues.Item.TheVariants.{Index};
-ghost use Rattle.lock_free.specs.Queues.Overflowing.{GoesOn};
+ghost use Rattle.lock_free.specs.Passes.{Goes};
 ghost use Rattle.lock_free.specs.Queues.Rings.{consumer_queue, consumer_view, producer_queue, producer_view, queue_of};
 ghost use Rattle.lock_free.specs.Queues.Role.TheVariants as roles;
 ghost use Rattle.lock_free.specs.Queues.Contracts.{HasReleased, PopOldest, PushDone};
@@ -119,7 +119,7 @@ impl<'a, X: Drop, K: Keeps<X>> Receiver<'a, X, K> {
             (λ s. PopOldest (Index (word_in self.old s)) (receives_view self.old) (receives_view self.new)) }
         ensures none { IfNone result (ReceivedNone self.old self.new) }
         ensures goes { 0 < (receives_queue self.old).capacity
-            → GoesOn (receives_queue self.old).capacity (receives_view self.old) (receives_view self.new) }
+            → Goes (receives_view self.old) (receives_view self.new) }
         ensures receives { HasReceived (numbers_of result) self.old self.new }
         ensures queues { (receives_queue self.new ≡ receives_queue self.old) × (returns_queue self.new ≡ returns_queue self.old) }
         ensures same { places_in self.new ≡ places_in self.old }
@@ -174,7 +174,7 @@ impl<'a, X: Drop, K: Keeps<X>> Receiver<'a, X, K> {
 
     /// Hands out the passes of the two queues, for `Channel::relayed`; both roles are free. Two atomic steps.
     pub fn finish(self) -> ReceiverParts
-        ensures goes { GoesOn (receives_queue self.entry).capacity (receives_view self.entry) (received_view result) }
+        ensures goes { Goes (receives_view self.entry) (received_view result) }
         ensures released { HasReleased roles.Consumer (receives_view self.entry) (received_view result) }
         ensures queues { (received_queue result ≡ receives_queue self.entry) × (queue_of result.completion ≡ returns_queue self.entry) }
         ensures receives { HasReceivedAll [] self.entry result }

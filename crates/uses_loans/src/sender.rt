@@ -6,7 +6,8 @@ ghost use Rattle.lock_free.specs.Loan.Places.{is_sent, place_at, reclaimed, retu
 ghost use Rattle.lock_free.specs.Loan.Sender.{completion_of, completion_view, pass_view, set_of_sender, submission_of, submission_view, IsLoaned, IsSame};
 ghost use Rattle.lock_free.specs.declared.spsc.loan.places.Place.TheVariants.{Free, Loaned, Sent};
 ghost use Rattle.lock_free.specs.Queues.Item.TheVariants.{Index};
-ghost use Rattle.lock_free.specs.Queues.Overflowing.{consumer_queue, consumer_view, GoesOn, PushAdded, SameConsumerByCapacity};
+ghost use Rattle.lock_free.specs.Passes.{Goes};
+ghost use Rattle.lock_free.specs.Queues.Overflowing.{consumer_queue, consumer_view, PushAdded, SameConsumerByCapacity};
 ghost use Rattle.lock_free.specs.Queues.Contracts.{HasReleased, PopDone, PopEmpty};
 ghost use Rattle.lock_free.specs.Queues.Reading.{published};
 ghost use Rattle.lock_free.specs.Queues.Rings as queues;
@@ -214,7 +215,7 @@ impl<'a, X: Drop, K: Keeps<X>> Sender<'a, X, K> {
             × PushAdded (word_next self.old (loaned loan.entry)) (sends_view self.old) (sends_view self.new)) }
         ensures handed_back { IfSome result (λ y. HandsBack (loaned loan.entry) y self.old self.new) }
         ensures goes { HasWord self.old (loaned loan.entry) → 0 < (sends_queue self.old).capacity
-            → GoesOn (sends_queue self.old).capacity (sends_view self.old) (sends_view self.new) }
+            → Goes (sends_view self.old) (sends_view self.new) }
         ensures next { HasWord self.old (loaned loan.entry) → next_of self.new ≡ next_of self.old + 1 }
         ensures sends { HasWord self.old (loaned loan.entry) → HasSent 1 (numbers_back result) self.old self.new }
         ensures layout { layout_of self.new ≡ layout_of self.old }
@@ -340,7 +341,7 @@ impl<'a, X: Drop, K: Keeps<X>> Sender<'a, X, K> {
     pub fn finish_all(self) -> (SenderParts, Vec<X>)
         ensures view { view result.0.pass ≡ pass_view (sender_of self.entry) }
         ensures set { set_of result.0.pass ≡ set_of_sender (sender_of self.entry) }
-        ensures goes { GoesOn (sends_queue self.entry).capacity (sends_view self.entry) (sent_view result.0) }
+        ensures goes { Goes (sends_view self.entry) (sent_view result.0) }
         ensures released { HasReleased roles.Producer (sends_view self.entry) (sent_view result.0) }
         ensures list { published (sent_view result.0).seen ≡ published (sends_view self.entry).seen }
         ensures queues { (sent_queue result.0 ≡ sends_queue self.entry)

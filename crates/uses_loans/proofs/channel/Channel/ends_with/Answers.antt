@@ -6,9 +6,9 @@ use Rattle.uses_loans.proofs.channel.Channel.ends_with.Goals as goal
 pub returns-clause-begun : goal.returns-clause-begun
 returns-clause-begun g c =
     let acquired = c.in-Ok.ensures.acquired in
-    begins _ _ _ (producer_view c.in-Ok.producer) (search rules) (search rules) (search rules) acquired.0.goes acquired.1
+    begins _ _ (producer_view c.in-Ok.producer) (search rules) (search rules) (search rules) acquired.0.goes acquired.1
 
 pub returns-clause-waits : goal.returns-clause-waits
 returns-clause-waits g c =
     let acquired = c.in-Ok-acquire_consumer-2.ensures.acquired in
-    waits _ _ _ (consumer_view c.in-Ok-acquire_consumer-2.receives) (search rules) (search rules) acquired.0.goes acquired.1
+    waits _ _ (consumer_view c.in-Ok-acquire_consumer-2.receives) (search rules) (search rules) acquired.0.goes acquired.1
