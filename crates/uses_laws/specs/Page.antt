@@ -1,19 +1,24 @@
--- A push in the words of the index queue's page.
-use Rattle.std.specs.Prelude.{◌≡◌, ◌<◌, ◌^◌, ℕ, true, List, [], ◌∷◌, ◌++◌, length}
-use Rattle.lock_free.specs.HistoryView.View.{View}
-use Rattle.pages.specs.IndexQueue.{Answer, Call, Push, Pushed, bounded_list}
-use Rattle.pages.specs.IndexQueueBridge.{by_role}
-use Rattle.pages.specs.Machine.{Event, Invoked, IsLinearizable, Responded}
-use Rattle.pages.specs.RolesBridge.{all_told}
-use Rattle.pages_threads.specs.Known.{RunsOn, index_page, turns_of}
+-- Two pushes in the words of the index queue's page.
+use Rattle.std.specs.Prelude.{◌≡◌, ◌<◌, ◌^◌, ℕ, true, List, [], ◌∷◌, ◌++◌, fold, length}
+use Rattle.pages.specs.IndexQueue.{Answer, Call, Push, Pushed, bounded_list, index_queue}
+use Rattle.pages.specs.Machine.{Event, Invoked, IsLinearizable, Responded, Turn, opening, turned}
 
--- All pushes and pops that the pass has seen are a run of the page's machine, which goes on from the run that it knew. They
--- are linearizable as the page says, and the last of them is this push, which answers true.
-pub record HasPushedByPage (capacity value : ℕ) (old new : View ℕ) : Type 0 where
-  pub runs : RunsOn (index_page capacity) old new
-  pub linearizable : length (turns_of (index_page capacity) new) < 2 ^ 63
-      → IsLinearizable (bounded_list capacity) (all_told by_role new.seen)
+-- the history of the page's machine over these turns
+abbrev pub history_of : ℕ → List (Turn Call) → List (Event Call Answer)
+history_of capacity turns = (fold (turned (index_queue capacity)) (opening (index_queue capacity)) turns).history
+
+-- the last call of this history to end is a push of this value, which was taken
+pub record EndsWithPush (value : ℕ) (history : List (Event Call Answer)) : Type 0 where
   pub before : List (Event Call Answer)
   pub during : List (Event Call Answer)
-  pub call : all_told by_role new.seen
-      ≡ before ++ Invoked 0 (Push value) ∷ (during ++ Responded 0 (Pushed true) ∷ [])
+  pub is : history ≡ before ++ Invoked 0 (Push value) ∷ (during ++ Responded 0 (Pushed true) ∷ [])
+
+-- What was seen of all threads' pushes and pops is a run of the page's machine. It had come to the end of the first push, and
+-- has gone on from there to the end of the second. It is linearizable as the page says.
+pub record HasPushedBoth (capacity first second : ℕ) (seen : List (Event Call Answer)) : Type 0 where
+  pub turns : List (Turn Call)
+  pub more : List (Turn Call)
+  pub once : EndsWithPush first (history_of capacity turns)
+  pub twice : EndsWithPush second (history_of capacity (turns ++ more))
+  pub all : seen ≡ history_of capacity (turns ++ more)
+  pub linearizable : length (turns ++ more) < 2 ^ 63 → IsLinearizable (bounded_list capacity) seen

@@ -2,19 +2,24 @@
 
 ghost use Rattle.std.specs.Prelude.{IsTrue};
 ghost use Rattle.lock_free.specs.Queues.Calls.{producer_queue, producer_view};
-ghost use Rattle.uses_laws.specs.Page.{HasPushedByPage};
+ghost use Rattle.pages.specs.IndexQueueBridge.{by_role};
+ghost use Rattle.pages.specs.RolesBridge.{all_told};
+ghost use Rattle.uses_laws.specs.Page.{HasPushedBoth};
 
 use lock_free::spsc::index_queue::Producer;
 use pages_threads::{passes_are_linearizable, passes_run_the_pages};
 
-/// Pushes a number: whether it was taken. Then all threads' pushes and pops that the producer has seen are a run of the
-/// page's machine, which goes on from the run that the producer knew before, and which ends with this push. Whoever reads
-/// this contract needs the page, and nothing that says how the queue's threads run.
-pub fn push_by_page(producer: &mut Producer<'_>, value: u64) -> bool
-    ensures { IsTrue result → HasPushedByPage (producer_queue producer.old).capacity value
-        (producer_view producer.old) (producer_view producer.new) }
+/// Pushes two numbers, one after the other: whether both were taken. Then all threads' pushes and pops that the producer has
+/// seen are one run of the page's machine, which had come to the end of the first push, and has gone on to the end of the
+/// second. Whoever reads this contract needs the page, and nothing that says how the queue's threads run.
+pub fn push_both_by_page(producer: &mut Producer<'_>, first: u64, second: u64) -> bool
+    ensures { IsTrue result → HasPushedBoth (producer_queue producer.old).capacity first second
+        (all_told by_role (producer_view producer.new).seen) }
 {
     passes_run_the_pages::<u64>();
     passes_are_linearizable::<u64>();
-    producer.push(value)
+    if !producer.push(first) {
+        return false;
+    }
+    producer.push(second)
 }

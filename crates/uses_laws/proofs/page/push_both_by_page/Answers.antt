@@ -1,0 +1,66 @@
+use Rattle.std.proofs.Common.{◌≡◌, ◌<◌, ◌^◌, ℕ, true, List, [], ◌∷◌, ◌++◌, ap, length, subst, sym, ◌∙◌}
+use Rattle.std.proofs.lemmas.List.Concat.{flat_map-append}
+use Rattle.model.specs.declared.event.Answer.TheVariants.{Truth}
+use Rattle.model.specs.declared.event.Event.{Event}
+use Rattle.model.specs.declared.event.Event.TheVariants.{Begun, Finished}
+use Rattle.model.specs.declared.event.Start.TheVariants.{Queues}
+use Rattle.model.specs.declared.families.queues.QueueStart.TheVariants.{PushIndex}
+use Rattle.model.specs.declared.turn.Kind.TheVariants.{IndexQueue}
+use Rattle.lock_free.specs.Coding.{one_word}
+use Rattle.lock_free.specs.History.{Continues}
+use Rattle.lock_free.specs.HistoryView.View.{View}
+use Rattle.lock_free.specs.Queues.Calls.{QueueId, producer_queue, producer_view}
+use Rattle.lock_free.specs.Queues.Contracts.{HasPushed}
+use Rattle.lock_free.specs.Queues.Item.TheVariants.{Index}
+use Rattle.pages.specs.IndexQueue as page
+use Rattle.pages.specs.IndexQueueBridge.{by_role}
+use Rattle.pages.specs.Machine as machine
+use Rattle.pages.specs.RolesBridge.{all_told, told}
+use Rattle.pages_threads.specs.Known.{RunsThePage, index_page, turns_of}
+use Rattle.uses_laws.specs.Page.{EndsWithPush, history_of}
+use Rattle.uses_laws.proofs.page.push_both_by_page.Goals as goal
+
+-- what the page sees of events that end with this push
+call_told : (p value : ℕ) (before during : List (Event ℕ))
+    → all_told by_role (before ++ Begun p (Queues (PushIndex value)) ∷ (during ++ Finished p (Queues (PushIndex value)) (Truth true) ∷ []))
+    ≡ all_told by_role before
+    ++ machine.Invoked 0 (page.Push value) ∷ (all_told by_role during ++ machine.Responded 0 (page.Pushed true) ∷ [])
+call_told p value before during =
+    let end = Finished p (Queues (PushIndex value)) (Truth true) ∷ [] in
+    flat_map-append (told by_role) before (Begun p (Queues (PushIndex value)) ∷ (during ++ end))
+    ∙ ap (λ es. all_told by_role before ++ machine.Invoked 0 (page.Push value) ∷ es) (flat_map-append (told by_role) during end)
+
+ends : (capacity value : ℕ) (old new : View ℕ) → HasPushed (Index value) true old new → RunsThePage (index_page capacity) new
+    → EndsWithPush value (history_of capacity (turns_of (index_page capacity) new))
+ends capacity value old new push runs =
+    record {
+      before = all_told by_role (old.seen ++ push.called.others);
+      during = all_told by_role push.called.during;
+      is = sym runs ∙ (ap (all_told by_role) push.called.is ∙ call_told push.by value (old.seen ++ push.called.others) push.called.during);
+    }
+
+pub returns : goal.returns
+returns c both =
+    let start = c.args.producer.now in
+    let old = producer_view start in
+    let between = producer_view c.push.new.self in
+    let new = producer_view c.push-2.new.self in
+    let capacity = (producer_queue start).capacity in
+    let one : HasPushed (Index c.args.first) true old between = (c.push.ensures.pushed c.if-not-push.false).0 in
+    let two : HasPushed (Index c.args.second) true between new = (c.push-2.ensures.pushed both).0 in
+    let size : (producer_queue c.push.new.self).capacity ≡ capacity = ap (λ (z : QueueId). z.capacity) c.push.ensures.same.queue in
+    let ran : Continues one_word IndexQueue capacity between new =
+    subst (λ n. Continues one_word IndexQueue n between new) size c.push-2.ensures.same.goes.ran in
+    let passes = c.passes_run_the_pages.ensures.index capacity in
+    let first_run = passes.known between c.push.ensures.same.goes.ran.knows in
+    let goes = passes.later between new ran in
+    let turns = turns_of (index_page capacity) between in
+    record {
+      turns = turns;
+      more = goes.more;
+      once = ends capacity c.args.first old between one first_run;
+      twice = subst (λ ts. EndsWithPush c.args.second (history_of capacity ts)) goes.is (ends capacity c.args.second between new two goes.runs);
+      all = goes.runs ∙ ap (history_of capacity) goes.is;
+      linearizable = λ few.
+          c.passes_are_linearizable.ensures.index capacity new ran.knows (subst (λ ts. length ts < 2 ^ 63) (sym goes.is) few);
+    }
