@@ -21,5 +21,8 @@ pub fn push_both_by_page(producer: &mut Producer<'_>, first: u64, second: u64) -
     if !producer.push(first) {
         return false;
     }
-    producer.push(second)
+    producer.history();
+    let taken = producer.push(second);
+    producer.history();
+    taken
 }

@@ -7,7 +7,7 @@ use Rattle.model.specs.declared.event.Start.TheVariants.{Queues}
 use Rattle.model.specs.declared.families.queues.QueueStart.TheVariants.{PushIndex}
 use Rattle.model.specs.declared.turn.Kind.TheVariants.{IndexQueue}
 use Rattle.lock_free.specs.Coding.{one_word}
-use Rattle.lock_free.specs.History.{Continues}
+use Rattle.lock_free.specs.History.{Continues, Knows}
 use Rattle.lock_free.specs.HistoryView.View.{View}
 use Rattle.lock_free.specs.Queues.Calls.{QueueId, producer_queue, producer_view}
 use Rattle.lock_free.specs.Queues.Contracts.{HasPushed}
@@ -44,15 +44,17 @@ returns c both =
     let start = c.args.producer.now in
     let old = producer_view start in
     let between = producer_view c.push.new.self in
-    let new = producer_view c.push-2.new.self in
+    let new = producer_view c.push-taken.new.self in
     let capacity = (producer_queue start).capacity in
     let one : HasPushed (Index c.args.first) true old between = (c.push.ensures.pushed c.if-not-push.false).0 in
-    let two : HasPushed (Index c.args.second) true between new = (c.push-2.ensures.pushed both).0 in
+    let two : HasPushed (Index c.args.second) true between new = (c.push-taken.ensures.pushed both).0 in
     let size : (producer_queue c.push.new.self).capacity ≡ capacity = ap (λ (z : QueueId). z.capacity) c.push.ensures.same.queue in
-    let ran : Continues one_word IndexQueue capacity between new =
-    subst (λ n. Continues one_word IndexQueue n between new) size c.push-2.ensures.same.goes.ran in
+    let size_then : (producer_queue c.push-taken.new.self).capacity ≡ capacity = ap (λ (z : QueueId). z.capacity) c.push-taken.ensures.same.queue ∙ size in
+    let known : Knows one_word IndexQueue capacity between = subst (λ n. Knows one_word IndexQueue n between) size c.history.ensures.run in
+    let knows : Knows one_word IndexQueue capacity new = subst (λ n. Knows one_word IndexQueue n new) size_then c.history-2.ensures.run in
+    let ran : Continues one_word IndexQueue capacity between new = record { first = c.push-taken.ensures.same.goes.first; knows = knows } in
     let passes = c.passes_run_the_pages.ensures.index capacity in
-    let first_run = passes.known between c.push.ensures.same.goes.ran.knows in
+    let first_run = passes.known between known in
     let goes = passes.later between new ran in
     let turns = turns_of (index_page capacity) between in
     record {
@@ -62,5 +64,5 @@ returns c both =
       twice = subst (λ ts. EndsWithPush c.args.second (history_of capacity ts)) goes.is (ends capacity c.args.second between new two goes.runs);
       all = goes.runs ∙ ap (history_of capacity) goes.is;
       linearizable = λ few.
-          c.passes_are_linearizable.ensures.index capacity new ran.knows (subst (λ ts. length ts < 2 ^ 63) (sym goes.is) few);
+          c.passes_are_linearizable.ensures.index capacity new knows (subst (λ ts. length ts < 2 ^ 63) (sym goes.is) few);
     }
