@@ -2,12 +2,12 @@
 use Rattle.std.specs.Prelude.{IfSome}
 use Rattle.model.specs.declared.turn.Kind.{Kind}
 use Rattle.model.specs.declared.turn.Kind.TheVariants.{IndexQueue, Overflow, Queue, Atomic, Bits, Counts, Indices, Robust, Container, Loan}
-use Rattle.model.specs.Fair.{EndsInRounds, EndsInRoundsOf, EndsInRoundsRuns, EndsIfFair, EndsIfFairOf}
+use Rattle.model.specs.Fair.{EndsInRounds, EndsInRoundsOf, EndsInRoundsRuns, EndsIfFair}
 use Rattle.model.specs.Loads.{EndsLoad, EndsLoadOf, EndsLoadRuns}
 use Rattle.std.proofs.Common.{refl}
 use Rattle.model.specs.Refusals.{refusal_of}
 use Rattle.model.specs.LockFree.{IsBelow, IsLockFree, KeepsEnding, IsDefault, lock_free_bound, default_bound, room_bound, default_container_bound}
-use Rattle.model.proofs.LockFree.Fairly.{rounds_end, rounds_end_of, rounds_end_runs, fair_end, fair_end_of}
+use Rattle.model.proofs.LockFree.Fairly.{rounds_end, rounds_end_of, rounds_end_runs, fair_end}
 use Rattle.model.proofs.LockFree.Loads.{loads_end, loads_end_of, load_within}
 use Rattle.model.proofs.LockFree.Machines.{all_allowed, one_call_ends, loads_in_runs}
 use Rattle.model.proofs.Rows.{possible}
@@ -46,18 +46,12 @@ robust_load_ends T = loads_end_of Robust IsDefault default_bound (robust_keeps_e
 pub robust_in_rounds : (T : Type 0) → EndsInRoundsOf T Robust IsDefault default_bound
 robust_in_rounds T = rounds_end_of Robust IsDefault default_bound (robust_load_ends T)
 
-pub robust_if_fair : (T : Type 0) → EndsIfFairOf T Robust IsDefault default_bound
-robust_if_fair T = fair_end_of Robust IsDefault default_bound (robust_load_ends T)
-
 -- and in all runs
 pub room_one_ends : (T : Type 0) → IsLockFree T Robust room_bound
 room_one_ends T = one_call_ends Robust room_bound room_keeps_ending
 
 pub room_load_ends : (T : Type 0) → EndsLoad T Robust room_bound
 room_load_ends T = loads_end Robust room_bound room_keeps_ending
-
-pub room_in_rounds : (T : Type 0) → EndsInRounds T Robust room_bound
-room_in_rounds T = rounds_end Robust room_bound (room_load_ends T)
 
 pub room_if_fair : (T : Type 0) → EndsIfFair T Robust room_bound
 room_if_fair T = fair_end Robust room_bound (room_load_ends T)
@@ -68,9 +62,6 @@ container_load_ends T = loads_end_of Container IsDefault default_container_bound
 
 pub container_in_rounds : (T : Type 0) → EndsInRoundsOf T Container IsDefault default_container_bound
 container_in_rounds T = rounds_end_of Container IsDefault default_container_bound (container_load_ends T)
-
-pub container_if_fair : (T : Type 0) → EndsIfFairOf T Container IsDefault default_container_bound
-container_if_fair T = fair_end_of Container IsDefault default_container_bound (container_load_ends T)
 
 -- and in all runs
 pub room_container_one_ends : (T : Type 0) → IsLockFree T Container room_container_bound

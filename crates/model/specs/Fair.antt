@@ -100,15 +100,3 @@ EndsIfFair T kind bound =
     → ((k : ℕ) → begins_by turns k ≤ calls)
     → (p : ℕ) → IsFair t turns p
     → (k : ℕ) × (flight_in (moment t turns k).world p ≡ None)
-
--- The same of runs in which no call begins but such ones.
-abbrev pub EndsIfFairOf : (T : Type 0) → Kind → (Start T → Type 0) → Bound → Type 0
-EndsIfFairOf T kind Such bound =
-    (t : Trace T) → t.world.kind ≡ kind → (r : IsReachedOn t) → AllByRecursion (BeginsSuch Such) r.turns
-    → (n calls : ℕ) (turns : ℕ → Turn T)
-    → ((k : ℕ) → call_refusal (moment t turns k).world (turns k) ≡ None)
-    → ((k : ℕ) → IsBelow n (turns k))
-    → ((k : ℕ) → BeginsSuch Such (turns k))
-    → ((k : ℕ) → begins_by turns k ≤ calls)
-    → (p : ℕ) → IsFair t turns p
-    → (k : ℕ) × (flight_in (moment t turns k).world p ≡ None)

@@ -11,7 +11,7 @@ use Rattle.model.specs.LockFree.{steps_of, BeginsSuch}
 use Rattle.model.proofs.LockFree.Measure.{worth}
 use Rattle.model.specs.Loads.{begins_in, pending, load, EndsLoad, EndsLoadOf, EndsLoadRuns}
 use Rattle.model.specs.Fair.{own_step, own_steps, turns_of, StepsInEach, RestsInOne, moment, begins_by, IsFair}
-use Rattle.model.specs.Fair.{EndsInRounds, EndsInRoundsOf, EndsInRoundsRuns, EndsIfFair, EndsIfFairOf}
+use Rattle.model.specs.Fair.{EndsInRounds, EndsInRoundsOf, EndsInRoundsRuns, EndsIfFair}
 
 if_mine : (b : Bool) (steps : ℕ) → (if b then steps else 0) ≤ steps
 if_mine true steps = omega arith
@@ -176,11 +176,3 @@ module _ {T : Type 0} where
       fair_by t turns p fair (load b (pending n t.world + calls))
       (λ k. load_up turns t b (pending n t.world) calls (steps_in t (first turns k)) k (few k)
       (ends t is r n (first turns k) (all_allowed t turns goes k) (all_of t turns (IsBelow n) below k)))
-
-  pub fair_end_of : (kind : Kind) (Such : Start T → Type 0) (bound : Bound) → EndsLoadOf T kind Such bound → EndsIfFairOf T kind Such bound
-  fair_end_of kind Such bound ends t is r before n calls turns goes below such few p fair =
-      let b = bound n t.world.capacity t.world.coding.size in
-      fair_by t turns p fair (load b (pending n t.world + calls))
-      (λ k. load_up turns t b (pending n t.world) calls (steps_in t (first turns k)) k (few k)
-      (ends t is r before n (first turns k) (all_allowed t turns goes k) (all_of t turns (IsBelow n) below k)
-      (all_of t turns (BeginsSuch Such) such k)))
