@@ -60,9 +60,8 @@ use steps::words::Words;
 /// caller has decided so: there a call comes with its decisions, as the turns of the run made them. By `calls` the calls that
 /// `calls_of` lists are all that ended in a run, in order, each with its party and its answer. A container's object also has
 /// what the state of each party shows: by `states` what the machine keeps as that state shows the same, while the party has no
-/// look under way. By `places` the flags and counts of a machine are those of its object, while no call is under way. So by
-/// `bits` and `counts` a `reset_all` that runs whole has taken out all that stood, and no more; that its closure hears this,
-/// ascending, the crate `plain` says.
+/// look under way. By `places` the flags and counts of a machine are those of its object, while no call is under way: after a
+/// `reset_all` none is set. That its closure hears all that stood, ascending, the crate `plain` says.
 pub fn main_theorem<T>()
     ensures runs { (code : Coding T) (kind : Kind) (capacity queue parties : ℕ) (turns : List (Turn T))
         → IsCoding code → capacity_error kind capacity ≡ None → queue_error kind queue ≡ None
