@@ -1,4 +1,5 @@
--- A call of one family, named as one of it, where that family's registry is kept: what its step comes to.
+-- A call of one family, named as one of it, where that family's registry is kept: what its step comes to. (Calls of queues and
+-- of the value are not followed step by step: see `Lists` and `Moments`.)
 use Rattle.std.proofs.Common.{◌≡◌, ℕ, ◌==◌, Bool, true, false, Option, Some, None, List, [], ◌∷◌, ◌++◌, map, refl, ap, subst, ◌∙◌, if◌then◌else◌}
 use Rattle.std.specs.List.{AllByRecursion, flat_map}
 use Rattle.steps.specs.Bits.BitSet.{place_after}
@@ -29,22 +30,15 @@ use Rattle.model.specs.declared.families.Flight.{Flight}
 use Rattle.model.specs.declared.families.Flight.TheVariants as flights
 use Rattle.model.specs.declared.families.Registry.{Registry}
 use Rattle.model.specs.declared.families.Registry.TheVariants as registries
-use Rattle.model.specs.declared.families.atomic.AtomicStart.{AtomicStart}
-use Rattle.model.specs.declared.families.atomic.AtomicStart.TheVariants as values
 use Rattle.model.specs.declared.families.bits.calls.BitsFlight.{BitsFlight}
 use Rattle.model.specs.declared.families.bits.calls.BitsFlight.TheVariants as bit_flights
 use Rattle.model.specs.declared.families.container.ContainerStart.{ContainerStart}
 use Rattle.model.specs.declared.families.container.calls.ContainerFlight.{ContainerFlight}
 use Rattle.model.specs.declared.families.container.calls.ContainerFlight.TheVariants as containers
-use Rattle.model.specs.declared.families.queues.QueueStart.{QueueStart}
-use Rattle.model.specs.declared.families.queues.effects.Effect.{Effect}
-use Rattle.model.specs.declared.families.queues.effects.Effect.TheVariants.{Quiet, Acts, Publishes, PublishesAndActs, HandsOut, TakesOut, MakesRoom}
 use Rattle.model.specs.declared.turn.Turn.{Turn}
 use Rattle.model.specs.declared.turn.Turn.TheVariants.{Next}
 use Rattle.model.specs.Coding.{Coding}
 use Rattle.model.specs.Families.{after_of, step_of, kept_after_death}
-use Rattle.model.specs.Families.Atomic.Calls as value_calls
-use Rattle.model.specs.Families.Atomic.Steps as value_steps
 use Rattle.model.specs.Families.Bits.Calls as bits_calls
 use Rattle.model.specs.Families.Bits.Steps as bits_steps
 use Rattle.model.specs.Families.Container.Calls as container_calls
@@ -54,9 +48,7 @@ use Rattle.model.specs.Families.Indices.Calls as index_calls
 use Rattle.model.specs.Families.Indices.Robust.Calls as robust_calls
 use Rattle.model.specs.Families.Indices.Robust.Steps as robust_steps
 use Rattle.model.specs.Families.Indices.Steps as index_steps
-use Rattle.model.specs.Families.Queues.Calls as queue_calls
 use Rattle.model.specs.Families.Queues.Calls.{as_it_is, kept_at}
-use Rattle.model.specs.Families.Queues.Steps as queue_steps
 use Rattle.model.specs.Promises.Turns.{IsEffectOf}
 use Rattle.model.specs.Step.{as_call, answer_in}
 use Rattle.laws_container.proofs.Written as container
@@ -70,8 +62,6 @@ module _ {T : Type 0} where
   IsNoLook flight = Unit {0}
 
   abbrev pub Agree : Start T → Flight T → Registry T → Type 0
-  Agree (starts.Queues start) (flights.Queues flight) (registries.Queues roles) = Unit {0}
-  Agree (starts.Atomic start) (flights.Atomic flight) (registries.Atomic producer) = Unit {0}
   Agree (starts.Bits start) (flights.Bits flight) registries.Nothing = Unit {0}
   Agree (starts.Indices start) (flights.Indices flight) (registries.Indices holders) = Unit {0}
   Agree (starts.Robust start) (flights.Robust flight) (registries.Owners dead) = Unit {0}
@@ -83,8 +73,6 @@ module _ {T : Type 0} where
   pub goes_so : (code : Coding T) (words : List ℕ) (beside : Option (ℕ × ℕ)) (p : ℕ) (start : Start T) (flight : Flight T) (old : ℕ)
       (kept : Registry T) → Agree start flight kept
       → (step_of code words beside p start flight old kept).after ≡ after_of code flight old
-  goes_so code words beside p (starts.Queues start) (flights.Queues flight) old (registries.Queues roles) h = refl
-  goes_so code words beside p (starts.Atomic start) (flights.Atomic flight) old (registries.Atomic producer) h = refl
   goes_so code words beside p (starts.Bits start) (flights.Bits flight) old registries.Nothing h = refl
   goes_so code words beside p (starts.Indices start) (flights.Indices flight) old (registries.Indices holders) h = refl
   goes_so code words beside p (starts.Robust start) (flights.Robust flight) old (registries.Owners dead) h = refl
@@ -113,14 +101,6 @@ module _ {T : Type 0} where
   pub agrees_then : (code : Coding T) (words : List ℕ) (beside : Option (ℕ × ℕ)) (p : ℕ) (start : Start T) (flight : Flight T) (old : ℕ)
       (kept : Registry T) (d : Flight T) → Agree start flight kept → after_of code flight old ≡ GoOn d
       → Agree start d (step_of code words beside p start flight old kept).kept
-  agrees_then code words beside p (starts.Queues start) (flights.Queues flight) old (registries.Queues roles) d h e =
-      stays (starts.Queues start)
-      (step_of code words beside p (starts.Queues start) (flights.Queues flight) old (registries.Queues roles)).kept
-      flights.Queues (λ r. tt) d (queue_calls.after code flight old) e
-  agrees_then code words beside p (starts.Atomic start) (flights.Atomic flight) old (registries.Atomic producer) d h e =
-      stays (starts.Atomic start)
-      (step_of code words beside p (starts.Atomic start) (flights.Atomic flight) old (registries.Atomic producer)).kept
-      flights.Atomic (λ r. tt) d (value_calls.after code flight old) e
   agrees_then code words beside p (starts.Bits start) (flights.Bits flight) old registries.Nothing d h e =
       stays (starts.Bits start) registries.Nothing flights.Bits (λ r. tt) d (bits_calls.after flight old) e
   agrees_then code words beside p (starts.Indices start) (flights.Indices flight) old (registries.Indices holders) d h e =
@@ -158,8 +138,6 @@ module _ {T : Type 0} where
 
   pub agrees_still : (start : Start T) (flight : Flight T) (kept : Registry T) (owner : ℕ) → Agree start flight kept
       → Agree start flight (kept_after_death kept owner)
-  agrees_still (starts.Queues start) (flights.Queues flight) (registries.Queues roles) owner h = tt
-  agrees_still (starts.Atomic start) (flights.Atomic flight) (registries.Atomic producer) owner h = tt
   agrees_still (starts.Bits start) (flights.Bits flight) registries.Nothing owner h = tt
   agrees_still (starts.Indices start) (flights.Indices flight) (registries.Indices holders) owner h = tt
   agrees_still (starts.Robust start) (flights.Robust flight) (registries.Owners dead) owner h = tt
@@ -169,25 +147,6 @@ module _ {T : Type 0} where
   -- ---- and writes no end of a call but its own
 
   module _ (is_call : Start T → Bool) where
-    queue_writes : (p : ℕ) (start : QueueStart T) (effect : Effect T) (outcome : Option (Answer T))
-        → flat_map (whole.answer_in is_call) (queue_steps.effects_of p start effect outcome) ≡ []
-    queue_writes p start Quiet outcome = refl
-    queue_writes p start Acts None = refl
-    queue_writes p start Acts (Some answer) = refl
-    queue_writes p start (Publishes item) None = refl
-    queue_writes p start (Publishes item) (Some answer) = refl
-    queue_writes p start (PublishesAndActs item) outcome = refl
-    queue_writes p start (HandsOut item) None = refl
-    queue_writes p start (HandsOut item) (Some answer) = refl
-    queue_writes p start (TakesOut index) outcome = refl
-    queue_writes p start (MakesRoom item q pushed) None = refl
-    queue_writes p start (MakesRoom item q pushed) (Some answer) = refl
-
-    value_writes : (p : ℕ) (start : AtomicStart T) (outcome : Option (Answer T)) → flat_map (whole.answer_in is_call) (value_steps.acted p start outcome) ≡ []
-    value_writes p (values.Store value) (Some (answers.Truth true)) = refl
-    value_writes p values.Load (Some answer) = refl
-    value_writes p start outcome = refl
-
     index_writes : (p : ℕ) (freed : Option ℕ) (outcome : Option (Answer T)) → flat_map (whole.answer_in is_call) (index_steps.effects p freed outcome) ≡ []
     index_writes p (Some index) outcome = refl
     index_writes p None (Some (answers.Index index)) = refl
@@ -240,10 +199,6 @@ module _ {T : Type 0} where
     pub writes_none : (code : Coding T) (words : List ℕ) (beside : Option (ℕ × ℕ)) (p : ℕ) (start : Start T) (flight : Flight T) (old : ℕ)
         (kept : Registry T) → Agree start flight kept
         → flat_map (whole.answer_in is_call) (step_of code words beside p start flight old kept).wrote ≡ []
-    writes_none code words beside p (starts.Queues start) (flights.Queues flight) old (registries.Queues roles) h =
-        queue_writes p start (queue_steps.effect_of code words beside flight old) (answer_in (queue_calls.after code flight old))
-    writes_none code words beside p (starts.Atomic start) (flights.Atomic flight) old (registries.Atomic producer) h =
-        value_writes p start (answer_in (value_calls.after code flight old))
     writes_none code words beside p (starts.Bits start) (flights.Bits flight) old registries.Nothing h = bit_writes p flight old
     writes_none code words beside p (starts.Indices start) (flights.Indices flight) old (registries.Indices holders) h =
         index_writes p (index_steps.frees flight) (answer_in (index_calls.after {T = T} flight old))

@@ -2,12 +2,17 @@
 use Rattle.std.proofs.Common.{◌≡◌, ⊎_elim, ℕ, Option, Some, None, refl, sym, ap, subst, ◌∙◌}
 use Rattle.model.specs.declared.party.Doing.{Doing}
 use Rattle.model.specs.declared.party.Party.{Party}
+use Rattle.model.specs.declared.families.queues.QueueKind.TheVariants as queues
 use Rattle.model.specs.declared.turn.Kind.{Kind}
 use Rattle.model.specs.declared.turn.Kind.TheVariants as kinds
 use Rattle.model.specs.Objects.{standing}
 use Rattle.model.specs.Parties.{doing_of, flight_of}
 use Rattle.model.specs.Turns.{IsReached}
 use Rattle.model.specs.World.{Trace, capacity_error, flight_in}
+use Rattle.model.specs.Promises.{IsKeptBy}
+use Rattle.model.specs.Promises.Families.{promise_of}
+use Rattle.model.proofs.Orders.{reached_kept}
+use Rattle.machine.proofs.Laws.{laws_of}
 use Rattle.headline_whole.specs.Dialogues.{calls_of, story_of}
 use Rattle.headline_whole.specs.Kinds.{AnswersWhole}
 use Rattle.headline_whole.specs.States.{HoldsPlaces}
@@ -18,14 +23,17 @@ use Rattle.headline_whole.proofs.Containers as containers
 use Rattle.headline_whole.proofs.Courses.{Course, Holding, Rules}
 use Rattle.headline_whole.proofs.Indices as indices
 use Rattle.headline_whole.proofs.Law.{Reading, Law}
-use Rattle.headline_whole.proofs.Overflows.{over_law}
+use Rattle.headline_whole.proofs.Lists.{list_answers}
+use Rattle.headline_whole.proofs.Moments.{value_answers}
 use Rattle.headline_whole.proofs.Owners as owners
 use Rattle.headline_whole.proofs.Plainly as plainly
-use Rattle.headline_whole.proofs.Queues.{index_law, value_law}
 use Rattle.headline_whole.proofs.Runs.{Rests, Goes, no_flight}
 use Rattle.headline_whole.proofs.Talks.{talking}
 use Rattle.headline_whole.proofs.Turns.{answers_whole, stands_whole}
-use Rattle.headline_whole.proofs.Values as values
+
+module _ {T : Type 0} (t : Trace T) (r : IsReached t) where
+  pub kept_as : (kind : Kind) → t.world.kind ≡ kind → IsKeptBy (promise_of kind) t
+  kept_as kind is = subst (λ k. IsKeptBy (promise_of k) t) is (reached_kept laws_of t r)
 
 module _ {T : Type 0} (t : Trace T) (r : IsReached t) (runs : RunsWhole t.events) where
   by_rules : (C : Course T) (H : Holding C) (kind : Kind) → t.world.kind ≡ kind
@@ -64,11 +72,10 @@ module _ {T : Type 0} (t : Trace T) (r : IsReached t) (runs : RunsWhole t.events
     holds_places kind is = tt
 
   pub by_kind : (kind : Kind) → t.world.kind ≡ kind → AnswersWhole kind t r
-  by_kind kinds.IndexQueue is = by_law _ kinds.IndexQueue is (index_law t.world.coding t.world.capacity)
-  by_kind kinds.Overflow is = by_law _ kinds.Overflow is (over_law T t.world.capacity t.world.coding)
-  by_kind kinds.Queue is = by_law _ kinds.Queue is (value_law t.world.coding r.coded t.world.capacity)
-  by_kind kinds.Atomic is =
-      by_law (values.reading t.world.coding) kinds.Atomic is (λ may. values.law t.world.coding r.coded t.world.capacity)
+  by_kind kinds.IndexQueue is = list_answers queues.IndexQueue t (kept_as t r kinds.IndexQueue is) runs
+  by_kind kinds.Overflow is = list_answers queues.Overflow t (kept_as t r kinds.Overflow is) runs
+  by_kind kinds.Queue is = list_answers queues.Queue t (kept_as t r kinds.Queue is) runs
+  by_kind kinds.Atomic is = value_answers t (kept_as t r kinds.Atomic is) runs
   by_kind kinds.Bits is = by_law (bit_sets.places_reading t.world.capacity) kinds.Bits is (bit_sets.places_law t.world.coding t.world.capacity)
   by_kind kinds.Counts is = by_law (bit_sets.counts_reading t.world.capacity) kinds.Counts is (bit_sets.counts_law t.world.coding t.world.capacity)
   by_kind kinds.Indices is = by_law (indices.reading t.world.capacity) kinds.Indices is (indices.law t.world.coding t.world.capacity)

@@ -1,8 +1,6 @@
 use Rattle.std.proofs.Common.{◌≡◌, refl, subst}
 use Rattle.model.specs.declared.turn.Kind.{Kind}
 use Rattle.model.specs.declared.turn.Kind.TheVariants as kinds
-use Rattle.model.specs.Promises.{IsKeptBy}
-use Rattle.model.specs.Promises.Families.{promise_of}
 use Rattle.model.specs.Turns.{IsReached}
 use Rattle.model.specs.World.{Trace}
 use Rattle.model.proofs.Orders.{reached_kept}
@@ -10,7 +8,7 @@ use Rattle.machine.proofs.Laws.{laws_of}
 use Rattle.headline.specs.Headline.{Runs}
 use Rattle.headline.proofs.Reached.{holds}
 use Rattle.headline.proofs.Reaching.{reaches}
-use Rattle.headline_whole.proofs.ByKind.{by_kind, holds_places}
+use Rattle.headline_whole.proofs.ByKind.{by_kind, holds_places, kept_as}
 use Rattle.headline_whole.proofs.Clauses.{acts, one_holder, none_locked, leaves_none}
 use Rattle.headline_whole.proofs.Finished.{all_finished}
 use Rattle.headline_whole.proofs.Views.{shows_views}
@@ -19,9 +17,6 @@ use Rattle.headline_whole.proofs.main_theorem.Goals as goal
 module _ {T : Type 0} (t : Trace T) (r : IsReached t) where
   runs_as : (kind : Kind) → t.world.kind ≡ kind → Runs kind r.queue t
   runs_as kind is = subst (λ k. Runs k r.queue t) is (holds t r).runs
-
-  kept_as : (kind : Kind) → t.world.kind ≡ kind → IsKeptBy (promise_of kind) t
-  kept_as kind is = subst (λ k. IsKeptBy (promise_of k) t) is (reached_kept laws_of t r)
 
 pub returns-clause-runs : goal.returns-clause-runs
 returns-clause-runs g c code kind capacity queue parties turns coded admitted queued =
