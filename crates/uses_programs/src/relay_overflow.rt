@@ -76,7 +76,10 @@ fn drain(rt: &impl Wait, consumer: &mut Consumer<'_>, numbers: &mut Vec<u64>) ->
     for _ in rt.forever() {
         match consumer.pop(rt) {
             Some(number) => numbers.push(number).ok()?,
-            None => return Some(()),
+            None => {
+                consumer.history();
+                return Some(());
+            }
         }
     }
     unreachable!()

@@ -18,7 +18,7 @@ loop-preserved g c =
       c.loop.invariant.1 ++ c.in-Some-pop.number ∷ [],
       items ∙ (ap (λ z. z ++ c.in-Some-pop.number ∷ []) c.loop.invariant.2 ∙ append_assoc _ c.loop.invariant.1 (c.in-Some-pop.number ∷ [])),
       λ some. (let wide : 0 < (consumer_queue c.loop.consumer).capacity = subst (λ n. 0 < n) (sym same) some in
-          takes_one _ _ _ _ _ _ (c.loop.invariant.3 some) (c.pop.ensures.same.goes wide)
+          takes_one _ _ _ _ _ (c.loop.invariant.3 some) (c.pop.ensures.same.goes wide)
           (subst (λ o. HasPopped (option_map Index o) (consumer_view c.loop.consumer) (consumer_view c.pop.new.self))
           is (oldest_popped Index _ _ c.pop.result c.pop.ensures.popped (c.pop.ensures.empty wide)))),
     )
@@ -29,5 +29,6 @@ returns-in-None-pop-clause-drained g c some =
     let wide : 0 < (consumer_queue c.loop.consumer).capacity = subst (λ n. 0 < n) (sym same) some in
     let is : c.pop.result ≡ None = first_of (search rules, grind (arith, common_steps)) in
     drained _ _ _ c.loop.invariant.1 _ _ _ c.loop.invariant.2 (c.loop.invariant.3 some) (c.pop.ensures.same.goes wide)
+    c.history.ensures.history
     (subst (λ o. HasPopped (option_map Index o) (consumer_view c.loop.consumer) (consumer_view c.pop.new.self)) is
     (oldest_popped Index _ _ c.pop.result c.pop.ensures.popped (c.pop.ensures.empty wide)))

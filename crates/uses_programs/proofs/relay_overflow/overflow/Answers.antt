@@ -26,5 +26,5 @@ returns g c =
     let drain : HasDrained came c.drain.new.numbers.items (consumer_view c.in-Ok.consumer) (consumer_view c.drain.new.consumer) =
     drains (first_of (search rules, grind (arith, common_steps))) in
     let fits : length all < 2 ^ 64 - 1 = first_of (search rules, grind (arith, common_steps)) in
-    overflowed _ 4 roles.Consumer all back came c.drain.new.numbers.items _ _ _ _ _ _ _ _ fits first cut pushed
+    overflowed 4 roles.Consumer all back came c.drain.new.numbers.items _ _ _ _ _ _ _ _ fits first cut pushed
     popped c.join.ensures.same.joined c.join.ensures.same.all c.in-Ok.ensures.acquired.0.goes c.in-Ok.ensures.acquired.1 drain

@@ -14,7 +14,7 @@ loop-init g c =
     let told = IfOk-at_ok _ is c.acquire_consumer.ensures.acquired in (
       told.0.queue,
       λ some. subst (λ z. HasTaken z (view c.args.pass) (consumer_view c.in-Ok.consumer))
-          (sym c.new-numbers.ensures.items) (takes_none _ roles.Consumer _ _ told.0.goes told.1),
+          (sym c.new-numbers.ensures.items) (takes_none roles.Consumer _ _ told.0.goes told.1),
     )
 
 pub loop-preserved : goal.loop-preserved
@@ -25,7 +25,7 @@ loop-preserved g c =
       search rules,
       λ some. (let wide : 0 < (consumer_queue c.loop.consumer).capacity = subst (λ n. 0 < n) (sym same) some in
           subst (λ z. HasTaken z (view c.args.pass) (consumer_view c.pop.new.self)) (sym items)
-          (takes_one _ c.loop.numbers.items c.in-Some.number (view c.args.pass) (consumer_view c.loop.consumer)
+          (takes_one c.loop.numbers.items c.in-Some.number (view c.args.pass) (consumer_view c.loop.consumer)
           (consumer_view c.pop.new.self) (c.loop.invariant.1 some) (c.pop.ensures.same.goes wide)
           (subst (λ o. HasPopped (option_map Index o) (consumer_view c.loop.consumer) (consumer_view c.pop.new.self))
           is (oldest_popped Index _ _ c.pop.result c.pop.ensures.popped (c.pop.ensures.empty wide))))),
@@ -37,7 +37,7 @@ loop-preserved-in-None g c =
     let is : c.pop.result ≡ None = first_of (search rules, grind (arith, common_steps)) in (
       search rules,
       λ some. (let wide : 0 < (consumer_queue c.loop.consumer).capacity = subst (λ n. 0 < n) (sym same) some in
-          takes_nothing _ c.loop.numbers.items (view c.args.pass) (consumer_view c.loop.consumer)
+          takes_nothing c.loop.numbers.items (view c.args.pass) (consumer_view c.loop.consumer)
           (consumer_view c.pop.new.self) (c.loop.invariant.1 some) (c.pop.ensures.same.goes wide)
           (subst (λ o. HasPopped (option_map Index o) (consumer_view c.loop.consumer) (consumer_view c.pop.new.self))
           is (oldest_popped Index _ _ c.pop.result c.pop.ensures.popped (c.pop.ensures.empty wide)))),
@@ -45,5 +45,5 @@ loop-preserved-in-None g c =
 
 pub returns-clause-popped : goal.returns-clause-popped
 returns-clause-popped g c some =
-    takes_all _ c.loop.numbers.items roles.Consumer (view c.args.pass) (consumer_view c.loop.consumer) _
+    takes_all c.loop.numbers.items roles.Consumer (view c.args.pass) (consumer_view c.loop.consumer) _
     (c.loop.invariant.1 some) c.release-pass.ensures.same.goes c.release-pass.ensures.released

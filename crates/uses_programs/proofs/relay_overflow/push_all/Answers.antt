@@ -13,7 +13,7 @@ loop-next-init c =
       told.0.queue,
       refl,
       λ some. subst (λ z. HasPushedUpTo [] z (view c.args.pass) (producer_view c.in-Ok.producer))
-          (sym c.new-handed_back.ensures.items) (pushed_none _ c.args.numbers.now roles.Producer _ _ told.0.goes told.1),
+          (sym c.new-handed_back.ensures.items) (pushed_none c.args.numbers.now roles.Producer _ _ told.0.goes told.1),
     )
 
 pub loop-next-preserved : goal.loop-next-preserved
@@ -43,7 +43,7 @@ loop-next-preserved-in-None c =
 
 pub returns-clause-pushed : goal.returns-clause-pushed
 returns-clause-pushed c some =
-    pushed_all _ c.args.numbers.now c.loop-next.next _ roles.Producer (view c.args.pass)
+    pushed_all c.args.numbers.now c.loop-next.next _ roles.Producer (view c.args.pass)
     (producer_view c.loop-next.producer) _
     (let e = c.loop-next.invariant.1 in let past = c.loop-next-test.false in omega arith)
     (c.loop-next.invariant.2 some) c.release-pass.ensures.same.goes c.release-pass.ensures.released
