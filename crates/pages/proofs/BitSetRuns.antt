@@ -2,8 +2,8 @@
 use Rattle.std.specs.List.{AllByRecursion}
 use Rattle.std.proofs.Common.{is_some, nat_le, nat_lt, slice_set, ◌^◌}
 use Rattle.std.proofs.lemmas.Bool.Decides.{nat_tests}
-use Rattle.model.proofs.Names.{Bool, IsCoding, List, None, Option, Some, Trace, [], ap, arith, cond, false, first_of, first_row, fold}
-use Rattle.model.proofs.Names.{length, map, one_word, opening, refl, slice_index, step_of, subst, sym, true, ℕ, ◌++◌, ◌+◌, ◌<◌, ◌==◌, ◌∙◌, ◌∷◌, ◌≡◌}
+use Rattle.model.proofs.Names.{Bool, IsCoding, List, None, Option, Some, Trace, [], ap, append-nil, append_assoc, arith, cond, false, first_of, first_row, fold}
+use Rattle.model.proofs.Names.{length, map, one_word, opening, refl, slice_index, step_of, subst, sym, true, ℕ, ◌++◌, ◌+◌, ◌<◌, ◌==◌, ◌∙◌, ◌∷◌, ◌≡◌, ◌≢◌}
 use Rattle.model.proofs.Reached.{reached_opening}
 use Rattle.model.specs.declared.event.Answer.{Answer}
 use Rattle.model.specs.declared.event.Event.{Event}
@@ -23,13 +23,14 @@ use Rattle.steps.specs.Bits.Words.{elements}
 use Rattle.pages.specs.BitSet as bits
 use Rattle.pages.specs.BitSetBridge as bits_bridge
 use Rattle.pages.specs.Machine as machine
-use Rattle.pages.specs.Reading.{IsSame, all_seen}
+use Rattle.pages.specs.Handed.{IsTold, handed, handed_after, told}
 use Rattle.pages.proofs.BitSet as bits_law
 use Rattle.pages.proofs.Relates.{AllRules, IsWithin, Meets, Relation, StepsRight, all_turns}
 use Rattle.pages.proofs.Relates as relates
 use Rattle.pages.proofs.SetsAreTheCode.{bits_after, bits_asks}
 use Rattle.pages.proofs.Simulates.{went}
-use Rattle.pages.proofs.Told.{told_by_step, told_more}
+use Rattle.pages.proofs.Told.{Hands, IsRead, Reads, Writes, steps_on}
+use Rattle.pages.proofs.Told as tellings
 
 pub coded : IsCoding one_word
 coded = grind arith
@@ -50,29 +51,116 @@ module _ (c : ℕ) (some : 0 < c) where
   abbrev bits_flight : ℕ → bits.Stage → flights.Flight ℕ
   bits_flight found stage = flights.TheVariants.Bits (bits_bridge.flight c found stage)
 
-  abbrev BitsRelated : List (Event ℕ) → registries.Registry ℕ → BitsPage → Type 0
-  BitsRelated events k w = (k ≡ nothing) × (all_seen bits_bridge.reading events ≡ map bits_bridge.without_places w.history)
+  -- what a reset of all has handed out so far
+  abbrev HandsAt : bits.Stage → List ℕ → Type 0
+  HandsAt (bits.AllSwapsElement word places) items = items ≡ places
+  HandsAt stage items = Unit {0}
 
-  bits_unseen : (p found : ℕ) (stage : bits.Stage) (old : ℕ) → all_seen bits_bridge.reading (effects_of p (bits_bridge.flight c found stage) old) ≡ []
-  bits_unseen p found (bits.SetLoadsElement place) old = refl
-  bits_unseen p found (bits.SetExchangesElement place element) old = go (old == element)
+  abbrev BitsRelated : List (Event ℕ) → registries.Registry ℕ → BitsPage → Type 0
+  BitsRelated events k w = (k ≡ nothing) × IsRead (bits.bit_set c) bits_bridge.reading HandsAt events w
+
+  abbrev WritesBits : ℕ → List (Event ℕ) → List ℕ → Type 0
+  WritesBits p wrote items = Writes (bits.bit_set c) bits_bridge.reading HandsAt p wrote items
+
+  abbrev items_of : bits.Stage → ℕ → List ℕ
+  items_of (bits.NextExchangesElement start passed element) old = cond (old == element) (bits.place_after c start passed ∷ []) []
+  items_of (bits.AllSwapsElement word places) old = places_in word old
+  items_of stage old = []
+
+  writes_none : (p : ℕ) → WritesBits p [] []
+  writes_none p = record { quiet = λ before. refl; own = λ acc. sym (append-nil acc); others = λ q acc ne. refl }
+
+  writes_all : (p : ℕ) (bs : List ℕ) → WritesBits p (map (λ b. events.TheVariants.Cleared p b) bs) bs
+  writes_all p bs = record { quiet = quiet bs; own = own bs; others = others bs }
     where
-      go : (b : Bool) → all_seen bits_bridge.reading (cond b (events.TheVariants.Set p place ∷ []) []) ≡ []
+      quiet : (bs : List ℕ) (before : List (Event ℕ)) → told bits_bridge.reading before (map (λ b. events.TheVariants.Cleared p b) bs) ≡ []
+      quiet [] before = refl
+      quiet (b ∷ bs) before = quiet bs (before ++ events.TheVariants.Cleared p b ∷ [])
+
+      own : (bs acc : List ℕ) → fold (handed_after bits_bridge.reading p) acc (map (λ b. events.TheVariants.Cleared p b) bs) ≡ acc ++ bs
+      own [] acc = sym (append-nil acc)
+      own (b ∷ bs) acc =
+          let t : (p == p) ≡ true = grind (arith, nat_tests) in
+          ap (λ t. fold (handed_after bits_bridge.reading p) (cond t (acc ++ b ∷ []) acc) (map (λ b. events.TheVariants.Cleared p b) bs)) t
+          ∙ (own bs (acc ++ b ∷ []) ∙ append_assoc acc (b ∷ []) bs)
+
+      others : (bs : List ℕ) (q : ℕ) (acc : List ℕ) → q ≢ p
+          → fold (handed_after bits_bridge.reading q) acc (map (λ b. events.TheVariants.Cleared p b) bs) ≡ acc
+      others [] q acc ne = refl
+      others (b ∷ bs) q acc ne =
+          let t : (p == q) ≡ false = grind (arith, nat_tests) in
+          ap (λ t. fold (handed_after bits_bridge.reading q) (cond t (acc ++ b ∷ []) acc) (map (λ b. events.TheVariants.Cleared p b) bs)) t
+          ∙ others bs q acc ne
+
+  writes : (p found : ℕ) (stage : bits.Stage) (old : ℕ) → WritesBits p (effects_of p (bits_bridge.flight c found stage) old) (items_of stage old)
+  writes p found (bits.SetLoadsElement place) old = writes_none p
+  writes p found (bits.SetExchangesElement place element) old = go (old == element)
+    where
+      go : (b : Bool) → WritesBits p (cond b (events.TheVariants.Set p place ∷ []) []) []
+      go true = record { quiet = λ before. refl; own = λ acc. sym (append-nil acc); others = λ q acc ne. refl }
+      go false = writes_none p
+  writes p found bits.NextLoadsPosition old = writes_none p
+  writes p found (bits.NextLoadsElement start passed) old = writes_none p
+  writes p found (bits.NextExchangesElement start passed element) old = go (old == element)
+    where
+      go : (b : Bool) → WritesBits p (cond b (events.TheVariants.Cleared p (bits.place_after c start passed) ∷ []) [])
+          (cond b (bits.place_after c start passed ∷ []) [])
+      go true = writes_all p (bits.place_after c start passed ∷ [])
+      go false = writes_none p
+  writes p found (bits.NextStoresPosition place) old = writes_none p
+  writes p found (bits.AllSwapsElement word places) old = writes_all p (places_in word old)
+
+  abbrev ReadsBits : List ℕ → machine.After bits.Stage bits.Answer → Type 0
+  ReadsBits items a = Reads (bits.bit_set c) bits_bridge.reading HandsAt bits_bridge.answered items a
+
+  reads_set : (place old : ℕ) (items : List ℕ) → ReadsBits items (bits.set_tests place old)
+  reads_set place old items = go (bits.stands old place)
+    where
+      go : (b : Bool) → ReadsBits items (cond b (machine.Done (bits.WasSet false)) (machine.GoOn (bits.SetExchangesElement place old)))
       go true = refl
-      go false = refl
-  bits_unseen p found bits.NextLoadsPosition old = refl
-  bits_unseen p found (bits.NextLoadsElement start passed) old = refl
-  bits_unseen p found (bits.NextExchangesElement start passed element) old = go (old == element)
+      go false = tt
+
+  reads_next : (start passed old : ℕ) (items : List ℕ) → ReadsBits items (bits.next_tests c start passed old)
+  reads_next start passed old items = go (bits.stands old (bits.place_after c start passed)) (nat_lt (passed + 1) c)
     where
-      go : (b : Bool) → all_seen bits_bridge.reading (cond b (events.TheVariants.Cleared p (bits.place_after c start passed) ∷ []) []) ≡ []
-      go true = refl
-      go false = refl
-  bits_unseen p found (bits.NextStoresPosition place) old = refl
-  bits_unseen p found (bits.AllSwapsElement word places) old = go (places_in word old)
+      go : (a b : Bool)
+          → ReadsBits items (cond a (machine.GoOn (bits.NextExchangesElement start passed old))
+          (cond b (machine.GoOn (bits.NextLoadsElement start (passed + 1))) (machine.Done (bits.WasReset None))))
+      go true b = tt
+      go false true = tt
+      go false false = refl
+
+  reads : (stage : bits.Stage) (old : ℕ) (items : List ℕ) → HandsAt stage items → ReadsBits (items ++ items_of stage old) ((bits.does c stage).2 old)
+  reads (bits.SetLoadsElement place) old items hands = reads_set place old (items ++ [])
+  reads (bits.SetExchangesElement place element) old items hands = go (old == element) (reads_set place old (items ++ []))
     where
-      go : (bs : List ℕ) → all_seen bits_bridge.reading (map (λ b. events.TheVariants.Cleared p b) bs) ≡ []
-      go [] = refl
-      go (b ∷ bs) = go bs
+      go : (b : Bool) → ReadsBits (items ++ []) (bits.set_tests place old)
+          → ReadsBits (items ++ []) (cond b (machine.Done (bits.WasSet true)) (bits.set_tests place old))
+      go true more = refl
+      go false more = more
+  reads bits.NextLoadsPosition old items hands = go (nat_lt 0 c)
+    where
+      go : (b : Bool)
+          → ReadsBits (items ++ []) (cond b (machine.GoOn (bits.NextLoadsElement (cond (nat_lt c old) c old) 0)) (machine.Done (bits.WasReset None)))
+      go true = tt
+      go false = refl
+  reads (bits.NextLoadsElement start passed) old items hands = reads_next start passed old (items ++ [])
+  reads (bits.NextExchangesElement start passed element) old items hands = go (old == element)
+    where
+      go : (b : Bool)
+          → ReadsBits (items ++ cond b (bits.place_after c start passed ∷ []) [])
+          (cond b (machine.GoOn (bits.NextStoresPosition (bits.place_after c start passed))) (bits.next_tests c start passed old))
+      go true = tt
+      go false = reads_next start passed old (items ++ [])
+  reads (bits.NextStoresPosition place) old items hands = refl
+  reads (bits.AllSwapsElement word places) old items hands = go (nat_lt (word + 1) (1 + elements c))
+    where
+      go : (b : Bool)
+          → ReadsBits (items ++ places_in word old)
+          (cond b (machine.GoOn (bits.AllSwapsElement (word + 1) (places ++ places_in word old)))
+          (machine.Done (bits.WereReset (places ++ places_in word old))))
+      go true = ap (λ xs. xs ++ places_in word old) hands
+      go false = ap (λ xs. bits.WereReset (xs ++ places_in word old)) hands
 
   abbrev BitsGoRight : bits.Stage → machine.After bits.Stage bits.Answer → Type 0
   BitsGoRight stage (machine.GoOn next) = (bits_law.call_at next ≡ bits_law.call_at stage) × bits_bridge.Fits c next
@@ -137,13 +225,6 @@ module _ (c : ℕ) (some : 0 < c) where
   bits_went found (machine.GoOn stage) = refl
   bits_went found (machine.Done answer) = refl
 
-  bits_reads : (answer : bits.Answer) (p : ℕ)
-      → bits_bridge.without_places (machine.Responded p answer) ≡ machine.Responded p (bits_bridge.answer_seen (bits_bridge.answered answer))
-  bits_reads (bits.WasSet new) p = refl
-  bits_reads (bits.WasReset None) p = refl
-  bits_reads (bits.WasReset (Some place)) p = refl
-  bits_reads (bits.WereReset places) p = refl
-
   bits_relation : Relation ℕ (bits.bit_set c) kinds.TheVariants.Bits c
   bits_relation =
       record {
@@ -171,8 +252,8 @@ module _ (c : ℕ) (some : 0 < c) where
             (sym related.0) (admits p call may);
         begun = λ events k w p call related may free rule. (
           related.0,
-          told_more (bits.bit_set c) bits_bridge.reading bits_bridge.without_places events (Begun p (Bits (bits_bridge.bits_start call)) ∷ []) w.history
-              (machine.Invoked p call ∷ []) related.1 (begun_seen p call),
+          tellings.begins (bits.bit_set c) bits_bridge.reading HandsAt events w p call
+              (Bits (bits_bridge.bits_start call)) related.1 (call_same call) (none_yet call),
         );
         asks = bits_asks c;
         rows = λ k r stage. refl;
@@ -181,7 +262,7 @@ module _ (c : ℕ) (some : 0 < c) where
             bits_bridge.answered (bits_bridge.Fits c) (λ events k. Unit {0}) BitsRelated events w p stage
             (step_of one_word w.words beside p (Bits (bits_bridge.bits_start (bits_law.call_at stage))) (bits_flight r stage)
             (slice_index w.words (bits.does c stage).0) k))
-            (sym related.0) (steps events w beside p r stage related.1 fits);
+            (sym related.0) (steps events w beside p r stage related.1 pending fits);
       }
     where
       first_at : (call : bits.Call) → bits_law.call_at (bits.first call) ≡ call
@@ -212,19 +293,23 @@ module _ (c : ℕ) (some : 0 < c) where
       admits p bits.ResetNext may = refl
       admits p bits.ResetAll may = refl
 
-      begun_seen : (p : ℕ) (call : bits.Call)
-          → all_seen bits_bridge.reading (Begun p (Bits (bits_bridge.bits_start call)) ∷ []) ≡ map bits_bridge.without_places (machine.Invoked p call ∷ [])
-      begun_seen p (bits.Set place) = refl
-      begun_seen p bits.ResetNext = refl
-      begun_seen p bits.ResetAll = refl
+      call_same : (call : bits.Call) → bits_bridge.call_seen (Bits (bits_bridge.bits_start call)) ≡ call
+      call_same (bits.Set place) = refl
+      call_same bits.ResetNext = refl
+      call_same bits.ResetAll = refl
+
+      none_yet : (call : bits.Call) → HandsAt (bits.first call) []
+      none_yet (bits.Set place) = tt
+      none_yet bits.ResetNext = tt
+      none_yet bits.ResetAll = refl
 
       steps : (events : List (Event ℕ)) (w : BitsPage) (beside : Option (ℕ × ℕ)) (p r : ℕ) (stage : bits.Stage)
-          → all_seen bits_bridge.reading events ≡ map bits_bridge.without_places w.history → bits_bridge.Fits c stage
+          → IsRead (bits.bit_set c) bits_bridge.reading HandsAt events w → w.pending p ≡ Some stage → bits_bridge.Fits c stage
           → StepsRight ℕ (bits.bit_set c) kinds.TheVariants.Bits c bits_law.call_at (λ call. Bits (bits_bridge.bits_start call)) bits_flight
           bits_bridge.answered (bits_bridge.Fits c) (λ events k. Unit {0}) BitsRelated events w p stage
           (step_of one_word w.words beside p (Bits (bits_bridge.bits_start (bits_law.call_at stage))) (bits_flight r stage)
           (slice_index w.words (bits.does c stage).0) nothing)
-      steps events w beside p r stage told fits =
+      steps events w beside p r stage read pending fits =
           let old = slice_index w.words (bits.does c stage).0 in
           let a = (bits.does c stage).2 old in
           let is = ap (as_call flights.TheVariants.Bits (λ (answer : Answer ℕ). answer)) (bits_after c r stage old) ∙ bits_went old a in
@@ -234,9 +319,11 @@ module _ (c : ℕ) (some : 0 < c) where
             goes = λ next e. subst (BitsGoRight stage) e (bits_right stage old fits);
             related = λ known. (
               refl,
-              told_by_step (bits.bit_set c) bits_bridge.reading bits_bridge.without_places (bits_flight old) bits_bridge.answered bits_reads events
-                  (effects_of p (bits_bridge.flight c r stage) old) w p (Bits (bits_bridge.bits_start (bits_law.call_at stage)))
-                  (slice_set w.words (bits.does c stage).0 (machine.written (bits.does c stage).1 old)) told (bits_unseen p r stage old) a _ is,
+              steps_on (bits.bit_set c) bits_bridge.reading HandsAt (λ p start answer. refl) (bits_flight old) bits_bridge.answered events
+                  (effects_of p (bits_bridge.flight c r stage) old) (items_of stage old) w p (Bits (bits_bridge.bits_start (bits_law.call_at stage)))
+                  (slice_set w.words (bits.does c stage).0 (machine.written (bits.does c stage).1 old)) read (writes p r stage old) a
+                  (reads stage old (handed bits_bridge.reading p events)
+                  (subst (λ o. Hands (bits.bit_set c) bits_bridge.reading HandsAt o (handed bits_bridge.reading p events)) pending (read.hands p))) _ is,
             );
           }
 
@@ -273,7 +360,7 @@ module _ (c : ℕ) (some : 0 < c) where
         few = omega arith;
         is = refl;
         reached = reached_opening one_word kinds.TheVariants.Bits c parties coded (grind (arith, nat_tests));
-        related = (refl, refl);
+        related = (refl, record { history = refl; hands = λ p. tt });
         matches = λ p. refl;
       }
 
@@ -294,14 +381,11 @@ unfolding bits_relation
 bits_runs c parties turns some few within small =
     let s = bits_meets c some parties turns few within small in
     record {
-      events = s.events;
-      is = ap (λ (t : Trace ℕ). t.events) s.is;
-      history = s.related.1;
+      history = ap (λ (t : Trace ℕ). told bits_bridge.reading [] t.events) s.is ∙ s.related.1.history;
       words = ap (λ (t : Trace ℕ). t.world.words) s.is;
     }
 
 pub bits_is_run : (t : Trace ℕ) → bits_bridge.BitSetIsRun t
 bits_is_run t c parties turns some few within small is =
-    let w = fold (machine.turned (bits.bit_set c)) (machine.opening (bits.bit_set c)) turns in
-    subst (λ t. IsSame bits_bridge.reading [] t (record w { history = map bits_bridge.without_places w.history })) (sym is)
+    subst (λ t. IsTold bits_bridge.reading t (fold (machine.turned (bits.bit_set c)) (machine.opening (bits.bit_set c)) turns)) (sym is)
     (bits_runs c parties turns some few within small)

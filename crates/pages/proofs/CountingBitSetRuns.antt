@@ -2,8 +2,8 @@
 use Rattle.std.specs.List.{AllByRecursion}
 use Rattle.std.proofs.Common.{is_some, nat_le, nat_lt, slice_set, ◌^◌}
 use Rattle.std.proofs.lemmas.Bool.Decides.{nat_tests}
-use Rattle.model.proofs.Names.{Bool, List, None, Option, Some, Trace, [], ap, arith, cond, false, first_of, first_row, fold}
-use Rattle.model.proofs.Names.{length, map, one_word, opening, refl, slice_index, step_of, subst, sym, true, ℕ, ◌+◌, ◌<◌, ◌==◌, ◌∙◌, ◌∷◌, ◌≡◌}
+use Rattle.model.proofs.Names.{Bool, List, None, Option, Some, Trace, [], ap, append-nil, arith, cond, false, first_of, first_row, fold}
+use Rattle.model.proofs.Names.{length, map, one_word, opening, refl, slice_index, step_of, subst, sym, true, ℕ, ◌++◌, ◌+◌, ◌<◌, ◌==◌, ◌∙◌, ◌∷◌, ◌≡◌, ◌≢◌}
 use Rattle.model.proofs.Reached.{reached_opening}
 use Rattle.model.specs.declared.event.Answer.{Answer}
 use Rattle.model.specs.declared.event.Event.{Event}
@@ -21,13 +21,14 @@ use Rattle.pages.specs.BitSetBridge as bits_bridge
 use Rattle.pages.specs.CountingBitSet as counts
 use Rattle.pages.specs.CountingBitSetBridge as counts_bridge
 use Rattle.pages.specs.Machine as machine
-use Rattle.pages.specs.Reading.{IsSame, all_seen}
+use Rattle.pages.specs.Handed.{IsTold, handed, told}
 use Rattle.pages.proofs.CountingBitSet as counts_law
 use Rattle.pages.proofs.Relates.{AllRules, IsWithin, Meets, Relation, StepsRight, all_turns}
 use Rattle.pages.proofs.Relates as relates
 use Rattle.pages.proofs.SetsAreTheCode.{counts_after, counts_asks}
 use Rattle.pages.proofs.Simulates.{went}
-use Rattle.pages.proofs.Told.{told_by_step, told_more}
+use Rattle.pages.proofs.Told.{Hands, IsRead, Reads, Writes, steps_on}
+use Rattle.pages.proofs.Told as tellings
 use Rattle.pages.proofs.BitSetRuns.{coded, fails_row, nothing, passes_row}
 
 module _ (c : ℕ) (some : 0 < c) where
@@ -37,16 +38,61 @@ module _ (c : ℕ) (some : 0 < c) where
   abbrev counts_flight : ℕ → counts.Stage → flights.Flight ℕ
   counts_flight found stage = flights.TheVariants.Bits (counts_bridge.flight c found stage)
 
-  abbrev CountsRelated : List (Event ℕ) → registries.Registry ℕ → CountsPage → Type 0
-  CountsRelated events k w = (k ≡ nothing) × (all_seen counts_bridge.reading events ≡ map counts_bridge.without_counts w.history)
+  -- what a reset of all has handed out so far
+  abbrev HandsAt : counts.Stage → List (ℕ × ℕ) → Type 0
+  HandsAt (counts.AllSwaps place taken) items = items ≡ taken
+  HandsAt stage items = Unit {0}
 
-  counts_unseen : (p found : ℕ) (stage : counts.Stage) (old : ℕ) → all_seen counts_bridge.reading (effects_of p (counts_bridge.flight c found stage) old) ≡ []
-  counts_unseen p found (counts.SetAdds place) old = refl
-  counts_unseen p found (counts.AllSwaps place taken) old = go (old == 0)
+  abbrev CountsRelated : List (Event ℕ) → registries.Registry ℕ → CountsPage → Type 0
+  CountsRelated events k w = (k ≡ nothing) × IsRead (counts.counting_bit_set c) counts_bridge.reading HandsAt events w
+
+  abbrev WritesCounts : ℕ → List (Event ℕ) → List (ℕ × ℕ) → Type 0
+  WritesCounts p wrote items = Writes (counts.counting_bit_set c) counts_bridge.reading HandsAt p wrote items
+
+  abbrev one : ℕ → ℕ → List (ℕ × ℕ)
+  one place old = (place, old) ∷ []
+
+  abbrev items_of : counts.Stage → ℕ → List (ℕ × ℕ)
+  items_of (counts.AllSwaps place taken) old = cond (old == 0) [] (one place old)
+  items_of stage old = []
+
+  writes : (p found : ℕ) (stage : counts.Stage) (old : ℕ) → WritesCounts p (effects_of p (counts_bridge.flight c found stage) old) (items_of stage old)
+  writes p found (counts.SetAdds place) old =
+      record { quiet = λ before. refl; own = λ acc. sym (append-nil acc); others = λ q acc ne. refl }
+  writes p found (counts.AllSwaps place taken) old = go (old == 0)
     where
-      go : (b : Bool) → all_seen counts_bridge.reading (cond b [] (events.TheVariants.TakenOut p place old ∷ [])) ≡ []
-      go true = refl
+      go : (b : Bool) → WritesCounts p (cond b [] (events.TheVariants.TakenOut p place old ∷ [])) (cond b [] (one place old))
+      go true = record { quiet = λ before. refl; own = λ acc. sym (append-nil acc); others = λ q acc ne. refl }
+      go false = record { quiet = λ before. refl; own = own; others = others }
+        where
+          own : (acc : List (ℕ × ℕ)) → cond (p == p) (acc ++ one place old) acc ≡ acc ++ one place old
+          own acc = let t : (p == p) ≡ true = grind (arith, nat_tests) in rw t refl
+
+          others : (q : ℕ) (acc : List (ℕ × ℕ)) → q ≢ p → cond (p == q) (acc ++ one place old) acc ≡ acc
+          others q acc ne = let t : (p == q) ≡ false = grind (arith, nat_tests) in rw t refl
+
+  abbrev ReadsCounts : List (ℕ × ℕ) → machine.After counts.Stage counts.Answer → Type 0
+  ReadsCounts items a = Reads (counts.counting_bit_set c) counts_bridge.reading HandsAt counts_bridge.answered items a
+
+  then_same : (place old : ℕ) (items taken : List (ℕ × ℕ)) → items ≡ taken
+      → items ++ cond (old == 0) [] (one place old) ≡ counts_law.handed_then place old taken
+  then_same place old items taken is = ap (λ xs. xs ++ cond (old == 0) [] (one place old)) is ∙ go (old == 0)
+    where
+      go : (b : Bool) → taken ++ cond b [] (one place old) ≡ cond b taken (taken ++ one place old)
+      go true = append-nil taken
       go false = refl
+
+  reads : (stage : counts.Stage) (old : ℕ) (items : List (ℕ × ℕ)) → HandsAt stage items
+      → ReadsCounts (items ++ items_of stage old) ((counts.does c stage).2 old)
+  reads (counts.SetAdds place) old items hands = refl
+  reads (counts.AllSwaps place taken) old items hands = go (nat_lt (place + 1) c)
+    where
+      go : (b : Bool)
+          → ReadsCounts (items ++ cond (old == 0) [] (one place old))
+          (cond b (machine.GoOn (counts.AllSwaps (place + 1) (counts_law.handed_then place old taken)))
+          (machine.Done (counts.WereReset (counts_law.handed_then place old taken))))
+      go true = then_same place old items taken hands
+      go false = ap counts.WereReset (then_same place old items taken hands)
 
   abbrev CountsGoRight : counts.Stage → machine.After counts.Stage counts.Answer → Type 0
   CountsGoRight stage (machine.GoOn next) = (counts_law.call_at next ≡ counts_law.call_at stage) × counts_bridge.Fits c next
@@ -68,12 +114,6 @@ module _ (c : ℕ) (some : 0 < c) where
       ≡ went (counts_flight found) counts_bridge.answered a
   counts_went found (machine.GoOn stage) = refl
   counts_went found (machine.Done answer) = refl
-
-  counts_reads : (answer : counts.Answer) (p : ℕ)
-      → counts_bridge.without_counts (machine.Responded p answer)
-      ≡ machine.Responded p (counts_bridge.answer_seen (counts_bridge.answered answer))
-  counts_reads (counts.Counted before) p = refl
-  counts_reads (counts.WereReset taken) p = refl
 
   counts_relation : Relation ℕ (counts.counting_bit_set c) kinds.TheVariants.Counts c
   counts_relation =
@@ -102,9 +142,8 @@ module _ (c : ℕ) (some : 0 < c) where
             (sym related.0) (admits p call may);
         begun = λ events k w p call related may free rule. (
           related.0,
-          told_more (counts.counting_bit_set c) counts_bridge.reading counts_bridge.without_counts events
-              (Begun p (Bits (counts_bridge.counts_start call)) ∷ []) w.history
-              (machine.Invoked p call ∷ []) related.1 (begun_seen p call),
+          tellings.begins (counts.counting_bit_set c) counts_bridge.reading HandsAt events w p call (Bits (counts_bridge.counts_start call)) related.1
+              (call_same call) (none_yet call),
         );
         asks = counts_asks c;
         rows = λ k r stage. refl;
@@ -114,7 +153,7 @@ module _ (c : ℕ) (some : 0 < c) where
             counts_bridge.answered (counts_bridge.Fits c) (λ events k. Unit {0}) CountsRelated events w p stage
             (step_of one_word w.words beside p (Bits (counts_bridge.counts_start (counts_law.call_at stage))) (counts_flight r stage)
             (slice_index w.words (counts.does c stage).0) k))
-            (sym related.0) (steps events w beside p r stage related.1 fits);
+            (sym related.0) (steps events w beside p r stage related.1 pending fits);
       }
     where
       first_at : (call : counts.Call) → counts_law.call_at (counts.first call) ≡ call
@@ -140,20 +179,22 @@ module _ (c : ℕ) (some : 0 < c) where
       admits p (counts.Set place) may = passes_row (nat_le c place) (grind (arith, nat_tests))
       admits p counts.ResetAll may = refl
 
-      begun_seen : (p : ℕ) (call : counts.Call)
-          → all_seen counts_bridge.reading (Begun p (Bits (counts_bridge.counts_start call)) ∷ [])
-          ≡ map counts_bridge.without_counts (machine.Invoked p call ∷ [])
-      begun_seen p (counts.Set place) = refl
-      begun_seen p counts.ResetAll = refl
+      call_same : (call : counts.Call) → counts_bridge.call_seen (Bits (counts_bridge.counts_start call)) ≡ call
+      call_same (counts.Set place) = refl
+      call_same counts.ResetAll = refl
+
+      none_yet : (call : counts.Call) → HandsAt (counts.first call) []
+      none_yet (counts.Set place) = tt
+      none_yet counts.ResetAll = refl
 
       steps : (events : List (Event ℕ)) (w : CountsPage) (beside : Option (ℕ × ℕ)) (p r : ℕ) (stage : counts.Stage)
-          → all_seen counts_bridge.reading events ≡ map counts_bridge.without_counts w.history → counts_bridge.Fits c stage
+          → IsRead (counts.counting_bit_set c) counts_bridge.reading HandsAt events w → w.pending p ≡ Some stage → counts_bridge.Fits c stage
           → StepsRight ℕ (counts.counting_bit_set c) kinds.TheVariants.Counts c counts_law.call_at
           (λ call. Bits (counts_bridge.counts_start call)) counts_flight
           counts_bridge.answered (counts_bridge.Fits c) (λ events k. Unit {0}) CountsRelated events w p stage
           (step_of one_word w.words beside p (Bits (counts_bridge.counts_start (counts_law.call_at stage))) (counts_flight r stage)
           (slice_index w.words (counts.does c stage).0) nothing)
-      steps events w beside p r stage told fits =
+      steps events w beside p r stage read pending fits =
           let old = slice_index w.words (counts.does c stage).0 in
           let a = (counts.does c stage).2 old in
           let is = ap (as_call flights.TheVariants.Bits (λ (answer : Answer ℕ). answer)) (counts_after c r stage old) ∙ counts_went old a in
@@ -163,10 +204,14 @@ module _ (c : ℕ) (some : 0 < c) where
             goes = λ next e. subst (CountsGoRight stage) e (counts_right stage old fits);
             related = λ known. (
               refl,
-              told_by_step (counts.counting_bit_set c) counts_bridge.reading counts_bridge.without_counts
-                  (counts_flight old) counts_bridge.answered counts_reads events
-                  (effects_of p (counts_bridge.flight c r stage) old) w p (Bits (counts_bridge.counts_start (counts_law.call_at stage)))
-                  (slice_set w.words (counts.does c stage).0 (machine.written (counts.does c stage).1 old)) told (counts_unseen p r stage old) a _ is,
+              steps_on (counts.counting_bit_set c) counts_bridge.reading HandsAt (λ p start answer. refl) (counts_flight old) counts_bridge.answered events
+                  (effects_of p (counts_bridge.flight c r stage) old) (items_of stage old) w p (Bits (counts_bridge.counts_start (counts_law.call_at stage)))
+                  (slice_set w.words (counts.does c stage).0 (machine.written (counts.does c stage).1 old)) read (writes p r stage old) a
+                  (reads stage old (handed counts_bridge.reading p events)
+                  (subst
+                  (λ o. Hands (counts.counting_bit_set c) counts_bridge.reading HandsAt o (handed counts_bridge.reading p events))
+                  pending (read.hands p)))
+                  _ is,
             );
           }
 
@@ -204,7 +249,7 @@ module _ (c : ℕ) (some : 0 < c) where
         few = omega arith;
         is = refl;
         reached = reached_opening one_word kinds.TheVariants.Counts c parties coded (grind (arith, nat_tests));
-        related = (refl, refl);
+        related = (refl, record { history = refl; hands = λ p. tt });
         matches = λ p. refl;
       }
 
@@ -225,14 +270,11 @@ unfolding counts_relation
 counts_runs c parties turns some few within small =
     let s = counts_meets c some parties turns few within small in
     record {
-      events = s.events;
-      is = ap (λ (t : Trace ℕ). t.events) s.is;
-      history = s.related.1;
+      history = ap (λ (t : Trace ℕ). told counts_bridge.reading [] t.events) s.is ∙ s.related.1.history;
       words = ap (λ (t : Trace ℕ). t.world.words) s.is;
     }
 
 pub counts_is_run : (t : Trace ℕ) → counts_bridge.CountingIsRun t
 counts_is_run t c parties turns some few within small is =
-    let w = fold (machine.turned (counts.counting_bit_set c)) (machine.opening (counts.counting_bit_set c)) turns in
-    subst (λ t. IsSame counts_bridge.reading [] t (record w { history = map counts_bridge.without_counts w.history })) (sym is)
+    subst (λ t. IsTold counts_bridge.reading t (fold (machine.turned (counts.counting_bit_set c)) (machine.opening (counts.counting_bit_set c)) turns)) (sym is)
     (counts_runs c parties turns some few within small)

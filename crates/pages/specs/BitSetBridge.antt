@@ -1,5 +1,5 @@
 -- What the page of the bit set has to do with the code and with machines.
-use Rattle.std.specs.Prelude.{◌≡◌, ℕ, ◌+◌, ◌<◌, ◌^◌, Some, None, List, [], ◌++◌, length, map, fold}
+use Rattle.std.specs.Prelude.{◌≡◌, ℕ, ◌+◌, ◌<◌, ◌^◌, Option, Some, None, List, [], ◌++◌, length, map, fold}
 use Rattle.std.specs.List.{AllByRecursion}
 use Rattle.steps.specs.declared.ask.After.{After}
 use Rattle.steps.specs.declared.ask.After.TheVariants.{GoOn, Done}
@@ -12,6 +12,7 @@ use Rattle.steps.specs.Bits.Words.{elements}
 use Rattle.steps.specs.Routine.{went_on}
 use Rattle.model.specs.declared.event.Answer.{Answer}
 use Rattle.model.specs.declared.event.Answer.TheVariants as answers
+use Rattle.model.specs.declared.event.Event.{Event}
 use Rattle.model.specs.declared.event.Event.TheVariants.{Cleared}
 use Rattle.model.specs.declared.event.Start.{Start}
 use Rattle.model.specs.declared.event.Start.TheVariants.{Bits}
@@ -32,7 +33,8 @@ use Rattle.model.specs.Turns.{run}
 use Rattle.model.specs.World.{Trace, opening}
 use Rattle.pages.specs.BitSet as page
 use Rattle.pages.specs.Machine as machine
-use Rattle.pages.specs.Reading.{IsSame, Reading, asked}
+use Rattle.pages.specs.Handed.{HandedReading, IsTold}
+use Rattle.pages.specs.Reading.{asked}
 
 -- ---- stage by stage
 
@@ -121,19 +123,19 @@ call_seen (Bits (starts.Set place)) = page.Set place
 call_seen (Bits starts.ResetNext) = page.ResetNext
 call_seen other = page.ResetAll
 
-abbrev pub answer_seen : Answer ℕ → page.Answer
-answer_seen (answers.Truth new) = page.WasSet new
-answer_seen (answers.Reset place) = page.WasReset (Some place)
-answer_seen answers.ResetNone = page.WasReset None
-answer_seen other = page.WereReset []
+abbrev pub answer_seen : List ℕ → Answer ℕ → page.Answer
+answer_seen places (answers.Truth new) = page.WasSet new
+answer_seen places (answers.Reset place) = page.WasReset (Some place)
+answer_seen places answers.ResetNone = page.WasReset None
+answer_seen places other = page.WereReset places
 
-abbrev pub reading : Reading page.Call page.Answer
-reading = record { call = call_seen; answer = answer_seen }
+abbrev pub item_seen : Event ℕ → Option (ℕ × ℕ)
+item_seen (Cleared p place) = Some (p, place)
+item_seen e = None
 
--- a machine's response does not say what a reset of all handed out
-abbrev pub without_places : machine.Event page.Call page.Answer → machine.Event page.Call page.Answer
-without_places (machine.Responded p (page.WereReset places)) = machine.Responded p (page.WereReset [])
-without_places e = e
+-- the response of a reset of all says what its steps handed out
+abbrev pub reading : HandedReading page.Call page.Answer ℕ
+reading = record { call = call_seen; item = item_seen; answer = answer_seen }
 
 -- a turn of the page as one of the model
 abbrev pub as_turn : (machine.Turn page.Call) → Turn ℕ
@@ -151,14 +153,12 @@ AreWithin parties turns = AllByRecursion (IsWithin parties) turns
 abbrev pub BitSetRunsAsTheMachine : Type 0
 BitSetRunsAsTheMachine =
     (c parties : ℕ) (turns : List (machine.Turn page.Call)) → 0 < c → c < 2 ^ 32 → AreWithin parties turns → length turns < 2 ^ 63
-    → (let w = fold (machine.turned (page.bit_set c)) (machine.opening (page.bit_set c)) turns in
-    IsSame reading [] (run (map as_turn turns) (opening one_word kinds.TheVariants.Bits c parties))
-    (record w { history = map without_places w.history }))
+    → IsTold reading (run (map as_turn turns) (opening one_word kinds.TheVariants.Bits c parties))
+    (fold (machine.turned (page.bit_set c)) (machine.opening (page.bit_set c)) turns)
 
 -- where this is a run of such turns
 abbrev pub BitSetIsRun : Trace ℕ → Type 0
 BitSetIsRun t =
     (c parties : ℕ) (turns : List (machine.Turn page.Call)) → 0 < c → c < 2 ^ 32 → AreWithin parties turns → length turns < 2 ^ 63
     → t ≡ run (map as_turn turns) (opening one_word kinds.TheVariants.Bits c parties)
-    → (let w = fold (machine.turned (page.bit_set c)) (machine.opening (page.bit_set c)) turns in
-    IsSame reading [] t (record w { history = map without_places w.history }))
+    → IsTold reading t (fold (machine.turned (page.bit_set c)) (machine.opening (page.bit_set c)) turns)

@@ -1,5 +1,5 @@
 -- What the page of the counting bit set has to do with the code and with machines.
-use Rattle.std.specs.Prelude.{◌≡◌, ℕ, ◌<◌, ◌^◌, ◌==◌, Some, List, [], ◌∷◌, ◌++◌, length, map, fold, if◌then◌else◌}
+use Rattle.std.specs.Prelude.{◌≡◌, ℕ, ◌<◌, ◌^◌, ◌==◌, Option, Some, None, List, [], ◌∷◌, ◌++◌, length, map, fold, if◌then◌else◌}
 use Rattle.steps.specs.declared.ask.After.{After}
 use Rattle.steps.specs.declared.ask.After.TheVariants.{GoOn, Done}
 use Rattle.steps.specs.Bits.Counts.{set_after, set_want}
@@ -7,6 +7,7 @@ use Rattle.steps.specs.Bits.ResetAll.{reset_all_after, reset_all_kept, reset_all
 use Rattle.steps.specs.Routine.{went_on}
 use Rattle.model.specs.declared.event.Answer.{Answer}
 use Rattle.model.specs.declared.event.Answer.TheVariants as answers
+use Rattle.model.specs.declared.event.Event.{Event}
 use Rattle.model.specs.declared.event.Event.TheVariants.{TakenOut}
 use Rattle.model.specs.declared.event.Start.{Start}
 use Rattle.model.specs.declared.event.Start.TheVariants.{Bits}
@@ -28,7 +29,8 @@ use Rattle.model.specs.World.{Trace, opening}
 use Rattle.pages.specs.BitSetBridge.{AreWithin}
 use Rattle.pages.specs.CountingBitSet as page
 use Rattle.pages.specs.Machine as machine
-use Rattle.pages.specs.Reading.{IsSame, Reading, asked}
+use Rattle.pages.specs.Handed.{HandedReading, IsTold}
+use Rattle.pages.specs.Reading.{asked}
 
 -- ---- stage by stage
 
@@ -101,17 +103,17 @@ abbrev pub call_seen : Start ℕ → page.Call
 call_seen (Bits (starts.Set place)) = page.Set place
 call_seen other = page.ResetAll
 
-abbrev pub answer_seen : Answer ℕ → page.Answer
-answer_seen (answers.Number before) = page.Counted before
-answer_seen other = page.WereReset []
+abbrev pub answer_seen : List (ℕ × ℕ) → Answer ℕ → page.Answer
+answer_seen counts (answers.Number before) = page.Counted before
+answer_seen counts other = page.WereReset counts
 
-abbrev pub reading : Reading page.Call page.Answer
-reading = record { call = call_seen; answer = answer_seen }
+abbrev pub item_seen : Event ℕ → Option (ℕ × (ℕ × ℕ))
+item_seen (TakenOut p place number) = Some (p, (place, number))
+item_seen e = None
 
--- a machine's response does not say what a reset of all handed out
-abbrev pub without_counts : machine.Event page.Call page.Answer → machine.Event page.Call page.Answer
-without_counts (machine.Responded p (page.WereReset counts)) = machine.Responded p (page.WereReset [])
-without_counts e = e
+-- the response of a reset of all says what its steps handed out
+abbrev pub reading : HandedReading page.Call page.Answer (ℕ × ℕ)
+reading = record { call = call_seen; item = item_seen; answer = answer_seen }
 
 -- a turn of the page as one of the model
 abbrev pub as_turn : (machine.Turn page.Call) → Turn ℕ
@@ -121,14 +123,12 @@ as_turn (machine.Next p) = Next p
 abbrev pub CountingRunsAsTheMachine : Type 0
 CountingRunsAsTheMachine =
     (c parties : ℕ) (turns : List (machine.Turn page.Call)) → 0 < c → c < 2 ^ 32 → AreWithin parties turns → length turns < 2 ^ 63
-    → (let w = fold (machine.turned (page.counting_bit_set c)) (machine.opening (page.counting_bit_set c)) turns in
-    IsSame reading [] (run (map as_turn turns) (opening one_word kinds.TheVariants.Counts c parties))
-    (record w { history = map without_counts w.history }))
+    → IsTold reading (run (map as_turn turns) (opening one_word kinds.TheVariants.Counts c parties))
+    (fold (machine.turned (page.counting_bit_set c)) (machine.opening (page.counting_bit_set c)) turns)
 
 -- where this is a run of such turns
 abbrev pub CountingIsRun : Trace ℕ → Type 0
 CountingIsRun t =
     (c parties : ℕ) (turns : List (machine.Turn page.Call)) → 0 < c → c < 2 ^ 32 → AreWithin parties turns → length turns < 2 ^ 63
     → t ≡ run (map as_turn turns) (opening one_word kinds.TheVariants.Counts c parties)
-    → (let w = fold (machine.turned (page.counting_bit_set c)) (machine.opening (page.counting_bit_set c)) turns in
-    IsSame reading [] t (record w { history = map without_counts w.history }))
+    → IsTold reading t (fold (machine.turned (page.counting_bit_set c)) (machine.opening (page.counting_bit_set c)) turns)

@@ -2,6 +2,7 @@ pub mod BitSet
 pub mod BitSetBridge
 pub mod CountingBitSet
 pub mod CountingBitSetBridge
+pub mod Handed
 pub mod IndexQueue
 pub mod IndexQueueBridge
 pub mod Machine
