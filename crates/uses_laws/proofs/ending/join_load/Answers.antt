@@ -1,0 +1,19 @@
+use Rattle.std.proofs.Common.{◌≡◌, ◌≤◌, ℕ, ◌+◌, ◌*◌, subst, arith}
+use Rattle.model.specs.declared.turn.Kind.TheVariants.{IndexQueue}
+use Rattle.model.specs.Loads.{begun, load}
+use Rattle.model.specs.LockFree.{steps_in, stretch}
+use Rattle.model.specs.World.{opening}
+use Rattle.lock_free.specs.Coding.{one_word}
+use Rattle.lock_free.specs.Queues.Calls.{queue_of, view}
+use Rattle.uses_laws.proofs.ending.join_load.Goals as goal
+
+pub returns : goal.returns
+returns c n below =
+    let new = view c.join.new.self in
+    let capacity = (queue_of c.args.pass.now).capacity in
+    let steps : ℕ = steps_in (opening one_word IndexQueue capacity 0) new.turns in
+    let five : stretch n 0 5 ≡ 5 * n = omega arith in
+    let within : steps ≤ load (stretch n 0 5) (begun new.seen) =
+    c.passes_end_loads.ensures.known IndexQueue one_word capacity new c.join.ensures.same.knows n below in
+    let few : steps ≤ load (5 * n) (begun new.seen) = subst (λ b. steps ≤ load b (begun new.seen)) five within in
+    omega (few, arith)
