@@ -30,7 +30,7 @@ pub fn passes_keep_ending<T>()
 /// that has begun since (`between`).
 ///
 /// So a thread's call ends if the thread goes on: cut what the table did since then into more rounds than that, and a party
-/// that took a step in each of them, unless it had no call under way, has had none (`rest`).
+/// that took a step in each had no call under way as one of them began (`rest`).
 pub fn passes_end_loads<T>()
     ensures between { (kind : Kind) → IfSome (lock_free_bound kind) (PassesEndLoad T kind) }
     ensures known { (kind : Kind) → IfSome (lock_free_bound kind) (KnownEndsLoad T kind) }

@@ -1,5 +1,4 @@
 use Rattle.machine.proofs.Loads as laws
-use Rattle.headline.proofs.Nexts as nexts
 use Rattle.headline.proofs.loads.finite_loads.Goals as goal
 
 pub returns-clause-load_ends : goal.returns-clause-load_ends
@@ -13,12 +12,3 @@ returns-clause-load_ends_container g c = laws.container_load_ends _
 
 pub returns-clause-load_ends_channel : goal.returns-clause-load_ends_channel
 returns-clause-load_ends_channel g c = laws.channel_load_ends _
-
-pub returns-clause-ends_in_rounds : goal.returns-clause-ends_in_rounds
-returns-clause-ends_in_rounds g c kind = laws.ends_in_rounds _ kind
-
-pub returns-clause-ends_if_fair : goal.returns-clause-ends_if_fair
-returns-clause-ends_if_fair g c kind = laws.ends_if_fair _ kind
-
-pub returns-clause-ends_by_turns : goal.returns-clause-ends_by_turns
-returns-clause-ends_by_turns g c kind = nexts.ends_by_turns _ kind
