@@ -29,14 +29,3 @@ pub fn join_load(pass: &mut Pass, other: Pass)
     pass.join(other);
     pass.history();
 }
-
-/// Takes in the other pass. All steps at the queue that the pass knows of then are at most 5n + 1 for each call that it has
-/// seen begin, whatever the threads did and in which order, and all calls that it has seen are of parties below n. So threads
-/// that make finitely many calls take finitely many steps.
-pub fn join_load(pass: &mut Pass, other: Pass)
-    requires { queue_of other ≡ queue_of pass.old }
-    ensures { StepsAreWithinLoad (queue_of pass.old).capacity (view pass.new) }
-{
-    passes_end_loads::<u64>();
-    pass.join(other);
-}
