@@ -14,7 +14,7 @@ use Rattle.steps.specs.Bits.Words.{stands, with_flag, without_flag}
 use Rattle.pages.specs.BitSet as page
 use Rattle.pages.specs.Machine.{After, GoOn, Done, Turn, opening, turned}
 use Rattle.pages.specs.Places.{Act, ActsAt}
-use Rattle.pages.proofs.Places.{Moves, Stays, Acts, Forgets, Begins, GoesOn, Goes, Law, words_then}
+use Rattle.pages.proofs.Places.{Moves, Stays, Acts, Forgets, Begins, Goes, Law, words_then}
 use Rattle.pages.proofs.Places as places
 
 abbrev pub call_at : page.Stage → page.Call

@@ -8,7 +8,6 @@ use Rattle.model.proofs.Reached.{reached_opening}
 use Rattle.model.specs.declared.event.Answer.{Answer}
 use Rattle.model.specs.declared.event.Event.{Event}
 use Rattle.model.specs.declared.event.Event as events
-use Rattle.model.specs.declared.event.Event.TheVariants.{Begun}
 use Rattle.model.specs.declared.event.Start.TheVariants.{Bits}
 use Rattle.model.specs.declared.families.Flight as flights
 use Rattle.model.specs.declared.families.Registry as registries

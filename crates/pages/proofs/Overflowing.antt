@@ -6,7 +6,7 @@ use Rattle.std.proofs.lemmas.List.{length-map, map-append}
 use Rattle.std.specs.Ordering.{is_eq, nat_cmp}
 use Rattle.model.proofs.Names.{fold, Bool, IsReached, List, None, Option, Some, Trace, [], answer_in, ap, arith}
 use Rattle.model.proofs.Names.{ask_of, capacity_error, cond, false, first_row, length, map, nat_lt, one_word, opening}
-use Rattle.model.proofs.Names.{refl, refusal_of, slice_get, step_of, subst, sym, true, ℕ, ◌++◌, ◌+◌, ◌<◌, ◌==◌, ◌∙◌}
+use Rattle.model.proofs.Names.{refl, refusal_of, slice_get, step_of, subst, true, ℕ, ◌++◌, ◌+◌, ◌<◌, ◌==◌, ◌∙◌}
 use Rattle.model.proofs.Names.{◌∷◌, ◌≡◌}
 use Rattle.model.proofs.Names as model
 use Rattle.model.specs.declared.event.Answer.{Answer}

@@ -4,10 +4,10 @@ use Rattle.std.proofs.Common.{◌%◌, ◌*◌, ◌^◌, ◌||◌, ◌-◌, is_s
 use Rattle.std.proofs.lemmas.Bool.Decides.{nat_tests}
 use Rattle.std.proofs.lemmas.List.{length-map, map-append}
 use Rattle.std.specs.Ordering.{is_eq, nat_cmp}
-use Rattle.model.proofs.Names.{fold, Bool, IsCoding, IsReached, List, None, Option, Some, Trace, [], answer_in, ap}
-use Rattle.model.proofs.Names.{arith, ask_of, bounded_list, capacity_error, cond, doing_of, false, first_row}
-use Rattle.model.proofs.Names.{flight_of, length, map, nat_lt, not, one_word, opening, refl, refusal_of, slice_get}
-use Rattle.model.proofs.Names.{step_of, subst, sym, true, ℕ, ⊎_elim, ◌++◌, ◌+◌, ◌<◌, ◌==◌, ◌∙◌, ◌∷◌, ◌≡◌}
+use Rattle.model.proofs.Names.{fold, Bool, IsReached, List, None, Option, Some, Trace, [], answer_in, ap}
+use Rattle.model.proofs.Names.{arith, ask_of, bounded_list, capacity_error, cond, false, first_row}
+use Rattle.model.proofs.Names.{length, map, nat_lt, not, one_word, opening, refl, refusal_of, slice_get}
+use Rattle.model.proofs.Names.{step_of, subst, sym, true, ℕ, ◌++◌, ◌+◌, ◌<◌, ◌==◌, ◌∙◌, ◌∷◌, ◌≡◌}
 use Rattle.model.proofs.Names as model
 use Rattle.model.specs.declared.event.Answer.{Answer}
 use Rattle.model.specs.declared.event.Item.{Item}

@@ -1,7 +1,6 @@
 -- What is told of a run of the model, with what its calls handed out on their way.
-use Rattle.std.specs.List.{AllByRecursion}
 use Rattle.std.proofs.lemmas.Bool.Decides.{nat_tests}
-use Rattle.model.proofs.Names.{Bool, List, None, Option, Some, [], ap, append-nil, append_assoc, answer_in, arith, cond, false, fold, fold-append, map}
+use Rattle.model.proofs.Names.{Bool, List, None, Option, Some, [], ap, append-nil, append_assoc, answer_in, arith, cond, false, fold, fold-append}
 use Rattle.model.proofs.Names.{refl, subst, sym, true, ℕ, ◌++◌, ◌==◌, ◌∙◌, ◌∷◌, ◌≡◌, ◌≢◌}
 use Rattle.model.specs.declared.event.Answer as answers
 use Rattle.model.specs.declared.event.Event.{Event}

@@ -3,9 +3,9 @@ use Rattle.std.specs.List.{AllByRecursion, Contains}
 use Rattle.std.proofs.Common.{◌%◌, ◌^◌, ◌-◌, is_some, mod-lt}
 use Rattle.std.specs.Ordering.{is_eq, nat_cmp}
 use Rattle.model.proofs.Names.{fold, Bool, IsCoding, IsReached, List, None, Option, Some, Trace, World, [], after_turn}
-use Rattle.model.proofs.Names.{answer_in, ap, arith, ask_of, capacity_error, cond, doing_of, false, first_row}
-use Rattle.model.proofs.Names.{flight_of, length, map, not, one_word, opening, party_of, refl, refusal_of, step_of}
-use Rattle.model.proofs.Names.{subst, sym, true, ℕ, ⊎_elim, ◌++◌, ◌+◌, ◌<◌, ◌==◌, ◌∙◌, ◌∷◌, ◌≡◌, ◌≤◌}
+use Rattle.model.proofs.Names.{answer_in, ap, arith, ask_of, cond, doing_of, false, first_row}
+use Rattle.model.proofs.Names.{flight_of, length, map, one_word, opening, refl, refusal_of, step_of}
+use Rattle.model.proofs.Names.{subst, true, ℕ, ⊎_elim, ◌++◌, ◌+◌, ◌<◌, ◌==◌, ◌∙◌, ◌∷◌, ◌≡◌, ◌≤◌}
 use Rattle.model.proofs.Names as model
 use Rattle.model.specs.declared.event.Answer.{Answer}
 use Rattle.model.specs.declared.event.Answer.TheVariants as answers

@@ -8,7 +8,7 @@ use Rattle.std.proofs.lemmas.List.{length-append, length-map, length-replicate, 
 use Rattle.std.specs.Ordering.{is_eq, nat_cmp}
 use Rattle.std.specs.Prelude.{slice_index}
 use Rattle.model.proofs.Names.{fold, Bool, IsCoding, IsReached, List, None, Option, Some, Trace, [], answer_in, ap, append_assoc}
-use Rattle.model.proofs.Names.{arith, ask_of, capacity_error, cond, false, first_row, length, map, not, opening, refl, refusal_of}
+use Rattle.model.proofs.Names.{arith, ask_of, capacity_error, cond, false, first_row, length, map, opening, refl, refusal_of}
 use Rattle.model.proofs.Names.{slice_get, step_of, subst, sym, true, ℕ, ◌++◌, ◌+◌, ◌<◌, ◌==◌, ◌∙◌, ◌∷◌, ◌≡◌, ◌≤◌}
 use Rattle.model.proofs.Names as model
 use Rattle.model.specs.declared.event.Answer.{Answer}

@@ -1,6 +1,6 @@
 //! A bit that a caller sets twice was cleared in between, by whomever.
 
-ghost use Rattle.std.specs.Prelude.{◌≡◌, ◌<◌, IsTrue};
+ghost use Rattle.std.specs.Prelude.{◌<◌, IsTrue};
 ghost use Rattle.lock_free.specs.Bits.Calls.{capacity_of, IsPassOf, history};
 ghost use Rattle.lock_free.specs.Sums.{clears};
 

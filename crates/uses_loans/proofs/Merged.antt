@@ -1,7 +1,7 @@
 -- What was received and what came back are a beginning of what was sent, once the views of both ends are joined.
 use Rattle.std.proofs.Common.{◌≡◌, inl, inr, ℕ, zero, suc, ◌+◌, ◌-◌, ◌^◌, ◌<◌, ◌≤◌}
 use Rattle.std.proofs.Common.{List, [], ◌∷◌, ◌++◌, length, map, take, sym, refl, ap, subst, ◌∙◌, arith}
-use Rattle.std.proofs.Common.{length-append, append-nil, append_assoc, sum_by}
+use Rattle.std.proofs.Common.{length-append, append-nil, sum_by}
 use Rattle.std.specs.List.{All, flat_map}
 use Rattle.std.proofs.lemmas.List.{take-map}
 use Rattle.std.proofs.lemmas.List.Elements.{All-nil, All-cons, All-head, All-tail}
@@ -9,8 +9,6 @@ use Rattle.std.proofs.lemmas.Grind.{flat_map-append}
 use lib.Seq.{take-append_seam}
 use mathlib.Core.List.{map-append}
 use Rattle.model.specs.Coding.{one_word}
-use Rattle.model.specs.declared.event.Event.{Event}
-use Rattle.model.specs.declared.event.Item.{Item}
 use Rattle.model.specs.declared.event.Item.TheVariants.{Index}
 use Rattle.model.specs.declared.turn.Kind.TheVariants as kinds
 use Rattle.model.specs.Families.Queues.Reading.{publishes, published, handed_out, waiting}

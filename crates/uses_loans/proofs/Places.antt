@@ -1,5 +1,5 @@
 -- The table where a value that was to be sent comes back at once, and how large numbers get.
-use Rattle.std.proofs.Common.{◌≡◌, ℕ, zero, suc, ◌+◌, ◌*◌, ◌^◌, ◌%◌, ◌<◌, ◌≤◌, true, true≢false, if◌then◌else◌, List}
+use Rattle.std.proofs.Common.{◌≡◌, ℕ, zero, suc, ◌%◌, ◌<◌, ◌≤◌, true, true≢false, if◌then◌else◌, List}
 use Rattle.std.proofs.Common.{[], ◌∷◌, length, sym, ap, subst, ◌∙◌, arith}
 use Rattle.std.proofs.Common.{get_or-set_same, set-set}
 use Rattle.std.proofs.lemmas.Nat.{mod-mul-add}

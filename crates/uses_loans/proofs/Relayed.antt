@@ -1,6 +1,6 @@
 -- The two ends of a channel from their opening until their passes are taken in again: all that went through is known, and it is
 -- what was known before and then what they sent and received.
-use Rattle.std.proofs.Common.{◌≡◌, ℕ, ◌+◌, ◌*◌, ◌-◌, ◌^◌, ◌/◌, ◌<◌, ◌≤◌, zero, suc, take, List, [], ◌∷◌, ◌++◌, length}
+use Rattle.std.proofs.Common.{◌≡◌, ℕ, ◌+◌, ◌-◌, ◌^◌, ◌/◌, ◌<◌, ◌≤◌, zero, suc, take, List, [], ◌∷◌, ◌++◌, length}
 use Rattle.std.proofs.Common.{map, refl, sym, ap, subst, ◌∙◌, arith, sum_by}
 use Rattle.std.proofs.lemmas.List.{take-map}
 use Rattle.std.proofs.lemmas.List.Elements.{All-nil, All-append}
@@ -20,7 +20,7 @@ use Rattle.threaded.specs.Shares.{half_of, both_of, IsAll}
 use Rattle.lock_free_queues.specs.Queues.Merges.{Merges}
 use Rattle.lock_free_queues.specs.Queues.Sums.{puts, gets}
 use Rattle.lock_free_queues.proofs.Queues.Sent.{length_named}
-use Rattle.uses_loans.specs.Numbers.{Shape, numbers_in, HasPlace, HavePlaces, HasSentNumbers, HasReceivedNumbers}
+use Rattle.uses_loans.specs.Numbers.{Shape, HasPlace, HavePlaces, HasSentNumbers, HasReceivedNumbers}
 use Rattle.uses_loans.specs.Numbers.{SendsOn, ReceivesOn, HasAll, HavePassed, IsPassedOn}
 use Rattle.uses_loans.proofs.Merged.{came_of, have_passed, merges_map, merges_none}
 

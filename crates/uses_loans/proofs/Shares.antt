@@ -1,5 +1,5 @@
 -- A share that was halved and joined again is as much as before.
-use Rattle.std.proofs.Common.{◌≡◌, ℕ, ◌+◌, ◌*◌, sym, subst, arith}
+use Rattle.std.proofs.Common.{◌≡◌, ◌*◌, sym, subst, arith}
 use Rattle.threaded.specs.declared.share.Share.{Share}
 use Rattle.threaded.specs.Shares.{half_of, both_of}
 

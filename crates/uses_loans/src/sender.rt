@@ -3,7 +3,7 @@ ghost use Rattle.std.specs.Prelude.{◌≡◌, ◌+◌, ◌-◌, ◌^◌, ◌<�
 ghost use Rattle.std.specs.Prelude.{[], count_by, map, slice_set, vec_len};
 ghost use Rattle.lock_free.specs.Loan.Contracts.{HasEmptied};
 ghost use Rattle.lock_free.specs.Loan.Places.{is_sent, place_at, reclaimed, returned};
-ghost use Rattle.lock_free.specs.Loan.Sender.{completion_of, completion_view, pass_view, set_of_sender, submission_of, submission_view, IsLoaned, IsSame};
+ghost use Rattle.lock_free.specs.Loan.Sender.{completion_of, completion_view, pass_view, set_of_sender, submission_of, IsLoaned, IsSame};
 ghost use Rattle.lock_free.specs.declared.spsc.loan.places.Place.TheVariants.{Free, Loaned, Sent};
 ghost use Rattle.lock_free.specs.Queues.Item.TheVariants.{Index};
 ghost use Rattle.lock_free.specs.Passes.{Goes};

@@ -1,5 +1,5 @@
 -- Values that were stored and seen, and what is known of them once the passes are joined.
-use Rattle.std.proofs.Common.{◌≡◌, ℕ, suc, true, ◌+◌, ◌<◌, ◌≤◌, List, [], ◌∷◌, ◌++◌, length, get_or, take, sym, refl}
+use Rattle.std.proofs.Common.{◌≡◌, ℕ, true, ◌+◌, ◌<◌, ◌≤◌, List, [], ◌∷◌, ◌++◌, length, get_or, take, sym, refl}
 use Rattle.std.proofs.Common.{ap, subst, ◌∙◌, arith, append-nil, append_assoc, length-append, sum_by}
 use Rattle.uses_programs.proofs.Names.{All, take_more, flat_map-append, All-push, sum_by-append, Event, View}
 use Rattle.uses_programs.proofs.Names.{IsBeginning, Share, half_of, both_of, IsAll, all_shares, opened_view}
@@ -7,7 +7,6 @@ use Rattle.std.specs.List.{Contains}
 use Rattle.std.proofs.lemmas.List.{take_all, get_or_append_left, get_or_push}
 use Rattle.lock_free.specs.Passes.{Goes}
 use Rattle.lock_free.specs.Value.Calls.{MissesNothing}
-use Rattle.lock_free.specs.Value.Reading.{IsLast}
 use Rattle.lock_free.specs.Value.Stored.{stores, stored}
 use Rattle.lock_free.specs.Value.Contracts.{HasAcquired, HasReleased, HasStored, HasLoaded, HasSplit, HasJoined}
 use Rattle.lock_free.proofs.ValueVersions.{count_is, newest}

@@ -1,4 +1,4 @@
-use Rattle.std.proofs.Common.{◌≡◌, ◌≤◌, ℕ, ◌+◌, ◌*◌, ap, subst, arith}
+use Rattle.std.proofs.Common.{◌≡◌, ◌≤◌, ℕ, ◌*◌, ap, subst, arith}
 use Rattle.model.specs.declared.turn.Kind.TheVariants.{IndexQueue}
 use Rattle.model.specs.Loads.{begun, load}
 use Rattle.model.specs.LockFree.{steps_in, stretch}

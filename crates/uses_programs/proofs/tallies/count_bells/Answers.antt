@@ -1,4 +1,4 @@
-use Rattle.std.proofs.Common.{rules, ◌≡◌, ℕ, ◌+◌, ◌-◌, ◌%◌, ◌^◌, ◌<◌, ◌≤◌, cond, [], length, sym, ap, subst, ◌∙◌, arith}
+use Rattle.std.proofs.Common.{rules, ◌≡◌, ◌+◌, ◌-◌, ◌^◌, ◌<◌, ◌≤◌, cond, [], length, sym, ap, subst, ◌∙◌, arith}
 use Rattle.uses_programs.proofs.Names.{Share, all_shares, half_of, both_of, IsAll, is_count_of, take_of, counts, takes}
 use Rattle.lock_free.specs.Counts.Calls.{history, made, share}
 use Rattle.lock_free.proofs.Counts.Sums.{takes_within}

@@ -1,4 +1,3 @@
-use Rattle.std.proofs.Common.{◌∙◌}
 use Rattle.uses_slots.proofs.Ranges.{is_slot, is_past}
 use Rattle.uses_slots.proofs.Slots.read.Goals as goal
 

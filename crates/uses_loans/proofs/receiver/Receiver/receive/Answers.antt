@@ -1,4 +1,4 @@
-use Rattle.std.proofs.Common.{rules, refl, inl, inr, ◌∙◌}
+use Rattle.std.proofs.Common.{rules, refl, inr, ◌∙◌}
 use Rattle.uses_loans.proofs.Ends.{received_none, received_one}
 use Rattle.uses_loans.proofs.Places.{past}
 use Rattle.uses_loans.proofs.receiver.Receiver.receive.Goals as goal
