@@ -10,7 +10,7 @@ pub data Call : Type 0 where
   ResetNext : Call
   ResetAll : Call
 
--- whether the bit was clear; the place that was reset, if any; all places that were
+-- answers: of Set whether the bit was clear, of ResetNext the place that it reset, if any, of ResetAll all places that it reset
 pub data Answer : Type 0 where
   WasSet : (new : Bool) → Answer
   WasReset : (place : Option ℕ) → Answer
@@ -98,7 +98,8 @@ bit b = if b then 1 else 0
 abbrev pub now : List ℕ → ℕ → ℕ
 now words place = bit (stands (slice_index words (1 + place / 64)) place)
 
--- A reset of all hands each place out once. One of the next place that hands out another one passes by.
+-- A reset of all acts at each place: it found 1 if it hands the place out, else 0. A reset of the next place acts at the place
+-- that it hands out, or at every place, if it hands out none.
 abbrev pub at : ℕ → Call → Answer → Option Act
 at b (Set place) (WasSet new) = if place == b then Some (record { found = bit (not new); left = 1 }) else None
 at b ResetNext (WasReset None) = Some (record { found = 0; left = 0 })

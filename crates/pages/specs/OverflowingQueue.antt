@@ -25,7 +25,8 @@ first (Push value) = PushLoadsWrite value
 first Pop = PopLoadsRead
 
 -- Both calls answer None or a value: a push the oldest one, if the queue was full, and a pop the one that it took.
--- A push stores its value first, and makes room then, if no pop has.
+-- A push first stores its value. If the queue was full when it loaded the read position, it then takes the oldest value out,
+-- unless a pop has done so meanwhile.
 abbrev pub does : ℕ → Stage → ℕ × Operation × (ℕ → After Stage (Option ℕ))
 does capacity (PushLoadsWrite value) =
     (0, Load, λ old. if old == 2 ^ 64 - 1 then Done (Some value) else GoOn (PushLoadsRead value old))

@@ -4,7 +4,7 @@ use Rattle.std.specs.Prelude.{List, ◌∷◌, ◌++◌, bit_and, fold, replicat
 use Rattle.std.specs.List.{range_with_len}
 use Rattle.pages.specs.Machine.{Operation, Load, Store, Exchange, Sub, And, Or, After, GoOn, Done, Structure, Event, Invoked, Responded}
 
--- a release may lock the set, if its index is the last that is not free
+-- a release with `may_lock` locks the set if its index is the last one that is not free
 pub data Call : Type 0 where
   Acquire : Call
   Release : (index : ℕ) (may_lock : Bool) → Call
@@ -31,8 +31,8 @@ abbrev pub first : Call → Stage
 first Acquire = AcquireLoadsHead
 first (Release index may_lock) = ReleaseClearsFlag index may_lock
 
--- the head: 24 bits of the index that is proposed, 16 that count exchanges, and 24 of how many indices are not free, of which
--- the greatest number says that the set is locked
+-- the head, from its highest bit on: 24 bits for the index that is proposed, 16 for a count of exchanges, which wraps, and 24
+-- for the number of indices that are not free. The greatest such number says that the set is locked.
 abbrev pub head_of : ℕ → ℕ → ℕ → ℕ
 head_of head index borrowed = index % 2 ^ 24 * 2 ^ 40 + (head / 2 ^ 24 % 2 ^ 16 + 1) % 2 ^ 16 * 2 ^ 24 + borrowed % 2 ^ 24
 
@@ -127,7 +127,8 @@ abbrev pub ReleasesOwn : List (Event Call Answer) → Event Call Answer → Type
 ReleasesOwn before (Invoked p (Release index may_lock)) = holder index before ≡ Some p
 ReleasesOwn before e = Unit {0}
 
--- who gets an index is its only holder, and none is got once the set is locked; as it is locked, none has a holder
+-- Whoever gets an index is its only holder. No index is got once the set is locked. When it is locked, no index has a holder.
+-- That an acquire gets one is not said.
 abbrev pub HoldsAlone : ℕ → List (Event Call Answer) → Event Call Answer → Type 0
 HoldsAlone c before (Responded p (Acquired index)) =
     (index < c) × (holder index before ≡ None) × (is_locked before ≡ false)

@@ -22,7 +22,8 @@ abbrev pub first : Call → Stage
 first (StoreValue value) = StoreLoadsVersion value
 first LoadValue = LoadLoadsVersion
 
--- the value of a version stands in the cell of the version before it
+-- There are two cells. A store that finds version v writes its value into cell v % 2, and raises the version to v + 1. So the
+-- value of version v is in cell (v - 1) % 2.
 abbrev pub does : Stage → ℕ × Operation × (ℕ → After Stage Answer)
 does (StoreLoadsVersion value) =
     (0, Load, λ old. if old == 2 ^ 64 - 1 then Done (Stored false) else GoOn (StoreStoresCell value old))
@@ -34,7 +35,7 @@ does (LoadLoadsCell version) =
 does (LoadChecksVersion version value) =
     (0, Exchange version version, λ old. if old == version then Done (Loaded value) else GoOn (LoadLoadsCell old))
 
--- party 0 is the producer, and whoever likes loads
+-- party 0 is the producer, and any party may load
 abbrev pub may : ℕ → Call → Bool
 may p (StoreValue value) = p == 0
 may p LoadValue = true

@@ -1,6 +1,7 @@
 //! Theorems on pages, of seven structures: `Machine.antt` of `specs` says what a run is and what linearizable means, and a file
 //! for each structure what its machine is. For the two bit sets `Places.antt` says what holds at one place. These files cite
-//! the standard library alone. In fewer than 2^63 turns no position, no version and no count comes to its last number.
+//! the standard library alone. In fewer than 2^63 turns no position, no version and no
+//! count of a counting bit set comes to its last number. (The 16-bit count in the head of a unique index set wraps.)
 #![tactic(auto)]
 
 ghost use Rattle.std.specs.Prelude.{◌≡◌, ℕ, ◌<◌, ◌^◌, List, length, map, fold, slice_index, ◌-◌};
