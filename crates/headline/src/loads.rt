@@ -28,8 +28,10 @@ pub fn finite_loads<T>()
 /// machines as they run). On an endless schedule on which finitely many calls begin, each party to which the schedule is
 /// fair comes to a moment at which it has no call under way (`if_fair`).
 ///
-/// Only the party itself has to be scheduled. A call that waits for a decision takes no step, so a schedule that is fair to
-/// it contains the decision.
+/// The first holds of all kinds, of a robust set and a container in runs in which no call may lock. The second holds of the
+/// seven kinds and of the loan channel, the third of the seven kinds (of a robust set and a container by
+/// `owners_are_lock_free`). Only the party itself has to be scheduled. A call that waits for a decision takes no step, so a
+/// schedule that is fair to it contains the decision.
 pub fn calls_end<T>()
     ensures in_rounds { (kind : Kind) → IfSome (lock_free_bound kind) (EndsInRounds T kind) }
     ensures in_rounds_by_default { EndsInRoundsOf T Robust IsDefault default_bound }

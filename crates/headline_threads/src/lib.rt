@@ -25,7 +25,7 @@ pub fn passes_keep_ending<T>()
     ensures known { (kind : Kind) → IfSome (lock_free_bound kind) (KnownKeepsEnding T kind) }
 {}
 
-/// A finite load ends between threads. All steps that the table took, as far as a pass knows, are at most the bound and one for
+/// A finite load ends between threads, of the same kinds and parties. All steps that the table took, as far as a pass knows, are at most the bound and one for
 /// each call that it has seen begin (`known`), so a pass with the whole share knows a bound of all steps that threads have
 /// taken there. Since an earlier time they are at most so many for each call that had begun then and not ended, and for each
 /// that has begun since (`between`).
@@ -38,9 +38,11 @@ pub fn passes_end_loads<T>()
     ensures rest { (kind : Kind) → IfSome (lock_free_bound kind) (PassesRest T kind) }
 {}
 
-/// The same of robust index sets and containers, whose runs between threads are open: nobody sees an owner die. Both are
-/// lock-free in each of them, with bounds that say nothing of practice. Where a pass has seen no call begin that may lock,
-/// their bounds are small.
+/// Of robust index sets and containers, whose runs between threads are open: nobody sees an owner die. If the table took more
+/// steps between two moments of a pass than the bound says, a call has ended, and all steps that the pass knows of are at most
+/// the bound and one for each call that it has seen begin. These bounds say nothing of practice. Where the pass has seen no
+/// call begin that may lock, the bounds are small, and if k calls have ended since the opening, the table took at most k + 1
+/// times the bound and k steps.
 pub fn owners_keep_ending<T>()
     ensures robust { PassesEnd T Robust room_bound }
     ensures robust_load { KnownEndsLoad T Robust room_bound }

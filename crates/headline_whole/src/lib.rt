@@ -46,8 +46,10 @@ use steps::words::Words;
 ///   one value.
 /// - No index has two holders, and none has one once the set is locked. Where indices have owners, this is so of well-formed
 ///   runs: no owner's index is given back that he does not hold.
-/// - What a call copies from a container, in a well-formed run, is the element that stands there, whole.
-/// - Bits and counts are conserved. A reset of all has taken out whatever stood when it began, or another call has since.
+/// - What a call copies from a container is the element that stands there, whole, in runs in which replaces are well-formed,
+///   too (`IsWellFormedRun`).
+/// - Bits and counts are conserved. Since a reset of all began, each bit that stood then was cleared, and something was taken
+///   out of each place that counted then.
 /// - A recovery that answers Unlocked has left its owner no index that it was to free: one about which it heard yes, or, in a
 ///   container, one that it was shown empty.
 /// - If each call begins when no other is under way, the finished calls answer as a list, a set or a map does, call after call.

@@ -160,7 +160,8 @@ pub fn unique_index_set_is_the_code()
 
 /// What a `Machine` of a bit set, of a counting bit set or of a unique index set has taken is a run of its page: if it took
 /// these turns from its making on, its words, the invocations and the responses are those of the page's machine over the same
-/// turns, where the response of a reset of all says what its steps have handed out. The function does nothing.
+/// turns, where the response of a reset of all says what its steps have handed out. Of a unique index set this is so if each
+/// index was released by its holder. The function does nothing.
 pub fn a_machine_runs_the_sets(machine: &Machine<u64>)
     ensures bits { bits_bridge.BitSetIsRun (trace_in ⟦<u64 as Coded>⟧.coding machine.now) }
     ensures counts { counts_bridge.CountingIsRun (trace_in ⟦<u64 as Coded>⟧.coding machine.now) }

@@ -7,14 +7,14 @@ use Rattle.pages.specs.Machine.{Event, Invoked, IsLinearizable, Responded, Turn,
 abbrev pub history_of : ℕ → List (Turn Call) → List (Event Call Answer)
 history_of capacity turns = (fold (turned (index_queue capacity)) (opening (index_queue capacity)) turns).history
 
--- the last call of this history to end is a push of this value, which was taken
+-- this history ends with the response of a push that was taken, and an invocation of a push of this value stands before it
 pub record EndsWithPush (value : ℕ) (history : List (Event Call Answer)) : Type 0 where
   pub before : List (Event Call Answer)
   pub during : List (Event Call Answer)
   pub is : history ≡ before ++ Invoked 0 (Push value) ∷ (during ++ Responded 0 (Pushed true) ∷ [])
 
--- What was seen of all threads' pushes and pops is a run of the page's machine. It had come to the end of the first push, and
--- has gone on from there to the end of the second. It is linearizable as the page says.
+-- What was seen of all threads' pushes and pops is a run of the page's machine. It had come to the end of a push, and has gone on
+-- from there to the end of another one. It is linearizable as the page says.
 pub record HasPushedBoth (capacity first second : ℕ) (seen : List (Event Call Answer)) : Type 0 where
   pub turns : List (Turn Call)
   pub more : List (Turn Call)
