@@ -152,54 +152,6 @@ fn all_places_are_used(rt: HostRuntime) -> Result<(), Fail> {
     Ok(())
 }
 
-/// The value that waits, after which none does.
-fn last_one(rt: &impl Wait, receiver: &mut Receiver<'_, u64>, number: u64) -> bool {
-    match comes(rt, receiver, number) {
-        Some(sample) => receiver.give_back(sample) & receiver.receive(rt).is_none(),
-        None => false,
-    }
-}
-
-/// Sends two values by the ends of a channel, of which one is received, and hands their parts in: whether both came through, and
-/// the numbers went on from this one.
-fn in_turn(rt: &impl Wait, alloc: Global, channel: &mut Channel<u64>, first: u64) -> Option<bool> {
-    let (sends_of, receives_of) = channel.open()?;
-    let spares = vec![in alloc; 0u64; 10].ok()?;
-    let (mut sender, mut receiver) = channel.ends_with(alloc, spares, sends_of, receives_of)?;
-    let mut right = sender.next_number() == first;
-    right &= sends(rt, &mut sender);
-    right &= sends(rt, &mut sender);
-    // (the second one of the ends before waits first)
-    if first > 0 {
-        let before = comes(rt, &mut receiver, first.wrapping_sub(1))?;
-        right &= receiver.give_back(before);
-    }
-    let sample = comes(rt, &mut receiver, first)?;
-    right &= receiver.give_back(sample);
-    let (left, _) = sender.finish_all();
-    let other = receiver.finish();
-    channel.relayed(left, other);
-    Some(right)
-}
-
-/// Numbers go on with the next ends of a channel, and what waited comes with its own.
-fn goes_on(rt: &impl Wait, alloc: Global) -> Option<bool> {
-    let mut channel: Channel<u64> = Channel::new(alloc, 9, 9).ok()?;
-    let mut right = true;
-    for at in 0..4u64 {
-        right &= in_turn(rt, alloc, &mut channel, at.wrapping_mul(2))?;
-    }
-    let (sends_of, receives_of) = channel.open()?;
-    let (_sender, mut receiver) = channel.ends_with(alloc, Vec::new(alloc), sends_of, receives_of)?;
-    Some(right & last_one(rt, &mut receiver, 7))
-}
-
-#[test]
-fn numbers_go_on(rt: HostRuntime) -> Result<(), Fail> {
-    assert!(rt; goes_on(&rt, rt.alloc()) == Some(true));
-    Ok(())
-}
-
 // ---- pools
 
 /// Takes all places, and lays in each what `of_slot` says of it.
