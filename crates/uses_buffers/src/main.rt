@@ -67,7 +67,7 @@ fn reads(rt: &impl Wait, lender: &mut Lender<'_, Filled, ByNumber>) -> Option<Re
         by: filled.by,
         total,
     };
-    buffer.give_back();
+    let _ = buffer.give_back();
     Some(read)
 }
 
