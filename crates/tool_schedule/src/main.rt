@@ -1,27 +1,59 @@
 //! The program: a schedule on standard input, what its turns did on standard output. After the argument `--explain`
-//! refused turns and a malformed line are explained on standard error.
+//! refused turns and a malformed line are explained on standard error. After `--turns` and `--words` the output
+//! is what each turn did, and what stands after it.
 #![tactic(auto)]
+
+mod shown;
 
 use schedule::arguments::{is_given, unread};
 use schedule::explained::run_and_explain;
 use schedule::run_and_tell;
+use shown::run_and_show;
 use std::io;
 use std::process::ExitCode;
 
+/// What is printed.
+#[derive(Clone, Copy)]
+enum Form {
+    Told,
+    Explained,
+    /// Turn by turn, perhaps with all words.
+    Turns(bool),
+}
+
+/// Which form the argument asks for, the only one that is given. None where it is another.
+fn form_asked(rt: &HostRuntime) -> io::Result<Option<Form>> {
+    match is_given(rt, "--explain")? {
+        Some(true) => Ok(Some(Form::Explained)),
+        Some(false) => Ok(Some(Form::Told)),
+        None => turns_asked(rt),
+    }
+}
+
+fn turns_asked(rt: &HostRuntime) -> io::Result<Option<Form>> {
+    if is_given(rt, "--turns")?.is_some() {
+        return Ok(Some(Form::Turns(false)));
+    }
+    if is_given(rt, "--words")?.is_some() {
+        return Ok(Some(Form::Turns(true)));
+    }
+    Ok(None)
+}
+
 fn main(rt: HostRuntime) -> io::Result<ExitCode> {
-    let explains = match is_given(&rt, "--explain") {
-        Ok(Some(explains)) => explains,
+    let form = match form_asked(&rt) {
+        Ok(Some(form)) => form,
         Ok(None) => {
-            eprintln!(rt; "usage: schedule [--explain] <SCHEDULE")?;
+            eprintln!(rt; "usage: schedule [--explain | --turns | --words] <SCHEDULE")?;
             return Ok(ExitCode::from(2));
         }
         Err(error) => return unread(error, &mut rt.stderr()),
     };
     let (reader, output, errors) = (&mut rt.stdin(), &mut rt.stdout(), &mut rt.stderr());
-    let exit = if explains {
-        run_and_explain(rt.alloc(), reader, output, errors)
-    } else {
-        run_and_tell(rt.alloc(), rt.alloc(), reader, output, errors)
+    let exit = match form {
+        Form::Told => run_and_tell(rt.alloc(), rt.alloc(), reader, output, errors),
+        Form::Explained => run_and_explain(rt.alloc(), reader, output, errors),
+        Form::Turns(has_words) => run_and_show(rt.alloc(), has_words, reader, output, errors),
     };
     Ok(ExitCode::from(exit))
 }

@@ -21,3 +21,4 @@ pub mod OrdersSets
 pub mod Queues
 pub mod Robust
 pub mod Value
+pub mod WellFormed

@@ -7,7 +7,7 @@ use Rattle.model.specs.declared.event.Start.{Start}
 use Rattle.model.specs.declared.turn.Kind.{Kind}
 use Rattle.model.specs.declared.turn.Turn.{Turn}
 use Rattle.model.specs.declared.turn.Turn.TheVariants.{Begin, Decide, Die, Next}
-use Rattle.model.specs.LockFree.{steps_of, BeginsSuch}
+use Rattle.model.specs.LockFree.{steps_of}
 use Rattle.model.proofs.LockFree.Measure.{worth}
 use Rattle.model.specs.Loads.{begins_in, pending, load, EndsLoad, EndsLoadOf, EndsLoadRuns}
 use Rattle.model.specs.Fair.{own_step, own_steps, turns_of, StepsInEach, RestsInOne, moment, begins_by, IsFair}
