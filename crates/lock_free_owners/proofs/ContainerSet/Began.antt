@@ -8,7 +8,8 @@ use Rattle.lock_free_owners.proofs.Names.{SettledFrom, KeepsState, Calling, Leav
 use Rattle.lock_free_owners.proofs.Names.{opened, called}
 use Rattle.model.specs.declared.turn.Kind.TheVariants as kinds
 use Rattle.lock_free_owners.specs.Container.Contracts.{Answered}
-use Rattle.lock_free_owners.proofs.ContainerSet.Sound.{sound_history}
+use Rattle.lock_free_owners.proofs.ContainerSet.Sound.{sound_history, worn_on}
+use Rattle.lock_free_owners.proofs.Worn.Laws.{worn_container}
 use Rattle.history.specs.History.{AreFirst, Continues, Knows}
 use Rattle.history.proofs.OneRun.{first_all, continues_further}
 use Rattle.history.proofs.Locks.{not_locked}
@@ -96,7 +97,7 @@ module _ {T : Type 0} (code : Coding T) (base from : View T) (settled : SettledF
         pub ended_called : Called ends.party (Container start) answer ends.wrote from w
         ended_called = grind (arith, called, idle_from)
 
-        unfoldable pub ended_answered : Answered code start answer base w
+        unfoldable pub ended_answered : Answered start answer base w
         ended_answered =
             let c = ended_called in
             let begin : Event T = Begun ends.party (Container start) in
@@ -108,7 +109,8 @@ module _ {T : Type 0} (code : Coding T) (base from : View T) (settled : SettledF
               before = before;
               is = is_last;
               since = subst (IsBeginning base.seen) (sym (append_assoc from.seen c.others (begin ∷ c.during))) (later (c.others ++ begin ∷ c.during));
-              right = (sound_history code base.capacity w.seen history_of).answers before [] end is_last;
+              right = worn_on (worn_container code base.capacity w.seen) base.capacity before end
+                  ((sound_history code base.capacity w.seen history_of).answers before [] end is_last);
             }
 
         -- what was unlocked at a moment of the call was when it began

@@ -21,6 +21,7 @@ use Rattle.lock_free_owners.specs.Container.Contracts.{HasTested, HasLooked, Ans
 use Rattle.lock_free_owners.specs.Container.Turns.{CallEnds, AddEnds, RemoveEnds, ReplaceEnds, CountEnds, LockEnds}
 use Rattle.lock_free_owners.specs.Container.Turns.{BeginsAdd, BeginsRemove, BeginsReplace, BeginsCount, BeginsLock}
 use Rattle.lock_free_owners.proofs.ContainerSet.Sound.{sound_history}
+use Rattle.lock_free_owners.proofs.ContainerSet.Resting.{settled_so}
 use Rattle.lock_free_owners.proofs.ContainerSet.Began.{history_of as began_history, share_from, capacity_from}
 use Rattle.lock_free_owners.proofs.ContainerSet.Began.{idle_from, later, ended_goes, ended_called, ended_answered}
 use Rattle.lock_free_owners.proofs.ContainerSet.Began.{ended_keeps}
@@ -56,11 +57,11 @@ module _ {T : Type 0} (code : Coding T) where
       made_call : Called ends.over.party (Container start) answer ends.over.wrote from w
       made_call = ended_called code base from ends.settled call w e tt ends.over start is_start answer is_answer
 
-      pub made : (Wrote : ℕ → List (Event T) → Type 0) → Wrote ends.over.party ends.over.wrote → HasMade code start answer Wrote base w
+      pub made : (Wrote : ℕ → List (Event T) → Type 0) → Wrote ends.over.party ends.over.wrote → HasMade start answer Wrote base w
       made Wrote tells =
           record {
             from = from;
-            settled = ends.settled;
+            settled = settled_so code base from ends.settled;
             by = ends.over.party;
             mine = ends.over.mine;
             wrote = ends.over.wrote;
@@ -107,7 +108,7 @@ module _ {T : Type 0} (code : Coding T) where
           }
 
       -- the last answer, and what stood before it
-      pub answered : Answered code start answer base w
+      pub answered : Answered start answer base w
       answered = ended_answered code base from ends.settled call w e tt ends.over start is_start answer is_answer
 
       -- at a moment of the call the lock was not there, nor before it
@@ -118,19 +119,19 @@ module _ {T : Type 0} (code : Coding T) where
           let covered = covers p (Container start) c.during (from.seen ++ c.others) once.part once.rest once.is once.within in
           not_locked (begins_further _ _ _ (onward c.others) covered) once.held
 
-  pub last_of : {start : ContainerStart T} {answer : Answer T} {old new : View T} → (a : Answered code start answer old new) → IsBeginning a.before new.seen
+  pub last_of : {start : ContainerStart T} {answer : Answer T} {old new : View T} → (a : Answered start answer old new) → IsBeginning a.before new.seen
   last_of {start} {answer} {old} {new} a = record { rest = Finished a.by (Container start) answer ∷ []; is = a.is }
 
   -- ---- looks
 
   module _ (base w : View T) (b : Bool) (ends : LockEnds code base b tt w) where
-    pub looked : HasLooked code b base w
+    pub looked : HasLooked b base w
     looked = made BeginsLock sees_lock base w b ends IsLocked refl (Truth b) refl (λ by es. es ≡ []) ends.over.tells
 
-    pub looked_answered : Answered code IsLocked (Truth b) base w
+    pub looked_answered : Answered IsLocked (Truth b) base w
     looked_answered = answered BeginsLock sees_lock base w b ends IsLocked refl (Truth b) refl
 
-  looked_so : (base w : View T) (b : Bool) → Answered code IsLocked (Truth b) base w → FoundLock b base w
+  looked_so : (base w : View T) (b : Bool) → Answered IsLocked (Truth b) base w → FoundLock b base w
   looked_so base w true a = lock_stays (last_of a) (sym a.right)
   looked_so base w false a = not_locked a.since (sym a.right)
 
@@ -141,10 +142,10 @@ module _ {T : Type 0} (code : Coding T) where
 
   module _ (base w : View T) (n : ℕ) where
     module _ (ends : CountEnds code counts.Len base n tt w) where
-      pub counted : HasCounted code n base w
+      pub counted : HasCounted n base w
       counted = made BeginsCount (counts_values counts.Len) base w n ends Len refl (Number n) refl (λ by es. es ≡ []) ends.over.tells
 
-      pub counted_answered : Answered code Len (Number n) base w
+      pub counted_answered : Answered Len (Number n) base w
       counted_answered = answered BeginsCount (counts_values counts.Len) base w n ends Len refl (Number n) refl
 
       pub counted_most : n ≤ base.capacity
@@ -162,10 +163,10 @@ module _ {T : Type 0} (code : Coding T) where
       counted_none lock = counted_answered.right.none (lock_stays counted_answered.since lock)
 
     module _ (ends : CountEnds code counts.IsEmpty base n tt w) where
-      pub tested : HasTested code (n == 0) base w
+      pub tested : HasTested (n == 0) base w
       tested = made BeginsCount (counts_values counts.IsEmpty) base w n ends IsEmpty refl (Truth (n == 0)) refl (λ by es. es ≡ []) ends.over.tells
 
-      pub tested_answered : Answered code IsEmpty (Truth (n == 0)) base w
+      pub tested_answered : Answered IsEmpty (Truth (n == 0)) base w
       tested_answered = answered BeginsCount (counts_values counts.IsEmpty) base w n ends IsEmpty refl (Truth (n == 0)) refl
 
       pub tested_none : is_locked base.seen ≡ true → (n == 0) ≡ true
@@ -176,13 +177,13 @@ module _ {T : Type 0} (code : Coding T) where
   -- ---- remove
 
   module _ (base w : View T) (given : GiveBack) where
-    pub has_removed : (answer : Removed) → RemoveEnds code given base answer tt w → HasRemoved code given answer base w
+    pub has_removed : (answer : Removed) → RemoveEnds code given base answer tt w → HasRemoved given answer base w
     has_removed answer ends =
         made (BeginsRemove given) (removes_value given) base w answer ends (Remove given.index given.owner given.mode) refl (removed answer) refl
         (λ by es. container.HasRemoved by given answer es) (ends.over.tells (idle_from code base ends.from ends.settled))
 
     pub removed_answered : (answer : Removed) → RemoveEnds code given base answer tt w
-        → Answered code (Remove given.index given.owner given.mode) (removed answer) base w
+        → Answered (Remove given.index given.owner given.mode) (removed answer) base w
     removed_answered answer ends =
         answered (BeginsRemove given) (removes_value given) base w answer ends (Remove given.index given.owner given.mode) refl (removed answer) refl
 
@@ -233,12 +234,12 @@ module _ {T : Type 0} (code : Coding T) where
   -- ---- replace
 
   module _ (base w : View T) (given : Replacement T) (answer : Replaced) (ends : ReplaceEnds code given base answer tt w) where
-    pub has_replaced : HasReplaced code given answer base w
+    pub has_replaced : HasReplaced given answer base w
     has_replaced =
         made (BeginsReplace given) (replaces_value code.size given) base w answer ends (Replace given.index given.value given.owner) refl (replaced answer) refl
         (λ by es. container.HasReplaced by given answer es) (ends.over.tells (idle_from code base ends.from ends.settled))
 
-    pub replaced_answered : Answered code (Replace given.index given.value given.owner) (replaced answer) base w
+    pub replaced_answered : Answered (Replace given.index given.value given.owner) (replaced answer) base w
     replaced_answered =
         answered (BeginsReplace given) (replaces_value code.size given) base w answer ends (Replace given.index given.value given.owner) refl
         (replaced answer) refl
@@ -246,14 +247,14 @@ module _ {T : Type 0} (code : Coding T) where
   -- ---- add
 
   module _ (base w : View T) (given : Owned T) where
-    pub has_added : (answer : Added) → AddEnds code given base answer tt w → HasAdded code given answer base w
+    pub has_added : (answer : Added) → AddEnds code given base answer tt w → HasAdded given answer base w
     has_added answer ends =
         made (BeginsAdd given) (adds_value code.size given) base w answer ends (Add given.value given.owner) refl (added answer) refl
         (λ by es. container.HasAdded base.capacity by given answer es)
         (subst (λ n. container.HasAdded n ends.over.party given answer ends.over.wrote) (capacity_from code base ends.from ends.settled)
         (ends.over.tells (idle_from code base ends.from ends.settled)))
 
-    pub added_answered : (answer : Added) → AddEnds code given base answer tt w → Answered code (Add given.value given.owner) (added answer) base w
+    pub added_answered : (answer : Added) → AddEnds code given base answer tt w → Answered (Add given.value given.owner) (added answer) base w
     added_answered answer ends =
         answered (BeginsAdd given) (adds_value code.size given) base w answer ends (Add given.value given.owner) refl (added answer) refl
 
@@ -287,7 +288,7 @@ module _ {T : Type 0} (code : Coding T) where
       pub open_so : is_locked base.seen ≡ false
       open_so = (let g = granted_so in not_locked g.since g.held.0)
 
-    pub refused_so : (e : ContainerAddFailure) → AddEnds code given base (Err e) tt w → WasNotAdded code given.value given.owner e base w
+    pub refused_so : (e : ContainerAddFailure) → AddEnds code given base (Err e) tt w → WasNotAdded given.value given.owner e base w
     refused_so failures.OutOfSpace ends =
         let a = added_answered (Err failures.OutOfSpace) ends in
         record { answered = a; unlocked = λ same. not_locked a.since a.right.0; locked = λ same. absurd (cc) }

@@ -56,7 +56,7 @@ module _ {T : Type 0} (code : Coding T) where
       (meets_changes_open h.trace h.run.of_kind h.run.reached (subst (λ (es : List (Event T)). changes_of es < 2 ^ 64 - 1) h.is few))
 
   -- of the end of an update
-  pub has_met : (changed : Bool) (old new : View T) → Answered code UpdateState (Truth changed) old new
+  pub has_met : (changed : Bool) (old new : View T) → Answered UpdateState (Truth changed) old new
       → IsHistory code kinds.TheVariants.Container old.capacity new.seen → HasMet changed old new
   has_met changed old new a h =
       record {

@@ -208,7 +208,7 @@ module _ {T : Type 0} (code : Coding T) (law : IsCoding code) (given : DeadOwner
         (wrote_visits ends.over.party given.owner m.1) ends.from w
     recovered_called = grind (arith, idle_from, ended_called, recovering)
 
-    pub recovered_answered : Answered code (starts.Recover given.owner given.mode) (State e) base w
+    pub recovered_answered : Answered (starts.Recover given.owner given.mode) (State e) base w
     recovered_answered =
         ended_answered code base ends.from ends.settled (recovering code given) w e m ends.over (starts.Recover given.owner given.mode) refl (State e) refl
 

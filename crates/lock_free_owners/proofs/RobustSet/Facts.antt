@@ -16,7 +16,7 @@ use Rattle.model.specs.declared.turn.Kind.TheVariants as kinds
 use Rattle.model.specs.Families.Indices.Robust.Calls.{acquire_answer, release_answer}
 use Rattle.lock_free_owners.specs.Robust.Contracts.{HasTaken, HasGiven, HasRecovered, HasCounted, HasLooked, WroteAt}
 use Rattle.lock_free_owners.specs.Robust.Contracts.{WasFilled, WasGranted, WasFreed, IsSound, Answered, WasRefused}
-use Rattle.lock_free_owners.specs.Robust.Contracts.{HasReleased, FoundLock, FoundState}
+use Rattle.lock_free_owners.specs.Robust.Contracts.{HasReleased, FoundLock, FoundState, OnlyLooked}
 use Rattle.model.specs.Progress.{guarantee_of}
 use Rattle.history.proofs.Paid.{AllowsOne, TakesBy, takes}
 use Rattle.history.proofs.Robusts.{robust_pays}
@@ -24,7 +24,8 @@ use Rattle.history.specs.Steps.{TakesAtMost}
 use Rattle.lock_free_owners.specs.Robust.Callable.{HasVisited}
 use Rattle.lock_free_owners.specs.Robust.Steps.{SetTakes, ReleaseTakes, RecoverTakes}
 use Rattle.lock_free_owners.proofs.RobustSet.Asking.{visits_none}
-use Rattle.lock_free_owners.proofs.RobustSet.Sound.{sound_history}
+use Rattle.lock_free_owners.proofs.RobustSet.Sound.{sound_history, worn_on}
+use Rattle.lock_free_owners.proofs.Worn.Laws.{worn_set}
 use Rattle.history.proofs.Known.{begins_further}
 use Rattle.history.proofs.OneRun.{first_further}
 use Rattle.history.proofs.Locks.{lock_stays, not_locked}
@@ -72,7 +73,7 @@ module _ (base w : View ℕ) (h : IsHistory one_word kinds.Robust base.capacity 
           before = before;
           is = is_last;
           since = record { rest = c.others ++ begin ∷ c.during; is = append_assoc base.seen c.others (begin ∷ c.during) };
-          right = sound.answers before [] last is_last;
+          right = worn_on (worn_set base.capacity w.seen) base.capacity before last (sound.answers before [] last is_last);
         }
 
 last_of : {start : RobustStart} {answer : Answer ℕ} {old new : View ℕ} → (a : Answered start answer old new) → IsBeginning a.before new.seen
@@ -241,6 +242,26 @@ recovered_lock base w idle mode states.Unlocked visits ends =
     (let a = recovered_answered base w idle mode states.Unlocked visits ends in not_locked a.since a.right.0)
 
 -- ---- find
+
+pub only_looked : (capacity : ℕ) (v w : View ℕ) → Looks one_word kinds.Robust capacity v w → OnlyLooked v w
+only_looked capacity v w h =
+    record {
+      capacity = h.capacity;
+      party = h.party;
+      going = h.going;
+      state = h.state;
+      share = h.share;
+      made = h.made;
+      other = h.other;
+      since = h.mine;
+      first = h.ran.first;
+      theirs = h.theirs;
+      theirs_first = h.theirs_ran;
+      whole = h.whole;
+      all = h.all;
+      parties = h.parties;
+      apart = h.apart;
+    }
 
 pub looks_goes : (capacity : ℕ) (base w : View ℕ) → Looks one_word kinds.Robust capacity base w → Goes base w
 looks_goes x0 x1 x2 x3 = grind arith

@@ -35,7 +35,8 @@ use Rattle.history.specs.ContainerFind.{HasCopied}
 use Rattle.history.specs.ContainerLooks.{HasLookedAll}
 use Rattle.history.specs.History.{Called, IsBeginning, IsRun}
 use Rattle.history.specs.Passes as passes
-use Rattle.history.specs.Settled.{SettledFrom}
+use Rattle.lock_free_owners.specs.Container.Resting.{SettledFrom}
+use Rattle.lock_free_owners.specs.Worn.{MayBeWorn}
 
 module _ {T : Type 0} where
   -- a container with this history may have its counter at its end
@@ -72,13 +73,13 @@ module _ {T : Type 0} where
     pub right : changes_of new.seen < 2 ^ 64 - 1
         → MeetsChanges before (Finished by (Container UpdateState) (Truth changed))
 
-module _ {T : Type 0} (code : Coding T) where
+module _ {T : Type 0} where
   -- one call of the history, by a party of the pass, and what it wrote; where the last call of the pass rested, that had
   -- ended first
   pub record HasMade (start : ContainerStart T) (answer : Answer T)
       (Wrote : ℕ → List (Event T) → Type 0) (old new : View T) : Type 0 where
     pub from : View T
-    pub settled : SettledFrom code kinds.Container old from
+    pub settled : SettledFrom old from
     pub by : ℕ
     pub mine : new.party ≡ Some by
     pub wrote : List (Event T)
@@ -124,13 +125,14 @@ module _ {T : Type 0} (code : Coding T) where
       HasMade UpdateState (Truth changed) (λ by es. HasLookedAll old.capacity by changed es) old
 
   -- The last that was seen is the end of the call, and the answer said this of the container at its last step, and at
-  -- moments of the call: an add fails by OutOfSpace only where each index had an owner at a moment of it, and so on.
+  -- moments of the call: an add fails by OutOfSpace only where each index had an owner at a moment of it, and so on. Where
+  -- the counter may be worn `container_histories_are_sound` says the same of the run itself.
   pub record Answered (start : ContainerStart T) (answer : Answer T) (old new : View T) : Type 0 where
     pub by : ℕ
     pub before : List (Event T)
     pub is : new.seen ≡ before ++ Finished by (Container start) answer ∷ []
     pub since : IsBeginning old.seen before
-    pub right : AnswersBy Word (IsWorn code old.capacity new.seen) old.capacity before
+    pub right : AnswersBy Word (MayBeWorn new.seen) old.capacity before
         (Finished by (Container start) answer)
 
   -- an add that placed nothing: the lock had not been seen, or is seen now
@@ -143,5 +145,5 @@ module _ {T : Type 0} (code : Coding T) where
   -- the other's last call has ended where it rested, and then both are one
   pub record HasJoined (mine theirs new : View T) : Type 0 where
     pub from : View T
-    pub settled : SettledFrom code kinds.Container theirs from
+    pub settled : SettledFrom theirs from
     pub joined : passes.HasJoined mine from new

@@ -47,11 +47,11 @@ impl<T: Words> Container<T> {
         ensures same { SamePass pass.old pass.new }
         ensures keeps { KeepsState (view pass.old) (view pass.new) }
         ensures handle { IfOk result (IsHandleFor self.now owner) }
-        ensures added { HasAdded (code_of pass.old) (record { value = value; owner = owner }) (placed result)
+        ensures added { HasAdded (record { value = value; owner = owner }) (placed result)
             (view pass.old) (view pass.new) }
         ensures filled { IfOk result (λ h. WasFilled h.index owner (view pass.old) (view pass.new)) }
         ensures granted { IfOk result (λ h. WasGranted h.index owner (view pass.old) (view pass.new)) }
-        ensures refused { IfErr result (λ e. WasNotAdded (code_of pass.old) value owner e
+        ensures refused { IfErr result (λ e. WasNotAdded value owner e
             (view pass.old) (view pass.new)) }
         ensures lock { is_locked (history pass.old) ≡ true → result ≡ Err Locked }
         ensures steps { ContainerTakes (code_of pass.old) (capacity_of self.now) (capacity_of self.now + 7 + T.WORDS) (capacity_of self.now + 1)
@@ -94,10 +94,10 @@ impl<T: Words> Container<T> {
         ensures same { IsOwn self.now handle → SamePass pass.old pass.new }
         ensures keeps { IsOwn self.now handle → KeepsState (view pass.old) (view pass.new) }
         ensures own { OnOk result (IsOwn self.now handle) }
-        ensures removed { IsOwn self.now handle → HasRemoved (code_of pass.old)
+        ensures removed { IsOwn self.now handle → HasRemoved
             (record { index = handle.index; owner = handle.owner; mode = mode }) result (view pass.old) (view pass.new) }
         ensures freed { OnOk result (WasFreed handle.index handle.owner (view pass.old) (view pass.new)) }
-        ensures answered { IsOwn self.now handle → Answered (code_of pass.old)
+        ensures answered { IsOwn self.now handle → Answered
             (starts.Remove handle.index handle.owner mode) (removed result) (view pass.old) (view pass.new) }
         ensures released { IfOk result (λ s. HasReleased s mode (view pass.old) (view pass.new)) }
         ensures steps { IsOwn self.now handle → RemoveTakes (code_of pass.old) (capacity_of self.now) mode
@@ -136,10 +136,10 @@ impl<T: Words> Container<T> {
         ensures same { IsOwn self.now handle → SamePass pass.old pass.new }
         ensures keeps { IsOwn self.now handle → KeepsState (view pass.old) (view pass.new) }
         ensures own { OnOk result (IsOwn self.now handle) }
-        ensures replaced { IsOwn self.now handle → HasReplaced (code_of pass.old)
+        ensures replaced { IsOwn self.now handle → HasReplaced
             (record { index = handle.index; owner = handle.owner; value = value }) result
             (view pass.old) (view pass.new) }
-        ensures answered { IsOwn self.now handle → Answered (code_of pass.old)
+        ensures answered { IsOwn self.now handle → Answered
             (starts.Replace handle.index value handle.owner) (replaced result) (view pass.old) (view pass.new) }
         ensures steps { IsOwn self.now handle → TakesFew (5 + T.WORDS) (view pass.old) (view pass.new) }
     {
@@ -166,8 +166,8 @@ impl<T: Words> Container<T> {
         requires { IsPassOf self.now pass.old }
         ensures same { SamePass pass.old pass.new }
         ensures keeps { KeepsState (view pass.old) (view pass.new) }
-        ensures counted { HasCounted (code_of pass.old) result (view pass.old) (view pass.new) }
-        ensures answered { Answered (code_of pass.old) starts.Len (Number result) (view pass.old) (view pass.new) }
+        ensures counted { HasCounted result (view pass.old) (view pass.new) }
+        ensures answered { Answered starts.Len (Number result) (view pass.old) (view pass.new) }
         ensures most { result ≤ capacity_of self.now }
         ensures lock { is_locked (history pass.old) ≡ true → result ≡ 0 }
         ensures steps { ContainerTakes (code_of pass.old) (capacity_of self.now) (capacity_of self.now + 2)
@@ -182,8 +182,8 @@ impl<T: Words> Container<T> {
         requires { IsPassOf self.now pass.old }
         ensures same { SamePass pass.old pass.new }
         ensures keeps { KeepsState (view pass.old) (view pass.new) }
-        ensures tested { HasTested (code_of pass.old) result (view pass.old) (view pass.new) }
-        ensures answered { Answered (code_of pass.old) starts.IsEmpty (Truth result) (view pass.old) (view pass.new) }
+        ensures tested { HasTested result (view pass.old) (view pass.new) }
+        ensures answered { Answered starts.IsEmpty (Truth result) (view pass.old) (view pass.new) }
         ensures lock { is_locked (history pass.old) ≡ true → result ≡ true }
         ensures steps { ContainerTakes (code_of pass.old) (capacity_of self.now) (capacity_of self.now + 2)
             (capacity_of self.now + 2) (view pass.old) (view pass.new) }
@@ -197,8 +197,8 @@ impl<T: Words> Container<T> {
         requires { IsPassOf self.now pass.old }
         ensures same { SamePass pass.old pass.new }
         ensures keeps { KeepsState (view pass.old) (view pass.new) }
-        ensures looked { HasLooked (code_of pass.old) result (view pass.old) (view pass.new) }
-        ensures answered { Answered (code_of pass.old) starts.IsLocked (Truth result) (view pass.old) (view pass.new) }
+        ensures looked { HasLooked result (view pass.old) (view pass.new) }
+        ensures answered { Answered starts.IsLocked (Truth result) (view pass.old) (view pass.new) }
         ensures lock { FoundLock result (view pass.old) (view pass.new) }
         ensures steps { TakesFew 1 (view pass.old) (view pass.new) }
     {

@@ -77,7 +77,7 @@ impl<T: Words> Container<T> {
         requires { IsPassOf self.now pass.old }
         ensures container { container_of pass.new ≡ container_of pass.old }
         ensures same { IfOk result (λ s. SamePass pass.old pass.new) }
-        ensures got { IfOk result (λ s. HasGotState (code_of pass.old) s (view pass.old) (view pass.new)) }
+        ensures got { IfOk result (λ s. HasGotState s (view pass.old) (view pass.new)) }
         ensures latest { IfOk result (IsLatestState pass.new) }
         ensures shows { IfOk result (λ s. ShowsCopied s.shown (view pass.new)) }
         ensures refused { IfErr result (λ e. view pass.new ≡ view pass.old) }
@@ -106,7 +106,7 @@ impl<T: Words> Container<T> {
         ensures container { container_of pass.new ≡ container_of pass.old }
         ensures same { IsLatestState pass.old state.old → SamePass pass.old pass.new }
         ensures updated { IsLatestState pass.old state.old
-            → HasUpdatedState (code_of pass.old) result (view pass.old) (view pass.new) }
+            → HasUpdatedState result (view pass.old) (view pass.new) }
         ensures met { IsLatestState pass.old state.old → HasMet result (view pass.old) (view pass.new) }
         ensures latest { IsLatestState pass.old state.old → IsLatestState pass.new state.new }
         ensures shows { IsLatestState pass.old state.old → ShowsCopied state.new.shown (view pass.new) }

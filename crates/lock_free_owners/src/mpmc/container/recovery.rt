@@ -272,10 +272,10 @@ impl<T: Words> Container<T> {
             (λ p x b q. F.step p x b q) (capacity_of self.now) predicate.old }
         ensures same { SamePass pass.old pass.new }
         ensures keeps { KeepsState (view pass.old) (view pass.new) }
-        ensures recovered { HasRecovered (code_of pass.old) (λ p x b q. F.step p x b q)
+        ensures recovered { HasRecovered (λ p x b q. F.step p x b q)
             (record { owner = owner; mode = mode }) result (capacity_of self.now) predicate.old predicate.new
             (view pass.old) (view pass.new) }
-        ensures answered { Answered (code_of pass.old) (starts.Recover owner mode) (State result)
+        ensures answered { Answered (starts.Recover owner mode) (State result)
             (view pass.old) (view pass.new) }
         ensures lock { FoundState result (view pass.old) (view pass.new) }
         ensures steps { RecoverTakes (code_of pass.old) (capacity_of self.now) mode (view pass.old) (view pass.new) }

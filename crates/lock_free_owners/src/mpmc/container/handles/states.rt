@@ -17,7 +17,7 @@ impl<'a, T: Words> Handle<'a, T> {
     pub fn get_state(&mut self, rt: &impl Wait) -> Result<ContainerState<T>, ContainerStateError>
         ensures container { container_in self.new ≡ container_in self.old }
         ensures same { IfOk result (λ s. SamePass (pass_in self.old) (pass_in self.new)) }
-        ensures got { IfOk result (λ s. HasGotState (code_of (pass_in self.old)) s (knows self.old) (knows self.new)) }
+        ensures got { IfOk result (λ s. HasGotState s (knows self.old) (knows self.new)) }
         ensures latest { IfOk result (IsLatestState (pass_in self.new)) }
         ensures shows { IfOk result (λ s. ShowsCopied s.shown (knows self.new)) }
         ensures refused { IfErr result (λ e. knows self.new ≡ knows self.old) }
@@ -34,7 +34,7 @@ impl<'a, T: Words> Handle<'a, T> {
         ensures container { container_in self.new ≡ container_in self.old }
         ensures same { IsLatestState (pass_in self.old) state.old → SamePass (pass_in self.old) (pass_in self.new) }
         ensures updated { IsLatestState (pass_in self.old) state.old
-            → HasUpdatedState (code_of (pass_in self.old)) result (knows self.old) (knows self.new) }
+            → HasUpdatedState result (knows self.old) (knows self.new) }
         ensures met { IsLatestState (pass_in self.old) state.old → HasMet result (knows self.old) (knows self.new) }
         ensures latest { IsLatestState (pass_in self.old) state.old → IsLatestState (pass_in self.new) state.new }
         ensures shows { IsLatestState (pass_in self.old) state.old → ShowsCopied state.new.shown (knows self.new) }

@@ -35,7 +35,7 @@ impl<'a, T: Words> Handle<'a, T> {
         ensures goes { Goes (knows self.old) (knows self.new) }
         ensures keeps { KeepsState (knows self.old) (knows self.new) }
         ensures found { (visits : List (Visit T)) × (bound : ℕ)
-            × HasSearched (code_of (pass_in self.old)) (capacity_of (container_in self.old)) owner result
+            × HasSearched (capacity_of (container_in self.old)) owner result
             bound visits (knows self.old) (knows self.new)
             × HasFound (λ p x h a q. F.step p x h a q) (capacity_of (container_in self.old))
             (IsHandleFor (container_in self.old) owner) visit.old result bound visits visit.new }
@@ -57,10 +57,10 @@ impl<'a, T: Words> Handle<'a, T> {
         ensures container { container_in self.new ≡ container_in self.old }
         ensures same { SamePass (pass_in self.old) (pass_in self.new) }
         ensures keeps { KeepsState (knows self.old) (knows self.new) }
-        ensures recovered { HasRecovered (code_of (pass_in self.old)) (λ p x b q. F.step p x b q)
+        ensures recovered { HasRecovered (λ p x b q. F.step p x b q)
             (record { owner = owner; mode = mode }) result (capacity_of (container_in self.old)) predicate.old
             predicate.new (knows self.old) (knows self.new) }
-        ensures answered { Answered (code_of (pass_in self.old)) (starts.Recover owner mode) (State result)
+        ensures answered { Answered (starts.Recover owner mode) (State result)
             (knows self.old) (knows self.new) }
         ensures lock { FoundState result (knows self.old) (knows self.new) }
         ensures steps { RecoverTakes (code_of (pass_in self.old)) (capacity_of (container_in self.old)) mode

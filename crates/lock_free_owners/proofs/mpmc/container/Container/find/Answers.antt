@@ -39,7 +39,7 @@ returns-clause-found g c =
     let size = ap (λ (z : SetId). z.capacity) c.requires.pass in (
       searched.visits,
       searched.bound,
-      subst (λ n. HasSearched code n c.args.owner c.find_all.result searched.bound searched.visits (seen c.args.pass.now.token.seated)
+      subst (λ n. HasSearched n c.args.owner c.find_all.result searched.bound searched.visits (seen c.args.pass.now.token.seated)
           (seen c.find_all.new.seat)) size searched.did,
       subst (λ n. HasFound (λ p x h a q. given.F-step g p x h a q) n (IsNamed n c.args.owner (number_of c.args.self.now)) c.args.visit.now
           c.find_all.result searched.bound searched.visits c.find_all.new.visit)

@@ -53,7 +53,7 @@ returns-clause-got g c =
       subst (λ (n : ℕ). state.shown ≡ shows_nothing g.T.Words.value_of g.T.Words.WORDS n) (sym size) c.in_ok-state.ensures.shown,
     )
     in
-    made_as code starts.GetState (Number (shown_number m.elements)) (λ by es. HasLookedAll v.capacity by c.bring_up.result es)
+    made_as starts.GetState (Number (shown_number m.elements)) (λ by es. HasLookedAll v.capacity by c.bring_up.result es)
     (λ by es. HasCopied by 0 v.capacity es) v w (λ by es h. some_copied g.row.T.Denot v.capacity by c.bring_up.result es h)
     (look_made code GetState v w state.seen c.bring_up.result m (c.bring_up.ensures.over.0 on))
 
