@@ -48,7 +48,7 @@ module _ {T F : Type 0} (code : Coding T) (step : F → T → ContainerHandle �
 
   whole : (w : View T) (n bound : ℕ) (q : F) (copies : List (ℕ × T))
       → IsLeft code base w × HasSearched cap owner n bound (visits_of owner id copies) base w
-      → HasFound step cap (IsNamed cap owner id) f n bound (visits_of owner id copies) q → FindTakes code cap base w → Over w n q
+      → HasFound step cap (IsNamed cap owner id) f n bound (visits_of owner id copies) q → FindTakes code.size cap base w → Over w n q
   whole x0 x1 x2 x3 x4 x5 x6 x7 = grind (arith, visits_of)
 
   module _ (law : IsCoding code) (small : cap < 2 ^ 32) (size : cap ≡ base.capacity) (v : View T) (c : Find T (Buffer 128)) (m : Buffer 128)

@@ -225,4 +225,5 @@ module _ {T : Type 0} (code : Coding T) (which : LookOf) (from : View T) (shown 
         allowed = knows.allowed;
         fresh = knows.fresh;
         is = knows.is;
+        others = knows.others;
       })

@@ -20,9 +20,9 @@ use Rattle.lock_free_owners.specs.Robust.Contracts.{HasReleased, FoundLock, Foun
 use Rattle.model.specs.Progress.{guarantee_of}
 use Rattle.history.proofs.Paid.{AllowsOne, TakesBy, takes}
 use Rattle.history.proofs.Robusts.{robust_pays}
-use Rattle.history.specs.Steps.{TakesAtMost}
+use Rattle.history.specs.Steps.{TakesAtMost, TakesAlone}
 use Rattle.lock_free_owners.specs.Robust.Callable.{HasVisited}
-use Rattle.lock_free_owners.specs.Robust.Steps.{SetTakes, ReleaseTakes, RecoverTakes}
+use Rattle.lock_free_owners.specs.Robust.Steps.{ReleaseTakes, RecoverTakes}
 use Rattle.lock_free_owners.proofs.RobustSet.Asking.{visits_none}
 use Rattle.lock_free_owners.proofs.RobustSet.Sound.{sound_history, worn_on}
 use Rattle.lock_free_owners.proofs.Worn.Laws.{worn_set}
@@ -287,7 +287,7 @@ module _ {C M E : Type 0} (call : Calling ℕ C M E) (base w : View ℕ) (e : E)
 
 module _ (base w : View ℕ) (idle : base.going ≡ None) where
   pub acquire_takes : (owner : ℕ) (e : Acquired) (m : Unit {0}) → Ends one_word kinds.Robust (takes_owned owner) base e m w
-      → SetTakes base.capacity (base.capacity + 3) (base.capacity + 1) base w
+      → TakesAlone (base.capacity + 3) (base.capacity + 1) base w
   acquire_takes owner e m ends = takes_so (takes_owned owner) base w e m idle (omega arith) ends
 
   pub release_takes : (index owner : ℕ) (mode : ReleaseMode) (e : Released) (m : Unit {0})
@@ -298,7 +298,7 @@ module _ (base w : View ℕ) (idle : base.going ≡ None) where
       takes_so (gives_owned (record { index = index; owner = owner; mode = LockIfLastIndex })) base w e m idle (omega arith) ends
 
   pub count_takes : (e : ℕ) (m : Unit {0}) → Ends one_word kinds.Robust counts_owned base e m w
-      → SetTakes base.capacity (base.capacity + 2) (base.capacity + 2) base w
+      → TakesAlone (base.capacity + 2) (base.capacity + 2) base w
   count_takes e m ends = takes_so counts_owned base w e m idle (omega arith) ends
 
   pub look_takes : (e : Bool) (m : Unit {0}) → Ends one_word kinds.Robust looks_owned base e m w → TakesAtMost 1 base w

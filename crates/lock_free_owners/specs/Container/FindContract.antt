@@ -82,4 +82,4 @@ module _ {T : Type 0} (code : Coding T) where
     pub visits : List (Visit T)
     pub did : HasSearched capacity owner number bound visits old new
     pub found : HasFound step capacity (IsNamed capacity owner id) f number bound visits g
-    pub steps : FindTakes code capacity old new
+    pub steps : FindTakes code.size capacity old new

@@ -54,7 +54,7 @@ impl<T: Words> Container<T> {
         ensures refused { IfErr result (λ e. WasNotAdded value owner e
             (view pass.old) (view pass.new)) }
         ensures lock { is_locked (history pass.old) ≡ true → result ≡ Err Locked }
-        ensures steps { ContainerTakes (code_of pass.old) (capacity_of self.now) (capacity_of self.now + 7 + T.WORDS) (capacity_of self.now + 1)
+        ensures steps { ContainerTakes (capacity_of self.now + 7 + T.WORDS) (capacity_of self.now + 1)
             (view pass.old) (view pass.new) }
     {
         let call = Add::new(pass.token.capacity);
@@ -100,7 +100,7 @@ impl<T: Words> Container<T> {
         ensures answered { IsOwn self.now handle → Answered
             (starts.Remove handle.index handle.owner mode) (removed result) (view pass.old) (view pass.new) }
         ensures released { IfOk result (λ s. HasReleased s mode (view pass.old) (view pass.new)) }
-        ensures steps { IsOwn self.now handle → RemoveTakes (code_of pass.old) (capacity_of self.now) mode
+        ensures steps { IsOwn self.now handle → RemoveTakes (capacity_of self.now) mode
             (view pass.old) (view pass.new) }
     {
         if handle.container != self.id || handle.index >= self.capacity {
@@ -170,7 +170,7 @@ impl<T: Words> Container<T> {
         ensures answered { Answered starts.Len (Number result) (view pass.old) (view pass.new) }
         ensures most { result ≤ capacity_of self.now }
         ensures lock { is_locked (history pass.old) ≡ true → result ≡ 0 }
-        ensures steps { ContainerTakes (code_of pass.old) (capacity_of self.now) (capacity_of self.now + 2)
+        ensures steps { ContainerTakes (capacity_of self.now + 2)
             (capacity_of self.now + 2) (view pass.old) (view pass.new) }
     {
         count_all::<T, HowMany>(&mut pass.token.seated, rt, pass.token.capacity)
@@ -185,7 +185,7 @@ impl<T: Words> Container<T> {
         ensures tested { HasTested result (view pass.old) (view pass.new) }
         ensures answered { Answered starts.IsEmpty (Truth result) (view pass.old) (view pass.new) }
         ensures lock { is_locked (history pass.old) ≡ true → result ≡ true }
-        ensures steps { ContainerTakes (code_of pass.old) (capacity_of self.now) (capacity_of self.now + 2)
+        ensures steps { ContainerTakes (capacity_of self.now + 2)
             (capacity_of self.now + 2) (view pass.old) (view pass.new) }
     {
         count_all::<T, WhetherNone>(&mut pass.token.seated, rt, pass.token.capacity) == 0

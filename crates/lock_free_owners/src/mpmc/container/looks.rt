@@ -82,7 +82,7 @@ impl<T: Words> Container<T> {
         ensures shows { IfOk result (λ s. ShowsCopied s.shown (view pass.new)) }
         ensures refused { IfErr result (λ e. view pass.new ≡ view pass.old) }
         ensures state { IfOk result (IsStateOf self.now) }
-        ensures steps { IfOk result (λ s. LookTakes (code_of pass.old) (capacity_of self.now) (view pass.old) (view pass.new)) }
+        ensures steps { IfOk result (λ s. LookTakes T.WORDS (capacity_of self.now) (view pass.old) (view pass.new)) }
     {
         let mut state = ContainerState::new(self.alloc, self.id, self.capacity)?;
         bring_up::<T, Brand>(&mut pass.token.seated, rt, &mut state, pass.token.capacity);
@@ -114,7 +114,7 @@ impl<T: Words> Container<T> {
         ensures state { IsStateOf self.now state.new }
         ensures left { IsFalse result → IsLeft state.old state.new }
         ensures steps { IsLatestState pass.old state.old
-            → LookTakes (code_of pass.old) (capacity_of self.now) (view pass.old) (view pass.new) }
+            → LookTakes T.WORDS (capacity_of self.now) (view pass.old) (view pass.new) }
     {
         bring_up::<T, Brand>(&mut pass.token.seated, rt, state, pass.token.capacity)
     }

@@ -278,7 +278,7 @@ impl<T: Words> Container<T> {
         ensures answered { Answered (starts.Recover owner mode) (State result)
             (view pass.old) (view pass.new) }
         ensures lock { FoundState result (view pass.old) (view pass.new) }
-        ensures steps { RecoverTakes (code_of pass.old) (capacity_of self.now) mode (view pass.old) (view pass.new) }
+        ensures steps { RecoverTakes T.WORDS (capacity_of self.now) mode (view pass.old) (view pass.new) }
     {
         free_all(
             &mut pass.token.seated,

@@ -278,7 +278,7 @@ impl<T: Words> Container<T> {
             (view pass.old) (view pass.new)
             × HasFound (λ p x h a q. F.step p x h a q) (capacity_of self.now)
             (IsHandleFor self.now owner) visit.old result bound visits visit.new }
-        ensures steps { FindTakes (code_of pass.old) (capacity_of self.now) (view pass.old) (view pass.new) }
+        ensures steps { FindTakes T.WORDS (capacity_of self.now) (view pass.old) (view pass.new) }
     {
         find_all(
             &mut pass.token.seated,

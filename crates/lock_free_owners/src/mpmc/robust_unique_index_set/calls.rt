@@ -5,8 +5,8 @@ ghost use Rattle.model.specs.declared.event.Answer.TheVariants.{Number, Truth};
 ghost use Rattle.model.specs.declared.families.indices.robust.RobustStart.TheVariants as starts;
 ghost use Rattle.model.specs.Families.Indices.Reading.{is_locked};
 ghost use Rattle.model.specs.Families.Indices.Robust.Calls.{release_answer};
-ghost use Rattle.history.specs.Steps.{TakesAtMost};
-ghost use Rattle.lock_free_owners.specs.Robust.Steps.{SetTakes, ReleaseTakes};
+ghost use Rattle.history.specs.Steps.{TakesAtMost, TakesAlone};
+ghost use Rattle.lock_free_owners.specs.Robust.Steps.{ReleaseTakes};
 ghost use Rattle.lock_free_owners.specs.Robust.Contracts.{HasTaken, HasGiven, HasCounted, HasLooked, WasFilled, WasGranted};
 ghost use Rattle.lock_free_owners.specs.Robust.Contracts.{WasFreed, WasRefused, Answered, HasReleased, FoundLock};
 ghost use Rattle.lock_free_owners.specs.RobustUniqueIndexSet.{view, history, capacity_of, IsPassOf, SamePass};
@@ -43,7 +43,7 @@ impl RobustUniqueIndexSet {
         ensures granted { IfOk result (λ index. WasGranted index owner (view pass.old) (view pass.new)) }
         ensures refused { IfErr result (λ e. WasRefused owner e (view pass.old) (view pass.new)) }
         ensures lock { is_locked (history pass.old) ≡ true → result ≡ Err Locked }
-        ensures steps { SetTakes (capacity_of self.now) (capacity_of self.now + 3) (capacity_of self.now + 1)
+        ensures steps { TakesAlone (capacity_of self.now + 3) (capacity_of self.now + 1)
             (view pass.old) (view pass.new) }
     {
         match acquire_all(&mut pass.seated, rt, pass.capacity, owner) {
@@ -100,7 +100,7 @@ impl RobustUniqueIndexSet {
         ensures answered { Answered starts.BorrowedIndices (Number result) (view pass.old) (view pass.new) }
         ensures most { result ≤ capacity_of self.now }
         ensures lock { is_locked (history pass.old) ≡ true → result ≡ 0 }
-        ensures steps { SetTakes (capacity_of self.now) (capacity_of self.now + 2) (capacity_of self.now + 2)
+        ensures steps { TakesAlone (capacity_of self.now + 2) (capacity_of self.now + 2)
             (view pass.old) (view pass.new) }
     {
         count_all(&mut pass.seated, rt, pass.capacity)

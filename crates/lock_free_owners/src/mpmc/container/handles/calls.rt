@@ -104,8 +104,7 @@ impl<'a, T: Words> Handle<'a, T> {
         ensures refused { IfErr result (λ e. WasNotAdded value owner e
             (knows self.old) (knows self.new)) }
         ensures lock { is_locked (history (pass_in self.old)) ≡ true → result ≡ Err Locked }
-        ensures steps { ContainerTakes (code_of (pass_in self.old)) (capacity_of (container_in self.old))
-            (capacity_of (container_in self.old) + 7 + T.WORDS) (capacity_of (container_in self.old) + 1)
+        ensures steps { ContainerTakes (capacity_of (container_in self.old) + 7 + T.WORDS) (capacity_of (container_in self.old) + 1)
             (knows self.old) (knows self.new) }
     {
         self.container.add(rt, value, owner, &mut self.pass)
@@ -131,8 +130,7 @@ impl<'a, T: Words> Handle<'a, T> {
         ensures answered { IsOwn (container_in self.old) handle → Answered
             (starts.Remove handle.index handle.owner mode) (removed result) (knows self.old) (knows self.new) }
         ensures released { IfOk result (λ s. HasReleased s mode (knows self.old) (knows self.new)) }
-        ensures steps { IsOwn (container_in self.old) handle → RemoveTakes (code_of (pass_in self.old))
-            (capacity_of (container_in self.old)) mode (knows self.old) (knows self.new) }
+        ensures steps { IsOwn (container_in self.old) handle → RemoveTakes (capacity_of (container_in self.old)) mode (knows self.old) (knows self.new) }
     {
         self.container.remove(rt, handle, mode, &mut self.pass)
     }
@@ -165,8 +163,7 @@ impl<'a, T: Words> Handle<'a, T> {
             (knows self.old) (knows self.new) }
         ensures most { result ≤ capacity_of (container_in self.old) }
         ensures lock { is_locked (history (pass_in self.old)) ≡ true → result ≡ 0 }
-        ensures steps { ContainerTakes (code_of (pass_in self.old)) (capacity_of (container_in self.old))
-            (capacity_of (container_in self.old) + 2) (capacity_of (container_in self.old) + 2) (knows self.old) (knows self.new) }
+        ensures steps { ContainerTakes (capacity_of (container_in self.old) + 2) (capacity_of (container_in self.old) + 2) (knows self.old) (knows self.new) }
     {
         self.container.len(rt, &mut self.pass)
     }
@@ -180,8 +177,7 @@ impl<'a, T: Words> Handle<'a, T> {
         ensures answered { Answered starts.IsEmpty (Truth result)
             (knows self.old) (knows self.new) }
         ensures lock { is_locked (history (pass_in self.old)) ≡ true → result ≡ true }
-        ensures steps { ContainerTakes (code_of (pass_in self.old)) (capacity_of (container_in self.old))
-            (capacity_of (container_in self.old) + 2) (capacity_of (container_in self.old) + 2) (knows self.old) (knows self.new) }
+        ensures steps { ContainerTakes (capacity_of (container_in self.old) + 2) (capacity_of (container_in self.old) + 2) (knows self.old) (knows self.new) }
     {
         self.container.is_empty(rt, &mut self.pass)
     }

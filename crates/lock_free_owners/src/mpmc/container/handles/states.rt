@@ -22,7 +22,7 @@ impl<'a, T: Words> Handle<'a, T> {
         ensures shows { IfOk result (λ s. ShowsCopied s.shown (knows self.new)) }
         ensures refused { IfErr result (λ e. knows self.new ≡ knows self.old) }
         ensures state { IfOk result (IsStateOf (container_in self.old)) }
-        ensures steps { IfOk result (λ s. LookTakes (code_of (pass_in self.old)) (capacity_of (container_in self.old))
+        ensures steps { IfOk result (λ s. LookTakes T.WORDS (capacity_of (container_in self.old))
             (knows self.old) (knows self.new)) }
     {
         self.container.get_state(rt, &mut self.pass)
@@ -42,7 +42,7 @@ impl<'a, T: Words> Handle<'a, T> {
         ensures state { IsStateOf (container_in self.old) state.new }
         ensures left { IsFalse result → IsLeft state.old state.new }
         ensures steps { IsLatestState (pass_in self.old) state.old
-            → LookTakes (code_of (pass_in self.old)) (capacity_of (container_in self.old)) (knows self.old) (knows self.new) }
+            → LookTakes T.WORDS (capacity_of (container_in self.old)) (knows self.old) (knows self.new) }
     {
         self.container.update_state(rt, state, &mut self.pass)
     }

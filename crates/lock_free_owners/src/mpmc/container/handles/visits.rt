@@ -39,7 +39,7 @@ impl<'a, T: Words> Handle<'a, T> {
             bound visits (knows self.old) (knows self.new)
             × HasFound (λ p x h a q. F.step p x h a q) (capacity_of (container_in self.old))
             (IsHandleFor (container_in self.old) owner) visit.old result bound visits visit.new }
-        ensures steps { FindTakes (code_of (pass_in self.old)) (capacity_of (container_in self.old)) (knows self.old) (knows self.new) }
+        ensures steps { FindTakes T.WORDS (capacity_of (container_in self.old)) (knows self.old) (knows self.new) }
     {
         self.container.find(owner, visit, &mut self.pass)
     }
@@ -63,7 +63,7 @@ impl<'a, T: Words> Handle<'a, T> {
         ensures answered { Answered (starts.Recover owner mode) (State result)
             (knows self.old) (knows self.new) }
         ensures lock { FoundState result (knows self.old) (knows self.new) }
-        ensures steps { RecoverTakes (code_of (pass_in self.old)) (capacity_of (container_in self.old)) mode
+        ensures steps { RecoverTakes T.WORDS (capacity_of (container_in self.old)) mode
             (knows self.old) (knows self.new) }
     {
         self.container

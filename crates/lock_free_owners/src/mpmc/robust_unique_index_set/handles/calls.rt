@@ -9,8 +9,8 @@ ghost use Rattle.model.specs.declared.turn.Kind.TheVariants as kinds;
 ghost use Rattle.model.specs.Coding.{one_word};
 ghost use Rattle.history.specs.History.{Knows};
 ghost use Rattle.history.specs.Passes.{HasSplit};
-ghost use Rattle.history.specs.Steps.{TakesAtMost};
-ghost use Rattle.lock_free_owners.specs.Robust.Steps.{SetTakes, ReleaseTakes};
+ghost use Rattle.history.specs.Steps.{TakesAtMost, TakesAlone};
+ghost use Rattle.lock_free_owners.specs.Robust.Steps.{ReleaseTakes};
 ghost use Rattle.lock_free_owners.specs.Robust.Contracts.{HasTaken, HasGiven, HasCounted, HasLooked, WasFilled, WasGranted};
 ghost use Rattle.lock_free_owners.specs.Robust.Contracts.{WasFreed, WasRefused, Answered, HasReleased, FoundLock};
 ghost use Rattle.lock_free_owners.specs.RobustUniqueIndexSet.{capacity_of, set_of, IsPassOf, HasHistory, SamePass, history};
@@ -87,7 +87,7 @@ impl<'a> Handle<'a> {
         ensures granted { IfOk result (λ index. WasGranted index owner (knows self.old) (knows self.new)) }
         ensures refused { IfErr result (λ e. WasRefused owner e (knows self.old) (knows self.new)) }
         ensures lock { is_locked (history (pass_in self.old)) ≡ true → result ≡ Err Locked }
-        ensures steps { SetTakes (capacity_of (set_in self.old)) (capacity_of (set_in self.old) + 3)
+        ensures steps { TakesAlone (capacity_of (set_in self.old) + 3)
             (capacity_of (set_in self.old) + 1) (knows self.old) (knows self.new) }
     {
         self.set.acquire(rt, owner, &mut self.pass)
@@ -135,7 +135,7 @@ impl<'a> Handle<'a> {
         ensures answered { Answered starts.BorrowedIndices (Number result) (knows self.old) (knows self.new) }
         ensures most { result ≤ capacity_of (set_in self.old) }
         ensures lock { is_locked (history (pass_in self.old)) ≡ true → result ≡ 0 }
-        ensures steps { SetTakes (capacity_of (set_in self.old)) (capacity_of (set_in self.old) + 2)
+        ensures steps { TakesAlone (capacity_of (set_in self.old) + 2)
             (capacity_of (set_in self.old) + 2) (knows self.old) (knows self.new) }
     {
         self.set.borrowed_indices(rt, &mut self.pass)

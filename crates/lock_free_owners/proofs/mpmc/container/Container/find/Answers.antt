@@ -52,5 +52,5 @@ returns-clause-keeps g c = c.find_all.ensures.searched.left.keeps
 pub returns-clause-steps : goal.returns-clause-steps
 returns-clause-steps g c =
     let code : Coding g.row.T.Denot = coding_of g.T.Words.WORDS g.T.Words.words_of g.T.Words.value_of in
-    subst (λ n. FindTakes code n (seen c.args.pass.now.token.seated) (seen c.find_all.new.seat)) (ap (λ (z : SetId). z.capacity) c.requires.pass)
+    subst (λ n. FindTakes code.size n (seen c.args.pass.now.token.seated) (seen c.find_all.new.seat)) (ap (λ (z : SetId). z.capacity) c.requires.pass)
     c.find_all.ensures.searched.steps

@@ -99,5 +99,5 @@ returns-clause-steps g c =
       subst (λ (n : ℕ). state.shown ≡ shows_nothing g.T.Words.value_of g.T.Words.WORDS n) (sym size) c.in_ok-state.ensures.shown,
     )
     in
-    subst (λ (n : ℕ). LookTakes code n v (seen c.bring_up.new.seat)) size
+    subst (λ (n : ℕ). LookTakes code.size n v (seen c.bring_up.new.seat)) size
     (look_takes code v (seen c.bring_up.new.seat) GetState state.seen c.bring_up.result c.bring_up.new.state.shown (c.bring_up.ensures.over.0 on))

@@ -67,5 +67,5 @@ returns-clause-steps g c own =
     let code : Coding g.row.T.Denot = coding_of g.T.Words.WORDS g.T.Words.words_of g.T.Words.value_of in
     let v = seen c.args.pass.now.token.seated in
     let w = seen c.drive_on.new.self in
-    subst (λ n. RemoveTakes code n c.args.mode v w) (c.args.pass.now.token.known ∙ ap (λ (z : SetId). z.capacity) c.requires)
+    subst (λ n. RemoveTakes n c.args.mode v w) (c.args.pass.now.token.known ∙ ap (λ (z : SetId). z.capacity) c.requires)
     (remove_takes code v w (record { index = c.args.handle.index; owner = c.args.handle.owner; mode = c.args.mode }) c.drive_on.result c.drive_on.ensures.end)
