@@ -20,9 +20,9 @@ use Rattle.lock_free_owners.specs.Container.Bare.{Still, LookStands, LookEnds}
 use Rattle.lock_free_owners.specs.Container.Idle.{IsIdle}
 use Rattle.lock_free_owners.specs.Container.LookTurns.{IsOnHistory, LookAt, LookOver, IsPast, LookOnAt, LookOnOver}
 use Rattle.lock_free_owners.specs.Container.Names.{unnumbered}
-use Rattle.lock_free_owners.specs.Container.Contracts.{Answered, HasMade}
+use Rattle.lock_free_owners.specs.Container.Contracts.{HasMade}
 use Rattle.lock_free_owners.proofs.ContainerSet.Resting.{settled_so}
-use Rattle.lock_free_owners.proofs.ContainerSet.Began.{capacity_from, idle_from, share_from, ended_answered, ended_goes, ended_knows, ended_called}
+use Rattle.lock_free_owners.proofs.ContainerSet.Began.{AnsweredBy, capacity_from, idle_from, share_from, ended_answered, ended_goes, ended_knows, ended_called}
 use Rattle.lock_free_owners.proofs.ContainerSet.Idle.{rests, idle_none}
 use Rattle.lock_free_owners.proofs.ContainerSet.SameStates.{Decided}
 use Rattle.lock_free_owners.proofs.Rules.Container.LookRuns.{state_rule}
@@ -158,7 +158,7 @@ module _ {T : Type 0} (code : Coding T) (which : LookOf) (from w : View T) (seen
   pub look_goes : Goes from w
   look_goes = ended_goes code from ends.from ends.settled (looking code which from.capacity seen) w changed m ends.over.0
 
-  pub look_answered : Answered (look_start which) (looked which (state_of_look from.capacity seen m) changed) from w
+  pub look_answered : AnsweredBy (look_start which) (looked which (state_of_look from.capacity seen m) changed) from w
   look_answered =
       ended_answered code from ends.from ends.settled (looking code which from.capacity seen) w changed m ends.over.0 (look_start which) refl
       (looked which (state_of_look from.capacity seen m) changed) refl

@@ -15,6 +15,7 @@ use Rattle.model.specs.declared.families.container.calls.ContainerFlight as call
 use Rattle.model.specs.declared.families.container.ContainerStart.TheVariants.{Find}
 use Rattle.model.specs.declared.turn.Kind.TheVariants as kinds
 use Rattle.model.specs.Coding.{Coding}
+use Rattle.model.specs.Families.Container.Promises.{IsFound}
 use Rattle.model.specs.Families.Indices.Robust.Promises.{IsFilledWith, IsCount}
 use Rattle.threaded.specs.Shares.{IsAll}
 use Rattle.history.specs.declared.view.View.{View}
@@ -68,7 +69,8 @@ module _ {T : Type 0} where
     pub mine : new.party ≡ Some by
     pub counts : IsCount by (IsFilledWith owner) bound number new.seen
     pub over : (Called by (Container (Find owner)) (Number number) (copied by visits) from new
-        × Answered (Find owner) (Number number) old new × (bound ≡ capacity))
+        × Answered (Find owner) (Number number) (λ p before. IsFound p owner old.capacity number before) old new
+        × (bound ≡ capacity))
         ⊎ (Rests by (Container (Find owner)) (Number number) (copied by visits) from new
         × (bound ≡ asked_below new.going))
 

@@ -5,16 +5,14 @@
 ghost use Rattle.std.specs.Prelude.{◌≡◌, ◌+◌, ◌≤◌, true, Err, IfOk, IfErr, OnOk};
 ghost use Rattle.steps.specs.declared.container.enums.ContainerAddFailure.TheVariants.{IsLocked as Locked};
 ghost use Rattle.steps.specs.declared.container.enums.ContainerRemoveError.TheVariants.{ContainerHandleNotOwnedByContainer as NotOwned};
-ghost use Rattle.model.specs.declared.event.Answer.TheVariants.{Number, Truth};
-ghost use Rattle.model.specs.declared.families.container.ContainerStart.TheVariants as starts;
 ghost use Rattle.model.specs.Families.Container.Calls.{removed, replaced};
 ghost use Rattle.model.specs.Families.Indices.Reading.{is_locked};
 ghost use Rattle.history.specs.ContainerLooks.{KeepsState};
 ghost use Rattle.lock_free_owners.specs.Robust.Contracts.{WasFilled, WasGranted, WasFreed, HasReleased, FoundLock};
 ghost use Rattle.lock_free_owners.specs.Container.Steps.{TakesFew, ContainerTakes, RemoveTakes};
 ghost use Rattle.lock_free_owners.specs.Container.Contracts.{placed, HasAdded, HasRemoved, HasReplaced, HasCounted};
-ghost use Rattle.lock_free_owners.specs.Container.Contracts.{HasTested, HasLooked, Answered, WasNotAdded};
-ghost use Rattle.lock_free_owners.specs.Container.Names.{view, history, code_of, container_of, capacity_of, IsPassOf, IsHandleFor, IsOwn, SamePass};
+ghost use Rattle.lock_free_owners.specs.Container.Contracts.{HasTested, HasLooked, WasNotAdded, IsRightLength, IsRightLook, IsRightRemove, IsRightReplace, IsRightTest};
+ghost use Rattle.lock_free_owners.specs.Container.Names.{view, history, container_of, capacity_of, IsPassOf, IsHandleFor, IsOwn, SamePass};
 
 use super::counts::count_all;
 use super::drives::{Adds, HowMany, LooksLocked, Removes, Replaces, WhetherNone};
@@ -97,8 +95,8 @@ impl<T: Words> Container<T> {
         ensures removed { IsOwn self.now handle → HasRemoved
             (record { index = handle.index; owner = handle.owner; mode = mode }) result (view pass.old) (view pass.new) }
         ensures freed { OnOk result (WasFreed handle.index handle.owner (view pass.old) (view pass.new)) }
-        ensures answered { IsOwn self.now handle → Answered
-            (starts.Remove handle.index handle.owner mode) (removed result) (view pass.old) (view pass.new) }
+        ensures answered { IsOwn self.now handle → IsRightRemove
+            (record { index = handle.index; owner = handle.owner; mode = mode }) result (view pass.old) (view pass.new) }
         ensures released { IfOk result (λ s. HasReleased s mode (view pass.old) (view pass.new)) }
         ensures steps { IsOwn self.now handle → RemoveTakes (capacity_of self.now) mode
             (view pass.old) (view pass.new) }
@@ -139,8 +137,8 @@ impl<T: Words> Container<T> {
         ensures replaced { IsOwn self.now handle → HasReplaced
             (record { index = handle.index; owner = handle.owner; value = value }) result
             (view pass.old) (view pass.new) }
-        ensures answered { IsOwn self.now handle → Answered
-            (starts.Replace handle.index value handle.owner) (replaced result) (view pass.old) (view pass.new) }
+        ensures answered { IsOwn self.now handle → IsRightReplace
+            (record { index = handle.index; owner = handle.owner; value = value }) result (view pass.old) (view pass.new) }
         ensures steps { IsOwn self.now handle → TakesFew (5 + T.WORDS) (view pass.old) (view pass.new) }
     {
         if handle.container != self.id || handle.index >= self.capacity {
@@ -167,7 +165,7 @@ impl<T: Words> Container<T> {
         ensures same { SamePass pass.old pass.new }
         ensures keeps { KeepsState (view pass.old) (view pass.new) }
         ensures counted { HasCounted result (view pass.old) (view pass.new) }
-        ensures answered { Answered starts.Len (Number result) (view pass.old) (view pass.new) }
+        ensures answered { IsRightLength result (view pass.old) (view pass.new) }
         ensures most { result ≤ capacity_of self.now }
         ensures lock { is_locked (history pass.old) ≡ true → result ≡ 0 }
         ensures steps { ContainerTakes (capacity_of self.now + 2)
@@ -183,7 +181,7 @@ impl<T: Words> Container<T> {
         ensures same { SamePass pass.old pass.new }
         ensures keeps { KeepsState (view pass.old) (view pass.new) }
         ensures tested { HasTested result (view pass.old) (view pass.new) }
-        ensures answered { Answered starts.IsEmpty (Truth result) (view pass.old) (view pass.new) }
+        ensures answered { IsRightTest result (view pass.old) (view pass.new) }
         ensures lock { is_locked (history pass.old) ≡ true → result ≡ true }
         ensures steps { ContainerTakes (capacity_of self.now + 2)
             (capacity_of self.now + 2) (view pass.old) (view pass.new) }
@@ -198,7 +196,7 @@ impl<T: Words> Container<T> {
         ensures same { SamePass pass.old pass.new }
         ensures keeps { KeepsState (view pass.old) (view pass.new) }
         ensures looked { HasLooked result (view pass.old) (view pass.new) }
-        ensures answered { Answered starts.IsLocked (Truth result) (view pass.old) (view pass.new) }
+        ensures answered { IsRightLook result (view pass.old) (view pass.new) }
         ensures lock { FoundLock result (view pass.old) (view pass.new) }
         ensures steps { TakesFew 1 (view pass.old) (view pass.new) }
     {

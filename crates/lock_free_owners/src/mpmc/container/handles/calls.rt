@@ -2,14 +2,12 @@
 ghost use Rattle.std.specs.Prelude.{◌≡◌, ◌+◌, ◌≤◌, true, None, Err, IfSome, IfNone, IfOk, IfErr, OnOk};
 ghost use Rattle.steps.specs.declared.container.enums.ContainerAddFailure.TheVariants.{IsLocked as Locked};
 ghost use Rattle.steps.specs.declared.container.enums.ContainerRemoveError.TheVariants.{ContainerHandleNotOwnedByContainer as NotOwned};
-ghost use Rattle.model.specs.declared.event.Answer.TheVariants.{Number, Truth};
-ghost use Rattle.model.specs.declared.families.container.ContainerStart.TheVariants as starts;
 ghost use Rattle.model.specs.Families.Container.Calls.{removed, replaced};
 ghost use Rattle.model.specs.Families.Indices.Reading.{is_locked};
 ghost use Rattle.lock_free_owners.specs.Robust.Contracts.{WasFilled, WasGranted, WasFreed, HasReleased, FoundLock};
 ghost use Rattle.lock_free_owners.specs.Container.Steps.{TakesFew, ContainerTakes, RemoveTakes};
 ghost use Rattle.lock_free_owners.specs.Container.Contracts.{placed, HasAdded, HasRemoved, HasReplaced, HasCounted};
-ghost use Rattle.lock_free_owners.specs.Container.Contracts.{HasTested, HasLooked, Answered, WasNotAdded};
+ghost use Rattle.lock_free_owners.specs.Container.Contracts.{HasTested, HasLooked, WasNotAdded, IsRightLength, IsRightLook, IsRightRemove, IsRightReplace, IsRightTest};
 ghost use Rattle.lock_free_owners.specs.Container.Idle.{IsIdle};
 ghost use Rattle.lock_free_owners.specs.Container.Names.{history, code_of, capacity_of, container_of, HasHistory, IsPassOf, IsHandleFor, IsOwn, SamePass};
 ghost use Rattle.model.specs.declared.turn.Kind.TheVariants as kinds;
@@ -127,8 +125,8 @@ impl<'a, T: Words> Handle<'a, T> {
             (record { index = handle.index; owner = handle.owner; mode = mode }) result
             (knows self.old) (knows self.new) }
         ensures freed { OnOk result (WasFreed handle.index handle.owner (knows self.old) (knows self.new)) }
-        ensures answered { IsOwn (container_in self.old) handle → Answered
-            (starts.Remove handle.index handle.owner mode) (removed result) (knows self.old) (knows self.new) }
+        ensures answered { IsOwn (container_in self.old) handle → IsRightRemove
+            (record { index = handle.index; owner = handle.owner; mode = mode }) result (knows self.old) (knows self.new) }
         ensures released { IfOk result (λ s. HasReleased s mode (knows self.old) (knows self.new)) }
         ensures steps { IsOwn (container_in self.old) handle → RemoveTakes (capacity_of (container_in self.old)) mode (knows self.old) (knows self.new) }
     {
@@ -146,8 +144,8 @@ impl<'a, T: Words> Handle<'a, T> {
         ensures replaced { IsOwn (container_in self.old) handle → HasReplaced
             (record { index = handle.index; owner = handle.owner; value = value }) result
             (knows self.old) (knows self.new) }
-        ensures answered { IsOwn (container_in self.old) handle → Answered
-            (starts.Replace handle.index value handle.owner) (replaced result) (knows self.old) (knows self.new) }
+        ensures answered { IsOwn (container_in self.old) handle → IsRightReplace
+            (record { index = handle.index; owner = handle.owner; value = value }) result (knows self.old) (knows self.new) }
         ensures steps { IsOwn (container_in self.old) handle → TakesFew (5 + T.WORDS) (knows self.old) (knows self.new) }
     {
         self.container.replace(handle, value, &mut self.pass)
@@ -159,7 +157,7 @@ impl<'a, T: Words> Handle<'a, T> {
         ensures same { SamePass (pass_in self.old) (pass_in self.new) }
         ensures keeps { KeepsState (knows self.old) (knows self.new) }
         ensures counted { HasCounted result (knows self.old) (knows self.new) }
-        ensures answered { Answered starts.Len (Number result)
+        ensures answered { IsRightLength result
             (knows self.old) (knows self.new) }
         ensures most { result ≤ capacity_of (container_in self.old) }
         ensures lock { is_locked (history (pass_in self.old)) ≡ true → result ≡ 0 }
@@ -174,7 +172,7 @@ impl<'a, T: Words> Handle<'a, T> {
         ensures same { SamePass (pass_in self.old) (pass_in self.new) }
         ensures keeps { KeepsState (knows self.old) (knows self.new) }
         ensures tested { HasTested result (knows self.old) (knows self.new) }
-        ensures answered { Answered starts.IsEmpty (Truth result)
+        ensures answered { IsRightTest result
             (knows self.old) (knows self.new) }
         ensures lock { is_locked (history (pass_in self.old)) ≡ true → result ≡ true }
         ensures steps { ContainerTakes (capacity_of (container_in self.old) + 2) (capacity_of (container_in self.old) + 2) (knows self.old) (knows self.new) }
@@ -188,7 +186,7 @@ impl<'a, T: Words> Handle<'a, T> {
         ensures same { SamePass (pass_in self.old) (pass_in self.new) }
         ensures keeps { KeepsState (knows self.old) (knows self.new) }
         ensures looked { HasLooked result (knows self.old) (knows self.new) }
-        ensures answered { Answered starts.IsLocked (Truth result)
+        ensures answered { IsRightLook result
             (knows self.old) (knows self.new) }
         ensures lock { FoundLock result (knows self.old) (knows self.new) }
         ensures steps { TakesFew 1 (knows self.old) (knows self.new) }

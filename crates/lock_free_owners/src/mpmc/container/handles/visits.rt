@@ -1,8 +1,5 @@
 //! The calls by a handle that come to the values of an owner.
 ghost use Rattle.std.specs.Prelude.{◌≡◌, ℕ, false, List};
-ghost use Rattle.model.specs.declared.event.Answer.TheVariants.{State};
-ghost use Rattle.model.specs.declared.families.container.ContainerStart.TheVariants as starts;
-ghost use Rattle.model.specs.declared.turn.Kind.TheVariants as kinds;
 ghost use Rattle.model.specs.Families.Indices.Reading.{is_locked};
 ghost use Rattle.history.specs.ContainerLooks.{KeepsState};
 ghost use Rattle.history.specs.Passes.{Goes};
@@ -12,8 +9,8 @@ ghost use Rattle.lock_free_owners.specs.Container.FindContract.{HasSearched};
 ghost use Rattle.lock_free_owners.specs.Container.Questions.{TakesValues};
 ghost use Rattle.lock_free_owners.specs.Container.RecoverContract.{HasRecovered};
 ghost use Rattle.lock_free_owners.specs.Container.Steps.{FindTakes, RecoverTakes};
-ghost use Rattle.lock_free_owners.specs.Container.Contracts.{Answered};
-ghost use Rattle.lock_free_owners.specs.Container.Names.{history, code_of, capacity_of, IsHandleFor, SamePass};
+ghost use Rattle.lock_free_owners.specs.Container.Contracts.{IsRightRecovery};
+ghost use Rattle.lock_free_owners.specs.Container.Names.{history, capacity_of, IsHandleFor, SamePass};
 ghost use Rattle.lock_free_owners.specs.Container.Handles.{container_in, pass_in, knows};
 
 use super::Handle;
@@ -60,7 +57,7 @@ impl<'a, T: Words> Handle<'a, T> {
         ensures recovered { HasRecovered (λ p x b q. F.step p x b q)
             (record { owner = owner; mode = mode }) result (capacity_of (container_in self.old)) predicate.old
             predicate.new (knows self.old) (knows self.new) }
-        ensures answered { Answered (starts.Recover owner mode) (State result)
+        ensures answered { IsRightRecovery (record { owner = owner; mode = mode }) result
             (knows self.old) (knows self.new) }
         ensures lock { FoundState result (knows self.old) (knows self.new) }
         ensures steps { RecoverTakes T.WORDS (capacity_of (container_in self.old)) mode
