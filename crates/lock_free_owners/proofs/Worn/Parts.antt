@@ -31,7 +31,7 @@ use Rattle.steps.specs.declared.indices.robust.release.ReleaseStage as releases
 use Rattle.model.specs.Families.Indices.Robust.Steps.{acquire_effects, release_effects}
 use Rattle.laws_robust.proofs.Counter.{tested, raise_then, count_then, count_old, lock_then, lock_old}
 use Rattle.laws_robust.proofs.Counter.{acquire_then, acquire_old, release_then, release_old}
-use Rattle.history_laws.specs.Owners.{changes}
+use Rattle.lock_free_owners.specs.Worn.{changes}
 
 -- 1 where the counter has moved
 abbrev pub moved : ℕ → ℕ → ℕ

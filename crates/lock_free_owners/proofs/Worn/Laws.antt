@@ -6,10 +6,10 @@ use Rattle.model.specs.declared.event.Event.TheVariants.{Begun}
 use Rattle.model.specs.Coding.{Coding}
 use Rattle.lock_free_owners.specs.Robust.Contracts.{IsWorn}
 use Rattle.lock_free_owners.specs.Container.Contracts as containers
-use Rattle.history_laws.specs.Owners.{changes, LocksApart, lock_call, lock_calls}
-use Rattle.history_laws.proofs.RobustWorn as robust
-use Rattle.history_laws.proofs.RobustWorn.{worn_after}
-use Rattle.history_laws.proofs.ContainerWorn as container
+use Rattle.lock_free_owners.specs.Worn.{changes, LocksApart, lock_call, lock_calls}
+use Rattle.lock_free_owners.proofs.Worn.RobustWorn as robust
+use Rattle.lock_free_owners.proofs.Worn.RobustWorn.{worn_after}
+use Rattle.lock_free_owners.proofs.Worn.ContainerWorn as container
 
 pub worn_set : (capacity : ℕ) (events : List (Event ℕ)) → IsWorn capacity events → LocksApart events → 2 ^ 64 - 2 ≤ 3 * changes events
 worn_set capacity events h apart =

@@ -5,8 +5,8 @@ use Rattle.model.specs.declared.families.indices.robust.RobustStart.{RobustStart
 use Rattle.model.specs.declared.families.indices.robust.calls.RobustFlight.{RobustFlight}
 use Rattle.model.specs.Families.Indices.Robust.Reading.{SetAct}
 use Rattle.laws_robust.proofs.Standing.{At}
-use Rattle.history_laws.specs.Owners.{may_lock}
-use Rattle.history_laws.proofs.RobustPays.{robust_locks, RobustStands}
+use Rattle.lock_free_owners.specs.Worn.{may_lock}
+use Rattle.lock_free_owners.proofs.Worn.RobustPays.{robust_locks, RobustStands}
 
 pub robust_stands : (c : ℕ) (all : List SetAct) (start : RobustStart) (flight : RobustFlight) → At c all start flight → RobustStands flight
 robust_stands c all start flight at = grind arith

@@ -21,13 +21,13 @@ use Rattle.model.specs.declared.families.indices.robust.calls.RobustFlight as ro
 use Rattle.model.specs.Turns.{ending_of}
 use Rattle.model.specs.World.{Trace, flight_in}
 use Rattle.laws_indices.proofs.Sums.{sum_below, sum_moved, sum_longer}
-use Rattle.history_laws.specs.Owners.{change, changes}
+use Rattle.lock_free_owners.specs.Worn.{change, changes}
 use Rattle.laws_robust.proofs.Counter.{tested}
-use Rattle.history_laws.proofs.OwnersParts.{locks_in, lock_late_most, release_late, counts_move}
+use Rattle.lock_free_owners.proofs.Worn.Parts.{locks_in, lock_late_most, release_late, counts_move}
 use Rattle.laws_robust.proofs.Counter.{counter_of}
-use Rattle.history_laws.proofs.RobustPays.{late_in, late_in_most, recover_late, robust_credit, robust_late, robust_locks}
-use Rattle.history_laws.proofs.ContainerPays.{remove_late, container_credit, container_late, container_locks}
-use Rattle.history_laws.proofs.ContainerPays as container
+use Rattle.lock_free_owners.proofs.Worn.RobustPays.{late_in, late_in_most, recover_late, robust_credit, robust_late, robust_locks}
+use Rattle.lock_free_owners.proofs.Worn.ContainerPays.{remove_late, container_credit, container_late, container_locks}
+use Rattle.lock_free_owners.proofs.Worn.ContainerPays as container
 
 -- ---- a call that does not lock is not late, and one that does is so by 1
 

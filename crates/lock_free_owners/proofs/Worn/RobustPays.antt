@@ -34,17 +34,17 @@ use Rattle.model.specs.Families.Indices.Robust.Steps.{recover_effects, effects}
 use Rattle.model.specs.Families.Queues.Calls.{as_it_is}
 use Rattle.model.specs.Step.{as_call}
 use Rattle.laws_robust.proofs.Counter.{recover_then, recover_old, robust_then, robust_old}
-use Rattle.history_laws.specs.Owners.{changes}
-use Rattle.history_laws.proofs.OwnersParts.{moved_none, moved_most, RaiseMoves, raise_moves}
+use Rattle.lock_free_owners.specs.Worn.{changes}
+use Rattle.lock_free_owners.proofs.Worn.Parts.{moved_none, moved_most, RaiseMoves, raise_moves}
 use Rattle.laws_robust.proofs.Counter.{count_old}
-use Rattle.history_laws.proofs.OwnersParts.{CountMoves, count_moves, count_ends}
+use Rattle.lock_free_owners.proofs.Worn.Parts.{CountMoves, count_moves, count_ends}
 use Rattle.laws_robust.proofs.Counter.{lock_old}
-use Rattle.history_laws.proofs.OwnersParts.{lock_credit, lock_late, LockPays, lock_pays}
+use Rattle.lock_free_owners.proofs.Worn.Parts.{lock_credit, lock_late, LockPays, lock_pays}
 use Rattle.laws_robust.proofs.Counter.{acquire_old}
-use Rattle.history_laws.proofs.OwnersParts.{acquire_credit, acquire_left, acquire_pays}
+use Rattle.lock_free_owners.proofs.Worn.Parts.{acquire_credit, acquire_left, acquire_pays}
 use Rattle.laws_robust.proofs.Counter.{release_old}
-use Rattle.history_laws.proofs.OwnersParts.{for_mode, for_mode_most, locks_in, release_credit, release_late}
-use Rattle.history_laws.proofs.OwnersParts.{release_left, counts_move, counts_none, StandsIn, release_pays}
+use Rattle.lock_free_owners.proofs.Worn.Parts.{for_mode, for_mode_most, locks_in, release_credit, release_late}
+use Rattle.lock_free_owners.proofs.Worn.Parts.{release_left, counts_move, counts_none, StandsIn, release_pays}
 
 -- only a call in the mode that locks is late
 abbrev pub late_in : ReleaseMode → ℕ → ℕ

@@ -35,12 +35,12 @@ use Rattle.model.proofs.Readings.{Each-less}
 use Rattle.model.proofs.Rows.{MayStart, MayGoOn}
 use Rattle.laws_robust.specs.Open.{open_refusal, IsReachedOpen}
 use Rattle.model.proofs.Reached.{kept_by}
-use Rattle.history_laws.specs.Owners.{change, changes, may_lock, is_locking, BeginsAlone, LocksApart}
+use Rattle.lock_free_owners.specs.Worn.{change, changes, may_lock, is_locking, BeginsAlone, LocksApart}
 use Rattle.laws_robust.proofs.Counter.{tested}
-use Rattle.history_laws.proofs.OwnersParts.{moved_none, counts_move}
+use Rattle.lock_free_owners.proofs.Worn.Parts.{moved_none, counts_move}
 use Rattle.laws_robust.proofs.Counter.{counter_of}
-use Rattle.history_laws.proofs.OwnersBounded.{credit, late, locks, credit_of, late_of, locks_of, locks_at, counter}
-use Rattle.history_laws.proofs.OwnersBounded.{Bounded, Owes, changes_more, ends_none, bounded_on, bounded_same}
+use Rattle.lock_free_owners.proofs.Worn.Bounded.{credit, late, locks, credit_of, late_of, locks_of, locks_at, counter}
+use Rattle.lock_free_owners.proofs.Worn.Bounded.{Bounded, Owes, changes_more, ends_none, bounded_on, bounded_same}
 
 module _ {T : Type 0} where
   -- ---- where a step leaves its party

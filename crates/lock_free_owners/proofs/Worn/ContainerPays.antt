@@ -51,16 +51,16 @@ use Rattle.model.specs.Families.Container.Steps.{add_effects, remove_effects, re
 use Rattle.model.specs.Families.Queues.Calls.{as_it_is}
 use Rattle.model.specs.Step.{as_call}
 use Rattle.laws_container.proofs.Counter.{add_then, add_old, remove_then, remove_old, recover_then, recover_old}
-use Rattle.history_laws.specs.Owners.{changes}
-use Rattle.history_laws.proofs.OwnersParts.{moved_none, moved_most, RaiseMoves, raise_moves, CountMoves, count_ends}
+use Rattle.lock_free_owners.specs.Worn.{changes}
+use Rattle.lock_free_owners.proofs.Worn.Parts.{moved_none, moved_most, RaiseMoves, raise_moves, CountMoves, count_ends}
 use Rattle.laws_robust.proofs.Counter.{lock_old}
-use Rattle.history_laws.proofs.OwnersParts.{lock_credit, lock_late, LockPays, lock_pays}
+use Rattle.lock_free_owners.proofs.Worn.Parts.{lock_credit, lock_late, LockPays, lock_pays}
 use Rattle.laws_robust.proofs.Counter.{acquire_old}
-use Rattle.history_laws.proofs.OwnersParts.{acquire_credit, acquire_left, acquire_pays}
+use Rattle.lock_free_owners.proofs.Worn.Parts.{acquire_credit, acquire_left, acquire_pays}
 use Rattle.laws_robust.proofs.Counter.{release_old}
-use Rattle.history_laws.proofs.OwnersParts.{for_mode, for_mode_most, locks_in, release_credit, release_late}
-use Rattle.history_laws.proofs.OwnersParts.{release_left, counts_move, counts_none, StandsIn, release_pays}
-use Rattle.history_laws.proofs.RobustPays.{late_in, late_in_most}
+use Rattle.lock_free_owners.proofs.Worn.Parts.{for_mode, for_mode_most, locks_in, release_credit, release_late}
+use Rattle.lock_free_owners.proofs.Worn.Parts.{release_left, counts_move, counts_none, StandsIn, release_pays}
+use Rattle.lock_free_owners.proofs.Worn.RobustPays.{late_in, late_in_most}
 
 -- ---- the stages
 

@@ -1,5 +1,5 @@
 -- How often the counter of a robust index set, or of a container, can have gone up, by its history.
-use Rattle.std.specs.Prelude.{◌≡◌, ℕ, Bool, true, false, List, sum_by, if◌then◌else◌}
+use Rattle.std.specs.Prelude.{◌≡◌, ◌-◌, ◌*◌, ◌^◌, ◌≤◌, ℕ, Bool, true, false, List, sum_by, if◌then◌else◌}
 use Rattle.steps.specs.declared.indices.enums.ReleaseMode.TheVariants.{LockIfLastIndex}
 use Rattle.model.specs.declared.event.Event.{Event}
 use Rattle.model.specs.declared.event.Event.TheVariants.{Begun, Filled, FreedOf}
@@ -55,3 +55,9 @@ module _ {T : Type 0} where
 
   abbrev pub lock_calls : List (Event T) → ℕ
   lock_calls events = sum_by lock_call events
+
+  -- ---- the end of the counter
+
+  -- it may be there: only after a third of 2^64 - 2 changes, where no two calls that may lock overlap
+  abbrev pub MayBeWorn : List (Event T) → Type 0
+  MayBeWorn events = LocksApart events → 2 ^ 64 - 2 ≤ 3 * changes events

@@ -41,14 +41,14 @@ use Rattle.laws_robust.proofs.Invariant.{family_by, FlightAt}
 use Rattle.laws_robust.proofs.OpenRuns.{open_turn_sound}
 use Rattle.laws_robust.proofs.Opening.{admitted_is}
 use Rattle.laws_robust.proofs.Sound.{opening_sound}
-use Rattle.history_laws.specs.Owners.{changes, may_lock, is_locking, LocksApart}
+use Rattle.lock_free_owners.specs.Worn.{changes, may_lock, is_locking, LocksApart}
 use Rattle.laws_robust.proofs.Counter.{counter_of}
 use Rattle.laws_robust.proofs.Counter.{robust_then, robust_old}
-use Rattle.history_laws.proofs.RobustPays.{robust_left, robust_locks, RobustStands, SameMode, robust_mode, robust_pays}
+use Rattle.lock_free_owners.proofs.Worn.RobustPays.{robust_left, robust_locks, RobustStands, SameMode, robust_mode, robust_pays}
 use Rattle.laws_robust.proofs.Counter.{robust_finds, robust_leaves, robust_asks}
-use Rattle.history_laws.proofs.RobustCalls.{robust_stands, robust_may}
-use Rattle.history_laws.proofs.OwnersBounded.{Bounded, locks_of, counter}
-use Rattle.history_laws.proofs.OwnersTurns.{left, SameLocks, PaysBy, BeginPays, Facts, run_bounded, opening_bounded}
+use Rattle.lock_free_owners.proofs.Worn.RobustCalls.{robust_stands, robust_may}
+use Rattle.lock_free_owners.proofs.Worn.Bounded.{Bounded, locks_of, counter}
+use Rattle.lock_free_owners.proofs.Worn.Turns.{left, SameLocks, PaysBy, BeginPays, Facts, run_bounded, opening_bounded}
 
 some_same : {A : Type 0} (x y : A) → Some x ≡ Some y → x ≡ y
 some_same x y e = cc

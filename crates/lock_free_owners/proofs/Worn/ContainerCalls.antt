@@ -22,18 +22,18 @@ use Rattle.model.specs.Families.Container.Steps.{effects}
 use Rattle.model.specs.Families.Indices.Robust.Reading.{SetAct}
 use Rattle.model.specs.Families.Queues.Calls.{kept_at, read_in}
 use Rattle.laws_container.proofs.Standing.{At}
-use Rattle.history_laws.specs.Owners.{changes, may_lock}
+use Rattle.lock_free_owners.specs.Worn.{changes, may_lock}
 use Rattle.laws_robust.proofs.Counter.{count_old}
-use Rattle.history_laws.proofs.OwnersParts.{moved_none, count_moves, counts_move}
-use Rattle.history_laws.proofs.RobustPays.{late_in, release_late_in}
+use Rattle.lock_free_owners.proofs.Worn.Parts.{moved_none, count_moves, counts_move}
+use Rattle.lock_free_owners.proofs.Worn.RobustPays.{late_in, release_late_in}
 use Rattle.laws_container.proofs.Counter.{add_old, remove_old}
-use Rattle.history_laws.proofs.ContainerPays.{add_pays, remove_late, remove_pays, RemoveStands}
+use Rattle.lock_free_owners.proofs.Worn.ContainerPays.{add_pays, remove_late, remove_pays, RemoveStands}
 use Rattle.laws_container.proofs.Counter.{recover_old}
-use Rattle.history_laws.proofs.ContainerPays.{recover_late, recover_pays, RecoverStands}
+use Rattle.lock_free_owners.proofs.Worn.ContainerPays.{recover_late, recover_pays, RecoverStands}
 use Rattle.laws_container.proofs.Counter.{container_then, container_old}
-use Rattle.history_laws.proofs.ContainerPays.{container_credit, container_late, container_locks, ContainerStands}
-use Rattle.history_laws.proofs.ContainerPays.{container_left, SameMode, add_same, remove_same, replace_same, find_same}
-use Rattle.history_laws.proofs.ContainerPays.{recover_same, looks_same, count_same, count_mode}
+use Rattle.lock_free_owners.proofs.Worn.ContainerPays.{container_credit, container_late, container_locks, ContainerStands}
+use Rattle.lock_free_owners.proofs.Worn.ContainerPays.{container_left, SameMode, add_same, remove_same, replace_same, find_same}
+use Rattle.lock_free_owners.proofs.Worn.ContainerPays.{recover_same, looks_same, count_same, count_mode}
 
 -- ---- a lock alone is late
 

@@ -49,17 +49,17 @@ use Rattle.laws_container.proofs.Invariant.{family_by, FlightAt}
 use Rattle.laws_container.proofs.OpenRuns.{open_turn_sound}
 use Rattle.laws_container.proofs.Sound.{opening_sound}
 use Rattle.laws_container.proofs.Terms.{Terms}
-use Rattle.history_laws.specs.Owners.{may_lock, is_locking, LocksApart}
+use Rattle.lock_free_owners.specs.Worn.{may_lock, is_locking, LocksApart}
 use Rattle.laws_robust.proofs.Counter.{counter_of}
-use Rattle.history_laws.proofs.ContainerPays.{remove_credit, remove_late, container_left, container_locks}
+use Rattle.lock_free_owners.proofs.Worn.ContainerPays.{remove_credit, remove_late, container_left, container_locks}
 use Rattle.laws_container.proofs.Counter.{container_then, container_old}
-use Rattle.history_laws.proofs.ContainerPays.{ContainerStands, SameMode}
+use Rattle.lock_free_owners.proofs.Worn.ContainerPays.{ContainerStands, SameMode}
 use Rattle.laws_container.proofs.Counter.{container_finds, container_leaves}
-use Rattle.history_laws.proofs.ContainerCalls.{container_mode, container_pays}
+use Rattle.lock_free_owners.proofs.Worn.ContainerCalls.{container_mode, container_pays}
 use Rattle.laws_container.proofs.Counter.{container_asks}
-use Rattle.history_laws.proofs.ContainerCalls.{container_stands, container_may}
-use Rattle.history_laws.proofs.OwnersBounded.{Bounded, locks_of, counter, changes_more}
-use Rattle.history_laws.proofs.OwnersTurns.{left, SameLocks, PaysBy, BeginPays, Facts, run_bounded, opening_bounded}
+use Rattle.lock_free_owners.proofs.Worn.ContainerCalls.{container_stands, container_may}
+use Rattle.lock_free_owners.proofs.Worn.Bounded.{Bounded, locks_of, counter, changes_more}
+use Rattle.lock_free_owners.proofs.Worn.Turns.{left, SameLocks, PaysBy, BeginPays, Facts, run_bounded, opening_bounded}
 
 pub some_same : {A : Type 0} (x y : A) → Some x ≡ Some y → x ≡ y
 some_same x y e = cc
