@@ -26,7 +26,7 @@ ghost use Rattle.lock_free_queues.specs.Queues.Merges.{Merges, HasPushedUpTo, Ha
 ghost use Rattle.lock_free_queues.specs.Queues.Overflowing.{HasOverflowed};
 ghost use Rattle.lock_free_queues.specs.Queues.Positions.{IsPublished, IsTaken, IsSound, IsOverSound};
 ghost use Rattle.steps.specs.Objects.Lists.{Bounded};
-ghost use Rattle.lock_free_queues.specs.Queues.Closes.{Closes, IsWhatWaits, IsNewestThatWaits};
+ghost use Rattle.lock_free_queues.specs.Queues.Closes.{Closes};
 ghost use Rattle.lock_free_queues.specs.Queues.Sent.{HasSent, HasReceived, HasPassed, TellsApart};
 ghost use Rattle.lock_free_queues.specs.Queues.Sums.{puts, gets, HasDone};
 ghost use Rattle.lock_free_queues.specs.Queues.Contracts.{HasPushed, HasPublished, WasFull, HasPopped};
