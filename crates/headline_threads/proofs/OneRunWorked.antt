@@ -48,6 +48,7 @@ told turns events =
       state = None;
       asked = 0;
       taken = 0;
+      others = 0;
     }
 
 abbrev knowing : List (Turn ℕ) → View ℕ

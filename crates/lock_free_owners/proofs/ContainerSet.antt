@@ -3,6 +3,7 @@ pub mod Begins
 pub mod Settling
 pub mod Opens
 pub mod Sound
+pub mod Resting
 pub mod Facts
 pub mod Passes
 pub mod Began

@@ -1,5 +1,6 @@
 pub mod Names
 pub mod Idle
+pub mod Resting
 pub mod Contracts
 pub mod Turns
 pub mod Bare

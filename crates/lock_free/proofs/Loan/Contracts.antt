@@ -51,14 +51,12 @@ set_goes old new goes since =
       all = goes.all;
     }
 
-pub has_freed : (old new : Pass) (index : ℕ) (state : ReleaseState) → (view old).capacity ≡ (set_of old).capacity
-    → SamePass old new → state ≡ Unlocked → HasGiven index state (view old) (view new) → HasFreed index (view old) (view new)
-has_freed old new index state known goes unlocked given =
+pub has_freed : (old new : Pass) (index : ℕ) (state : ReleaseState) → SamePass old new → state ≡ Unlocked
+    → HasGiven index state (view old) (view new) → HasFreed index (view old) (view new)
+has_freed old new index state goes unlocked given =
     record {
       given = subst (λ s. HasGiven index s (view old) (view new)) unlocked given;
       goes = set_goes old new goes (begins_before _ _ _ _ (view old) (view new) given.called);
-      knows =
-          subst (λ n. Knows one_word kinds.Indices n (view new)) (ap (λ (z : SetId). z.capacity) goes.set ∙ sym known) new.knows;
     }
 
 -- what is freed in turn is claimed no more, and freed as often as it stands in the list

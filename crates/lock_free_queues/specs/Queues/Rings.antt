@@ -118,7 +118,6 @@ module _ {E T : Type 0} {kind : kinds.Ghosts E} {words : Ghosts T} where
   pub record Joins (old other new : Held E T (RingRule E T) kind words) : Type 0 where
     pub queue : token_queue new ≡ token_queue old
     pub joined : HasJoined (token_view old) (token_view other) (token_view new)
-    pub history : HasHistory (code_of old) kind.KIND (token_queue old).capacity (token_view new)
     pub all : MissesNothing (token_view new)
 
   abbrev pub PassJoins : Pass E T kind words → Pass E T kind words → Pass E T kind words → Type 0

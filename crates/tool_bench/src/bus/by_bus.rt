@@ -97,7 +97,7 @@ fn read_next<R: Wait>(rt: &R, subscriber: &mut Subscriber<'_, Vec<u64>>) -> Opti
 /// The sum of the words of a record.
 #[inline(always)]
 fn sum_of(subscriber: &Subscriber<'_, Vec<u64>>, sample: &Sample) -> Option<u64> {
-    let reading = subscriber.read(sample)?;
+    let reading = subscriber.read(sample).ok()?;
     let mut sum = 0u64;
     for word in reading.get().iter() {
         sum = sum.wrapping_add(*word);

@@ -28,9 +28,7 @@ impl<E: Kind, T: Words> Held<E, T, RingRule<E, T>> {
         ensures measured { HasMeasured W.WHICH (token_queue self.old).capacity
             (length_answer W.WHICH (token_queue self.old).capacity result) (token_view self.old) (token_view self.new) }
         ensures few { W.WHICH ≡ measures.Len → result ≤ most_waiting E.KIND (token_queue self.old).capacity }
-        ensures steps { TakesAlone (coding_of T.WORDS T.words_of T.value_of) (machine_kind E.KIND)
-            (token_queue self.old).capacity 4 4
-            (token_view self.old) (token_view self.new) }
+        ensures steps { TakesAlone 4 4 (token_view self.old) (token_view self.new) }
         ensures roles { (r : Role) → Moved r 0 0 (token_view self.old).made (token_view self.new).made }
     {
         let call = Len::new(self.capacity);
@@ -44,9 +42,7 @@ impl<E: Kind, T: Words> Held<E, T, RingRule<E, T>> {
         ensures counted { HasMeasured measures.Len (token_queue self.old).capacity (Number result)
             (token_view self.old) (token_view self.new) }
         ensures few { result ≤ most_waiting E.KIND (token_queue self.old).capacity }
-        ensures steps { TakesAlone (coding_of T.WORDS T.words_of T.value_of) (machine_kind E.KIND)
-            (token_queue self.old).capacity 4 4
-            (token_view self.old) (token_view self.new) }
+        ensures steps { TakesAlone 4 4 (token_view self.old) (token_view self.new) }
         ensures roles { (r : Role) → Moved r 0 0 (token_view self.old).made (token_view self.new).made }
     {
         self.measure::<Length>(rt)
@@ -57,9 +53,7 @@ impl<E: Kind, T: Words> Held<E, T, RingRule<E, T>> {
         ensures same { IsSameQueue self.old self.new }
         ensures measured { HasMeasured measures.IsEmpty (token_queue self.old).capacity (Truth result)
             (token_view self.old) (token_view self.new) }
-        ensures steps { TakesAlone (coding_of T.WORDS T.words_of T.value_of) (machine_kind E.KIND)
-            (token_queue self.old).capacity 4 4
-            (token_view self.old) (token_view self.new) }
+        ensures steps { TakesAlone 4 4 (token_view self.old) (token_view self.new) }
         ensures roles { (r : Role) → Moved r 0 0 (token_view self.old).made (token_view self.new).made }
     {
         self.measure::<Emptiness>(rt) == 0
@@ -70,9 +64,7 @@ impl<E: Kind, T: Words> Held<E, T, RingRule<E, T>> {
         ensures same { IsSameQueue self.old self.new }
         ensures measured { HasMeasured measures.IsFull (token_queue self.old).capacity (Truth result)
             (token_view self.old) (token_view self.new) }
-        ensures steps { TakesAlone (coding_of T.WORDS T.words_of T.value_of) (machine_kind E.KIND)
-            (token_queue self.old).capacity 4 4
-            (token_view self.old) (token_view self.new) }
+        ensures steps { TakesAlone 4 4 (token_view self.old) (token_view self.new) }
         ensures roles { (r : Role) → Moved r 0 0 (token_view self.old).made (token_view self.new).made }
     {
         self.measure::<Fullness>(rt) == self.capacity as u64
@@ -89,9 +81,7 @@ impl<E: Kind, T: Words> Ring<E, T> {
         ensures counted { HasMeasured measures.Len (capacity_of self.now) (Number result)
             (view pass.old) (view pass.new) }
         ensures few { result ≤ most_waiting E.KIND (capacity_of self.now) }
-        ensures steps { TakesAlone (coding_of T.WORDS T.words_of T.value_of) (machine_kind E.KIND)
-            (queue_of pass.old).capacity 4 4
-            (view pass.old) (view pass.new) }
+        ensures steps { TakesAlone 4 4 (view pass.old) (view pass.new) }
     {
         pass.token.len(rt) as usize
     }
@@ -103,9 +93,7 @@ impl<E: Kind, T: Words> Ring<E, T> {
         ensures same { SamePass pass.old pass.new }
         ensures measured { HasMeasured measures.IsEmpty (capacity_of self.now) (Truth result)
             (view pass.old) (view pass.new) }
-        ensures steps { TakesAlone (coding_of T.WORDS T.words_of T.value_of) (machine_kind E.KIND)
-            (queue_of pass.old).capacity 4 4
-            (view pass.old) (view pass.new) }
+        ensures steps { TakesAlone 4 4 (view pass.old) (view pass.new) }
     {
         pass.token.is_empty(rt)
     }
@@ -117,9 +105,7 @@ impl<E: Kind, T: Words> Ring<E, T> {
         ensures same { SamePass pass.old pass.new }
         ensures measured { HasMeasured measures.IsFull (capacity_of self.now) (Truth result)
             (view pass.old) (view pass.new) }
-        ensures steps { TakesAlone (coding_of T.WORDS T.words_of T.value_of) (machine_kind E.KIND)
-            (queue_of pass.old).capacity 4 4
-            (view pass.old) (view pass.new) }
+        ensures steps { TakesAlone 4 4 (view pass.old) (view pass.new) }
     {
         pass.token.is_full(rt)
     }
@@ -139,9 +125,7 @@ impl<'a, E: Kind, T: Words> Producer<'a, E, T> {
         ensures counted { HasMeasured measures.Len (producer_queue self.old).capacity (Number result)
             (producer_view self.old) (producer_view self.new) }
         ensures few { result ≤ most_waiting E.KIND (producer_queue self.old).capacity }
-        ensures steps { TakesAlone (coding_of T.WORDS T.words_of T.value_of) (machine_kind E.KIND)
-            (producer_queue self.old).capacity 4 4
-            (producer_view self.old) (producer_view self.new) }
+        ensures steps { TakesAlone 4 4 (producer_view self.old) (producer_view self.new) }
     {
         self.token.len(rt) as usize
     }
@@ -151,9 +135,7 @@ impl<'a, E: Kind, T: Words> Producer<'a, E, T> {
         ensures same { SameProducer self.old self.new }
         ensures measured { HasMeasured measures.IsEmpty (producer_queue self.old).capacity (Truth result)
             (producer_view self.old) (producer_view self.new) }
-        ensures steps { TakesAlone (coding_of T.WORDS T.words_of T.value_of) (machine_kind E.KIND)
-            (producer_queue self.old).capacity 4 4
-            (producer_view self.old) (producer_view self.new) }
+        ensures steps { TakesAlone 4 4 (producer_view self.old) (producer_view self.new) }
     {
         self.token.is_empty(rt)
     }
@@ -163,9 +145,7 @@ impl<'a, E: Kind, T: Words> Producer<'a, E, T> {
         ensures same { SameProducer self.old self.new }
         ensures measured { HasMeasured measures.IsFull (producer_queue self.old).capacity (Truth result)
             (producer_view self.old) (producer_view self.new) }
-        ensures steps { TakesAlone (coding_of T.WORDS T.words_of T.value_of) (machine_kind E.KIND)
-            (producer_queue self.old).capacity 4 4
-            (producer_view self.old) (producer_view self.new) }
+        ensures steps { TakesAlone 4 4 (producer_view self.old) (producer_view self.new) }
     {
         self.token.is_full(rt)
     }
@@ -185,9 +165,7 @@ impl<'a, E: Kind, T: Words> Consumer<'a, E, T> {
         ensures counted { HasMeasured measures.Len (consumer_queue self.old).capacity (Number result)
             (consumer_view self.old) (consumer_view self.new) }
         ensures few { result ≤ most_waiting E.KIND (consumer_queue self.old).capacity }
-        ensures steps { TakesAlone (coding_of T.WORDS T.words_of T.value_of) (machine_kind E.KIND)
-            (consumer_queue self.old).capacity 4 4
-            (consumer_view self.old) (consumer_view self.new) }
+        ensures steps { TakesAlone 4 4 (consumer_view self.old) (consumer_view self.new) }
     {
         self.token.len(rt) as usize
     }
@@ -197,9 +175,7 @@ impl<'a, E: Kind, T: Words> Consumer<'a, E, T> {
         ensures same { SameConsumer self.old self.new }
         ensures measured { HasMeasured measures.IsEmpty (consumer_queue self.old).capacity (Truth result)
             (consumer_view self.old) (consumer_view self.new) }
-        ensures steps { TakesAlone (coding_of T.WORDS T.words_of T.value_of) (machine_kind E.KIND)
-            (consumer_queue self.old).capacity 4 4
-            (consumer_view self.old) (consumer_view self.new) }
+        ensures steps { TakesAlone 4 4 (consumer_view self.old) (consumer_view self.new) }
     {
         self.token.is_empty(rt)
     }
@@ -209,9 +185,7 @@ impl<'a, E: Kind, T: Words> Consumer<'a, E, T> {
         ensures same { SameConsumer self.old self.new }
         ensures measured { HasMeasured measures.IsFull (consumer_queue self.old).capacity (Truth result)
             (consumer_view self.old) (consumer_view self.new) }
-        ensures steps { TakesAlone (coding_of T.WORDS T.words_of T.value_of) (machine_kind E.KIND)
-            (consumer_queue self.old).capacity 4 4
-            (consumer_view self.old) (consumer_view self.new) }
+        ensures steps { TakesAlone 4 4 (consumer_view self.old) (consumer_view self.new) }
     {
         self.token.is_full(rt)
     }

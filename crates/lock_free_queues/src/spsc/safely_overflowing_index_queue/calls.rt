@@ -47,8 +47,7 @@ impl Held<Overflowing, u64, RingRule<Overflowing, u64>> {
         ensures popped { IfSome result (λ x. PopOldest (Index x) (token_view self.old) (token_view self.new)) }
         ensures empty { IfNone result (PopFoundNone (token_view self.old) (token_view self.new)) }
         ensures roles { (r : Role) → Moved r 0 0 (token_view self.old).made (token_view self.new).made }
-        ensures steps { TakesAlone one_word kinds.Overflow (token_queue self.old).capacity 4 2 (token_view self.old)
-            (token_view self.new) }
+        ensures steps { TakesAlone 4 2 (token_view self.old) (token_view self.new) }
     {
         let mut room = OneWord(0);
         let call = Pop::new(self.capacity);

@@ -40,8 +40,7 @@ impl<'a> Consumer<'a> {
         ensures empty { 0 < (consumer_queue self.old).capacity
             → IfNone result (PopFoundNone (consumer_view self.old) (consumer_view self.new)) }
         ensures none { (consumer_queue self.old).capacity ≡ 0 → result ≡ None }
-        ensures steps { 0 < (consumer_queue self.old).capacity → TakesAlone one_word kinds.Overflow
-            (consumer_queue self.old).capacity 4 2 (consumer_view self.old) (consumer_view self.new) }
+        ensures steps { 0 < (consumer_queue self.old).capacity → TakesAlone 4 2 (consumer_view self.old) (consumer_view self.new) }
     {
         if self.token.capacity == 0 {
             None

@@ -38,8 +38,7 @@ impl<T: Words> UnrestrictedAtomic<T> {
         requires { IsPassOf self.now pass.old }
         ensures same { SamePass pass.old pass.new }
         ensures loaded { HasLoaded result (view pass.old) (view pass.new) }
-        ensures steps { TakesAlone (coding_of T.WORDS T.words_of T.value_of) kinds.Atomic 1 (2 + T.WORDS) (1 + T.WORDS)
-            (view pass.old) (view pass.new) }
+        ensures steps { TakesAlone (2 + T.WORDS) (1 + T.WORDS) (view pass.old) (view pass.new) }
     {
         pass.token.load(rt)
     }

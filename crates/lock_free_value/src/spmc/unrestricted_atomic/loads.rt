@@ -141,8 +141,7 @@ impl<T: Words> Held<T, ValueRule<T>> {
         ensures same { IsSame self.old self.new }
         ensures loaded { HasLoaded result (seen self.old) (seen self.new) }
         ensures role { Moved 0 0 (seen self.old).made (seen self.new).made }
-        ensures steps { TakesAlone (coding_of T.WORDS T.words_of T.value_of) kinds.Atomic 1 (2 + T.WORDS) (1 + T.WORDS)
-            (seen self.old) (seen self.new) }
+        ensures steps { TakesAlone (2 + T.WORDS) (1 + T.WORDS) (seen self.old) (seen self.new) }
     {
         // a room is filled with zeros: the smallest that the words fit in
         if T::WORDS <= 2 {
@@ -161,8 +160,7 @@ impl<T: Words> Held<T, ValueRule<T>> {
         ensures same { IsSame self.old self.new }
         ensures loaded { HasLoaded result (seen self.old) (seen self.new) }
         ensures role { Moved 0 0 (seen self.old).made (seen self.new).made }
-        ensures steps { TakesAlone (coding_of T.WORDS T.words_of T.value_of) kinds.Atomic 1 (2 + T.WORDS) (1 + T.WORDS)
-            (seen self.old) (seen self.new) }
+        ensures steps { TakesAlone (2 + T.WORDS) (1 + T.WORDS) (seen self.old) (seen self.new) }
     {
         let mut room = room;
         let end = load_all(&mut self.seated, rt, &mut room);

@@ -34,4 +34,7 @@ returns-clause-steps g c =
       mine = one.mine;
       called = one.called;
     } in
-    c.whole_calls_are_alone.ensures one_word kinds.Bits (capacity_of c.args.set.now) 2 1 (view c.args.pass.now) (view c.set.new.pass) calls c.set.ensures.steps
+    c.whole_calls_are_alone.ensures one_word kinds.Bits (capacity_of c.args.set.now) 2 1 (view c.args.pass.now) (view c.set.new.pass) calls
+    (subst (λ n. Knows one_word kinds.Bits n (view c.set.new.pass))
+    (ap (λ (z : SetId). z.capacity) (c.set.ensures.same.set ∙ c.requires.pass)) c.history.ensures.run)
+    c.set.ensures.steps

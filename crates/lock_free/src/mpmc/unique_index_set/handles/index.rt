@@ -42,8 +42,7 @@ impl<'a> UniqueIndex<'a> {
             (index_view self.entry) (knows result.1) }
         ensures nothing { result.0 ≡ Locked → HoldsNothing (made (pass_in result.1)) }
         ensures whole { result.0 ≡ Unlocked → HoldsSome (knows result.1) }
-        ensures steps { TakesAlone one_word kinds.Indices (index_set self.entry).capacity 4 2
-            (index_view self.entry) (knows result.1) }
+        ensures steps { TakesAlone 4 2 (index_view self.entry) (knows result.1) }
     {
         let UniqueIndex {
             set,

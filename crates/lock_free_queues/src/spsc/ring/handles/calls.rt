@@ -108,9 +108,7 @@ impl<'a, E: Kind, T: Words> Handle<'a, E, T> {
         ensures counted { HasMeasured measures.Len (capacity_of (ring_in self.old)) (Number result)
             (knows self.old) (knows self.new) }
         ensures few { result ≤ most_waiting E.KIND (capacity_of (ring_in self.old)) }
-        ensures steps { TakesAlone (coding_of T.WORDS T.words_of T.value_of) (machine_kind E.KIND) (queue_of
-            (pass_in self.old)).capacity 4 4
-            (knows self.old) (knows self.new) }
+        ensures steps { TakesAlone 4 4 (knows self.old) (knows self.new) }
     {
         self.ring.len(rt, &mut self.pass)
     }
@@ -120,9 +118,7 @@ impl<'a, E: Kind, T: Words> Handle<'a, E, T> {
         ensures same { SameHandle self.old self.new }
         ensures measured { HasMeasured measures.IsEmpty (capacity_of (ring_in self.old)) (Truth result)
             (knows self.old) (knows self.new) }
-        ensures steps { TakesAlone (coding_of T.WORDS T.words_of T.value_of) (machine_kind E.KIND) (queue_of
-            (pass_in self.old)).capacity 4 4
-            (knows self.old) (knows self.new) }
+        ensures steps { TakesAlone 4 4 (knows self.old) (knows self.new) }
     {
         self.ring.is_empty(rt, &mut self.pass)
     }
@@ -132,9 +128,7 @@ impl<'a, E: Kind, T: Words> Handle<'a, E, T> {
         ensures same { SameHandle self.old self.new }
         ensures measured { HasMeasured measures.IsFull (capacity_of (ring_in self.old)) (Truth result)
             (knows self.old) (knows self.new) }
-        ensures steps { TakesAlone (coding_of T.WORDS T.words_of T.value_of) (machine_kind E.KIND) (queue_of
-            (pass_in self.old)).capacity 4 4
-            (knows self.old) (knows self.new) }
+        ensures steps { TakesAlone 4 4 (knows self.old) (knows self.new) }
     {
         self.ring.is_full(rt, &mut self.pass)
     }

@@ -77,8 +77,7 @@ impl<'a, T: Words> Handle<'a, T> {
     pub fn load(&mut self, rt: &impl Wait) -> T
         ensures same { SameHandle self.old self.new }
         ensures loaded { HasLoaded result (knows self.old) (knows self.new) }
-        ensures steps { TakesAlone (coding_of T.WORDS T.words_of T.value_of) kinds.Atomic 1 (2 + T.WORDS) (1 + T.WORDS)
-            (knows self.old) (knows self.new) }
+        ensures steps { TakesAlone (2 + T.WORDS) (1 + T.WORDS) (knows self.old) (knows self.new) }
     {
         self.value.load(rt, &mut self.pass)
     }
