@@ -98,6 +98,7 @@ known =
         ),
       );
       is = refl;
+      others = refl;
     }
 
 abbrev later : Continues one_word kinds.TheVariants.Indices 1 knew knows
