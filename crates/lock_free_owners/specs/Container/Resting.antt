@@ -24,7 +24,7 @@ module _ {T : Type 0} where
   FindEndsAs (finds.TheVariants.ChecksCount index found count) answer = ⊥
   FindEndsAs (finds.TheVariants.Asks index found) answer = answer ≡ Number found
 
-  -- no other call of a container rests
+  -- Of other calls nothing is said: that only a find rests is a clause of the pass's `history`.
   abbrev pub EndsAs : Flight T → Answer T → Type 0
   EndsAs (flights.TheVariants.Container (calls.TheVariants.Find run)) answer = FindEndsAs run.call.stage answer
   EndsAs flight answer = Unit {0}

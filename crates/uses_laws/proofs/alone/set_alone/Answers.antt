@@ -7,6 +7,8 @@ use Rattle.history.specs.History.{Knows}
 use Rattle.lock_free.specs.Bits.Calls.{SetId, capacity_of, view}
 use Rattle.lock_free.specs.Bits.Stages.{set_wrote}
 use Rattle.lock_free.specs.Coding.{one_word}
+use Rattle.lock_free.specs.History.{Knows}
+use Rattle.lock_free.specs.UniqueIndexSet.{SetId}
 use Rattle.lock_free.specs.Whole.{AllInside, CallsWhole}
 use Rattle.uses_laws.proofs.alone.set_alone.Goals as goal
 
