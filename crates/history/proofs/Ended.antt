@@ -1,8 +1,8 @@
 -- A history that ends where a call ended is that of the first turns of a run: with each turn at most one call ends, and its
 -- end is written last.
-use Rattle.history.proofs.Names.{◌≡◌, ⊎_elim, inl, inr, ◌⊎◌, ℕ, ◌+◌, ◌<◌, ◌≤◌, Bool, Option, Some, None, List, [], ◌∷◌, ◌++◌, length, refl}
+use Rattle.history.proofs.Names.{◌≡◌, ⊎_elim, inl, inr, ◌⊎◌, ℕ, ◌<◌, ◌≤◌, Bool, Option, Some, None, List, [], ◌∷◌, ◌++◌, length, refl}
 use Rattle.history.proofs.Names.{sym, ap, subst, ◌∙◌, arith, append_assoc, append-nil, Answer, Event, Begun, Finished, Start, Kind, Trace}
-use Rattle.history.proofs.Names.{Flight, Doing, Going, Over, Party, Turn, Begin, Next, Decide, Coding, party_of, answer_in, after_turn, ask_of_doing}
+use Rattle.history.proofs.Names.{Doing, Going, Over, Party, Turn, Begin, Next, Decide, Coding, party_of, answer_in, after_turn, ask_of_doing}
 use Rattle.history.proofs.Names.{ending_of, events_of, events_of_next, events_of_decision, number_of, old_of, step_in, World, Refusal}
 use Rattle.std.proofs.Common.{length-append}
 use Rattle.std.proofs.lemmas.List.Sums.{sum_by-cons}

@@ -1,13 +1,13 @@
 -- Who has begun a call has one in the run: its latest.
 use Rattle.history.proofs.Names.{◌≡◌, ◌≢◌, ⊎_elim, ℕ, ◌+◌, ◌≤◌, ◌*◌, Bool, false, Option, Some, None, List, [], ◌∷◌, ◌++◌, refl, sym, ap, subst, ◌∙◌, arith}
-use Rattle.history.proofs.Names.{cases_eq, sum_by, sum_by-append, Start, Flight, Kind, Party, Doing, Going, Over, Turn, Begin, Next, Decide, Answer}
+use Rattle.history.proofs.Names.{cases_eq, sum_by-append, Start, Flight, Kind, Party, Doing, Going, Over, Turn, Begin, Next, Decide, Answer}
 use Rattle.history.proofs.Names.{party_of, party_put_same, party_put_other, after_begin, after_next, after_decision, after_answer, Event, Begun, Finished}
 use Rattle.history.proofs.Names.{after_turn, events_of, first_of, number_of, old_of, ask_of_doing, Coding, World, Trace, Ask, is_none}
 use Rattle.model.specs.declared.turn.Turn.TheVariants.{Die}
 use Rattle.model.specs.declared.turn.Kind.TheVariants as kinds
 use Rattle.model.specs.Loads.{begun_of, begun}
 use Rattle.model.specs.Parties.{progress_after, others_of, put}
-use Rattle.model.specs.Turns.{AreAllowedBy, after_turns, world_after}
+use Rattle.model.specs.Turns.{AreAllowedBy, after_turns}
 use Rattle.model.specs.World.{opening}
 use Rattle.model.proofs.LockFree.Counted.{begins_are}
 use Rattle.model.proofs.Rows.{IsPossible, possible_on}

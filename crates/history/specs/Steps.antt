@@ -1,6 +1,5 @@
 -- How many operations on words the calls of a pass take, by what its view counts.
 use Rattle.std.specs.Prelude.{◌≡◌, ◌≤◌, ℕ, ◌+◌, ◌*◌, Some}
-use Rattle.model.specs.declared.event.Start.{Start}
 use Rattle.model.specs.declared.party.Progress.{Progress}
 use Rattle.model.specs.declared.turn.Kind.{Kind}
 use Rattle.model.specs.Coding.{Coding}

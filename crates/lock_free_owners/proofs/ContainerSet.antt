@@ -4,6 +4,7 @@ pub mod Settling
 pub mod Opens
 pub mod Sound
 pub mod Resting
+pub mod Cuts
 pub mod Facts
 pub mod Passes
 pub mod Began

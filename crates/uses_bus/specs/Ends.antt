@@ -182,7 +182,7 @@ module _ {X K : Type 0} {rule : Ghosts K X} where
   -- the registry was given a record of the seat's place, by this owner
   abbrev pub IsLetIn : ℕ → Seat X K rule → Subscriber X K rule → Type 0
   IsLetIn owner seat s =
-      (index : ℕ) × HasAdded (code_before seat) (record { value = place_before seat; owner = owner }) (Ok index)
+      (index : ℕ) × HasAdded (record { value = place_before seat; owner = owner }) (Ok index)
       (members_before seat) (members_view s)
 
   -- what it knows of the queue that it receives from, and of the one by which it gives back

@@ -84,7 +84,7 @@ impl<'a, X: Drop, K: Keeps<X>> Seat<'a, X, K> {
         ensures at { IfOk result (λ s. place_at s ≡ place_before self.entry) }
         ensures back { IfErr result (λ e. slots_before e.1 ≡ slots_before self.entry) }
         ensures place { IfErr result (λ e. place_before e.1 ≡ place_before self.entry) }
-        ensures refused { IfErr result (λ e. WasNotAdded (code_before self.entry) (place_before self.entry) owner e.0
+        ensures refused { IfErr result (λ e. WasNotAdded (place_before self.entry) owner e.0
             (members_before self.entry) (members_before e.1)) }
     {
         let Seat {

@@ -271,13 +271,13 @@ pub loan_send_settles_before_its_table : (places : List Place) (index : ℕ) →
 loan_send_settles_before_its_table places index loaned e =
     let within = loaned_within places index loaned in
     let before : returned index places ≡ places =
-        ap (λ (p : Place). if is_sent p then slice_set places index Free else places) loaned in
+    ap (λ (p : Place). if is_sent p then slice_set places index Free else places) loaned in
     let sent : place_at (slice_set places index Sent) index ≡ Sent = get_or-set_same places index Sent Free within in
     let after : returned index (slice_set places index Sent) ≡ slice_set (slice_set places index Sent) index Free =
-        ap (λ (p : Place). if is_sent p then slice_set (slice_set places index Sent) index Free else slice_set places index Sent) sent in
+    ap (λ (p : Place). if is_sent p then slice_set (slice_set places index Sent) index Free else slice_set places index Sent) sent in
     let long = length-set places index Sent in
     let free : place_at (slice_set (slice_set places index Sent) index Free) index ≡ Free =
-        get_or-set_same (slice_set places index Sent) index Free Free (omega arith) in
+    get_or-set_same (slice_set places index Sent) index Free Free (omega arith) in
     let wrong = ap (λ (ps : List Place). place_at (slice_set ps index Sent) index) before in
     let same = ap (λ (ps : List Place). place_at ps index) (e ∙ after) in
     let is : Sent ≡ Free = sym sent ∙ (sym wrong ∙ (same ∙ free)) in

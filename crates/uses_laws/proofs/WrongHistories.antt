@@ -108,6 +108,13 @@ forgets_party k = let e = k.party in cc
 keeps_all : HasSplit first first new → ⊥
 keeps_all k = let e = k.share in cc
 
+-- either counts others' changes that it has not seen, or has forgotten them
+counts_more : HasSplit first stays (record new { others = 1 }) → ⊥
+counts_more k = let e = k.right_others in cc
+
+forgets_others : HasSplit (record first { others = 1 }) stays new → ⊥
+forgets_others k = let e = k.others in cc
+
 -- ---- a recovery of a robust set
 
 -- what a recovery has written begins with a question, or it is its end

@@ -135,8 +135,12 @@ fn relay<R: Threads + Wait + Sync>(
     let (sender, receiver) = channel.ends_with(alloc, spares, sends, receives)?;
     let (sent_all, received) = thread::join(
         rt,
-        move || send_all(rt, alloc, sender, sent),
-        move || receive_all(rt, alloc, receiver, count),
+        move ||
+            ensures { IfSome result (λ r. HasSentAll sent r.1.items sender.entry r.0) }
+        { send_all(rt, alloc, sender, sent) },
+        move ||
+            ensures { IfSome result (λ r. HasReceivedAllAs mark r.1.items receiver.entry r.0) }
+        { receive_all(rt, alloc, receiver, count) },
     );
     let (sent_all, back) = sent_all?;
     let (receives, marks) = received?;

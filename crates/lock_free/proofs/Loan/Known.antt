@@ -1,5 +1,5 @@
 -- What a pass knew each time it had freed one index of several is a beginning of the run that it knows in the end.
-use Rattle.lock_free.proofs.Names.{◌≡◌, ℕ, ◌+◌, ◌<◌, List, [], ◌∷◌, ◌++◌, length, refl, sym, ap, subst, ◌∙◌, arith, append_assoc, one_word}
+use Rattle.lock_free.proofs.Names.{◌≡◌, ℕ, ◌<◌, List, [], ◌∷◌, ◌++◌, length, refl, sym, ap, subst, ◌∙◌, arith, append_assoc, one_word}
 use Rattle.lock_free.proofs.Names.{Event, Begun, Finished, Start, Answer, View, Called, IsBeginning}
 use Rattle.std.proofs.Common.{length-append, sum_by}
 use Rattle.steps.specs.declared.indices.enums.ReleaseMode.TheVariants as modes
@@ -9,7 +9,6 @@ use Rattle.model.specs.declared.event.Event.TheVariants.{Freed}
 use Rattle.model.specs.declared.event.Start.TheVariants.{Indices}
 use Rattle.model.specs.declared.families.indices.IndexStart.TheVariants.{Release}
 use Rattle.model.specs.declared.turn.Kind.TheVariants as kinds
-use Rattle.model.specs.declared.turn.Turn.{Turn}
 use Rattle.threaded.specs.Shares.{IsAll}
 use Rattle.history.specs.History.{AreFirst, Knows}
 use Rattle.history.proofs.Ended.{known_then, less_first, then_view}

@@ -147,27 +147,34 @@ module _ {T : Type 0} where
     pub since : IsBeginning old.seen before
     pub right : Right by before
 
+  -- an add that placed nothing: the container was locked, or was not and each index had an owner
   abbrev pub AddsNone : Type 0 → ℕ → ContainerAddFailure → ℕ → List (Event T) → Type 0
   AddsNone worn capacity failures.IsLocked p before = is_locked before ≡ true
   AddsNone worn capacity failures.OutOfSpace p before = IsUnlocked before × MetFull worn capacity p before
 
+  -- a remove that freed its index: the container was locked; or, in the mode that locks, it was not at a moment of the call,
+  -- and after the remove had freed its index some index had an owner
   abbrev pub FreesRight : Type 0 → ℕ → ℕ → ReleaseMode → ReleaseState → ℕ → List (Event T) → Type 0
   FreesRight worn index owner mode states.Locked p before = is_locked before ≡ true
   FreesRight worn index owner Default states.Unlocked p before = Unit {0}
   FreesRight worn index owner LockIfLastIndex states.Unlocked p before =
       HeldSometime p IsUnlocked before × (worn ⊎ FilledSinceFreed p owner index before)
 
+  -- else another owner had the index, or none
   abbrev pub RemovesRight : Type 0 → ℕ → GiveBack → Removed → ℕ → List (Event T) → Type 0
   RemovesRight worn capacity given (Err failure) p before =
       (capacity ≤ given.index) ⊎ (filled_of given.index before ≢ Some given.owner)
   RemovesRight worn capacity given (Ok state) p before = FreesRight worn given.index given.owner given.mode state p before
 
+  -- a replace: its owner had the index at a moment of the call, or at its last step another had it, or none
   abbrev pub ReplacesRight : ℕ → Replacement T → Replaced → ℕ → List (Event T) → Type 0
   ReplacesRight capacity given (Err failure) p before =
       (capacity ≤ given.index) ⊎ (filled_of given.index before ≢ Some given.owner)
   ReplacesRight capacity given (Ok nothing) p before =
       (given.index < capacity) × HeldSometime p (IsFilledWith given.owner given.index) before
 
+  -- a recovery: the container was locked; or it was not after all that the call did, which came to what stood there through
+  -- all of it, and in the mode that locks some index had an owner after each that it freed
   abbrev pub RecoversRight : Type 0 → DeadOwner → ReleaseState → ℕ → List (Event T) → Type 0
   RecoversRight worn given states.Locked p before = is_locked before ≡ true
   RecoversRight worn given states.Unlocked p before =

@@ -13,7 +13,6 @@ use Rattle.model.specs.declared.families.Flight.{Flight}
 use Rattle.model.specs.declared.families.Flight as flights
 use Rattle.model.specs.declared.families.container.calls.ContainerFlight as calls
 use Rattle.model.specs.declared.families.container.ContainerStart.TheVariants.{Find}
-use Rattle.model.specs.declared.turn.Kind.TheVariants as kinds
 use Rattle.model.specs.Coding.{Coding}
 use Rattle.model.specs.Families.Container.Promises.{IsFound}
 use Rattle.model.specs.Families.Indices.Robust.Promises.{IsFilledWith, IsCount}

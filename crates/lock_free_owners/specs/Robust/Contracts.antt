@@ -170,10 +170,13 @@ abbrev pub MetFull : {T : Type 0} → Type 0 → ℕ → ℕ → List (Event T) 
 MetFull worn capacity p before =
     worn ⊎ ((index : ℕ) → index < capacity → HeldSometime p (IsFilled index) before)
 
+-- an acquire that took no index: the set was locked, or was not and each index had an owner
 abbrev pub RefusesRight : Type 0 → ℕ → UniqueIndexSetAcquireFailure → ℕ → List (Event ℕ) → Type 0
 RefusesRight worn capacity failures.IsLocked p before = is_locked before ≡ true
 RefusesRight worn capacity failures.OutOfIndices p before = IsUnlocked before × MetFull worn capacity p before
 
+-- a release: another owner had the index, or none; the set was locked; or, in the mode that locks, it was not, and after the
+-- release had freed its index some index had an owner
 abbrev pub ReleasesRight : Type 0 → ℕ → ℕ → ReleaseMode → Released → ℕ → List (Event ℕ) → Type 0
 ReleasesRight worn index owner mode (Err failure) p before = filled_of index before ≢ Some owner
 ReleasesRight worn index owner mode (Ok states.Locked) p before = is_locked before ≡ true
@@ -181,6 +184,7 @@ ReleasesRight worn index owner Default (Ok states.Unlocked) p before = Unit {0}
 ReleasesRight worn index owner LockIfLastIndex (Ok states.Unlocked) p before =
     IsUnlocked before × (worn ⊎ FilledSinceFreed p owner index before)
 
+-- a recovery: the set was locked; or it was not, and the recovery asked about what stood there through all of the call
 abbrev pub RecoversRight : ReleaseState → ℕ → List (Event ℕ) → Type 0
 RecoversRight states.Locked p before = is_locked before ≡ true
 RecoversRight states.Unlocked p before = IsUnlocked before × HasRecoveredBy Word p before

@@ -28,29 +28,15 @@ pub fn spares(alloc: Global, words: usize) -> Result<Vec<Vec<u64>>, AllocError> 
 }
 
 /// Who publishes records.
+#[derive(Drop)]
 pub struct Publishes<'a> {
     publisher: Publisher<'a, Vec<u64>>,
 }
 
-impl<'a> Drop for Publishes<'a> {
-    fn drop(self) {
-        let Self {
-            publisher: _publisher,
-        } = self;
-    }
-}
-
 /// Those who receive them.
+#[derive(Drop)]
 pub struct Receives<'a> {
     subscribers: Vec<Subscriber<'a, Vec<u64>>>,
-}
-
-impl<'a> Drop for Receives<'a> {
-    fn drop(self) {
-        let Self {
-            subscribers: _subscribers,
-        } = self;
-    }
 }
 
 impl<'a> Publishes<'a> {

@@ -12,7 +12,6 @@ ghost use Rattle.lock_free.specs.Sets.Calls.{capacity_of, IsPassOf, view, SamePa
 ghost use Rattle.lock_free.specs.Bits.Callable.{TakesPlaces, Visited};
 ghost use Rattle.lock_free.specs.Bits.Contracts.{HasSet, StoodOnce, HasReset, CameFromPosition, AllClearOnce};
 ghost use Rattle.lock_free.specs.Bits.Contracts.{HasCleanedOut, MissedNoPlace};
-ghost use Rattle.model.specs.Coding.{one_word};
 ghost use Rattle.history.specs.Steps.{TakesAtMost, TakesAlone};
 
 use super::drives::{ResetsNext, SetsPlace};

@@ -6,8 +6,6 @@ ghost use Rattle.lock_free.specs.Bits.Contracts.{HasSet, StoodOnce, HasReset, Ca
 ghost use Rattle.lock_free.specs.Bits.Contracts.{HasCleanedOut, MissedNoPlace};
 ghost use Rattle.lock_free.specs.Sets.Handles.{set_in, pass_in, knows};
 ghost use Rattle.steps.specs.Bits.Words.{elements};
-ghost use Rattle.model.specs.declared.turn.Kind.TheVariants as kinds;
-ghost use Rattle.model.specs.Coding.{one_word};
 ghost use Rattle.history.specs.Steps.{TakesAtMost, TakesAlone};
 
 use super::Handle;

@@ -9,8 +9,6 @@ ghost use Rattle.history.specs.Held.{Holds};
 ghost use Rattle.lock_free.specs.Unique.Held.{HeldBy, HoldsNothing, HoldsAll, HoldsSome};
 ghost use Rattle.lock_free.specs.Unique.Contracts.{HasAcquired, WasRefused, HasGiven, HasGivenOrLocked, HasCounted, HasLooked, Answered};
 ghost use Rattle.lock_free.specs.UniqueIndexSet.{capacity_of, IsPassOf, view, history, made, SamePass, value_of, index_pass, index_view};
-ghost use Rattle.model.specs.declared.turn.Kind.TheVariants as kinds;
-ghost use Rattle.model.specs.Coding.{one_word};
 ghost use Rattle.history.specs.Steps.{TakesAtMost, TakesAlone};
 
 use super::drives::{CountsOut, Gives, GivesOrLocks, LooksLocked, Takes};

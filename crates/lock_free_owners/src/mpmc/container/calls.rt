@@ -11,7 +11,8 @@ ghost use Rattle.history.specs.ContainerLooks.{KeepsState};
 ghost use Rattle.lock_free_owners.specs.Robust.Contracts.{WasFilled, WasGranted, WasFreed, HasReleased, FoundLock};
 ghost use Rattle.lock_free_owners.specs.Container.Steps.{TakesFew, ContainerTakes, RemoveTakes};
 ghost use Rattle.lock_free_owners.specs.Container.Contracts.{placed, HasAdded, HasRemoved, HasReplaced, HasCounted};
-ghost use Rattle.lock_free_owners.specs.Container.Contracts.{HasTested, HasLooked, WasNotAdded, IsRightLength, IsRightLook, IsRightRemove, IsRightReplace, IsRightTest};
+ghost use Rattle.lock_free_owners.specs.Container.Contracts.{HasTested, HasLooked, WasNotAdded, IsRightLength};
+ghost use Rattle.lock_free_owners.specs.Container.Contracts.{IsRightLook, IsRightRemove, IsRightReplace, IsRightTest};
 ghost use Rattle.lock_free_owners.specs.Container.Names.{view, history, container_of, capacity_of, IsPassOf, IsHandleFor, IsOwn, SamePass};
 
 use super::counts::count_all;

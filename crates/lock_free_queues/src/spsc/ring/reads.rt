@@ -4,8 +4,8 @@ ghost use Rattle.steps.specs.declared.enums.UniqueIndexCreationError.TheVariants
 ghost use Rattle.model.specs.Coding.{coding_of};
 ghost use Rattle.lock_free_queues.specs.Queues.Bounded.{machine_kind};
 ghost use Rattle.lock_free_queues.specs.Queues.Kinds.{words_in_cells};
-ghost use Rattle.lock_free_queues.specs.Queues.Rings.{capacity_of, token_queue, token_view, view, IsPassOf, MissesNothing};
-ghost use Rattle.lock_free_queues.specs.Queues.Reads.{WasRead, CellsRead, HasRead, LastWords};
+ghost use Rattle.lock_free_queues.specs.Queues.Rings.{capacity_of, token_queue, token_view, IsPassOf, MissesNothing};
+ghost use Rattle.lock_free_queues.specs.Queues.Reads.{WasRead, CellsRead, HasRead, LastSeen};
 
 use super::rule::{Kind, RingRule};
 use super::{Held, Pass, Ring};
@@ -54,9 +54,7 @@ impl<E: Kind, T: Words> Held<E, T, RingRule<E, T>> {
     /// first again.
     pub(crate) fn last_words(&mut self, alloc: Global, count: usize) -> Result<Vec<u64>, AllocError>
         requires { count ≡ 4 + words_in_cells T.WORDS E.KIND (token_queue self.old).capacity }
-        ensures { IfOk result (λ words. LastWords (coding_of T.WORDS T.words_of T.value_of) (machine_kind E.KIND)
-            (words_in_cells T.WORDS E.KIND (token_queue self.old).capacity) (token_queue self.old).capacity
-            (token_view self.old) words.items) }
+        ensures { IfOk result (λ words. LastSeen (token_queue self.old).capacity self.old words.items) }
     {
         let mut words = Vec::from_elem(alloc, 0u64, count)?;
         words[PRODUCER] = 1;
@@ -85,8 +83,7 @@ impl<E: Kind, T: Words> Ring<E, T> {
     ) -> Result<Vec<u64>, UniqueIndexCreationError>
         requires pass { IsPassOf self.now pass }
         requires count { count ≡ 4 + words_in_cells T.WORDS E.KIND (capacity_of self.now) }
-        ensures words { IfOk result (λ words. LastWords (coding_of T.WORDS T.words_of T.value_of) (machine_kind E.KIND)
-            (words_in_cells T.WORDS E.KIND (capacity_of self.now)) (capacity_of self.now) (view pass) words.items) }
+        ensures words { IfOk result (λ words. LastSeen (capacity_of self.now) pass.token words.items) }
         ensures refused { IfErr result (λ e. e ≡ NoMemory) }
     {
         let mut token = pass.into_token();

@@ -3,11 +3,9 @@ ghost use Rattle.std.specs.Prelude.{◌≡◌, ◌⊎◌, ◌<◌, IfSome, IfNon
 ghost use Rattle.steps.specs.declared.queues.roles.Role.{Role};
 ghost use Rattle.steps.specs.declared.queues.roles.Role.TheVariants as roles;
 ghost use Rattle.model.specs.declared.event.Item.TheVariants.{Index};
-ghost use Rattle.model.specs.declared.turn.Kind.TheVariants as kinds;
-ghost use Rattle.model.specs.Coding.{one_word};
 ghost use Rattle.history.specs.Roles.{HasRole};
 ghost use Rattle.history.specs.Steps.{TakesAtMost, TakesAlone};
-ghost use Rattle.lock_free_queues.specs.Queues.Overflowing.{token_queue, token_view, IsSameQueue, PushAdded, PushReplaced};
+ghost use Rattle.lock_free_queues.specs.Queues.Overflowing.{token_view, IsSameQueue, PushAdded, PushReplaced};
 ghost use Rattle.lock_free_queues.specs.Queues.Roles.{Moved};
 ghost use Rattle.lock_free_queues.specs.Queues.Contracts.{WasAtEnd, PopOldest, PopFoundNone};
 

@@ -1,8 +1,6 @@
 //! The calls of those that have a role. Without capacity no step is taken, and nothing changes.
 ghost use Rattle.std.specs.Prelude.{◌≡◌, ◌<◌, Some, None, IfSome, IfNone};
 ghost use Rattle.model.specs.declared.event.Item.TheVariants.{Index};
-ghost use Rattle.model.specs.declared.turn.Kind.TheVariants as kinds;
-ghost use Rattle.model.specs.Coding.{one_word};
 ghost use Rattle.history.specs.Steps.{TakesAtMost, TakesAlone};
 ghost use Rattle.lock_free_queues.specs.Queues.Overflowing.{producer_queue, producer_view, consumer_queue, consumer_view};
 ghost use Rattle.lock_free_queues.specs.Queues.Overflowing.{PushAdded, PushHandedBack, SameProducerByCapacity, SameConsumerByCapacity};

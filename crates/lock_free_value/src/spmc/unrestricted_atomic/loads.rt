@@ -1,6 +1,5 @@
 //! The load at a seat, by way of a room. The loads of a cell have a loop of their own.
 ghost use Rattle.std.specs.Prelude.{◌≡◌, ◌≤◌, ◌+◌, ℕ, replicate};
-ghost use Rattle.model.specs.declared.turn.Kind.TheVariants as kinds;
 ghost use Rattle.history.specs.Steps.{TakesAlone};
 ghost use Rattle.steps.specs.Atomic.{at_load, first_load, load_after};
 ghost use Rattle.steps.specs.declared.atomic.LoadStage.TheVariants as stages;

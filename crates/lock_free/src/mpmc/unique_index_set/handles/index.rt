@@ -6,10 +6,8 @@ ghost use Rattle.model.specs.declared.event.Answer.TheVariants.{State};
 ghost use Rattle.model.specs.declared.families.indices.IndexStart.TheVariants as starts;
 ghost use Rattle.lock_free.specs.Unique.Held.{HoldsNothing, HoldsSome};
 ghost use Rattle.lock_free.specs.Unique.Contracts.{HasGiven, HasGivenOrLocked, Answered};
-ghost use Rattle.lock_free.specs.UniqueIndexSet.{made, value_of, index_set, index_pass, index_view, SamePass};
+ghost use Rattle.lock_free.specs.UniqueIndexSet.{made, value_of, index_pass, index_view, SamePass};
 ghost use Rattle.lock_free.specs.Unique.Handles.{pass_in, knows};
-ghost use Rattle.model.specs.declared.turn.Kind.TheVariants as kinds;
-ghost use Rattle.model.specs.Coding.{one_word};
 ghost use Rattle.history.specs.Steps.{TakesAtMost, TakesAlone};
 
 use super::Handle;

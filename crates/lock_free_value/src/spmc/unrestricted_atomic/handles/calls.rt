@@ -1,6 +1,5 @@
 //! The calls by a handle: those of its value.
 ghost use Rattle.std.specs.Prelude.{◌≡◌, ◌+◌, true, false, IfSome, IfNone, IfOk, IfErr};
-ghost use Rattle.model.specs.Coding.{coding_of};
 ghost use Rattle.model.specs.declared.turn.Kind.TheVariants as kinds;
 ghost use Rattle.history.specs.History.{Knows};
 ghost use Rattle.history.specs.Steps.{TakesAtMost, TakesAlone};
