@@ -2,6 +2,7 @@ pub mod Bits
 pub mod Container
 pub mod Counting
 pub mod Fairness
+pub mod FairnessOn
 pub mod HeadlineChannel
 pub mod HeadlineContainer
 pub mod HeadlineFinds
