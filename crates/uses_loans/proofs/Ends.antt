@@ -19,6 +19,7 @@ use Rattle.uses_loans.specs.declared.receiver.ReceiverParts.{ReceiverParts}
 use Rattle.uses_loans.specs.declared.sender.Sender.{Sender}
 use Rattle.uses_loans.specs.declared.sender.SenderParts.{SenderParts}
 use Rattle.uses_loans.specs.declared.words.Layout.{Layout}
+use Rattle.uses_loans.specs.Channels.{HasReceivedThrough, HasSentThrough}
 use Rattle.uses_loans.specs.Channels.{HasOpened, HasPassedOn, HasRejoined, IsReceiverOf, IsSameChannel, IsSenderOf}
 use Rattle.uses_loans.specs.Channels.{next_in, sending_view, shape_of, submission_in}
 use Rattle.uses_loans.specs.Ends.{layout_of, layout_in, next_of, places_in, receives_queue, receives_shape, receives_view, sends_queue, sends_shape, sends_view}
@@ -344,3 +345,14 @@ module _ {X K : Type 0} {rule : Ghosts K X} where
       are_passed_on f count made others all_received.0 all_received.1
       (subst (λ n. IsPassedOn (range_with_len n count) all_received.0 others) none
       (passed_on (shape_of last) (range_with_len (next_in first) count) others all_received.0 (sending_view last) known))
+
+  -- the same, of ends that each thread has made of its parts
+  pub relayed_through : {A : Type 0} (f : ℕ → A) (made : List A) (others : List ℕ) (count : ℕ) (first left last : Channel X K rule)
+      (sends sends' : SenderParts) (receives receives' : ReceiverParts) → HasPassedOn [] [] [] first → next_in first ≡ 0
+      → HasOpened first left sends receives → IsSameChannel first left → 0 < (submission_in first).capacity → count < 2 ^ 64 - 1
+      → HasSentThrough left sends count others sends' → HasReceivedThrough left receives f made receives'
+      → HasRejoined left last sends' receives' → IsSameChannel left last → ArePassedOn f count made others
+  relayed_through f made others count first left last sends sends' receives receives' fresh none opened same some fits sent received
+      rejoined kept =
+      first_relayed f made others count first left last sends sends' receives receives' sent.sender received.receiver fresh none opened
+      same sent.begun received.waited (sent.shape, received.shape) some fits sent.sent received.received rejoined kept

@@ -11,6 +11,9 @@ use Rattle.uses_loans.specs.declared.channel.Channel.{Channel}
 use Rattle.uses_loans.specs.declared.receiver.ReceiverParts.{ReceiverParts}
 use Rattle.uses_loans.specs.declared.sender.SenderParts.{SenderParts}
 use Rattle.uses_loans.specs.declared.words.Layout.{Layout}
+use Rattle.uses_loans.specs.declared.receiver.Receiver.{Receiver}
+use Rattle.uses_loans.specs.declared.sender.Sender.{Sender}
+use Rattle.uses_loans.specs.Ends.{receives_shape, sends_shape, HasBegun, HasReceivedAllAs, HasSentAll, HasWaited}
 use Rattle.uses_loans.specs.Ends.{received_queue, received_view, returned_view, sent_queue, sent_view, taken_view}
 use Rattle.uses_loans.specs.Numbers.{Shape, HasAll}
 use Rattle.uses_slots.specs.declared.Keeps.{Ghosts}
@@ -103,3 +106,20 @@ module _ {X K : Type 0} {rule : Ghosts K X} where
     pub history : HasHistory (submission_in old).capacity (sending_view new)
     pub all : MissesNothing (sending_view new)
     pub next : next_in new ≡ sends.next
+
+  -- A sender of these parts sent so many values, those came back, and those parts are left.
+  pub record HasSentThrough (c : Channel X K rule) (sends : SenderParts) (count : ℕ) (back : List ℕ) (left : SenderParts) : Type 0 where
+    pub of : IsSenderOf c left
+    pub sender : Sender X K rule
+    pub begun : HasBegun sends sender
+    pub shape : sends_shape sender ≡ shape_of c
+    pub sent : HasSentAll count back sender left
+
+  -- A receiver of these parts received values, what stands here was made of their numbers, and those parts are left.
+  pub record HasReceivedThrough {A : Type 0} (c : Channel X K rule) (receives : ReceiverParts) (f : ℕ → A) (made : List A)
+      (left : ReceiverParts) : Type 0 where
+    pub of : IsReceiverOf c left
+    pub receiver : Receiver X K rule
+    pub waited : HasWaited receives receiver
+    pub shape : receives_shape receiver ≡ shape_of c
+    pub received : HasReceivedAllAs f made receiver left

@@ -185,34 +185,68 @@ impl<X: Drop, K: Keeps<X>> Channel<X, K> {
         ensures shapes { IfSome result
             (λ e. (ends.sends_shape e.0 ≡ shape_of self.now) × (ends.receives_shape e.1 ≡ shape_of self.now)) }
     {
+        let sender = self.sender_with(alloc, spares, sends)?;
+        let receiver = self.receiver_with(receives)?;
+        Some((sender, receiver))
+    }
+
+    /// The sender of its parts, so that a thread may make its own end. None where there is no memory, and then the values are
+    /// dropped. Two atomic steps.
+    pub fn sender_with(
+        &self,
+        alloc: Global,
+        spares: Vec<X>,
+        sends: SenderParts,
+    ) -> Option<Sender<'_, X, K>>
+        requires sends { IsSenderOf self.now sends }
+        requires nothing { HoldsNothing (made sends.pass) }
+        ensures free { IfSome result (λ s. ends.places_of s ≡ replicate (places_of self.now) Free) }
+        ensures next { IfSome result (λ s. ends.next_of s ≡ sends.next) }
+        ensures queues { IfSome result
+            (λ s. (ends.sends_queue s ≡ submission_in self.now) × (completion_of (ends.sender_of s) ≡ completion_in self.now)) }
+        ensures left { IfSome result (λ s. (left : SenderParts) → ends.IsOfSender s left → IsSenderOf self.now left) }
+        ensures begun { IfSome result (λ s. ends.HasBegun sends s) }
+        ensures shape { IfSome result (λ s. ends.sends_shape s ≡ shape_of self.now) }
+    {
         let SenderParts {
             pass,
             submission: sends,
             completion: takes,
             next,
         } = sends;
-        let ReceiverParts {
-            submission: receives,
-            completion: returns,
-        } = receives;
         let Ok(producer) = self.submission.acquire_producer(sends) else {
             return None;
         };
         let Ok(consumer) = self.completion.acquire_consumer(takes) else {
             return None;
         };
+        let Ok(loans) = LoanSender::new(alloc, &self.set, pass, producer, consumer) else {
+            return None;
+        };
+        Some(Sender::of(loans, &self.slots, spares, self.layout, next))
+    }
+
+    /// The receiver of its parts, so that a thread may make its own end. Two atomic steps.
+    pub fn receiver_with(&self, receives: ReceiverParts) -> Option<Receiver<'_, X, K>>
+        requires { IsReceiverOf self.now receives }
+        ensures places { IfSome result (λ r. ends.places_in r ≡ places_of self.now) }
+        ensures queues { IfSome result
+            (λ r. (ends.receives_queue r ≡ submission_in self.now) × (ends.returns_queue r ≡ completion_in self.now)) }
+        ensures left { IfSome result (λ r. (left : ReceiverParts) → ends.IsOfReceiver r left → IsReceiverOf self.now left) }
+        ensures waits { IfSome result (λ r. ends.HasWaited receives r) }
+        ensures shape { IfSome result (λ r. ends.receives_shape r ≡ shape_of self.now) }
+    {
+        let ReceiverParts {
+            submission: receives,
+            completion: returns,
+        } = receives;
         let Ok(receives) = self.submission.acquire_consumer(receives) else {
             return None;
         };
         let Ok(returns) = self.completion.acquire_producer(returns) else {
             return None;
         };
-        let Ok(loans) = LoanSender::new(alloc, &self.set, pass, producer, consumer) else {
-            return None;
-        };
-        let sender = Sender::of(loans, &self.slots, spares, self.layout, next);
-        let receiver = Receiver::of(receives, returns, &self.slots, self.layout);
-        Some((sender, receiver))
+        Some(Receiver::of(receives, returns, &self.slots, self.layout))
     }
 
     /// Takes in what both ends leave (`finish_all`, `finish`). The channel then knows all that went through it, if no other end of

@@ -4,6 +4,9 @@
 #![tactic(auto)]
 
 ghost use Rattle.std.specs.Prelude.{◌≡◌, ◌++◌, IfSome, replicate};
+ghost use Rattle.lock_free.specs.Unique.Held.{HoldsNothing};
+ghost use Rattle.lock_free.specs.UniqueIndexSet.{made};
+ghost use Rattle.uses_loans.specs.Channels.{HasReceivedThrough, HasSentThrough, IsReceiverOf, IsSenderOf};
 ghost use Rattle.uses_loans.specs.Ends.{number_of, numbers_back, HasReceivedAllAs, HasSentAll};
 ghost use Rattle.uses_loans.specs.Numbers.{ArePassedOn};
 ghost use Rattle.uses_values.specs.Marks.{mark};
@@ -88,6 +91,24 @@ fn send_all(
     Some((parts, back))
 }
 
+/// The same by a sender of its own.
+fn send_through(
+    rt: &impl Wait,
+    alloc: Global,
+    channel: &Channel<Vec<u64>, Marked>,
+    spares: Vec<Vec<u64>>,
+    sends: SenderParts,
+    count: u32,
+) -> Option<(SenderParts, Vec<u64>)>
+    requires sends { IsSenderOf channel.now sends }
+    requires nothing { HoldsNothing (made sends.pass) }
+    ensures { IfSome result (λ r. HasSentThrough channel.now sends count r.1.items r.0) }
+{
+    let sender = channel.sender_with(alloc, spares, sends)?;
+    let (left, back) = send_all(rt, alloc, sender, count)?;
+    Some((left, back))
+}
+
 /// The mark of what was received.
 fn mark_of(receiver: &Receiver<'_, Vec<u64>, Marked>, sample: &Sample) -> Option<u64>
     ensures { IfSome result (λ m. m ≡ mark (number_of sample.now)) }
@@ -117,6 +138,22 @@ fn receive_all(
     Some((receiver.finish(), marks))
 }
 
+/// The same by a receiver of its own.
+fn receive_through(
+    rt: &impl Wait,
+    alloc: Global,
+    channel: &Channel<Vec<u64>, Marked>,
+    receives: ReceiverParts,
+    count: usize,
+) -> Option<(ReceiverParts, Vec<u64>)>
+    requires { IsReceiverOf channel.now receives }
+    ensures { IfSome result (λ r. HasReceivedThrough channel.now receives mark r.1.items r.0) }
+{
+    let receiver = channel.receiver_with(receives)?;
+    let (left, marks) = receive_all(rt, alloc, receiver, count)?;
+    Some((left, marks))
+}
+
 /// Sends the blocks of the first numbers from one thread to another, which reads so many of them: their marks, and the numbers of
 /// those that came back.
 fn relay<R: Threads + Wait + Sync>(
@@ -132,19 +169,15 @@ fn relay<R: Threads + Wait + Sync>(
     };
     let spares = blocks(alloc, 5)?;
     let (sends, receives) = channel.open()?;
-    let (sender, receiver) = channel.ends_with(alloc, spares, sends, receives)?;
+    let shared = &channel;
     let (sent_all, received) = thread::join(
         rt,
-        move ||
-            ensures { IfSome result (λ r. HasSentAll sent r.1.items sender.entry r.0) }
-        { send_all(rt, alloc, sender, sent) },
-        move ||
-            ensures { IfSome result (λ r. HasReceivedAllAs mark r.1.items receiver.entry r.0) }
-        { receive_all(rt, alloc, receiver, count) },
+        move || send_through(rt, alloc, shared, spares, sends, sent),
+        move || receive_through(rt, alloc, shared, receives, count),
     );
     let (sent_all, back) = sent_all?;
-    let (receives, marks) = received?;
-    channel.relayed(sent_all, receives);
+    let (received, marks) = received?;
+    channel.relayed(sent_all, received);
     Some((marks, back))
 }
 
