@@ -137,17 +137,34 @@ fn receive_one(
 fn receive_all(
     rt: &impl Wait,
     alloc: Global,
-    subscriber: &mut Subscriber<'_, Vec<u64>, Marked>,
+    mut subscriber: Subscriber<'_, Vec<u64>, Marked>,
 ) -> Option<Vec<u64>>
-    ensures { IfSome result (λ marks. AreNewsFrom (expected_at subscriber.old) marks.items) }
+    ensures { IfSome result (λ marks. AreNewsFrom (expected_at subscriber.entry) marks.items) }
 {
     let mut marks = Vec::new(alloc);
     for _ in 0..TRIES {
-        if receive_one(rt, subscriber, &mut marks)? {
+        if receive_one(rt, &mut subscriber, &mut marks)? {
             return Some(marks);
         }
     }
     Some(marks)
+}
+
+/// The marks that two subscribers read, each in a thread of its own.
+fn read_both<R: Threads + Wait + Sync>(
+    rt: &R,
+    alloc: Global,
+    one: Subscriber<'_, Vec<u64>, Marked>,
+    other: Subscriber<'_, Vec<u64>, Marked>,
+) -> (Option<Vec<u64>>, Option<Vec<u64>>)
+    ensures one { IfSome result.0 (λ marks. AreNewsFrom (expected_at one.entry) marks.items) }
+    ensures other { IfSome result.1 (λ marks. AreNewsFrom (expected_at other.entry) marks.items) }
+{
+    thread::join(
+        rt,
+        move || receive_all(rt, alloc, one),
+        move || receive_all(rt, alloc, other),
+    )
 }
 
 /// The marks that two subscribers read, each in a thread of its own, of what a third thread publishes.
@@ -159,16 +176,12 @@ fn run<R: Threads + Wait + Sync>(
     ensures one { IfSome result (λ r. AreNewsFrom (next_of publisher.old) r.0.items) }
     ensures other { IfSome result (λ r. AreNewsFrom (next_of publisher.old) r.1.items) }
 {
-    let mut one = publisher.subscribe(rt, OwnerId::new(1).ok()?).ok()?;
-    let mut other = publisher.subscribe(rt, OwnerId::new(2).ok()?).ok()?;
+    let one = publisher.subscribe(rt, OwnerId::new(1).ok()?).ok()?;
+    let other = publisher.subscribe(rt, OwnerId::new(2).ok()?).ok()?;
     // (`join` calls its first closure last where no thread can be made)
     let ((first, second), _) = thread::join(
         rt,
-        move || thread::join(
-            rt,
-            move || receive_all(rt, alloc, &mut one),
-            move || receive_all(rt, alloc, &mut other),
-        ),
+        move || read_both(rt, alloc, one, other),
         move || publish_all(rt, publisher),
     );
     Some((first?, second?))

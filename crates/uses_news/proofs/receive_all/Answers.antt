@@ -6,7 +6,7 @@ use Rattle.uses_news.proofs.receive_all.Goals as goal
 
 pub loop-init : goal.loop-init
 loop-init g c =
-    let first = expected_at c.args.subscriber.now in
+    let first = expected_at c.args.subscriber in
     subst (λ xs. HasRead [] xs first first) (sym c.new-marks.ensures.items) (reads_none [] first first refl)
 
 pub loop-preserved : goal.loop-preserved
