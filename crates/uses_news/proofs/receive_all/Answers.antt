@@ -12,8 +12,8 @@ loop-init g c =
 pub loop-preserved : goal.loop-preserved
 loop-preserved g c = reads_then [] _ _ _ _ _ c.loop.invariant c.in_ok-receive_one.ensures
 
-pub returns-then-receive_one : goal.returns-then-receive_one
-returns-then-receive_one g c = news _ _ _ (reads_then [] _ _ _ _ _ c.loop.invariant c.in_ok-receive_one.ensures)
+pub returns-then-branch : goal.returns-then-branch
+returns-then-branch g c = news _ _ _ (reads_then [] _ _ _ _ _ c.loop.invariant c.in_ok-receive_one.ensures)
 
-pub returns-after-loop : goal.returns-after-loop
-returns-after-loop g c = news _ _ _ c.loop.invariant
+pub returns : goal.returns
+returns g c = news _ _ _ c.loop.invariant
