@@ -1,5 +1,5 @@
 -- What is read, one block after the other.
-use Rattle.std.proofs.Common.{◌≡◌, ℕ, ◌<◌, List, [], ◌∷◌, ◌++◌, map, refl, sym, ap, append_assoc, append-nil, ◌∙◌}
+use Rattle.std.proofs.Common.{◌≡◌, ℕ, ◌<◌, List, [], ◌∷◌, ◌++◌, map, sym, ap, append_assoc, append-nil, ◌∙◌}
 use Rattle.std.proofs.lemmas.List.Elements.{All-nil, All-cons, All-append}
 use Rattle.std.specs.List.{All}
 use mathlib.Core.List.{map-append}
@@ -27,4 +27,4 @@ reads_then xs ys zs a b c h k = (
 )
 
 pub news : (xs : List ℕ) (a b : ℕ) → HasRead [] xs a b → AreNewsFrom a xs
-news xs a b h = (h.0, b, h.1, h.2, h.3)
+news xs a b h = record { numbers = h.0; next = b; are = h.1; rise = h.2; few = h.3 }

@@ -11,10 +11,13 @@ mark n = 3 * n + 1
 abbrev pub IsBlockOf : ℕ → List ℕ → Type 0
 IsBlockOf number words = (words ≡ replicate 8192 (mark number)) × (number < 100)
 
--- these are the marks of numbers that rise, each of which was published from the first one on
-abbrev pub AreNewsFrom : ℕ → List ℕ → Type 0
-AreNewsFrom first marks =
-    (numbers : List ℕ) × (next : ℕ) × (marks ≡ map mark numbers) × Rises first numbers next × All (λ n. n < 100) numbers
+-- these are the marks of numbers that rise strictly from the first one on, and of a hundred
+pub record AreNewsFrom (first : ℕ) (marks : List ℕ) : Type 0 where
+  pub numbers : List ℕ
+  pub next : ℕ
+  pub are : marks ≡ map mark numbers
+  pub rise : Rises first numbers next
+  pub few : All (λ n. n < 100) numbers
 
 -- so it is of what stands behind what was read before
 abbrev pub HasRead : List ℕ → List ℕ → ℕ → ℕ → Type 0

@@ -1,5 +1,6 @@
 //! One thread publishes a hundred blocks of 64 KiB, each full of the mark of its number, and two others read them where they lie.
-//! Proved: what each of them reads are the marks of numbers that rise strictly and were published, though nobody copies a block.
+//! Proved of what each of them reads in its thread: they are the marks of numbers that rise strictly, from the one that came next
+//! when it subscribed, and of those that are published, though nobody copies a block.
 #![tactic(auto)]
 
 ghost use Rattle.std.specs.Prelude.{◌≡◌, ◌<◌, IfSome, IsTrue, replicate};
@@ -137,17 +138,50 @@ fn receive_one(
 fn receive_all(
     rt: &impl Wait,
     alloc: Global,
-    subscriber: &mut Subscriber<'_, Vec<u64>, Marked>,
+    mut subscriber: Subscriber<'_, Vec<u64>, Marked>,
 ) -> Option<Vec<u64>>
-    ensures { IfSome result (λ marks. AreNewsFrom (expected_at subscriber.old) marks.items) }
+    ensures { IfSome result (λ marks. AreNewsFrom (expected_at subscriber.entry) marks.items) }
 {
     let mut marks = Vec::new(alloc);
     for _ in 0..TRIES {
-        if receive_one(rt, subscriber, &mut marks)? {
+        if receive_one(rt, &mut subscriber, &mut marks)? {
             return Some(marks);
         }
     }
     Some(marks)
+}
+
+/// The marks that two subscribers read, each in a thread of its own, by the contract of `receive_all`.
+fn read_both<R: Threads + Wait + Sync>(
+    rt: &R,
+    alloc: Global,
+    one: Subscriber<'_, Vec<u64>, Marked>,
+    other: Subscriber<'_, Vec<u64>, Marked>,
+) -> Option<(Vec<u64>, Vec<u64>)> {
+    let (first, second) = thread::join(
+        rt,
+        move || receive_all(rt, alloc, one),
+        move || receive_all(rt, alloc, other),
+    );
+    Some((first?, second?))
+}
+
+/// One more subscriber, as the owner of this number. It takes part at once.
+fn subscribe<'a>(
+    rt: &impl Wait,
+    publisher: &mut Publisher<'a, Vec<u64>, Marked>,
+    number: u64,
+) -> Option<Subscriber<'a, Vec<u64>, Marked>>
+    ensures first { IfSome result (λ s. expected_at s ≡ next_of publisher.old) }
+    ensures next { next_of publisher.new ≡ next_of publisher.old }
+{
+    let Ok(owner) = OwnerId::new(number) else {
+        return None;
+    };
+    match publisher.subscribe(rt, owner) {
+        Ok(subscriber) => Some(subscriber),
+        Err(_) => None,
+    }
 }
 
 /// The marks that two subscribers read, each in a thread of its own, of what a third thread publishes.
@@ -155,34 +189,27 @@ fn run<R: Threads + Wait + Sync>(
     rt: &R,
     alloc: Global,
     publisher: &mut Publisher<'_, Vec<u64>, Marked>,
-) -> Option<(Vec<u64>, Vec<u64>)>
-    ensures one { IfSome result (λ r. AreNewsFrom (next_of publisher.old) r.0.items) }
-    ensures other { IfSome result (λ r. AreNewsFrom (next_of publisher.old) r.1.items) }
-{
-    let mut one = publisher.subscribe(rt, OwnerId::new(1).ok()?).ok()?;
-    let mut other = publisher.subscribe(rt, OwnerId::new(2).ok()?).ok()?;
+) -> Option<(Vec<u64>, Vec<u64>)> {
+    let one = subscribe(rt, publisher, 1)?;
+    let other = subscribe(rt, publisher, 2)?;
     // (`join` calls its first closure last where no thread can be made)
-    let ((first, second), _) = thread::join(
+    let (marks, _) = thread::join(
         rt,
-        move || thread::join(
-            rt,
-            move || receive_all(rt, alloc, &mut one),
-            move || receive_all(rt, alloc, &mut other),
-        ),
+        move || read_both(rt, alloc, one, other),
         move || publish_all(rt, publisher),
     );
-    Some((first?, second?))
+    marks
 }
 
 /// The same on a new bus.
-fn relay<R: Threads + Wait + Sync>(rt: &R, alloc: Global) -> Option<(Vec<u64>, Vec<u64>)>
-    ensures one { IfSome result (λ r. AreNewsFrom 0 r.0.items) }
-    ensures other { IfSome result (λ r. AreNewsFrom 0 r.1.items) }
-{
-    let (mut bus, pass) = Bus::new(alloc, SIZES).ok()?;
-    let mut publisher = bus
-        .publisher(rt, alloc, pass, blocks(alloc, SIZES.slots + 1)?)
-        .ok()?;
+fn relay<R: Threads + Wait + Sync>(rt: &R, alloc: Global) -> Option<(Vec<u64>, Vec<u64>)> {
+    let records = blocks(alloc, SIZES.slots + 1)?;
+    let Ok((mut bus, pass)) = Bus::new(alloc, SIZES) else {
+        return None;
+    };
+    let Ok(mut publisher) = bus.publisher(rt, alloc, pass, records) else {
+        return None;
+    };
     run(rt, alloc, &mut publisher)
 }
 
