@@ -1,9 +1,11 @@
 pub mod Acting
 pub mod Below
+pub mod Defaults
 pub mod Ending
 pub mod Ends
 pub mod Families
 pub mod Holding
+pub mod Idle
 pub mod Loans
 pub mod Nexts
 pub mod Once

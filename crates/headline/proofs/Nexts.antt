@@ -103,7 +103,7 @@ module _ {T : Type 0} where
   turn_pays t r p (Decide q said) free = omega arith
   turn_pays t r p (Die owner) free = omega arith
 
-  turns_pay : (t : Trace T) → IsReached t → (p : ℕ) (turns : List (Turn T)) → AreAllowed t turns
+  pub turns_pay : (t : Trace T) → IsReached t → (p : ℕ) (turns : List (Turn T)) → AreAllowed t turns
       → nexts_in p turns + own_ends p t.events ≤ own_steps p t turns + own_ends p (after_turns t turns).events
   turns_pay t r p [] allowed = omega arith
   turns_pay t r p (turn ∷ turns) allowed =

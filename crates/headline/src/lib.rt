@@ -18,6 +18,7 @@ ghost use Rattle.model.specs.World.{Trace, opened, capacity_error, queue_error, 
 ghost use Rattle.laws_loan.specs.LockFree.{channel_bound};
 ghost use Rattle.headline.specs.Headline.{Holds, Takes};
 
+pub mod going;
 pub mod loads;
 
 use machine::Machine;

@@ -1,5 +1,6 @@
 -- Which kinds end so between threads.
 use Rattle.std.specs.Prelude.{IfSome}
+use Rattle.model.specs.declared.event.Start.{Start}
 use Rattle.model.specs.declared.turn.Kind.{Kind}
 use Rattle.model.specs.declared.turn.Kind.TheVariants.{IndexQueue, Overflow, Queue, Atomic, Bits, Counts, Indices, Robust, Container, Loan}
 use Rattle.model.specs.LockFree.{Bound, KeepsEnding, IsDefault, lock_free_bound, default_bound, room_bound, default_container_bound}
@@ -14,8 +15,8 @@ use Rattle.laws_robust.proofs.LockFree.{default_keeps_ending_by}
 use Rattle.laws_robust.proofs.OpenRuns.{possible_open}
 use Rattle.laws_robust.proofs.RoomCalls.{room_keeps_ending}
 use Rattle.machine.proofs.LockFree.{if_some, keep_ending}
-use Rattle.headline_threads.specs.Ends.{PassesEnd, PassesKeepEnding, KnownKeepsEnding, PassesEndOf, KnownKeepsEndingOf}
-use Rattle.headline_threads.specs.Ends.{PassesEndLoad, KnownEndsLoad, KnownEndsLoadOf, PassesRest}
+use Rattle.headline_threads.specs.Ends.{PassesEnd, PassesKeepEnding, KnownKeepsEnding, PassesEndLoad, KnownEndsLoad, PassesRest}
+use Rattle.headline_threads.specs.Ends.{PassesEndOf, PassesKeepEndingOf, KnownKeepsEndingOf, PassesEndLoadOf, KnownEndsLoadOf, PassesRestOf}
 use Rattle.headline_threads.proofs.Knowing.{Runs, between, one_more, load_between, rests_between, known, load_known}
 use Rattle.headline_threads.proofs.Passing.{any_such}
 
@@ -94,38 +95,77 @@ known_ends_load T kind = if_some (Any T kind) (KnownEndsLoad T kind) (lock_free_
 pub passes_rest : (T : Type 0) (kind : Kind) → IfSome (lock_free_bound kind) (PassesRest T kind)
 passes_rest T kind = if_some (Any T kind) (PassesRest T kind) (lock_free_bound kind) (rests kind) (runs_of T kind)
 
--- robust sets and containers, in which any call may begin
-pub robust_end : (T : Type 0) → PassesEnd T Robust room_bound
-robust_end T = passes Robust room_bound (robust_room T)
+-- ---- where no call begins but such ones
 
-pub robust_load : (T : Type 0) → KnownEndsLoad T Robust room_bound
-robust_load T = all_load Robust room_bound (robust_room T)
+module _ {T : Type 0} (kind : Kind) (Such : Start T → Type 0) (bound : Bound) (R : Runs {T = T} kind Such bound) where
+  passes_of : PassesEndOf T kind Such bound
+  passes_of code capacity old new knows later n below such far = one_more kind Such bound R code capacity old new knows later n below such far
 
-pub container_end : (T : Type 0) → PassesEnd T Container room_container_bound
-container_end T = passes Container room_container_bound (container_room T)
+  keeps_of : PassesKeepEndingOf T kind Such bound
+  keeps_of code capacity old new knows later n below such = between kind Such bound R code capacity old new knows later n below such
 
-pub container_load : (T : Type 0) → KnownEndsLoad T Container room_container_bound
-container_load T = all_load Container room_container_bound (container_room T)
+  known_of : KnownKeepsEndingOf T kind Such bound
+  known_of code capacity v knows n below such = known kind Such bound R code capacity v knows n below such
 
--- robust sets and containers in which no call may lock
-pub robust_end_of : (T : Type 0) → PassesEndOf T Robust IsDefault default_bound
-robust_end_of T code capacity old new knows later n below such far =
-    one_more Robust IsDefault default_bound (robust_default T) code capacity old new knows later n below such far
+  load_of : PassesEndLoadOf T kind Such bound
+  load_of code capacity old new knows later n below such = load_between kind Such bound R code capacity old new knows later n below such
 
-pub robust_known_of : (T : Type 0) → KnownKeepsEndingOf T Robust IsDefault default_bound
-robust_known_of T code capacity v knows n below such = known Robust IsDefault default_bound (robust_default T) code capacity v knows n below such
+  all_load_of : KnownEndsLoadOf T kind Such bound
+  all_load_of code capacity v knows n below such = load_known kind Such bound R code capacity v knows n below such
 
-pub robust_load_of : (T : Type 0) → KnownEndsLoadOf T Robust IsDefault default_bound
-robust_load_of T code capacity v knows n below such = load_known Robust IsDefault default_bound (robust_default T) code capacity v knows n below such
+  rests_of : PassesRestOf T kind Such bound
+  rests_of code capacity old new knows later n below such = rests_between kind Such bound R code capacity old new knows later n below such
 
-pub container_end_of : (T : Type 0) → PassesEndOf T Container IsDefault default_container_bound
-container_end_of T code capacity old new knows later n below such far =
-    one_more Container IsDefault default_container_bound (container_default T) code capacity old new knows later n below such far
+-- ---- robust sets and containers
 
-pub container_known_of : (T : Type 0) → KnownKeepsEndingOf T Container IsDefault default_container_bound
-container_known_of T code capacity v knows n below such =
-    known Container IsDefault default_container_bound (container_default T) code capacity v knows n below such
+-- all that follows where any call may begin
+pub record EndsAll (T : Type 0) (kind : Kind) (bound : Bound) : Type 0 where
+  pub end : PassesEnd T kind bound
+  pub keep : PassesKeepEnding T kind bound
+  pub known : KnownKeepsEnding T kind bound
+  pub between : PassesEndLoad T kind bound
+  pub load : KnownEndsLoad T kind bound
+  pub rest : PassesRest T kind bound
 
-pub container_load_of : (T : Type 0) → KnownEndsLoadOf T Container IsDefault default_container_bound
-container_load_of T code capacity v knows n below such =
-    load_known Container IsDefault default_container_bound (container_default T) code capacity v knows n below such
+-- and where none may lock
+pub record EndsDefault (T : Type 0) (kind : Kind) (bound : Bound) : Type 0 where
+  pub end : PassesEndOf T kind IsDefault bound
+  pub keep : PassesKeepEndingOf T kind IsDefault bound
+  pub known : KnownKeepsEndingOf T kind IsDefault bound
+  pub between : PassesEndLoadOf T kind IsDefault bound
+  pub load : KnownEndsLoadOf T kind IsDefault bound
+  pub rest : PassesRestOf T kind IsDefault bound
+
+all_end : (T : Type 0) (kind : Kind) (bound : Bound) → Any T kind bound → EndsAll T kind bound
+all_end T kind bound R =
+    record {
+      end = passes kind bound R;
+      keep = keeps kind bound R;
+      known = all_known kind bound R;
+      between = load_passes kind bound R;
+      load = all_load kind bound R;
+      rest = rests kind bound R;
+    }
+
+default_end : (T : Type 0) (kind : Kind) (bound : Bound) → Runs {T = T} kind IsDefault bound → EndsDefault T kind bound
+default_end T kind bound R =
+    record {
+      end = passes_of kind IsDefault bound R;
+      keep = keeps_of kind IsDefault bound R;
+      known = known_of kind IsDefault bound R;
+      between = load_of kind IsDefault bound R;
+      load = all_load_of kind IsDefault bound R;
+      rest = rests_of kind IsDefault bound R;
+    }
+
+pub robust_ends : (T : Type 0) → EndsAll T Robust room_bound
+robust_ends T = all_end T Robust room_bound (robust_room T)
+
+pub container_ends : (T : Type 0) → EndsAll T Container room_container_bound
+container_ends T = all_end T Container room_container_bound (container_room T)
+
+pub robust_by_default : (T : Type 0) → EndsDefault T Robust default_bound
+robust_by_default T = default_end T Robust default_bound (robust_default T)
+
+pub container_by_default : (T : Type 0) → EndsDefault T Container default_container_bound
+container_by_default T = default_end T Container default_container_bound (container_default T)

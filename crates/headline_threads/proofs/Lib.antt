@@ -1,4 +1,5 @@
 pub mod Ending
 pub mod Knowing
+pub mod NotAllowed
 pub mod OneRunWorked
 pub mod Passing

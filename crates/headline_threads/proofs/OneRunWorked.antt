@@ -48,6 +48,7 @@ told turns events =
       state = None;
       asked = 0;
       taken = 0;
+      others = 0;
     }
 
 abbrev knowing : List (Turn ℕ) → View ℕ
@@ -97,6 +98,7 @@ known =
         ),
       );
       is = refl;
+      others = refl;
     }
 
 abbrev later : Continues one_word kinds.TheVariants.Indices 1 knew knows
@@ -170,3 +172,7 @@ module _ (turns : List (Turn ℕ)) (turn : Turn ℕ) (e : Event ℕ) (wrote : Li
 -- so the pass of a call that has ended knows its last turn
 last_left_out : Knows one_word kinds.TheVariants.Indices 1 (told (begins 0 acquire 3) (after first).events) → ⊥
 last_left_out h = one_too_few (begins 0 acquire 3) (Next 0) _ _ refl h
+
+-- nor does it count a change by another that its run does not have
+one_change_too_many : Knows one_word kinds.TheVariants.Indices 1 (record knows { others = 1 }) → ⊥
+one_change_too_many h = let e = h.others in cc

@@ -68,6 +68,13 @@ PassesEndOf T kind Such bound =
     → bound n capacity code.size < steps_between code kind capacity old new later
     → ends old.seen < ends new.seen
 
+abbrev pub PassesKeepEndingOf : (T : Type 0) → Kind → (Start T → Type 0) → Bound → Type 0
+PassesKeepEndingOf T kind Such bound =
+    (code : Coding T) (capacity : ℕ) (old new : View T) → Knows code kind capacity old
+    → (later : Continues code kind capacity old new) → (n : ℕ) → AreBelow n new.seen → BeginSuch Such new.seen
+    → AreWithinEnds (bound n capacity code.size) (steps_between code kind capacity old new later)
+    (ends old.seen) (ends new.seen)
+
 abbrev pub KnownKeepsEndingOf : (T : Type 0) → Kind → (Start T → Type 0) → Bound → Type 0
 KnownKeepsEndingOf T kind Such bound =
     (code : Coding T) (capacity : ℕ) (v : View T) → Knows code kind capacity v
@@ -94,6 +101,13 @@ KnownEndsLoad T kind bound =
     → steps_in (opening code kind capacity 0) v.turns ≤ load (bound n capacity code.size) (begun v.seen)
 
 -- The same of passes that have seen no call begin but such ones.
+abbrev pub PassesEndLoadOf : (T : Type 0) → Kind → (Start T → Type 0) → Bound → Type 0
+PassesEndLoadOf T kind Such bound =
+    (code : Coding T) (capacity : ℕ) (old new : View T) → Knows code kind capacity old
+    → (later : Continues code kind capacity old new) → (n : ℕ) → AreBelow n new.seen → BeginSuch Such new.seen
+    → steps_between code kind capacity old new later
+    ≤ load (bound n capacity code.size) (begun new.seen - ends old.seen)
+
 abbrev pub KnownEndsLoadOf : (T : Type 0) → Kind → (Start T → Type 0) → Bound → Type 0
 KnownEndsLoadOf T kind Such bound =
     (code : Coding T) (capacity : ℕ) (v : View T) → Knows code kind capacity v
@@ -106,6 +120,15 @@ abbrev pub PassesRest : Type 0 → Kind → Bound → Type 0
 PassesRest T kind bound =
     (code : Coding T) (capacity : ℕ) (old new : View T) → Knows code kind capacity old
     → (later : Continues code kind capacity old new) → (n : ℕ) → AreBelow n new.seen
+    → (rounds : List (List (Turn T))) → later.first.rest ≡ turns_of rounds
+    → (p : ℕ) → StepsInEach p (run_of code kind capacity old.turns) rounds
+    → load (bound n capacity code.size) (begun new.seen - ends old.seen) < length rounds
+    → RestsInOne p (run_of code kind capacity old.turns) rounds
+
+abbrev pub PassesRestOf : (T : Type 0) → Kind → (Start T → Type 0) → Bound → Type 0
+PassesRestOf T kind Such bound =
+    (code : Coding T) (capacity : ℕ) (old new : View T) → Knows code kind capacity old
+    → (later : Continues code kind capacity old new) → (n : ℕ) → AreBelow n new.seen → BeginSuch Such new.seen
     → (rounds : List (List (Turn T))) → later.first.rest ≡ turns_of rounds
     → (p : ℕ) → StepsInEach p (run_of code kind capacity old.turns) rounds
     → load (bound n capacity code.size) (begun new.seen - ends old.seen) < length rounds

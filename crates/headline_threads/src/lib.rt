@@ -7,8 +7,10 @@ ghost use Rattle.model.specs.declared.turn.Kind.{Kind};
 ghost use Rattle.model.specs.declared.turn.Kind.TheVariants.{Robust, Container};
 ghost use Rattle.model.specs.LockFree.{IsDefault, lock_free_bound, default_bound, room_bound, default_container_bound};
 ghost use Rattle.laws_container.specs.LockFree.{room_container_bound};
-ghost use Rattle.headline_threads.specs.Ends.{PassesEnd, PassesKeepEnding, KnownKeepsEnding, PassesEndOf, KnownKeepsEndingOf};
-ghost use Rattle.headline_threads.specs.Ends.{PassesEndLoad, KnownEndsLoad, KnownEndsLoadOf, PassesRest};
+ghost use Rattle.headline_threads.specs.Ends.{PassesEnd, PassesKeepEnding, KnownKeepsEnding};
+ghost use Rattle.headline_threads.specs.Ends.{PassesEndOf, PassesKeepEndingOf, KnownKeepsEndingOf};
+ghost use Rattle.headline_threads.specs.Ends.{PassesEndLoad, KnownEndsLoad, PassesRest};
+ghost use Rattle.headline_threads.specs.Ends.{PassesEndLoadOf, KnownEndsLoadOf, PassesRestOf};
 
 /// Of the kinds that have a bound in `lock_free_bound`, where the calls that a pass has seen are of parties with numbers below
 /// n. What a pass knew and what it knows later are one run of the table (`Continues`: each call, split and join says that the
@@ -38,20 +40,36 @@ pub fn passes_end_loads<T>()
     ensures rest { (kind : Kind) → IfSome (lock_free_bound kind) (PassesRest T kind) }
 {}
 
-/// Of robust index sets and containers, whose runs between threads are open: nobody sees an owner die. If the table took more
-/// steps between two moments of a pass than the bound says, a call has ended, and all steps that the pass knows of are at most
-/// the bound and one for each call that it has seen begin. These bounds say nothing of practice. Where the pass has seen no
-/// call begin that may lock, the bounds are small, and if k calls have ended since the opening, the table took at most k + 1
-/// times the bound and k steps.
+/// Of robust index sets and containers, whose runs between threads are open (nobody sees an owner die), what
+/// `passes_keep_ending` says of the others. Where any call may begin the bounds say nothing of practice. They are small where the
+/// pass has seen no call begin that may lock (`by_default`).
 pub fn owners_keep_ending<T>()
     ensures robust { PassesEnd T Robust room_bound }
-    ensures robust_load { KnownEndsLoad T Robust room_bound }
+    ensures robust_keep { PassesKeepEnding T Robust room_bound }
+    ensures robust_known { KnownKeepsEnding T Robust room_bound }
     ensures container { PassesEnd T Container room_container_bound }
-    ensures container_load { KnownEndsLoad T Container room_container_bound }
+    ensures container_keep { PassesKeepEnding T Container room_container_bound }
+    ensures container_known { KnownKeepsEnding T Container room_container_bound }
     ensures robust_by_default { PassesEndOf T Robust IsDefault default_bound }
+    ensures robust_keep_by_default { PassesKeepEndingOf T Robust IsDefault default_bound }
     ensures robust_known_by_default { KnownKeepsEndingOf T Robust IsDefault default_bound }
-    ensures robust_load_by_default { KnownEndsLoadOf T Robust IsDefault default_bound }
     ensures container_by_default { PassesEndOf T Container IsDefault default_container_bound }
+    ensures container_keep_by_default { PassesKeepEndingOf T Container IsDefault default_container_bound }
     ensures container_known_by_default { KnownKeepsEndingOf T Container IsDefault default_container_bound }
+{}
+
+/// And what `passes_end_loads` says of them, with the same bounds.
+pub fn owners_end_loads<T>()
+    ensures robust_between { PassesEndLoad T Robust room_bound }
+    ensures robust_load { KnownEndsLoad T Robust room_bound }
+    ensures robust_rest { PassesRest T Robust room_bound }
+    ensures container_between { PassesEndLoad T Container room_container_bound }
+    ensures container_load { KnownEndsLoad T Container room_container_bound }
+    ensures container_rest { PassesRest T Container room_container_bound }
+    ensures robust_between_by_default { PassesEndLoadOf T Robust IsDefault default_bound }
+    ensures robust_load_by_default { KnownEndsLoadOf T Robust IsDefault default_bound }
+    ensures robust_rest_by_default { PassesRestOf T Robust IsDefault default_bound }
+    ensures container_between_by_default { PassesEndLoadOf T Container IsDefault default_container_bound }
     ensures container_load_by_default { KnownEndsLoadOf T Container IsDefault default_container_bound }
+    ensures container_rest_by_default { PassesRestOf T Container IsDefault default_container_bound }
 {}

@@ -12,7 +12,7 @@ use Rattle.steps.specs.declared.ask.After.TheVariants.{Done}
 use Rattle.steps.specs.declared.ask.Want.TheVariants as wants
 use Rattle.model.specs.World as worlds
 use Rattle.history.specs.declared.view.View.{View}
-use Rattle.history.specs.History.{IsMachine, OneRun, Knew, Knows, call_in}
+use Rattle.history.specs.History.{IsMachine, OneRun, Knew, Knows, call_in, others_in}
 use Rattle.steps.specs.declared.container.state.ContainerState.{ContainerState}
 use Rattle.history.specs.Known.{owned, events_by}
 use Rattle.history.specs.Stages.{Calling, Starts, rows_as}
@@ -23,7 +23,8 @@ use Rattle.history.proofs.Calls.{call_then, stateless_none}
 use Rattle.history.proofs.Known.{by_mine, AreOf}
 use Rattle.history.proofs.AllSeen.{known_alone}
 use Rattle.history.proofs.Steps.{settle_with}
-use Rattle.history.proofs.Turns.{KeptLaws, MachineLaws, kept_laws, Between, begun, begun_at, begins_free, goes_free, gone, goes_to, fresh_now, told, own_told}
+use Rattle.history.proofs.Turns.{KeptLaws, MachineLaws, kept_laws, Between, begun, begun_at, begun_others, begins_free}
+use Rattle.history.proofs.Turns.{goes_free, gone, gone_others, goes_to, fresh_now, told, own_told}
 
 -- each party is its own seat
 abbrev pub same_seat : ℕ → ℕ
@@ -45,6 +46,7 @@ module _ {T : Type 0} (code : Coding T) (kind : Kind) (capacity size : ℕ)
     pub turns : one.turns ≡ ts
     pub events : u.events ≡ es
     pub there : call_in u.world 0 ≡ going
+    pub others : others_in u.world 0 ≡ 0
 
   pub opens_here : IsCoding code → capacity_error kind capacity ≡ None → Here ((opening_of kind).words code.size capacity ++ 0 ∷ []) [] [] None
   opens_here coded admitted =
@@ -81,6 +83,7 @@ module _ {T : Type 0} (code : Coding T) (kind : Kind) (capacity size : ℕ)
         turns = refl;
         events = refl;
         there = refl;
+        others = refl;
       }
     where
       knew : (j : ℕ) (v : View T) → get_elem? (first_view capacity ∷ []) j ≡ some v → Knew [] v
@@ -115,6 +118,7 @@ module _ {T : Type 0} (code : Coding T) (kind : Kind) (capacity size : ℕ)
         state = None;
         asked = 0;
         taken = 0;
+        others = 0;
       }
 
   pub sums : (words : List ℕ) (ts : List (Turn T)) (es : List (Event T)) (going : Option (Start T × Flight T))
@@ -142,6 +146,9 @@ module _ {T : Type 0} (code : Coding T) (kind : Kind) (capacity size : ℕ)
         events = ap (λ xs. xs ++ Begun 0 call.start ∷ []) h.events;
         there =
             begun_at code kind capacity size effects there_laws same_seat (alone words) 0 0 es h.u h.between call.start
+            (call.flight c m) h.there s.first may;
+        others =
+            begun_others code kind capacity size effects there_laws same_seat (alone words) 0 0 es h.u h.between call.start
             (call.flight c m) h.there s.first may;
       }
 
@@ -198,6 +205,9 @@ module _ {T : Type 0} (code : Coding T) (kind : Kind) (capacity size : ℕ)
             events = ap (λ xs. xs ++ events_of h.u.world (Next 0)) h.events ∙ ap (λ zs. es ++ zs) tells;
             there = goes_to code kind capacity size effects there_laws same_seat (alone words) 0 0 es h.u h.between start flight (Some a) low h.there asks finds
                 ∙ ap (call_then start) comes_there;
+            others =
+                gone_others code kind capacity size effects there_laws same_seat (alone words) 0 0 es h.u h.between start flight (Some a) low h.there asks finds
+                ∙ h.others;
           }
 
     -- it goes on, and tells nothing
@@ -224,7 +234,7 @@ module _ {T : Type 0} (code : Coding T) (kind : Kind) (capacity size : ℕ)
   -- what the pass knows then is the run of these turns
   pub knows_so : (words : List ℕ) (ts : List (Turn T)) (es : List (Event T)) → Here words ts es None → Knows code kind capacity (maker ts es)
   knows_so words ts es h =
-      knows_all code kind capacity (first_view capacity ∷ []) h.u (maker ts es) h.one h.between.run (sym h.turns) (sym h.events)
+      knows_all code kind capacity (first_view capacity ∷ []) h.u (maker ts es) h.one h.between.run (sym h.turns) (sym h.events) (sym h.others)
 
   -- ---- a table opens so
 
@@ -233,15 +243,15 @@ module _ {T : Type 0} (code : Coding T) (kind : Kind) (capacity size : ℕ)
   opens_so words ts es h =
       let first : View T = first_view capacity in
       subst (λ v. IsMachine code kind capacity (opening words [] v))
-      (ap (λ zs. so h.one.turns zs (call_in h.u.world 0) (state_in h.u.world.kept 0)) h.events
-      ∙ (ap (λ o. so h.one.turns es o (state_in h.u.world.kept 0)) h.there
-      ∙ (ap (λ z. so h.one.turns es None z) (stateless_none h.u.world.kept 0 (laws.stateless h.u h.between.run))
-      ∙ ap (λ xs. so xs es None None) h.turns)))
+      (ap (λ zs. so h.one.turns zs (call_in h.u.world 0) (state_in h.u.world.kept 0) (others_in h.u.world 0)) h.events
+      ∙ (ap (λ o. so h.one.turns es o (state_in h.u.world.kept 0) (others_in h.u.world 0)) h.there
+      ∙ (ap (λ z. so h.one.turns es None z (others_in h.u.world 0)) (stateless_none h.u.world.kept 0 (laws.stateless h.u h.between.run))
+      ∙ (ap (λ xs. so xs es None None (others_in h.u.world 0)) h.turns ∙ ap (λ n. so ts es None None n) h.others))))
       (settle_with code kind capacity 0 0 same_seat 0 0 words (alone words) first es h.u refl (omega arith)
       (λ call is. (let no : ◌≡◌ {A = Option (Start T × Flight T)} None (Some call) = sym h.there ∙ is in absurd (cc))) h.between h.one)
     where
-      so : List (Turn T) → List (Event T) → Option (Start T × Flight T) → Option (ContainerState T) → View T
-      so xs zs o z =
+      so : List (Turn T) → List (Event T) → Option (Start T × Flight T) → Option (ContainerState T) → ℕ → View T
+      so xs zs o z n =
           record {
             capacity = capacity;
             party = Some 0;
@@ -255,4 +265,5 @@ module _ {T : Type 0} (code : Coding T) (kind : Kind) (capacity size : ℕ)
             state = z;
             asked = 0;
             taken = 0;
+            others = n;
           }

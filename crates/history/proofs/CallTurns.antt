@@ -107,7 +107,7 @@ module _ {T C M E : Type 0} (code : Coding T) (kind : Kind) (effects : World T �
     ran_then base stage =
         subst (λ n. Continues code kind n base view_then) (sym known ∙ same_capacity code kind effects size_of laws call base v c m stage)
         (continues_further code kind key base v view_then (came_first code kind effects size_of laws call base v c m stage)
-        (continues_all code kind key s.views then_trace id v view_then next_between.one at next_between.run refl refl))
+        (continues_all code kind key s.views then_trace id v view_then next_between.one at next_between.run refl refl refl))
 
     -- what it writes now, and of its own
     abbrev effs : List (Event T)

@@ -1,5 +1,5 @@
 -- Where the calls of a machine stand after a turn.
-use Rattle.history.proofs.Names.{◌≡◌, ◌≢◌, ℕ, zero, suc, ◌+◌, ◌<◌, ◌==◌, Bool, false, Option, Some, None, List}
+use Rattle.history.proofs.Names.{◌≡◌, ◌≢◌, ℕ, zero, suc, ◌+◌, ◌-◌, ◌<◌, ◌==◌, Bool, false, Option, Some, None, List}
 use Rattle.history.proofs.Names.{[], ◌∷◌, ◌++◌, length, get_or, set, refl, ap, ◌∙◌, arith, nat_tests, Ask, After}
 use Rattle.history.proofs.Names.{GoOn, Answer, Event, Start, Flight, Registry}
 use Rattle.history.proofs.Names.{Doing, Going, Over, Party, Kind, Begin, Next, Coding, opening_of, kept_after_begin}
@@ -11,8 +11,9 @@ use Rattle.history.proofs.Names.{ending_of, old_of, ask_of_doing, World, flight_
 use Rattle.history.proofs.Names.{party_put_other}
 use Rattle.steps.specs.declared.ask.After.TheVariants.{Done}
 use Rattle.model.specs.declared.families.Registry as registries
-use Rattle.model.specs.Turns.{step_count}
-use Rattle.history.specs.History.{call_at, call_of, call_in, started, steps_of, steps_in}
+use Rattle.model.specs.Turns.{step_count, change_of, doing_after}
+use Rattle.model.specs.Parties.{others_of}
+use Rattle.history.specs.History.{call_at, call_of, call_in, started, steps_of, steps_in, others_in, others_so}
 use Rattle.history.specs.Stages.{is_state_look}
 
 other_number : (p q : ℕ) → q ≢ p → (p == q) ≡ false
@@ -96,6 +97,26 @@ module _ {T : Type 0} where
   pub steps_next_own : (w : World T) (p : ℕ) (start : Start T) (flight : Flight T) (h : Stands w p start flight)
       → steps_in (after_next w p (party_of p w.latest)) p ≡ steps_in w p + step_count (ask_of (want_of w.coding flight))
   steps_next_own w p start flight h = rw (h.found, h.doing) (ap steps_of (party_put_same p _ w.latest))
+
+  -- its own begin and its own steps are no changes by others
+  pub others_begin_own : (w : World T) (p : ℕ) (start : Start T) (flight : Flight T) (o : Option (Flight T))
+      → o ≡ Some flight → others_in (after_begin w p start o) p ≡ 0
+  others_begin_own w p start flight None e = absurd (cc)
+  others_begin_own w p start flight (Some f) e = ap (others_so w.changes) (party_put_same p _ w.latest) ∙ none w.changes
+    where
+      none : (n : ℕ) → n - n ≡ 0
+      none n = omega arith
+
+  no_more_others : (since changes more : ℕ) (a : After (Flight T) (Answer T))
+      → others_of (changes + more) (doing_after (changes + more) (since + more) a) ≡ changes - since
+  no_more_others since changes more (GoOn next) = omega arith
+  no_more_others since changes more (Done answer) = omega arith
+
+  pub others_next_own : (w : World T) (p : ℕ) (start : Start T) (flight : Flight T) (h : Stands w p start flight)
+      → others_in (after_next w p (party_of p w.latest)) p ≡ others_in w p
+  others_next_own w p start flight h =
+      rw (h.found, h.doing) (ap (others_so (w.changes + change_of w.words (ask_of (want_of w.coding flight)))) (party_put_same p _ w.latest)
+      ∙ no_more_others h.since w.changes (change_of w.words (ask_of (want_of w.coding flight))) _)
 
   -- and named as it began
   pub started_next_own : (w : World T) (p : ℕ) (start : Start T) (flight : Flight T) (h : Stands w p start flight)

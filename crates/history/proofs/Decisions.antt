@@ -163,7 +163,7 @@ module _ {T C M E : Type 0} (code : Coding T) (kind : Kind) (decides : MayDecide
       ran_then =
           subst (λ n. Continues code kind n base view_heard) (sym known ∙ k.before.capacity)
           (continues_further code kind key base v view_heard k.before.ran.first
-          (continues_all code kind key s.views u_then id v view_heard between_heard.one at between_heard.run refl refl))
+          (continues_all code kind key s.views u_then id v view_heard between_heard.one at between_heard.run refl refl refl))
 
       lifted : IsUnderWay code kind call base view_heard c m
       lifted =

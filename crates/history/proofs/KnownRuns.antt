@@ -1,5 +1,5 @@
 -- What a pass knows is a run of the machine, and there is one proof at most that it knows it.
-use Rattle.std.proofs.Common.{ℕ, List, [], ◌∷◌, Option, refl}
+use Rattle.std.proofs.Common.{◌≡◌, ℕ, List, [], ◌∷◌, Option, refl}
 use mathlib.Core.HLevel.{Π_prop}
 use mathlib.Core.List.{is_set}
 use mathlib.Core.Sum.{⊎_set}
@@ -29,7 +29,7 @@ use Rattle.model.specs.Turns.{AreAllowedBy, after_turn, after_turns}
 use Rattle.model.specs.World.{World, Trace, opening}
 use Rattle.laws_queues.specs.Fresh.{IsFreshTurn, IsFreshCall, IsFreshAt, IsFresh, IsFreshOver, IsFreshStore}
 use Rattle.history.specs.declared.view.View.{View}
-use Rattle.history.specs.History.{AreFresh, IsHistory, IsRun, Knows, refusal_as, run_of}
+use Rattle.history.specs.History.{AreFresh, IsHistory, IsRun, Knows, others_by, refusal_as, run_of}
 use Rattle.history.proofs.Reached.{reached_as_opening, fresh_as_opening}
 use Rattle.history.proofs.Turns.{run_more}
 
@@ -113,7 +113,10 @@ module _ {T : Type 0} where
   fresh_turns_prop t [] = Unit-prop
   fresh_turns_prop t (turn ∷ turns) = ×_prop (fresh_turn_prop t turn) (fresh_turns_prop (after_turn t turn) turns)
 
+  others_prop : (code : Coding T) (kind : Kind) (capacity : ℕ) (v : View T) → IsProp (v.others ≡ others_by (run_of code kind capacity v.turns).world v.party)
+  others_prop code kind capacity v = ℕ_set _ _
+
 -- where there is one at most that two values are the same
 pub knows_prop : {T : Type 0} → IsSet T → (code : Coding T) (kind : Kind) (capacity : ℕ) (v : View T) → IsProp (Knows code kind capacity v)
 knows_prop set code kind capacity v =
-    Prim.hlevel (coding_prop set, error_set, allowed_prop, fresh_turns_prop, is_set, event_set set)
+    Prim.hlevel (coding_prop set, error_set, allowed_prop, fresh_turns_prop, is_set, event_set set, others_prop)

@@ -21,6 +21,8 @@ pub mod CallTurns
 pub mod Written
 pub mod Drives
 pub mod Paid
+pub mod Latest
+pub mod Ended
 pub mod Decisions
 pub mod Made
 pub mod Starting

@@ -13,7 +13,7 @@ use Rattle.model.proofs.Frame as frame
 use Rattle.model.proofs.Frame.{Family}
 use Rattle.model.proofs.Progress.{guaranteed}
 use Rattle.history.specs.declared.view.View.{View}
-use Rattle.history.specs.History.{IsRun, steps_of, started, run_of}
+use Rattle.history.specs.History.{IsRun, steps_of, started, others_so, others_by, run_of}
 use Rattle.history.specs.Stages.{Calling, Ends, LeftOut, StepsOnly, taken_by}
 use Rattle.history.specs.Steps.{TakesAtMost, TakesAlone}
 
@@ -103,7 +103,7 @@ AllowsOne (ObstructionFree alone retry) = 1 ≤ alone
 -- what a guarantee says of two views
 abbrev pub TakesBy : {T : Type 0} → Coding T → Kind → ℕ → Guarantee → View T → View T → Type 0
 TakesBy code kind capacity (WaitFree most) old new = TakesAtMost most old new
-TakesBy code kind capacity (ObstructionFree alone retry) old new = TakesAlone code kind capacity alone retry old new
+TakesBy code kind capacity (ObstructionFree alone retry) old new = TakesAlone alone retry old new
 
 module _ {T C M E : Type 0} (code : Coding T) (kind : Kind) (call : Calling T C M E) (base w : View T) (e : E) (m : M) where
   -- the run that the pass knows then
@@ -141,20 +141,18 @@ module _ {T C M E : Type 0} (code : Coding T) (kind : Kind) (call : Calling T C 
   few_enough steps most same within least (inl h) = omega arith
   few_enough steps most same within least (inr h) = omega arith
 
+  -- the changes that the view counts are those that the run counts
+  counts : (ends : Ends code kind call base e m w) → (now : Latest ends) → w.others ≡ others_of known.world.changes now.x.doing
+  counts ends now =
+      ends.ran.knows.others
+      ∙ (ap (others_by known.world) ends.mine ∙ ap (others_so known.world.changes) now.found)
+
   takes_by : base.going ≡ None → (ends : Ends code kind call base e m w) → (now : Latest ends) → (g : Guarantee) → AllowsOne g
       → IsWithin g (progress_of known.world.changes now.x) → TakesBy code kind base.capacity g base w
   takes_by idle ends now (WaitFree most) least within = few_enough now.x.steps most now.steps within least (few idle ends)
   takes_by idle ends now (ObstructionFree alone retry) least within =
-      record {
-        ran = ends.ran;
-        party = ends.party;
-        mine = ends.mine;
-        progress = progress_of known.world.changes now.x;
-        latest = ap (progress_after known.world.changes) now.found;
-        steps =
-            few_enough now.x.steps (alone + others_of known.world.changes now.x.doing * retry) now.steps within
-            (omega arith) (few idle ends);
-      }
+      subst (λ n. w.asked ≤ base.asked + (alone + n * retry)) (sym (counts ends now))
+      (few_enough now.x.steps (alone + others_of known.world.changes now.x.doing * retry) now.steps within (omega arith) (few idle ends))
 
   -- a whole call is within the guarantee of its kind
   pub takes : base.going ≡ None → Pays code kind base.capacity

@@ -11,7 +11,7 @@ use Rattle.steps.specs.declared.ask.Op.TheVariants.{Load}
 use Rattle.history.proofs.Names.{OwesAsk}
 use Rattle.model.specs.declared.turn.Kind.TheVariants as kinds
 use Rattle.history.specs.declared.view.View.{View}
-use Rattle.history.specs.History.{IsBeginning, IsMachine, Knew, Fits, HasSeenOf, IsLate}
+use Rattle.history.specs.History.{IsBeginning, IsMachine, Knew, Fits, HasSeenOf, IsLate, others_by}
 use Rattle.history.specs.Views.{Looks, LooksOnce, LooksAt, WhenIdle}
 use Rattle.history.specs.Known.{Known, owned, events_by}
 use Rattle.history.proofs.Calls.{get_left}
@@ -107,6 +107,7 @@ module _ {T : Type 0} (code : Coding T) (kind : Kind) (capacity : ℕ) where
         state = v.state;
         asked = v.asked + 1;
         taken = v.taken;
+        others = others_by t.world v.party;
       } in (
         w,
         table.keeps,
@@ -148,7 +149,7 @@ module _ {T : Type 0} (code : Coding T) (kind : Kind) (capacity : ℕ) where
                 (λ j u ne there. m.seats j u there) m.inside (λ q ne past. m.made_none q past) m.known.someone g
                 ∙ sym (made g);
             history = record { trace = t; run = m.run; is = refl };
-            ran = continues_all code kind capacity s.views t id v w m.one at m.run refl refl;
+            ran = continues_all code kind capacity s.views t id v w m.one at m.run refl refl refl;
             theirs_ran = (m.one.knew id v at).theirs;
             parties = record { owner = m.owner; seat = id; sums = made };
             apart = λ alone any p of_id. rest_apart v t f.late f.seen p alone none (f.own any p of_id);

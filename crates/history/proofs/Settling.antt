@@ -163,7 +163,7 @@ module _ {T : Type 0} (code : Coding T) (kind : Kind) (decides : MayDecide kind)
           history = record { trace = u_then; run = run_then; is = refl };
           ran =
               subst (λ n. Continues code kind n v view_settled) (sym known)
-              (continues_all code kind key s.views u_then id v view_settled between_then.one at between_then.run refl refl);
+              (continues_all code kind key s.views u_then id v view_settled between_then.one at between_then.run refl refl refl);
           all = λ all f. made_between code kind key r.owner id h.party gained_then u_then s between_then v at all f;
           parties = record { owner = r.owner; seat = id; sums = λ f. sum_by-append f v.made gained_then ∙ between_then.made_own v at f };
         }

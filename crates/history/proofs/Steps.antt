@@ -6,7 +6,7 @@ use mathlib.Core.Option.{some}
 use lib.ListN.{get_elem?}
 use Rattle.atomic_table.specs.Table.{State}
 use Rattle.history.specs.declared.view.View.{View}
-use Rattle.history.specs.History.{IsBeginning, IsMachine, OneRun, Fits, call_in, steps_in}
+use Rattle.history.specs.History.{IsBeginning, IsMachine, OneRun, Fits, call_in, steps_in, others_in}
 use Rattle.history.proofs.Known.{itself, within, none_late}
 use Rattle.history.proofs.AllSeen.{known_step}
 use Rattle.history.proofs.OneRun.{one_set, knew_all}
@@ -29,6 +29,7 @@ module _ {T : Type 0} (code : Coding T) (kind : Kind) (capacity id p : ℕ) wher
         state = state_in u.world.kept p;
         asked = asked;
         taken = taken;
+        others = others_in u.world p;
       }
 
   -- its call has taken the steps that it has in the machine

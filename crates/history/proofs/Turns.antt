@@ -16,7 +16,7 @@ use Rattle.model.proofs.Turns.{writes_one_word}
 use Rattle.laws_queues.proofs.Queues.Sound.{IsFreshTurn}
 use Rattle.history.specs.declared.view.View.{View}
 use Rattle.history.specs.Known.{events_by, owned, of_none}
-use Rattle.history.specs.History.{IsRun, IsMachine, OneRun, Fits, call_in, started, steps_in, IsLate, refusal_as}
+use Rattle.history.specs.History.{IsRun, IsMachine, OneRun, Fits, call_in, started, steps_in, others_in, IsLate, refusal_as}
 use Rattle.history.specs.Stages.{rows_as}
 use Rattle.history.proofs.Known.{by_more, by_same, by_other, by_mine, owned_one, late_none, none_late, AreOf, sum_first}
 use Rattle.history.proofs.AllSeen.{owned_whole}
@@ -26,7 +26,7 @@ use Rattle.history.proofs.OneRun.{one_more}
 use Rattle.history.proofs.Calls.{IsStateless, goes_alike, look_begin, look_next, stands, flight_is}
 use Rattle.history.proofs.Calls.{next_other, begin_other, decision_other, begin_own, next_kept}
 use Rattle.history.proofs.Calls.{steps_next_other, steps_begin_other, steps_decision_other}
-use Rattle.history.proofs.Calls.{steps_begin_own, steps_next_own, steps_decision_own, started_next_own}
+use Rattle.history.proofs.Calls.{steps_begin_own, steps_next_own, steps_decision_own, started_next_own, others_begin_own, others_next_own}
 use Rattle.history.proofs.Calls.{call_then, moved, heard_going, heard_events, get_left, set_left, Moved}
 
 -- what is wanted, where it is a word or nothing
@@ -240,6 +240,10 @@ module _ {T : Type 0} where
         pub begun_steps : steps_in (after_turn u (Begin p start)).world p ≡ 0
         begun_steps = steps_begin_own u.world p start flight (first_of u.world.kind u.world.capacity start u.world.kept) first_here
 
+        -- and no change by another
+        pub begun_others : others_in (after_turn u (Begin p start)).world p ≡ 0
+        begun_others = others_begin_own u.world p start flight (first_of u.world.kind u.world.capacity start u.world.kept) first_here
+
         pub begun : Between owner s id p (gained ++ Begun p start ∷ []) (after_turn u (Begin p start))
         begun = grind (arith, after_turn, by_mine, begins)
 
@@ -343,6 +347,10 @@ module _ {T : Type 0} where
 
         pub gone_named : started (party_of p (after_turn u (Next p)).world.latest) ≡ Some start
         gone_named = started_next_own u.world p start flight (stands u.world p start flight at)
+
+        -- no other has changed a word meanwhile
+        pub gone_others : others_in (after_turn u (Next p)).world p ≡ others_in u.world p
+        gone_others = others_next_own u.world p start flight (stands u.world p start flight at)
 
         -- by one step, where it asks for a word
         pub gone_steps : steps_in (after_turn u (Next p)).world p ≡ steps_in u.world p + step_count ask

@@ -23,7 +23,7 @@ use Rattle.model.specs.declared.turn.Turn.{Turn}
 use Rattle.model.specs.declared.turn.Turn.TheVariants.{Next}
 use Rattle.model.specs.Coding.{Coding, IsCoding}
 use Rattle.model.specs.Families.Container.Looks.{state_in}
-use Rattle.model.specs.Parties.{party_of}
+use Rattle.model.specs.Parties.{party_of, others_of}
 use Rattle.model.specs.Refusals.{call_refusal}
 use Rattle.model.specs.Turns.{IsReachedOn, AreAllowedBy, after_turn, after_turns, events_of}
 use Rattle.model.specs.World.{World, Trace, opening, capacity_error}
@@ -59,6 +59,19 @@ module _ {T : Type 0} where
 
   abbrev pub steps_in : World T → ℕ → ℕ
   steps_in w p = steps_of (party_of p w.latest)
+
+  -- and how many changes of words others made while it was under way, where words were changed so often; 0 before the first
+  abbrev pub others_so : ℕ → Option (Party T) → ℕ
+  others_so changes None = 0
+  others_so changes (Some x) = others_of changes x.doing
+
+  abbrev pub others_in : World T → ℕ → ℕ
+  others_in w p = others_so w.changes (party_of p w.latest)
+
+  -- the same of a pass, by its party
+  abbrev pub others_by : World T → Option ℕ → ℕ
+  others_by w None = 0
+  others_by w (Some p) = others_in w p
 
   -- ---- beginnings
 
@@ -199,13 +212,14 @@ module _ {T : Type 0} where
     pub is : events ≡ trace.events
 
   -- What the pass has seen are the events of its turns. None of them is refused, so they make a run of a machine of this
-  -- kind and capacity.
+  -- kind and capacity. There others have changed words so often while the latest call of its party was under way.
   pub record Knows (code : Coding T) (kind : Kind) (capacity : ℕ) (v : View T) : Type 0 where
     pub coded : IsCoding code
     pub admitted : capacity_error kind capacity ≡ None
     pub allowed : AreAllowedBy (refusal_as kind) (opening code kind capacity 0) v.turns
     pub fresh : AreFresh (opening code kind capacity 0) v.turns
     pub is : v.seen ≡ (run_of code kind capacity v.turns).events
+    pub others : v.others ≡ others_by (run_of code kind capacity v.turns).world v.party
 
   -- the run that it knew goes on to the one that it knows
   pub record Continues (code : Coding T) (kind : Kind) (capacity : ℕ) (old new : View T) : Type 0 where

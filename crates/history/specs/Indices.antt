@@ -17,7 +17,6 @@ use Rattle.model.specs.declared.event.Answer.TheVariants.{State, Number, Truth}
 use Rattle.model.specs.declared.event.Event.{Event}
 use Rattle.model.specs.declared.event.Event.TheVariants.{Claimed, Freed, Locked}
 use Rattle.model.specs.declared.event.Start.TheVariants.{Indices}
-use Rattle.model.specs.declared.families.Flight.{Flight}
 use Rattle.model.specs.declared.families.Flight as flights
 use Rattle.model.specs.declared.families.indices.IndexStart.TheVariants.{Acquire, Release, BorrowedIndices, IsLocked}
 use Rattle.model.specs.declared.families.indices.calls.IndexFlight as calls

@@ -28,6 +28,8 @@ module _ {T : Type 0} where
     pub right_party : right.party ≡ None
     pub turns : left.turns ≡ old.turns
     pub right_turns : right.turns ≡ old.turns
+    pub others : left.others ≡ old.others
+    pub right_others : right.others ≡ 0
     pub share : left.share ≡ half_of old.share
     pub right_share : right.share ≡ half_of old.share
 

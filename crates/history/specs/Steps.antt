@@ -5,7 +5,7 @@ use Rattle.model.specs.declared.turn.Kind.{Kind}
 use Rattle.model.specs.Coding.{Coding}
 use Rattle.model.specs.World.{progress_in}
 use Rattle.history.specs.declared.view.View.{View}
-use Rattle.history.specs.History.{Continues, run_of}
+use Rattle.history.specs.History.{run_of}
 
 module _ {T : Type 0} where
   -- at most so many
@@ -16,12 +16,14 @@ module _ {T : Type 0} where
   abbrev pub JoinsWithin : ℕ → View T → View T → View T → Type 0
   JoinsWithin most mine other new = new.asked ≤ mine.asked + other.asked + most
 
-  -- At most so many alone, and so many more for each change of a word that other parties made while the call was under
-  -- way, in the run that the pass knows. The party's latest call there is this one.
-  pub record TakesAlone (code : Coding T) (kind : Kind) (capacity alone retry : ℕ) (old new : View T) : Type 0 where
-    pub ran : Continues code kind capacity old new
-    pub party : ℕ
-    pub mine : new.party ≡ Some party
+  -- at most so many alone, and so many more for each change of a word that other parties made while the call was under way
+  abbrev pub TakesAlone : ℕ → ℕ → View T → View T → Type 0
+  TakesAlone alone retry old new = new.asked ≤ old.asked + (alone + new.others * retry)
+
+  -- What this says of the run that the pass knows: its party's latest call there is this one, and the changes are those
+  -- that the run counts.
+  pub record TakesInRun (code : Coding T) (kind : Kind) (capacity alone retry p : ℕ) (old new : View T) : Type 0 where
     pub progress : Progress
-    pub latest : progress_in (run_of code kind capacity new.turns).world party ≡ Some progress
+    pub latest : progress_in (run_of code kind capacity new.turns).world p ≡ Some progress
+    pub counts : new.others ≡ progress.others
     pub steps : new.asked ≤ old.asked + (alone + progress.others * retry)

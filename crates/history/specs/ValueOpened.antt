@@ -60,6 +60,7 @@ module _ {T : Type 0} (value : T) where
         state = None;
         asked = 0;
         taken = 0;
+        others = 0;
       }
 
 -- the words of its cells: those of the value, but zeros in the first where it was stored once

@@ -29,6 +29,7 @@ module _ {T : Type 0} where
         state = None;
         asked = 0;
         taken = 0;
+        others = 0;
       }
 
   -- the split is one operation of the pass that is split, and the join one of the pass that takes in, with those of the other
@@ -47,6 +48,7 @@ module _ {T : Type 0} where
         state = None;
         asked = 0;
         taken = 0;
+        others = 0;
       }
 
   abbrev pub left_view : View T → View T
@@ -67,6 +69,7 @@ module _ {T : Type 0} where
         state = v.state;
         asked = v.asked + w.asked + 1;
         taken = v.taken;
+        others = v.others;
       }
 
   abbrev pub spent_view : View T
@@ -84,6 +87,7 @@ module _ {T : Type 0} where
         state = None;
         asked = 0;
         taken = 0;
+        others = 0;
       }
 
   -- a look sees all of the history, of which both were beginnings

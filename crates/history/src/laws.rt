@@ -1,7 +1,7 @@
 //! What one history of a bit set or of a counting bit set says in the field's words: the laws of every history that
 //! threads have seen, and of every run of a machine. These functions do nothing: the contract of each is a law, whose
 //! proof is a lemma that a client's proof can cite.
-ghost use Rattle.std.specs.Prelude.{◌≡◌, ℕ, None, List};
+ghost use Rattle.std.specs.Prelude.{◌≡◌, ℕ, Some, None, List};
 ghost use Rattle.atomic_table.specs.Table.{State};
 ghost use Rattle.model.specs.declared.event.Answer.{Answer};
 ghost use Rattle.model.specs.declared.event.Event.{Event};
@@ -18,6 +18,7 @@ ghost use Rattle.history.specs.Passes.{HasSplit, HasJoined};
 ghost use Rattle.history.specs.Views.{first_view};
 ghost use Rattle.history.specs.Acts.{ActsByPlace, IsSet};
 ghost use Rattle.history.specs.Order.{StandsIn, EndsNone};
+ghost use Rattle.history.specs.Steps.{TakesAlone, TakesInRun};
 
 /// In a history of a bit set or of a counting bit set the calls act place by place: a set, and a reset of the next place
 /// that answers one, at one moment; a reset of all, and one that answers none, once at each place (but for a count that
@@ -72,4 +73,14 @@ pub fn runs_go_on<T>()
         → Knows code kind capacity (first_view capacity) }
     ensures tables { (code : Coding T) (kind : Kind) (capacity : ℕ) (s : State (Unit {0}) (View T))
         → IsMachine code kind capacity s → SeatsKnowOneRun s }
+{}
+
+/// What the steps of a call say of the run that the pass knows after it. `TakesAlone` bounds them by a count of the pass:
+/// of the changes of words that others made while the call was under way. In the run that the pass knows, its party's
+/// latest call is this one, and the run counts as many changes by others while it was under way. So the bound is the one
+/// that the model promises of that call. The lemma is `takes_in_run` of `proofs/Latest.antt`.
+pub fn steps_are_bounded<T>()
+    ensures { (code : Coding T) (kind : Kind) (capacity alone retry p : ℕ) (start : Start T) (answer : Answer T) (wrote : List (Event T))
+        (old new : View T) → Called p start answer wrote old new → new.party ≡ Some p → Knows code kind capacity new
+        → TakesAlone alone retry old new → TakesInRun code kind capacity alone retry p old new }
 {}

@@ -94,4 +94,7 @@ pub struct View<T> {
     pub asked: u64,
     /// How many of them its latest call has taken, where that is under way: the steps of the call in the machine.
     pub taken: u64,
+    /// How many changes of words other parties made while the latest call of its party was under way, in the run that
+    /// its turns make.
+    pub others: u64,
 }

@@ -45,14 +45,14 @@ use Rattle.laws_container.proofs.Sound.{opening_sound}
 use Rattle.laws_container.proofs.Terms.{Terms}
 use Rattle.laws_container.proofs.WellFormed.{well_formed_on}
 use Rattle.model.proofs.Readings.{Each-less}
-use Rattle.history_laws.specs.Owners.{changes, BeginsAlone, LocksApart}
+use Rattle.lock_free_owners.specs.Worn.{changes, BeginsAlone, LocksApart}
 use Rattle.history_laws.specs.Containers.{rise, rises, BeginsRight, IsFaithful, IsYoung, IsOrderly, IsContained}
 use Rattle.history_laws.proofs.ContainerLiving.{living, steps_right}
 use Rattle.history_laws.proofs.ContainerRaised.{Raised, word_raised, turn_raised}
-use Rattle.history_laws.proofs.ContainerWorn.{Sound, terms, sound_on, facts, opens_so, opens_bounded}
-use Rattle.history_laws.proofs.OwnersBounded.{Bounded, counter, changes_more}
+use Rattle.lock_free_owners.proofs.Worn.ContainerWorn.{Sound, terms, sound_on, facts, opens_so, opens_bounded}
+use Rattle.lock_free_owners.proofs.Worn.Bounded.{Bounded, counter, changes_more}
 use Rattle.laws_robust.proofs.Counter.{tested}
-use Rattle.history_laws.proofs.OwnersTurns.{turn_holds}
+use Rattle.lock_free_owners.proofs.Worn.Turns.{turn_holds}
 use Rattle.laws_robust.proofs.Counter.{counter_of}
 
 module _ {T : Type 0} where

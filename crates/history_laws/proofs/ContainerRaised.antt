@@ -45,7 +45,7 @@ use Rattle.laws_robust.specs.Open.{open_refusal}
 use Rattle.laws_container.proofs.Invariant.{family_by, FlightAt}
 use Rattle.history_laws.specs.Containers.{rise, rises}
 use Rattle.history_laws.proofs.ContainerLifts.{container_lifts, lifts_left, IsWithin, is_within, container_lift, keeps, begins as begins_so}
-use Rattle.history_laws.proofs.ContainerWorn.{Sound, terms, some_same}
+use Rattle.lock_free_owners.proofs.Worn.ContainerWorn.{Sound, terms, some_same}
 
 module _ {T : Type 0} where
   -- ---- any call

@@ -4,16 +4,6 @@ pub mod CountsSums
 pub mod IndicesHeld
 pub mod IndicesSpans
 pub mod IndicesLaws
-pub mod OwnersParts
-pub mod RobustPays
-pub mod RobustCalls
-pub mod ContainerPays
-pub mod ContainerCalls
-pub mod OwnersBounded
-pub mod OwnersTurns
-pub mod RobustWorn
-pub mod ContainerWorn
-pub mod OwnersLaws
 pub mod ContainerLifts
 pub mod ContainerRaised
 pub mod ContainerLiving

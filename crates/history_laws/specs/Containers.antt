@@ -12,7 +12,7 @@ use Rattle.model.specs.Families.Indices.Robust.Promises.{FreesRight, HoldsRight,
 use Rattle.model.specs.Moments.{HeldSometime}
 use Rattle.model.specs.Reading.{Each, Span, Open, span_of}
 use Rattle.laws_robust.specs.Gone.{Word, is_gone}
-use Rattle.history_laws.specs.Owners.{changes, LocksApart}
+use Rattle.lock_free_owners.specs.Worn.{changes, LocksApart}
 
 module _ {T : Type 0} where
   -- ---- nobody acts for an owner in recovery

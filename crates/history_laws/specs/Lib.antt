@@ -2,6 +2,6 @@
 pub mod Indices
 pub mod Bits
 pub mod Counts
-pub mod Owners
+pub use Rattle.lock_free_owners.specs.Worn as Owners
 pub mod Containers
 pub mod Grants

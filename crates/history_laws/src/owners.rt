@@ -6,7 +6,7 @@ ghost use Rattle.model.specs.declared.event.Event.{Event};
 ghost use Rattle.model.specs.Coding.{Coding};
 ghost use Rattle.lock_free_owners.specs.Robust.Contracts.{IsWorn};
 ghost use Rattle.lock_free_owners.specs.Container.Contracts as containers;
-ghost use Rattle.history_laws.specs.Owners.{changes, lock_calls, LocksApart};
+ghost use Rattle.lock_free_owners.specs.Worn.{changes, lock_calls, LocksApart};
 
 /// Where no two calls that may lock overlap, the counter is at its end only after a third of 2^64 - 2 changes: indices
 /// filled or freed, and counts begun. Of two that overlap each can make the other count again, and raise the counter, any

@@ -3,6 +3,8 @@ pub mod Begins
 pub mod Settling
 pub mod Opens
 pub mod Sound
+pub mod Resting
+pub mod Cuts
 pub mod Facts
 pub mod Passes
 pub mod Began

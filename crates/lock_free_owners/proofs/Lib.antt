@@ -1,4 +1,5 @@
 mod Names
+pub mod Worn
 pub mod Rules
 pub mod RobustSet
 pub mod ContainerSet

@@ -1,5 +1,7 @@
 pub mod Names
 pub mod Idle
+pub mod Resting
+pub mod Ends
 pub mod Contracts
 pub mod Turns
 pub mod Bare

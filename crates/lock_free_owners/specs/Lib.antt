@@ -1,3 +1,4 @@
+pub mod Worn
 pub mod Robust
 pub mod RobustUniqueIndexSet
 pub mod Container

@@ -26,7 +26,7 @@ ghost use Rattle.lock_free_queues.specs.Queues.Merges.{Merges, HasPushedUpTo, Ha
 ghost use Rattle.lock_free_queues.specs.Queues.Overflowing.{HasOverflowed};
 ghost use Rattle.lock_free_queues.specs.Queues.Positions.{IsPublished, IsTaken, IsSound, IsOverSound};
 ghost use Rattle.steps.specs.Objects.Lists.{Bounded};
-ghost use Rattle.lock_free_queues.specs.Queues.Closes.{Closes, IsWhatWaits, IsNewestThatWaits};
+ghost use Rattle.lock_free_queues.specs.Queues.Closes.{Closes};
 ghost use Rattle.lock_free_queues.specs.Queues.Sent.{HasSent, HasReceived, HasPassed, TellsApart};
 ghost use Rattle.lock_free_queues.specs.Queues.Sums.{puts, gets, HasDone};
 ghost use Rattle.lock_free_queues.specs.Queues.Contracts.{HasPushed, HasPublished, WasFull, HasPopped};
@@ -229,16 +229,18 @@ pub fn passed_in_order<T, V>()
         → HasPassed named sent received v → Closes named capacity v q → sent ≡ received ++ q.values }
 {}
 
-/// A `close` loses nothing. Until the moment of which it tells, what was published is what was taken out, then of an
-/// overflowing queue what the list leaves out, and then the list. The lemmas are `closed_book` of
+/// A `close` loses nothing. As the pass stood at the moment of which it tells, it had seen a history (`each` of `history` of
+/// a pass). In that, what was published is what was taken out, then of an overflowing queue what the list leaves out, and
+/// then the list. The lemmas are `closed_book` of
 /// `proofs/Queues/Closes.antt` and `over_closed_book` of `proofs/Queues/OverCloses.antt`.
 pub fn closes_lose_nothing<T, V>()
     ensures bounded { (named : V
-        → Item T) (code : Coding T) (kind : QueueKind) (capacity : ℕ) (v : View T) (q : Bounded V)
-        → (h : IsWhatWaits code (machine_kind kind) named capacity v q)
-        → published h.at ≡ handed_out h.at ++ map named q.values }
-    ensures overflowing { (capacity : ℕ) (v : View ℕ) (q : Bounded ℕ) → (h : IsNewestThatWaits capacity v q)
-        → published h.at ≡ handed_out h.at ++ (h.older ++ map Index q.values) }
+        → Item T) (code : Coding T) (kind : QueueKind) (capacity : ℕ) (at : List (Event T)) (q : Bounded V)
+        → IsHistory code (machine_kind kind) capacity at → waiting at ≡ map named q.values
+        → published at ≡ handed_out at ++ map named q.values }
+    ensures overflowing { (capacity : ℕ) (at : List (Event ℕ)) (older : List (Item ℕ)) (q : Bounded ℕ)
+        → IsHistory one_word kinds.Overflow capacity at → waiting at ≡ older ++ map Index q.values
+        → published at ≡ handed_out at ++ (older ++ map Index q.values) }
 {}
 
 /// Who knows what was sent and received goes on knowing it. With the whole share nothing changes as a role is taken,

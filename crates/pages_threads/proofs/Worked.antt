@@ -42,6 +42,7 @@ knowing =
       state = None;
       asked = 0;
       taken = 0;
+      others = 0;
     }
 
 -- as the page sees it, party 0 pushes twice, and party 1 pops

@@ -1,4 +1,7 @@
 //! Slots, channels and pools of more places than fit into one word of bits.
+ghost use Rattle.lock_free.specs.Loan.Sender.{IsSame};
+ghost use Rattle.uses_loans.specs.Ends.{sender_of, IsSameReceiver};
+
 use std::alloc::Global;
 use std::sync::Wait;
 use std::test::Fail;
@@ -76,7 +79,9 @@ fn each_slot_keeps_its_value(rt: HostRuntime) -> Result<(), Fail> {
 // ---- channels
 
 /// Sends a value of the next number. False where it comes back.
-fn sends(rt: &impl Wait, sender: &mut Sender<'_, u64>) -> bool {
+fn sends(rt: &impl Wait, sender: &mut Sender<'_, u64>) -> bool
+    ensures { IsSame (sender_of sender.old) (sender_of sender.new) }
+{
     let number = sender.next_number();
     let Ok(mut loan) = sender.loan(rt) else {
         return false;
@@ -86,7 +91,9 @@ fn sends(rt: &impl Wait, sender: &mut Sender<'_, u64>) -> bool {
 }
 
 /// The next sample, if it has this number and can be read.
-fn comes(rt: &impl Wait, receiver: &mut Receiver<'_, u64>, number: u64) -> Option<Sample> {
+fn comes(rt: &impl Wait, receiver: &mut Receiver<'_, u64>, number: u64) -> Option<Sample>
+    ensures { IsSameReceiver receiver.old receiver.new }
+{
     let sample = receiver.receive(rt)?;
     let is_right = match receiver.read(&sample) {
         Ok(reading) => { reading.number() == number && *reading.get() == number.wrapping_mul(3) }
@@ -149,6 +156,60 @@ fn all_places_are_used(rt: HostRuntime) -> Result<(), Fail> {
     for places in [1, 9, 64, 65, 100, 300] {
         assert!(rt; through(&rt, rt.alloc(), places) == Some(true));
     }
+    Ok(())
+}
+
+/// Whether the value of this number comes, and is given back. None where none comes.
+fn goes_back(rt: &impl Wait, receiver: &mut Receiver<'_, u64>, number: u64) -> Option<bool>
+    ensures { IsSameReceiver receiver.old receiver.new }
+{
+    let sample = comes(rt, receiver, number)?;
+    Some(receiver.give_back(sample))
+}
+
+/// The same of the second value of the ends before these, if there were any.
+fn earlier_goes_back(rt: &impl Wait, receiver: &mut Receiver<'_, u64>, first: u64) -> Option<bool>
+    ensures { IsSameReceiver receiver.old receiver.new }
+{
+    if first == 0 {
+        return Some(true);
+    }
+    goes_back(rt, receiver, first.wrapping_sub(1))
+}
+
+/// Sends two values by new ends of a channel, of which one is received behind the one that waits, and hands their parts in: whether
+/// all came, and the numbers went on from this one.
+fn in_turn(rt: &impl Wait, alloc: Global, channel: &mut Channel<u64>, first: u64) -> Option<bool> {
+    let (sends_of, receives_of) = channel.open()?;
+    let spares = vec![in alloc; 0u64; 10].ok()?;
+    let (mut sender, mut receiver) = channel.ends_with(alloc, spares, sends_of, receives_of)?;
+    let mut right = sender.next_number() == first;
+    right &= sends(rt, &mut sender);
+    right &= sends(rt, &mut sender);
+    right &= earlier_goes_back(rt, &mut receiver, first)?;
+    right &= goes_back(rt, &mut receiver, first)?;
+    let (left, _) = sender.finish_all();
+    let other = receiver.finish();
+    channel.relayed(left, other);
+    Some(right)
+}
+
+/// Numbers go on with the next ends of a channel, and what waited comes with its own.
+fn go_on(rt: &impl Wait, alloc: Global) -> Option<bool> {
+    let mut channel: Channel<u64> = Channel::new(alloc, 9, 9).ok()?;
+    let mut right = true;
+    for at in 0..4u64 {
+        right &= in_turn(rt, alloc, &mut channel, at.wrapping_mul(2))?;
+    }
+    let (sends_of, receives_of) = channel.open()?;
+    let (_sender, mut receiver) = channel.ends_with(alloc, Vec::new(alloc), sends_of, receives_of)?;
+    right &= goes_back(rt, &mut receiver, 7)?;
+    Some(right & receiver.receive(rt).is_none())
+}
+
+#[test]
+fn numbers_go_on(rt: HostRuntime) -> Result<(), Fail> {
+    assert!(rt; go_on(&rt, rt.alloc()) == Some(true));
     Ok(())
 }
 

@@ -4,7 +4,8 @@ use crate::replayed;
 use crate::text::{adds_bytes, adds_line, behind_space, number};
 use outcomes::list_and_tell;
 use outcomes::progress::Progress;
-use outcomes::search::Most;
+use outcomes::sample::Draws;
+use outcomes::search::{How, Most};
 use std::alloc::Global;
 use std::str;
 
@@ -13,6 +14,9 @@ const ENOUGH: Most = Most {
     states: 20_000,
     turns: 20_000,
 };
+
+/// Some of the schedules of a text.
+const SOME: Draws = Draws { count: 40, seed: 7 };
 
 /// A text, how far the search goes, and once it is listed what is printed and told.
 pub struct Listed {
@@ -49,24 +53,55 @@ impl Listed {
         }
     }
 
+    fn how(&self) -> How {
+        How {
+            stops: self.stops,
+            is_uncounted: false,
+            draws: None,
+        }
+    }
+
+    /// What is listed so, and told: the exit.
+    fn finds(&self, how: How, list: &mut Vec<u8>, told: &mut Vec<u8>) -> u8 {
+        let mut reader = self.input.as_slice();
+        let mut unseen = Progress::unseen();
+        list_and_tell(
+            self.alloc,
+            how,
+            self.most,
+            &mut unseen,
+            &mut reader,
+            list,
+            told,
+        )
+    }
+
     /// Lists the outcomes: the exit.
     fn lists(&mut self) -> u8 {
         let mut list = Vec::new(self.alloc);
         let mut told = Vec::new(self.alloc);
-        let mut reader = self.input.as_slice();
-        let mut unseen = Progress::unseen();
-        let exit = list_and_tell(
-            self.alloc,
-            self.stops,
-            self.most,
-            &mut unseen,
-            &mut reader,
-            &mut list,
-            &mut told,
-        );
+        let exit = self.finds(self.how(), &mut list, &mut told);
         self.list = list;
         self.told = told;
         exit
+    }
+
+    /// Whether a search that leaves out turns that commute has the same outcomes, or one that draws schedules no others.
+    fn agrees(&self, way: &str) -> Option<bool> {
+        let mut how = self.how();
+        match way {
+            "uncounted" => how.is_uncounted = true,
+            "drawn" => how.draws = Some(SOME),
+            _ => return None,
+        }
+        let mut list = Vec::new(self.alloc);
+        let mut told = Vec::new(self.alloc);
+        let exit = self.finds(how, &mut list, &mut told);
+        let other = str::from_utf8(&list).unwrap_or("no text");
+        if exit == 2 || !replayed::has_all(self.text(), other) {
+            return Some(false);
+        }
+        Some(how.draws.is_some() || replayed::has_all(other, self.text()))
     }
 
     fn text(&self) -> &str {
@@ -132,6 +167,7 @@ impl Listed {
             "begins" => Some(self.text().starts_with(rest)),
             "has" => self.has(rest),
             "lacks" => Some(!self.has(rest)?),
+            "agrees" => self.agrees(rest),
             "outcome" => self.is_outcome(rest),
             "answers" => self.is_answer(rest),
             "replays" => Some(replayed::agreeing(self.alloc, self.text(), rest.parse().ok()?)? > 1),

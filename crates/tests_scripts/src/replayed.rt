@@ -16,6 +16,21 @@ pub fn has_outcome(list: &str, separator: &str, wanted: &str) -> bool {
     has
 }
 
+/// Whether a list has all outcomes of another, of which there are some.
+pub fn has_all(list: &str, other: &str) -> bool {
+    let mut has_some = false;
+    for block in other.split("\n\n") {
+        if block.starts_with("outcome ") {
+            let answers = block.split_once('\n').map_or("", |it| it.1);
+            if !has_outcome(list, "\n", answers) {
+                return false;
+            }
+            has_some = true;
+        }
+    }
+    has_some
+}
+
 /// Appends what the calls came to, party by party, without the first `before` calls. A run tells it of all parties in one
 /// order.
 fn adds_answers(text: &mut String, run: &str, before: usize) -> Option<()> {

@@ -6,8 +6,6 @@
 #[cfg(test)]
 mod bits;
 #[cfg(test)]
-mod bounds;
-#[cfg(test)]
 mod containers;
 #[cfg(test)]
 mod deaths;
@@ -23,8 +21,6 @@ mod inside;
 mod last;
 #[cfg(test)]
 mod limit;
-#[cfg(test)]
-mod loan;
 #[cfg(test)]
 mod log;
 #[cfg(test)]

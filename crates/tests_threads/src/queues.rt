@@ -1,7 +1,6 @@
 //! Queues between two threads: many numbers, and two that wait for one another.
 ghost use Rattle.lock_free.specs.Queues.Rings.{inner, IsPassOf};
 
-use crate::bounds::are_within;
 use crate::ends::{Gives, GivesAll, QueueLength, Takes, TakesAll, next};
 use crate::limit::TURNS;
 use crate::logged::{OVERLAPS, ROUNDS, Rounds, runs};
@@ -133,20 +132,6 @@ fn calls_as_if_one_after_another(rt: HostRuntime) -> Result<(), Fail> {
         overlaps >= OVERLAPS,
         "only {overlaps} pairs of calls overlapped"
     );
-    Ok(())
-}
-
-/// Whether three who push, pop and ask for the length of a new queue are answered within bounds.
-fn are_right<R: Wait + Threads + Clock + Sync>(rt: &R, alloc: Global) -> Result<bool, Fail> {
-    let (queue, pass) = IndexQueue::new(alloc, 3)?;
-    let (producer, consumer, length) = three(&queue, pass).ok_or("no further pass")?;
-    Ok(are_within(rt, 3, producer, consumer, length))
-}
-
-/// More calls, each alone: by what had passed the other end before it, and may have passed after it.
-#[test]
-fn calls_within_bounds(rt: HostRuntime) -> Result<(), Fail> {
-    assert!(rt; are_right(&rt, rt.alloc())?);
     Ok(())
 }
 

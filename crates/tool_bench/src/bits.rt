@@ -3,7 +3,7 @@ ghost use Rattle.lock_free.specs.Bits.Calls as of_bits;
 ghost use Rattle.lock_free.specs.Counts.Calls as of_counts;
 
 use crate::hand::bits as by_hand;
-use crate::timing::{Row, Timed, print_timed};
+use crate::timing::{Another, Asked, Row};
 use lock_free::mpmc::bit_set::{BitSet, Pass};
 use lock_free::mpmc::counting_bit_set;
 use lock_free::mpmc::counting_bit_set::{BitState, CountingBitSet};
@@ -12,29 +12,9 @@ use std::sync::Wait;
 use std::thread::Threads;
 use std::time::CpuClock;
 
-/// Sets a place, and resets the next one that stands, which it is.
-pub const SET_AND_RESET_NEXT: usize = 0;
-
-/// Looks in vain for a place that stands.
-pub const RESET_NEXT: usize = 1;
-
-/// Sets a place, and resets all.
-pub const SET_AND_RESET_ALL: usize = 2;
-
-/// Sets a place that stands, but for the first time.
-pub const SET: usize = 3;
-
-/// Sets each place, and resets all.
-pub const FILL_AND_RESET_ALL: usize = 4;
-
-/// Counts a place.
-pub const COUNT: usize = 5;
-
-/// Counts a place, and takes all counts out.
-pub const COUNT_AND_RESET_ALL: usize = 6;
-
-/// A bit set with a pass, on which these calls are made.
-struct Bits<'a, const CALLS: usize> {
+/// A bit set with a pass, of which no place stands.
+#[derive(Drop)]
+struct Bits<'a> {
     set: &'a BitSet,
     pass: Pass,
     hand: by_hand::Bits,
@@ -43,36 +23,13 @@ struct Bits<'a, const CALLS: usize> {
     ghost of: { of_bits.IsPassOf set.now pass },
 }
 
-impl<'a, const CALLS: usize> Drop for Bits<'a, CALLS> {
-    fn drop(self) {
-        let Self {
-            set: _,
-            pass: _pass,
-            hand: _hand,
-            mask: _,
-        } = self;
-    }
-}
-
-impl<'a, const CALLS: usize> Bits<'a, CALLS> {
+impl<'a> Bits<'a> {
     #[inline(never)]
     fn set<R: Wait>(&mut self, rt: &R, place: usize) -> bool {
         if place >= self.set.capacity() {
             return false;
         }
         self.set.set(rt, place, &mut self.pass)
-    }
-
-    /// Sets each place.
-    fn fill<R: Wait>(&mut self, rt: &R) {
-        for place in 0..self.set.capacity() {
-            self.set(rt, place);
-        }
-    }
-
-    #[inline(never)]
-    fn reset_next<R: Wait>(&mut self, rt: &R) -> Option<usize> {
-        self.set.reset_next(rt, &mut self.pass)
     }
 
     #[inline(never)]
@@ -86,55 +43,8 @@ impl<'a, const CALLS: usize> Bits<'a, CALLS> {
     }
 }
 
-impl<'a, const CALLS: usize> Timed for Bits<'a, CALLS> {
-    #[inline(never)]
-    fn ours<R: Wait>(&mut self, rt: &R, number: u64) -> u64 {
-        match CALLS {
-            SET_AND_RESET_NEXT => {
-                let set = self.set(rt, (number & self.mask) as usize);
-                match self.reset_next(rt) {
-                    Some(place) if set => place as u64,
-                    _ => 0,
-                }
-            }
-            RESET_NEXT => self.reset_next(rt).is_some() as u64,
-            SET => self.set(rt, 5) as u64,
-            FILL_AND_RESET_ALL => {
-                self.fill(rt);
-                self.reset_all()
-            }
-            _ => {
-                self.set(rt, 5);
-                self.reset_all()
-            }
-        }
-    }
-
-    #[inline(never)]
-    fn by_hand<R: Wait>(&mut self, rt: &R, number: u64) -> u64 {
-        match CALLS {
-            SET_AND_RESET_NEXT => {
-                let place = u32::try_from(number & self.mask).unwrap_or(0);
-                let set = self.hand.set(rt, place);
-                match self.hand.reset_next(rt) {
-                    Some(place) if set => place as u64,
-                    _ => 0,
-                }
-            }
-            RESET_NEXT => self.hand.reset_next(rt).is_some() as u64,
-            SET => self.hand.set(rt, 5) as u64,
-            FILL_AND_RESET_ALL => {
-                self.hand.fill(rt);
-                self.hand.reset_all()
-            }
-            _ => {
-                self.hand.set(rt, 5);
-                self.hand.reset_all()
-            }
-        }
-    }
-
-    fn another(&mut self) -> Option<Bits<'a, CALLS>> {
+impl<'a> Another for Bits<'a> {
+    fn another(&mut self) -> Option<Bits<'a>> {
         let pass = self.pass.split()?;
         let hand = self.hand.another()?;
         Some(Bits {
@@ -146,48 +56,88 @@ impl<'a, const CALLS: usize> Timed for Bits<'a, CALLS> {
     }
 }
 
-/// Prints a row of the bit set, of which no place stands.
-pub fn bits_row<const CALLS: usize, R: Wait + Threads + CpuClock + Print + Sync>(
-    rt: &R,
-    alloc: Global,
-    row: &Row<'_>,
-) -> Option<()> {
-    let (set, pass) = BitSet::new(alloc, row.capacity as usize).ok()?;
-    let hand = by_hand::Bits::new(alloc, row.capacity).ok()?;
-    let timed = Bits::<'_, CALLS> {
-        set: &set,
-        pass,
-        hand,
-        mask: (row.capacity as u64).saturating_sub(1),
-    };
-    print_timed(rt, alloc, row, timed)
+/// Sets a place, and resets the next one that stands, which it is.
+struct SetResetNext;
+
+impl<'a> Row<Bits<'a>> for SetResetNext {
+    const NAME: &'static str = "bit set: set and reset_next";
+
+    fn ours<R: Wait>(on: &mut Bits<'a>, rt: &R, number: u64) -> u64 {
+        let set = on.set(rt, (number & on.mask) as usize);
+        match on.set.reset_next(rt, &mut on.pass) {
+            Some(place) if set => place as u64,
+            _ => 0,
+        }
+    }
+
+    fn theirs<R: Wait>(on: &mut Bits<'a>, rt: &R, number: u64) -> u64 {
+        let place = u32::try_from(number & on.mask).unwrap_or(0);
+        let set = on.hand.set(rt, place);
+        match on.hand.reset_next(rt) {
+            Some(place) if set => place as u64,
+            _ => 0,
+        }
+    }
 }
 
-/// Counts with a pass. A call counts a place, and but for `COUNT` takes all counts out.
-struct Counts<'a, const CALLS: usize> {
+/// Sets a place, and resets all.
+struct SetResetAll;
+
+impl<'a> Row<Bits<'a>> for SetResetAll {
+    const NAME: &'static str = "bit set: set and reset_all";
+
+    fn ours<R: Wait>(on: &mut Bits<'a>, rt: &R, _number: u64) -> u64 {
+        on.set(rt, 5);
+        on.reset_all()
+    }
+
+    fn theirs<R: Wait>(on: &mut Bits<'a>, rt: &R, _number: u64) -> u64 {
+        on.hand.set(rt, 5);
+        on.hand.reset_all()
+    }
+}
+
+/// Sets a place that stands, but for the first time.
+struct SetAgain;
+
+impl<'a> Row<Bits<'a>> for SetAgain {
+    const NAME: &'static str = "bit set: set of a place that stands";
+
+    fn ours<R: Wait>(on: &mut Bits<'a>, rt: &R, _number: u64) -> u64 {
+        on.set(rt, 5) as u64
+    }
+
+    fn theirs<R: Wait>(on: &mut Bits<'a>, rt: &R, _number: u64) -> u64 {
+        on.hand.set(rt, 5) as u64
+    }
+}
+
+/// Counts with a pass, in which no place counts.
+#[derive(Drop)]
+struct Counts<'a> {
     set: &'a CountingBitSet,
     pass: counting_bit_set::Pass,
     hand: by_hand::Counts,
     ghost of: { of_counts.IsPassOf set.now pass },
 }
 
-impl<'a, const CALLS: usize> Drop for Counts<'a, CALLS> {
-    fn drop(self) {
-        let Self {
-            set: _,
-            pass: _pass,
-            hand: _hand,
-        } = self;
+impl<'a> Another for Counts<'a> {
+    fn another(&mut self) -> Option<Counts<'a>> {
+        let pass = self.pass.split()?;
+        let hand = self.hand.another()?;
+        Some(Counts {
+            set: self.set,
+            pass,
+            hand,
+        })
     }
 }
 
-impl<'a, const CALLS: usize> Counts<'a, CALLS> {
+impl<'a> Counts<'a> {
     #[inline(never)]
-    fn set(&mut self) -> u64 {
+    fn set(&mut self) {
         if self.set.capacity() > 5 {
-            self.set.set(5, &mut self.pass)
-        } else {
-            0
+            self.set.set(5, &mut self.pass);
         }
     }
 
@@ -204,50 +154,46 @@ impl<'a, const CALLS: usize> Counts<'a, CALLS> {
     }
 }
 
-impl<'a, const CALLS: usize> Timed for Counts<'a, CALLS> {
-    #[inline(never)]
-    fn ours<R: Wait>(&mut self, _rt: &R, _number: u64) -> u64 {
-        let count = self.set();
-        if CALLS == COUNT {
-            count
-        } else {
-            self.reset_all()
-        }
+/// Counts a place, and takes all counts out.
+struct CountResetAll;
+
+impl<'a> Row<Counts<'a>> for CountResetAll {
+    const NAME: &'static str = "counting bit set: set and reset_all";
+
+    fn ours<R: Wait>(on: &mut Counts<'a>, _rt: &R, _number: u64) -> u64 {
+        on.set();
+        on.reset_all()
     }
 
-    #[inline(never)]
-    fn by_hand<R: Wait>(&mut self, _rt: &R, _number: u64) -> u64 {
-        let count = self.hand.set(5);
-        if CALLS == COUNT {
-            count
-        } else {
-            self.hand.reset_all()
-        }
-    }
-
-    fn another(&mut self) -> Option<Counts<'a, CALLS>> {
-        let pass = self.pass.split()?;
-        let hand = self.hand.another()?;
-        Some(Counts {
-            set: self.set,
-            pass,
-            hand,
-        })
+    fn theirs<R: Wait>(on: &mut Counts<'a>, _rt: &R, _number: u64) -> u64 {
+        on.hand.set(5);
+        on.hand.reset_all()
     }
 }
 
-/// Prints a row of the counts, in which no place counts.
-pub fn counts_row<const CALLS: usize, R: Wait + Threads + CpuClock + Print + Sync>(
+pub fn rows<R: Wait + Threads + CpuClock + Print + Sync>(
     rt: &R,
     alloc: Global,
-    row: &Row<'_>,
+    asked: &Asked<'_>,
+    capacity: u32,
 ) -> Option<()> {
-    let (set, pass) = CountingBitSet::new(alloc, row.capacity as usize).ok()?;
-    let hand = by_hand::Counts::new(alloc, row.capacity).ok()?;
-    let timed = Counts::<'_, CALLS> {
+    let (set, pass) = BitSet::new(alloc, capacity as usize).ok()?;
+    let hand = by_hand::Bits::new(alloc, capacity).ok()?;
+    let mut bits = Bits {
+        set: &set,
+        pass,
+        hand,
+        mask: (capacity as u64).saturating_sub(1),
+    };
+    asked.both::<SetResetNext, Bits<'_>, R>(rt, alloc, capacity, &mut bits)?;
+    asked.alone::<SetResetAll, Bits<'_>, R>(rt, capacity, &mut bits)?;
+    asked.alone::<SetAgain, Bits<'_>, R>(rt, capacity, &mut bits)?;
+    let (set, pass) = CountingBitSet::new(alloc, capacity as usize).ok()?;
+    let hand = by_hand::Counts::new(alloc, capacity).ok()?;
+    let mut counts = Counts {
         set: &set,
         pass,
         hand,
     };
-    print_timed(rt, alloc, row, timed)
+    asked.both::<CountResetAll, Counts<'_>, R>(rt, alloc, capacity, &mut counts)
 }

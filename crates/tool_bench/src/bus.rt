@@ -1,12 +1,11 @@
 //! The table of records that go through the bus of `uses_bus`, through the channel of `uses_loans` and by `Arc` through a
-//! ring, beside records that are copied; and the table of one who is stopped in its call.
+//! ring, beside records that are copied.
 
 mod by_arcs;
 mod by_bus;
 mod by_copy;
 mod by_loans;
 mod passing;
-mod stopped;
 
 use crate::timing::{ROUNDS, median, quotient};
 use by_bus::{sizes_of, spares};
@@ -17,7 +16,6 @@ use std::io;
 use std::sync::{Mutex, Wait};
 use std::thread::Threads;
 use std::time::{Clock, CpuClock, Instant};
-use stopped::{STOPPED_FOR, beside_lock, beside_pool};
 use uses_bus::bus::Bus;
 use uses_bus::error::BusError;
 use uses_loans::channel::Channel;
@@ -223,8 +221,8 @@ fn print_row(rt: &impl Print, way: &str, passed: &Passed, came: Option<Came>) ->
     )
 }
 
-/// Prints the table of records that go from a writer to readers.
-fn print_ways<R: Wait + Threads + Clock + CpuClock + Print + Sync>(
+/// Prints the table.
+pub fn print_table<R: Wait + Threads + Clock + CpuClock + Print + Sync>(
     rt: &R,
     alloc: Global,
 ) -> io::Result<()> {
@@ -241,37 +239,4 @@ fn print_ways<R: Wait + Threads + Clock + CpuClock + Print + Sync>(
         }
     }
     Ok(())
-}
-
-/// Prints the table of three who write records while a fourth is stopped.
-fn print_stopped<R: Wait + Threads + Clock + Print + Sync>(
-    rt: &R,
-    alloc: Global,
-) -> io::Result<()> {
-    println!(rt;
-        "| one of four threads is stopped for | bytes | records of the three meanwhile, of a pool | under a Mutex |"
-    )?;
-    println!(rt; "|---|---|---|---|")?;
-    for words in [8usize, 512, 8192].iter() {
-        let of_pool = beside_pool(rt, alloc, *words);
-        let of_lock = beside_lock(rt, alloc, *words);
-        match (of_pool, of_lock) {
-            (Some(of_pool), Some(of_lock)) => println!(rt;
-                "| {STOPPED_FOR} ms | {} | {of_pool} | {of_lock} |",
-                words.saturating_mul(8)
-            )?,
-            _ => println!(rt; "stopped: no memory, or no place")?,
-        }
-    }
-    Ok(())
-}
-
-/// Prints both tables.
-pub fn print_tables<R: Wait + Threads + Clock + CpuClock + Print + Sync>(
-    rt: &R,
-    alloc: Global,
-) -> io::Result<()> {
-    print_ways(rt, alloc)?;
-    println!(rt)?;
-    print_stopped(rt, alloc)
 }

@@ -1,56 +1,42 @@
-//! The rows of the container.
+//! The rows of the container's values.
 
 use crate::hand::container as by_hand;
-use crate::timing::{Row, Timed};
-use crate::usual::print_beside;
+use crate::timing::{Another, Asked, Row};
 use lock_free::mpmc::container::{CallbackProgression, Container, Handle, OwnerId};
 use lock_free::mpmc::unique_index_set_enums::{ReleaseMode, ReleaseState};
+use slab::Slab;
 use std::alloc::Global;
-use std::sync::Wait;
+use std::sync::{Mutex, Wait};
 use std::thread::Threads;
 use std::time::CpuClock;
 
-/// Adds a number and removes it.
-pub const ADD_AND_REMOVE: usize = 0;
-
-/// Asks how many there are.
-pub const LEN: usize = 1;
-
-/// Asks whether there is none.
-pub const IS_EMPTY: usize = 2;
-
-/// Finds the numbers of the owner that adds.
-pub const FIND: usize = 3;
-
-/// Finds those of the dead one, who has none.
-pub const FIND_OTHER: usize = 4;
-
-/// Frees what the dead one has, which is nothing.
-pub const RECOVER: usize = 5;
-
-/// Adds a number for him, and frees it.
-pub const RECOVER_ONE: usize = 6;
-
-/// A container of numbers, on which these calls are made, the owner that adds, and the dead one.
-struct Values<'a, const CALLS: usize> {
+/// A container of numbers, the owner that adds, a dead one, and what a user would take instead.
+#[derive(Drop)]
+struct Values<'a> {
     container: Handle<'a, u64>,
     owner: OwnerId,
     dead: OwnerId,
     hand: by_hand::Values,
+    slab: &'a Mutex<Slab<u64>>,
+    list: &'a Mutex<Vec<u64>>,
 }
 
-impl<'a, const CALLS: usize> Drop for Values<'a, CALLS> {
-    fn drop(self) {
-        let Self {
-            container: _container,
-            owner: _,
-            dead: _,
-            hand: _hand,
-        } = self;
+impl<'a> Another for Values<'a> {
+    fn another(&mut self) -> Option<Values<'a>> {
+        let container = self.container.split()?;
+        let hand = self.hand.another()?;
+        Some(Values {
+            container,
+            owner: self.owner,
+            dead: self.dead,
+            hand,
+            slab: self.slab,
+            list: self.list,
+        })
     }
 }
 
-impl<'a, const CALLS: usize> Values<'a, CALLS> {
+impl<'a> Values<'a> {
     /// Adds so many sevens on both sides.
     fn fill<R: Wait>(&mut self, rt: &R, number: u32) {
         for _ in 0..number {
@@ -59,22 +45,22 @@ impl<'a, const CALLS: usize> Values<'a, CALLS> {
         }
     }
 
-    /// Adds a number and removes it.
+    #[inline(always)]
     fn turns<R: Wait>(&mut self, rt: &R, number: u64) -> u64 {
         match self.container.add(rt, number, self.owner) {
-            Ok(handle) => self
-                .container
-                .remove(rt, handle, ReleaseMode::Default)
-                .is_ok() as u64,
+            Ok(handle) => {
+                let removed = self.container.remove(rt, handle, ReleaseMode::Default);
+                removed.is_ok() as u64
+            }
             Err(_) => 2,
         }
     }
 
     #[inline(never)]
-    fn finds(&mut self, owner: OwnerId) -> u64 {
+    fn finds(&mut self) -> u64 {
         let mut sum = 0u64;
         self.container.find(
-            owner,
+            self.owner,
             &mut |value, _| {
                 sum = sum.wrapping_add(value);
                 CallbackProgression::Continue
@@ -83,81 +69,144 @@ impl<'a, const CALLS: usize> Values<'a, CALLS> {
         sum
     }
 
+    /// Frees what the dead one has.
     #[inline(never)]
     fn recovers<R: Wait>(&mut self, rt: &R) -> u64 {
-        let state = self
-            .container
-            .recover(rt, self.dead, &mut |_| true, ReleaseMode::Default);
-        match state {
+        let mode = ReleaseMode::Default;
+        match self.container.recover(rt, self.dead, &mut |_| true, mode) {
             ReleaseState::Unlocked => 1,
             ReleaseState::Locked => 0,
         }
     }
 }
 
-impl<'a, const CALLS: usize> Timed for Values<'a, CALLS> {
-    #[inline(never)]
-    fn ours<R: Wait>(&mut self, rt: &R, number: u64) -> u64 {
-        match CALLS {
-            ADD_AND_REMOVE => self.turns(rt, number),
-            LEN => self.container.len(rt) as u64,
-            IS_EMPTY => self.container.is_empty(rt) as u64,
-            FIND => self.finds(self.owner),
-            FIND_OTHER => self.finds(self.dead),
-            RECOVER => self.recovers(rt),
-            _ => {
-                let _ = self.container.add(rt, number, self.dead);
-                self.recovers(rt)
-            }
-        }
+/// Adds a number and removes it.
+struct AddRemove;
+
+impl<'a> Row<Values<'a>> for AddRemove {
+    const NAME: &'static str = "container: add and remove";
+
+    fn ours<R: Wait>(on: &mut Values<'a>, rt: &R, number: u64) -> u64 {
+        on.turns(rt, number)
     }
 
-    #[inline(never)]
-    fn by_hand<R: Wait>(&mut self, rt: &R, number: u64) -> u64 {
-        match CALLS {
-            ADD_AND_REMOVE => self.hand.turns(rt, number, 7),
-            LEN => self.hand.len(rt),
-            IS_EMPTY => (self.hand.len(rt) == 0) as u64,
-            FIND => self.hand.find(7),
-            FIND_OTHER => self.hand.find(9),
-            RECOVER => self.hand.recover(rt, 9) as u64,
-            _ => {
-                self.hand.add(rt, number, 9);
-                self.hand.recover(rt, 9) as u64
-            }
-        }
-    }
-
-    fn another(&mut self) -> Option<Values<'a, CALLS>> {
-        let container = self.container.split()?;
-        let hand = self.hand.another()?;
-        Some(Values {
-            container,
-            owner: self.owner,
-            dead: self.dead,
-            hand,
-        })
+    fn theirs<R: Wait>(on: &mut Values<'a>, rt: &R, number: u64) -> u64 {
+        on.hand.turns(rt, number, 7)
     }
 }
 
-/// Prints a row of the container, in which no value stands, or one at each index.
-pub fn values_row<const CALLS: usize, R: Wait + Threads + CpuClock + Print + Sync>(
+struct BesideSlab;
+
+impl<'a> Row<Values<'a>> for BesideSlab {
+    const NAME: &'static str = "container: add and remove";
+
+    const BESIDE: &'static str = "`Mutex<Slab>`";
+
+    fn ours<R: Wait>(on: &mut Values<'a>, rt: &R, number: u64) -> u64 {
+        on.turns(rt, number)
+    }
+
+    fn theirs<R: Wait>(on: &mut Values<'a>, rt: &R, number: u64) -> u64 {
+        let inserted = on.slab.lock(rt).insert(number);
+        match inserted {
+            Ok(key) if on.slab.lock(rt).try_remove(key).is_some() => 1,
+            _ => 2,
+        }
+    }
+}
+
+/// Adds a number for the dead one, and frees it.
+struct RecoverOne;
+
+impl<'a> Row<Values<'a>> for RecoverOne {
+    const NAME: &'static str = "container: add, and recover of it";
+
+    fn ours<R: Wait>(on: &mut Values<'a>, rt: &R, number: u64) -> u64 {
+        let _ = on.container.add(rt, number, on.dead);
+        on.recovers(rt)
+    }
+
+    fn theirs<R: Wait>(on: &mut Values<'a>, rt: &R, number: u64) -> u64 {
+        on.hand.add(rt, number, 9);
+        on.hand.recover(rt, 9) as u64
+    }
+}
+
+/// Frees what the dead one has, which is nothing.
+struct RecoverFull;
+
+impl<'a> Row<Values<'a>> for RecoverFull {
+    const NAME: &'static str = "container: recover of a full one, none freed";
+
+    fn ours<R: Wait>(on: &mut Values<'a>, rt: &R, _number: u64) -> u64 {
+        on.recovers(rt)
+    }
+
+    fn theirs<R: Wait>(on: &mut Values<'a>, rt: &R, _number: u64) -> u64 {
+        on.hand.recover(rt, 9) as u64
+    }
+}
+
+/// Finds the numbers of the owner that adds.
+struct FindEach;
+
+impl<'a> Row<Values<'a>> for FindEach {
+    const NAME: &'static str = "container: find of each value";
+
+    fn ours<R: Wait>(on: &mut Values<'a>, _rt: &R, _number: u64) -> u64 {
+        on.finds()
+    }
+
+    fn theirs<R: Wait>(on: &mut Values<'a>, _rt: &R, _number: u64) -> u64 {
+        on.hand.find(7)
+    }
+}
+
+struct FindBeside;
+
+impl<'a> Row<Values<'a>> for FindBeside {
+    const NAME: &'static str = "container: find of each value";
+
+    const BESIDE: &'static str = "`Mutex<Vec>`";
+
+    fn ours<R: Wait>(on: &mut Values<'a>, _rt: &R, _number: u64) -> u64 {
+        on.finds()
+    }
+
+    fn theirs<R: Wait>(on: &mut Values<'a>, rt: &R, _number: u64) -> u64 {
+        let mut sum = 0u64;
+        for value in on.list.lock(rt).iter() {
+            sum = sum.wrapping_add(*value);
+        }
+        sum
+    }
+}
+
+pub fn rows<R: Wait + Threads + CpuClock + Print + Sync>(
     rt: &R,
     alloc: Global,
-    row: &Row<'_>,
+    asked: &Asked<'_>,
+    capacity: u32,
 ) -> Option<()> {
-    let (container, pass) = Container::new(alloc, row.capacity as usize, 1).ok()?;
-    let owner = OwnerId::new(7).ok()?;
-    let dead = OwnerId::new(9).ok()?;
-    let hand = by_hand::Values::new(alloc, row.capacity).ok()?;
-    let mut timed = Values::<'_, CALLS> {
+    let (owner, dead) = OwnerId::new(7).ok().zip(OwnerId::new(9).ok())?;
+    let number = capacity as usize;
+    let slab = Mutex::new(Slab::with_capacity(alloc, number).ok()?);
+    let list = Mutex::new(Vec::from_elem(alloc, 7u64, number).ok()?);
+    let hand = by_hand::Values::new(alloc, capacity).ok()?;
+    let (container, pass) = Container::new(alloc, number, 1).ok()?;
+    let mut on = Values {
         container: container.handle(pass),
         owner,
         dead,
         hand,
+        slab: &slab,
+        list: &list,
     };
-    if row.is_full {
-        timed.fill(rt, row.capacity);
-    }
-    print_beside(rt, alloc, row, timed)
+    asked.both::<AddRemove, Values<'_>, R>(rt, alloc, capacity, &mut on)?;
+    asked.both::<BesideSlab, Values<'_>, R>(rt, alloc, capacity, &mut on)?;
+    asked.alone::<RecoverOne, Values<'_>, R>(rt, capacity, &mut on)?;
+    on.fill(rt, capacity);
+    asked.alone::<RecoverFull, Values<'_>, R>(rt, capacity, &mut on)?;
+    asked.alone::<FindEach, Values<'_>, R>(rt, capacity, &mut on)?;
+    asked.alone::<FindBeside, Values<'_>, R>(rt, capacity, &mut on)
 }

@@ -34,22 +34,13 @@ impl Split<()> for Anything {
 }
 
 /// Words that threads could share, of which each operation is one atomic step.
+#[derive(Drop)]
 pub struct Words {
     seat: Seat<(), ()>,
     table: Arc<Table<(), (), (), Anything, Global>, Global>,
     size: usize,
     ghost mine: { seat.table_id ≡ (arc_value table).shared.table_id },
     ghost sized: { (arc_value table).shared.table_id.words ≡ size },
-}
-
-impl Drop for Words {
-    fn drop(self) {
-        let Self {
-            seat: _seat,
-            table: _table,
-            size: _,
-        } = self;
-    }
 }
 
 impl Words {

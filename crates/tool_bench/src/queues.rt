@@ -2,46 +2,60 @@
 ghost use Rattle.lock_free.specs.Queues.Rings as ends;
 
 use crate::hand::queues as by_hand;
-use crate::timing::{Row, Timed, print_timed};
-use crate::usual::print_beside_ring;
+use crate::timing::{Asked, Row};
+use crossbeam_queue::ArrayQueue;
 use lock_free::spsc::index_queue::{Consumer, IndexQueue, Pass, Producer};
 use lock_free::spsc::safely_overflowing_index_queue as overflow;
 use lock_free::spsc::safely_overflowing_index_queue::SafelyOverflowingIndexQueue;
+use rtrb::RingBuffer;
 use std::alloc::Global;
-use std::sync::Wait;
-use std::thread::Threads;
+use std::collections::VecDeque;
+use std::sync::{Mutex, Wait};
 use std::time::CpuClock;
 
-/// A push and a pop.
-pub const PUSH_AND_POP: usize = 0;
+const PUSH_AND_POP: &str = "index queue: push and pop";
 
-/// A push, into a full queue.
-pub const PUSH: usize = 1;
+/// What a user would take instead.
+#[derive(Drop)]
+struct Usual {
+    producer: rtrb::Producer<u64>,
+    consumer: rtrb::Consumer<u64>,
+    array: ArrayQueue<u64>,
+    deque: Mutex<VecDeque<u64>>,
+    capacity: usize,
+}
 
-/// A pop of an empty one.
-pub const POP: usize = 2;
+impl Usual {
+    fn new(alloc: Global, capacity: usize) -> Option<Usual> {
+        let (producer, consumer) = RingBuffer::new(alloc, capacity).ok()?;
+        let array = ArrayQueue::new(alloc, capacity.max(1)).ok()?;
+        let deque = VecDeque::with_capacity(alloc, capacity).ok()?;
+        Some(Usual {
+            producer,
+            consumer,
+            array,
+            deque: Mutex::new(deque),
+            capacity,
+        })
+    }
 
-/// Asks how many there are.
-pub const LEN: usize = 3;
+    #[inline(always)]
+    fn pushes<R: Wait>(&self, rt: &R, value: u64) -> bool {
+        let mut deque = self.deque.lock(rt);
+        deque.len() < self.capacity && deque.push_back(value).is_ok()
+    }
+}
 
-/// Asks whether there is none.
-pub const IS_EMPTY: usize = 4;
-
-/// The two ends of an index queue, at which these calls are made.
-struct Numbers<'a, const CALLS: usize> {
+/// An index queue, its two ends and a further pass.
+#[derive(Drop)]
+struct Numbers<'a> {
+    queue: &'a IndexQueue,
+    pass: Pass,
     producer: Producer<'a>,
     consumer: Consumer<'a>,
     hand: by_hand::Numbers,
-}
-
-impl<'a, const CALLS: usize> Drop for Numbers<'a, CALLS> {
-    fn drop(self) {
-        let Self {
-            producer: _producer,
-            consumer: _consumer,
-            hand: _hand,
-        } = self;
-    }
+    usual: Usual,
+    ghost of: { ends.IsPassOf queue.now pass },
 }
 
 /// Both ends of an index queue.
@@ -54,146 +68,17 @@ fn numbers_ends<'a>(queue: &'a IndexQueue, pass: Pass) -> Option<(Producer<'a>, 
     producer.zip(queue.acquire_consumer(other).ok())
 }
 
-impl<'a, const CALLS: usize> Numbers<'a, CALLS> {
-    fn fill(&mut self, number: u32) {
-        for _ in 0..number {
-            self.producer.push(0);
-            self.hand.push(0);
-        }
-    }
-}
-
-impl<'a, const CALLS: usize> Timed for Numbers<'a, CALLS> {
-    #[inline(never)]
-    fn ours<R: Wait>(&mut self, _rt: &R, number: u64) -> u64 {
-        let pushed = CALLS == POP || self.producer.push(number);
-        if CALLS == PUSH {
-            return pushed as u64;
-        }
+impl<'a> Numbers<'a> {
+    /// A push and a pop.
+    #[inline(always)]
+    fn turns(&mut self, number: u64) -> u64 {
+        let pushed = self.producer.push(number);
         match self.consumer.pop() {
             Some(value) if pushed => value,
             _ => 0,
         }
     }
 
-    #[inline(never)]
-    fn by_hand<R: Wait>(&mut self, _rt: &R, number: u64) -> u64 {
-        let pushed = CALLS == POP || self.hand.push(number);
-        if CALLS == PUSH {
-            return pushed as u64;
-        }
-        match self.hand.pop() {
-            Some(value) if pushed => value,
-            _ => 0,
-        }
-    }
-}
-
-/// Prints a row of the ends of an index queue.
-pub fn numbers_row<const CALLS: usize, R: Wait + Threads + CpuClock + Print + Sync>(
-    rt: &R,
-    alloc: Global,
-    row: &Row<'_>,
-) -> Option<()> {
-    let hand = by_hand::Numbers::new(alloc, row.capacity).ok()?;
-    let (queue, pass) = IndexQueue::new(alloc, row.capacity as usize).ok()?;
-    let (producer, consumer) = numbers_ends(&queue, pass)?;
-    let mut timed = Numbers::<'_, CALLS> {
-        producer,
-        consumer,
-        hand,
-    };
-    if row.is_full {
-        timed.fill(row.capacity);
-    }
-    print_beside_ring(rt, alloc, row, timed)
-}
-
-/// An index queue with a pass, on which these calls are made.
-struct Length<'a, const CALLS: usize> {
-    queue: &'a IndexQueue,
-    pass: Pass,
-    hand: by_hand::Numbers,
-    ghost of: { ends.IsPassOf queue.now pass },
-}
-
-impl<'a, const CALLS: usize> Drop for Length<'a, CALLS> {
-    fn drop(self) {
-        let Self {
-            queue: _,
-            pass: _pass,
-            hand: _hand,
-        } = self;
-    }
-}
-
-impl<'a, const CALLS: usize> Timed for Length<'a, CALLS> {
-    #[inline(never)]
-    fn ours<R: Wait>(&mut self, rt: &R, _number: u64) -> u64 {
-        if CALLS == IS_EMPTY {
-            return self.queue.is_empty(rt, &mut self.pass) as u64;
-        }
-        self.queue.len(rt, &mut self.pass) as u64
-    }
-
-    #[inline(never)]
-    fn by_hand<R: Wait>(&mut self, rt: &R, _number: u64) -> u64 {
-        let number = self.hand.len(rt);
-        if CALLS == IS_EMPTY {
-            (number == 0) as u64
-        } else {
-            number
-        }
-    }
-}
-
-/// Prints a row of the length of the index queue, which is empty.
-pub fn length_row<const CALLS: usize, R: Wait + Threads + CpuClock + Print + Sync>(
-    rt: &R,
-    alloc: Global,
-    row: &Row<'_>,
-) -> Option<()> {
-    let hand = by_hand::Numbers::new(alloc, row.capacity).ok()?;
-    let (queue, pass) = IndexQueue::new(alloc, row.capacity as usize).ok()?;
-    let timed = Length::<'_, CALLS> {
-        queue: &queue,
-        pass,
-        hand,
-    };
-    print_timed(rt, alloc, row, timed)
-}
-
-/// The two ends of an overflowing queue, at which these calls are made.
-struct Overflowing<'a, const CALLS: usize> {
-    producer: overflow::Producer<'a>,
-    consumer: overflow::Consumer<'a>,
-    hand: by_hand::Overflowing,
-}
-
-impl<'a, const CALLS: usize> Drop for Overflowing<'a, CALLS> {
-    fn drop(self) {
-        let Self {
-            producer: _producer,
-            consumer: _consumer,
-            hand: _hand,
-        } = self;
-    }
-}
-
-/// Both ends of an overflowing queue.
-fn overflowing_ends<'a>(
-    queue: &'a SafelyOverflowingIndexQueue,
-    pass: overflow::Pass,
-) -> Option<(overflow::Producer<'a>, overflow::Consumer<'a>)>
-    requires { ends.IsPassOf queue.now pass }
-{
-    let mut pass = pass;
-    let other = pass.split()?;
-    let producer = queue.acquire_producer(pass).ok();
-    producer.zip(queue.acquire_consumer(other).ok())
-}
-
-impl<'a, const CALLS: usize> Overflowing<'a, CALLS> {
     fn fill(&mut self, number: u32) {
         for _ in 0..number {
             self.producer.push(0);
@@ -202,48 +87,186 @@ impl<'a, const CALLS: usize> Overflowing<'a, CALLS> {
     }
 }
 
-impl<'a, const CALLS: usize> Timed for Overflowing<'a, CALLS> {
-    #[inline(never)]
-    fn ours<R: Wait>(&mut self, rt: &R, number: u64) -> u64 {
-        let mut oldest = 0u64;
-        if CALLS != POP {
-            oldest = self.producer.push(number).unwrap_or(0);
-        }
-        if CALLS == PUSH {
-            return oldest;
-        }
-        oldest.wrapping_add(self.consumer.pop(rt).unwrap_or(0))
+struct PushPop;
+
+impl<'a> Row<Numbers<'a>> for PushPop {
+    const NAME: &'static str = PUSH_AND_POP;
+
+    fn ours<R: Wait>(on: &mut Numbers<'a>, _rt: &R, number: u64) -> u64 {
+        on.turns(number)
     }
 
-    #[inline(never)]
-    fn by_hand<R: Wait>(&mut self, rt: &R, number: u64) -> u64 {
-        let mut oldest = 0u64;
-        if CALLS != POP {
-            oldest = self.hand.push(number).unwrap_or(0);
+    fn theirs<R: Wait>(on: &mut Numbers<'a>, _rt: &R, number: u64) -> u64 {
+        let pushed = on.hand.push(number);
+        match on.hand.pop() {
+            Some(value) if pushed => value,
+            _ => 0,
         }
-        if CALLS == PUSH {
-            return oldest;
-        }
-        oldest.wrapping_add(self.hand.pop(rt).unwrap_or(0))
     }
 }
 
-/// Prints a row of the ends of an overflowing queue.
-pub fn overflowing_row<const CALLS: usize, R: Wait + Threads + CpuClock + Print + Sync>(
-    rt: &R,
-    alloc: Global,
-    row: &Row<'_>,
-) -> Option<()> {
-    let hand = by_hand::Overflowing::new(alloc, row.capacity).ok()?;
-    let (queue, pass) = SafelyOverflowingIndexQueue::new(alloc, row.capacity as usize).ok()?;
-    let (producer, consumer) = overflowing_ends(&queue, pass)?;
-    let mut timed = Overflowing::<'_, CALLS> {
+struct BesideRing;
+
+impl<'a> Row<Numbers<'a>> for BesideRing {
+    const NAME: &'static str = PUSH_AND_POP;
+
+    const BESIDE: &'static str = "`rtrb`";
+
+    fn ours<R: Wait>(on: &mut Numbers<'a>, _rt: &R, number: u64) -> u64 {
+        on.turns(number)
+    }
+
+    fn theirs<R: Wait>(on: &mut Numbers<'a>, _rt: &R, number: u64) -> u64 {
+        let pushed = on.usual.producer.push(number).is_ok();
+        match on.usual.consumer.pop() {
+            Ok(value) if pushed => value,
+            _ => 0,
+        }
+    }
+}
+
+struct BesideArray;
+
+impl<'a> Row<Numbers<'a>> for BesideArray {
+    const NAME: &'static str = PUSH_AND_POP;
+
+    const BESIDE: &'static str = "`ArrayQueue`";
+
+    fn ours<R: Wait>(on: &mut Numbers<'a>, _rt: &R, number: u64) -> u64 {
+        on.turns(number)
+    }
+
+    fn theirs<R: Wait>(on: &mut Numbers<'a>, rt: &R, number: u64) -> u64 {
+        let pushed = on.usual.array.push(rt, number).is_ok();
+        match on.usual.array.pop(rt) {
+            Some(value) if pushed => value,
+            _ => 0,
+        }
+    }
+}
+
+struct BesideDeque;
+
+impl<'a> Row<Numbers<'a>> for BesideDeque {
+    const NAME: &'static str = PUSH_AND_POP;
+
+    const BESIDE: &'static str = "`Mutex<VecDeque>`";
+
+    fn ours<R: Wait>(on: &mut Numbers<'a>, _rt: &R, number: u64) -> u64 {
+        on.turns(number)
+    }
+
+    fn theirs<R: Wait>(on: &mut Numbers<'a>, rt: &R, number: u64) -> u64 {
+        let pushed = on.usual.pushes(rt, number);
+        let popped = on.usual.deque.lock(rt).pop_front();
+        match popped {
+            Some(value) if pushed => value,
+            _ => 0,
+        }
+    }
+}
+
+struct Push;
+
+impl<'a> Row<Numbers<'a>> for Push {
+    const NAME: &'static str = "index queue: push into a full one";
+
+    fn ours<R: Wait>(on: &mut Numbers<'a>, _rt: &R, number: u64) -> u64 {
+        on.producer.push(number) as u64
+    }
+
+    fn theirs<R: Wait>(on: &mut Numbers<'a>, _rt: &R, number: u64) -> u64 {
+        on.hand.push(number) as u64
+    }
+}
+
+struct Len;
+
+impl<'a> Row<Numbers<'a>> for Len {
+    const NAME: &'static str = "index queue: len";
+
+    fn ours<R: Wait>(on: &mut Numbers<'a>, rt: &R, _number: u64) -> u64 {
+        on.queue.len(rt, &mut on.pass) as u64
+    }
+
+    fn theirs<R: Wait>(on: &mut Numbers<'a>, rt: &R, _number: u64) -> u64 {
+        on.hand.len(rt)
+    }
+}
+
+struct IsEmpty;
+
+impl<'a> Row<Numbers<'a>> for IsEmpty {
+    const NAME: &'static str = "index queue: is_empty";
+
+    fn ours<R: Wait>(on: &mut Numbers<'a>, rt: &R, _number: u64) -> u64 {
+        on.queue.is_empty(rt, &mut on.pass) as u64
+    }
+
+    fn theirs<R: Wait>(on: &mut Numbers<'a>, rt: &R, _number: u64) -> u64 {
+        (on.hand.len(rt) == 0) as u64
+    }
+}
+
+/// The consumer's end of an overflowing queue.
+#[derive(Drop)]
+struct Overflowing<'a> {
+    consumer: overflow::Consumer<'a>,
+    hand: by_hand::Overflowing,
+}
+
+struct OverflowPop;
+
+impl<'a> Row<Overflowing<'a>> for OverflowPop {
+    const NAME: &'static str = "overflowing queue: pop of an empty one";
+
+    fn ours<R: Wait>(on: &mut Overflowing<'a>, rt: &R, _number: u64) -> u64 {
+        on.consumer.pop(rt).unwrap_or(0)
+    }
+
+    fn theirs<R: Wait>(on: &mut Overflowing<'a>, rt: &R, _number: u64) -> u64 {
+        on.hand.pop(rt).unwrap_or(0)
+    }
+}
+
+/// An index queue of this capacity, which is empty, with all that is timed on it.
+fn make<'a>(alloc: Global, queue: &'a IndexQueue, pass: Pass, capacity: u32) -> Option<Numbers<'a>>
+    requires { ends.IsPassOf queue.now pass }
+{
+    let mut pass = pass;
+    let other = pass.split()?;
+    let (producer, consumer) = numbers_ends(queue, other)?;
+    let hand = by_hand::Numbers::new(alloc, capacity).ok()?;
+    let usual = Usual::new(alloc, capacity as usize)?;
+    Some(Numbers {
+        queue,
+        pass,
         producer,
         consumer,
         hand,
-    };
-    if row.is_full {
-        timed.fill(row.capacity);
-    }
-    print_timed(rt, alloc, row, timed)
+        usual,
+    })
+}
+
+pub fn rows<R: Wait + CpuClock + Print>(
+    rt: &R,
+    alloc: Global,
+    asked: &Asked<'_>,
+    capacity: u32,
+) -> Option<()> {
+    let (queue, pass) = IndexQueue::new(alloc, capacity as usize).ok()?;
+    let mut on = make(alloc, &queue, pass, capacity)?;
+    asked.alone::<PushPop, Numbers<'_>, R>(rt, capacity, &mut on)?;
+    asked.alone::<BesideRing, Numbers<'_>, R>(rt, capacity, &mut on)?;
+    asked.alone::<BesideArray, Numbers<'_>, R>(rt, capacity, &mut on)?;
+    asked.alone::<BesideDeque, Numbers<'_>, R>(rt, capacity, &mut on)?;
+    asked.alone::<Len, Numbers<'_>, R>(rt, capacity, &mut on)?;
+    asked.alone::<IsEmpty, Numbers<'_>, R>(rt, capacity, &mut on)?;
+    on.fill(capacity);
+    asked.alone::<Push, Numbers<'_>, R>(rt, capacity, &mut on)?;
+    let hand = by_hand::Overflowing::new(alloc, capacity).ok()?;
+    let (queue, pass) = SafelyOverflowingIndexQueue::new(alloc, capacity as usize).ok()?;
+    let consumer = queue.acquire_consumer(pass).ok()?;
+    let mut on = Overflowing { consumer, hand };
+    asked.alone::<OverflowPop, Overflowing<'_>, R>(rt, capacity, &mut on)
 }

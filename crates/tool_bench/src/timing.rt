@@ -1,6 +1,5 @@
 //! Two that do the same are timed by turns, each in one thread or in several at once.
 
-use crate::table::Beside;
 use std::alloc::Global;
 use std::sync::Wait;
 use std::thread::Threads;
@@ -13,62 +12,69 @@ pub const ROUNDS: usize = 11;
 /// How many nanoseconds of the processor one timing takes at least.
 const LONG_ENOUGH: u64 = 2_000_000;
 
-/// Who makes a call that is timed, on what others may call too, and takes the same steps by hand. Each answers a number,
-/// so that the two can be seen to do the same, and is given how many calls came before it in its round.
-pub trait Timed: Drop + Sized {
-    fn ours<R: Wait>(&mut self, rt: &R, number: u64) -> u64;
+/// A row of the table: a call, and beside what it is timed, the same steps by hand or what a user would take instead. Each
+/// of the two answers a number, so that they can be seen to do the same, and is given how many calls came before it in its
+/// round.
+pub trait Row<T> {
+    const NAME: &'static str;
 
-    fn by_hand<R: Wait>(&mut self, rt: &R, number: u64) -> u64;
+    const BESIDE: &'static str = "by hand";
 
-    /// Another one who does so. None where there is none.
-    fn another(&mut self) -> Option<Self> {
-        None
-    }
+    fn ours<R: Wait>(on: &mut T, rt: &R, number: u64) -> u64;
+
+    fn theirs<R: Wait>(on: &mut T, rt: &R, number: u64) -> u64;
 }
 
-/// What a row is about: a call, beside what it is timed, the capacity of what it is called on, whether that is full,
-/// how many atomic steps it takes where nobody steps in between, and how many threads make it at once.
+/// What several threads can have at once.
+pub trait Another: Drop + Sized {
+    /// Another one of the same. None where there is none.
+    fn another(&mut self) -> Option<Self>;
+}
+
+/// The rows that are asked for: what their names begin with, or `all`, and whether these are the rows of several threads.
 #[derive(Clone, Copy)]
-pub struct Row<'a> {
-    pub name: &'a str,
-    pub beside: Beside,
-    pub capacity: u32,
-    pub is_full: bool,
-    pub steps: u64,
-    pub threads: usize,
+pub struct Asked<'a> {
+    pub beginning: &'a str,
+    pub together: bool,
 }
 
-#[inline(always)]
-fn call<T: Timed, R: Wait>(rt: &R, timed: &mut T, by_hand: bool, number: u64) -> u64 {
-    if by_hand {
-        timed.by_hand(rt, number)
-    } else {
-        timed.ours(rt, number)
-    }
+#[inline(never)]
+fn ours<X: Row<T>, T, R: Wait>(rt: &R, on: &mut T, number: u64) -> u64 {
+    X::ours(on, rt, number)
+}
+
+#[inline(never)]
+fn theirs<X: Row<T>, T, R: Wait>(rt: &R, on: &mut T, number: u64) -> u64 {
+    X::theirs(on, rt, number)
 }
 
 /// The nanoseconds of the processor that so many calls take, and the sum of their answers.
-fn time<T: Timed, R: Wait + CpuClock>(
+fn time<X: Row<T>, T, R: Wait + CpuClock>(
     rt: &R,
-    timed: &mut T,
-    by_hand: bool,
+    on: &mut T,
+    is_ours: bool,
     calls: u64,
 ) -> io::Result<(u64, u64)> {
     let mut sum = 0u64;
     let start = rt.thread_cpu_time()?;
     for number in 0..calls {
-        sum = sum.wrapping_add(call(rt, timed, by_hand, number));
+        let answer = if is_ours {
+            ours::<X, T, R>(rt, on, number)
+        } else {
+            theirs::<X, T, R>(rt, on, number)
+        };
+        sum = sum.wrapping_add(answer);
     }
     let taken = rt.thread_cpu_time()?.saturating_sub(start).as_nanos();
     Ok((u64::try_from(taken).unwrap_or(u64::MAX), sum))
 }
 
 /// How many calls of either take long enough: a power of two. Each of the two makes as many.
-fn enough<T: Timed, R: Wait + CpuClock>(rt: &R, timed: &mut T) -> io::Result<u64> {
+fn enough<X: Row<T>, T, R: Wait + CpuClock>(rt: &R, on: &mut T) -> io::Result<u64> {
     let mut calls = 1u64;
     for _ in 0..30 {
-        let (first, _) = time(rt, timed, false, calls)?;
-        let (second, _) = time(rt, timed, true, calls)?;
+        let (first, _) = time::<X, T, R>(rt, on, true, calls)?;
+        let (second, _) = time::<X, T, R>(rt, on, false, calls)?;
         if first >= LONG_ENOUGH && second >= LONG_ENOUGH || calls > 1 << 30 {
             break;
         }
@@ -78,67 +84,49 @@ fn enough<T: Timed, R: Wait + CpuClock>(rt: &R, timed: &mut T) -> io::Result<u64
 }
 
 /// One of those who make the calls: what its calls of a round took, and the sum of their answers.
-struct Caller<T> {
-    timed: T,
+#[derive(Drop)]
+struct Caller<T: Drop> {
+    on: T,
     taken: u64,
     sum: u64,
     // (no two of them write to one line of a cache)
     _apart: [u64; 16],
 }
 
-impl<T: Drop> Drop for Caller<T> {
-    fn drop(self) {
-        let Self {
-            timed: _timed,
-            taken: _,
-            sum: _,
-            _apart: _,
-        } = self;
-    }
-}
-
-impl<T: Timed> Caller<T> {
-    fn new(timed: T) -> Caller<T> {
-        Caller {
-            timed,
+/// So many callers.
+fn callers<T: Another>(alloc: Global, on: &mut T, number: usize) -> Option<Vec<Caller<T>>> {
+    let mut all = Vec::new(alloc);
+    for _ in 0..number {
+        let caller = Caller {
+            on: on.another()?,
             taken: 0,
             sum: 0,
             _apart: [0; 16],
-        }
+        };
+        all.push(caller).ok()?;
     }
-
-    /// Makes so many calls. They took nothing where the clock does not tell.
-    fn make<R: Wait + CpuClock>(&mut self, rt: &R, by_hand: bool, calls: u64) {
-        let (taken, sum) = time(rt, &mut self.timed, by_hand, calls).unwrap_or((0, 0));
-        self.taken = taken;
-        self.sum = sum;
-    }
-}
-
-/// So many callers, of which this is the first.
-fn callers<T: Timed>(alloc: Global, first: T, number: usize) -> Option<Vec<Caller<T>>> {
-    let mut first = first;
-    let mut all = Vec::new(alloc);
-    for _ in 1..number {
-        let other = first.another()?;
-        all.push(Caller::new(other)).ok()?;
-    }
-    all.push(Caller::new(first)).ok()?;
     Some(all)
 }
 
-/// What so many calls of each take together, and the sum of all answers. They make them at once, each in a thread.
-fn time_all<T: Timed + Send, R: Wait + Threads + CpuClock + Sync>(
+/// What so many calls of each take together, and the sum of all answers. They make them at once, each in a thread. The
+/// calls of one took nothing where the clock does not tell.
+fn time_all<X: Row<T> + Send, T: Drop + Send, R: Wait + Threads + CpuClock + Sync>(
     rt: &R,
     callers: &mut [Caller<T>],
-    by_hand: bool,
+    is_ours: bool,
     calls: u64,
 ) -> (u64, u64) {
     thread::for_each_mut(
         rt,
         callers,
         4,
-        &|_, caller: &mut Caller<T>| { caller.make(rt, by_hand, calls) },
+        &|_, caller: &mut Caller<T>| {
+            let (taken, sum) = time::<X, T, R>(rt, &mut caller.on, is_ours, calls).unwrap_or((
+                0, 0,
+            ));
+            caller.taken = taken;
+            caller.sum = sum;
+        },
     );
     let mut taken = 0u64;
     let mut sum = 0u64;
@@ -161,56 +149,138 @@ pub fn quotient(number: u64, by: u64, parts: u64) -> u64 {
     number.saturating_mul(parts).checked_div(by).unwrap_or(0)
 }
 
-/// Prints the row of those who make so many calls a round, each in a thread.
-fn print_row<T: Timed + Send, R: Wait + Threads + CpuClock + Print + Sync>(
+/// What the rounds of a row came to: tenths of nanoseconds of a call of either, hundredths of the ratio, and whether both
+/// gave the same answers.
+#[derive(Clone, Copy)]
+struct Came {
+    ours: [u64; ROUNDS],
+    theirs: [u64; ROUNDS],
+    ratios: [u64; ROUNDS],
+    same: bool,
+}
+
+impl Came {
+    fn new() -> Came {
+        Came {
+            ours: [0; ROUNDS],
+            theirs: [0; ROUNDS],
+            ratios: [0; ROUNDS],
+            same: true,
+        }
+    }
+
+    /// Notes a round of so many calls of either.
+    fn note(&mut self, round: usize, calls: u64, ours: (u64, u64), theirs: (u64, u64)) {
+        if round < ROUNDS {
+            self.ours[round] = quotient(ours.0, calls, 10);
+            self.theirs[round] = quotient(theirs.0, calls, 10);
+            self.ratios[round] = quotient(ours.0, theirs.0, 100);
+        }
+        self.same = self.same && ours.1 == theirs.1;
+    }
+}
+
+/// Prints a row. Answers of several threads are not compared.
+fn print_row<X: Row<T>, T, R: Print>(
     rt: &R,
-    row: &Row<'_>,
-    callers: &mut [Caller<T>],
-    calls: u64,
+    capacity: u32,
+    threads: usize,
+    came: &Came,
 ) -> io::Result<()> {
-    let all = calls.saturating_mul(row.threads as u64);
-    let mut same = true;
-    let mut of_ours = [0u64; ROUNDS];
-    let mut of_hand = [0u64; ROUNDS];
-    let mut ratios = [0u64; ROUNDS];
-    for round in 0..ROUNDS {
-        let (first, answers) = time_all(rt, callers, false, calls);
-        let (second, others) = time_all(rt, callers, true, calls);
-        same = same && (row.threads > 1 || answers == others);
-        of_ours[round] = quotient(first, all, 10);
-        of_hand[round] = quotient(second, all, 10);
-        ratios[round] = quotient(first, second, 100);
+    let (ours, theirs, ratio) = (
+        median(&came.ours),
+        median(&came.theirs),
+        median(&came.ratios),
+    );
+    print!(rt; "| {}", X::NAME)?;
+    if threads > 1 {
+        print!(rt; ", {threads} threads")?;
     }
-    let (ours, hand, ratio) = (median(&of_ours), median(&of_hand), median(&ratios));
-    print!(rt; "| {}", row.name)?;
-    if row.threads > 1 {
-        print!(rt; ", {} threads", row.threads)?;
-    }
-    let said = if same { "" } else { " not the same answers" };
+    let said = if came.same || threads > 1 {
+        ""
+    } else {
+        " not the same answers"
+    };
     println!(rt;
-        " | {} | {} | {}.{} | {} | {}.{} | {}.{}{} |{said}",
-        row.capacity,
-        row.steps,
+        " | {capacity} | {}.{} | {} | {}.{} | {}.{}{} |{said}",
         ours / 10,
         ours % 10,
-        row.beside.name(),
-        hand / 10,
-        hand % 10,
+        X::BESIDE,
+        theirs / 10,
+        theirs % 10,
         ratio / 100,
         ratio / 10 % 10,
         ratio % 10
     )
 }
 
-/// Times both, and prints the row. None where it cannot be timed or printed.
-pub fn print_timed<T: Timed + Send, R: Wait + Threads + CpuClock + Print + Sync>(
+/// Times the row in so many threads at once, and prints it.
+fn in_threads<X: Row<T> + Send, T: Another + Send, R: Wait + Threads + CpuClock + Print + Sync>(
     rt: &R,
     alloc: Global,
-    row: &Row<'_>,
-    timed: T,
+    capacity: u32,
+    threads: usize,
+    on: &mut T,
 ) -> Option<()> {
-    let mut timed = timed;
-    let calls = enough(rt, &mut timed).ok()?;
-    let mut callers = callers(alloc, timed, row.threads)?;
-    print_row(rt, row, &mut callers, calls).ok()
+    let calls = enough::<X, T, R>(rt, on).ok()?;
+    let mut callers = callers(alloc, on, threads)?;
+    let all = calls.saturating_mul(threads as u64);
+    let mut came = Came::new();
+    for round in 0..ROUNDS {
+        let ours = time_all::<X, T, R>(rt, &mut callers, true, calls);
+        let theirs = time_all::<X, T, R>(rt, &mut callers, false, calls);
+        came.note(round, all, ours, theirs);
+    }
+    print_row::<X, T, R>(rt, capacity, threads, &came).ok()
+}
+
+/// The same in one.
+fn in_one<X: Row<T>, T, R: Wait + CpuClock + Print>(
+    rt: &R,
+    capacity: u32,
+    on: &mut T,
+) -> io::Result<()> {
+    let calls = enough::<X, T, R>(rt, on)?;
+    let mut came = Came::new();
+    for round in 0..ROUNDS {
+        let ours = time::<X, T, R>(rt, on, true, calls)?;
+        let theirs = time::<X, T, R>(rt, on, false, calls)?;
+        came.note(round, calls, ours, theirs);
+    }
+    print_row::<X, T, R>(rt, capacity, 1, &came)
+}
+
+impl<'a> Asked<'a> {
+    fn is_of(&self, name: &str) -> bool {
+        self.beginning == "all" || name.starts_with(self.beginning)
+    }
+
+    /// Prints a row of one thread, if it is asked for. None where no clock tells, or nothing is printed.
+    pub fn alone<X: Row<T>, T, R: Wait + CpuClock + Print>(
+        &self,
+        rt: &R,
+        capacity: u32,
+        on: &mut T,
+    ) -> Option<()> {
+        if self.together || !self.is_of(X::NAME) {
+            return Some(());
+        }
+        in_one::<X, T, R>(rt, capacity, on).ok()
+    }
+
+    /// Prints a row of one thread, or of two threads and of four, whichever is asked for. None also where there is no memory, or
+    /// no further pass.
+    pub fn both<X: Row<T> + Send, T: Another + Send, R: Wait + Threads + CpuClock + Print + Sync>(
+        &self,
+        rt: &R,
+        alloc: Global,
+        capacity: u32,
+        on: &mut T,
+    ) -> Option<()> {
+        if !self.together || !self.is_of(X::NAME) {
+            return self.alone::<X, T, R>(rt, capacity, on);
+        }
+        in_threads::<X, T, R>(rt, alloc, capacity, 2, on)?;
+        in_threads::<X, T, R>(rt, alloc, capacity, 4, on)
+    }
 }

@@ -2,14 +2,16 @@
 ghost use Rattle.lock_free.specs.Value.Calls.{IsPassOf};
 
 use crate::hand::value as by_hand;
-use crate::timing::{Row, Timed};
-use crate::usual::print_beside;
+use crate::timing::{Another, Asked, Row};
 use lock_free::spmc::unrestricted_atomic::{Pass, Producer, UnrestrictedAtomic};
 use lock_free::words::Words;
 use std::alloc::Global;
-use std::sync::Wait;
+use std::sync::{Mutex, Wait};
 use std::thread::Threads;
 use std::time::CpuClock;
+
+/// What a user would take instead.
+const LOCKED: &str = "`Mutex<[u64; 16]>`";
 
 /// A value of 16 words: these four, four times.
 #[derive(Clone, Copy)]
@@ -18,14 +20,8 @@ pub struct Sixteen(u64, u64, u64, u64);
 impl Sixteen {
     /// The value all of whose words are this one.
     #[inline(always)]
-    pub fn of(word: u64) -> Sixteen {
+    fn of(word: u64) -> Sixteen {
         Sixteen(word, word, word, word)
-    }
-
-    /// Its first word.
-    #[inline(always)]
-    pub fn first(&self) -> u64 {
-        self.0
     }
 }
 
@@ -71,62 +67,49 @@ impl Words for Sixteen {
     }
 }
 
-/// Stores a value.
+/// One who stores.
+#[derive(Drop)]
 struct Stores<'a> {
     producer: Producer<'a, Sixteen>,
-    hand: by_hand::Value<16>,
+    locked: &'a Mutex<[u64; 16]>,
 }
 
-impl<'a> Drop for Stores<'a> {
-    fn drop(self) {
-        let Self {
-            producer: _producer,
-            hand: _hand,
-        } = self;
+/// A store.
+struct Store;
+
+impl<'a> Row<Stores<'a>> for Store {
+    const NAME: &'static str = "value of 16 words: store";
+
+    const BESIDE: &'static str = LOCKED;
+
+    fn ours<R: Wait>(on: &mut Stores<'a>, _rt: &R, number: u64) -> u64 {
+        on.producer.store(Sixteen::of(number)) as u64
+    }
+
+    fn theirs<R: Wait>(on: &mut Stores<'a>, rt: &R, number: u64) -> u64 {
+        *on.locked.lock(rt) = [number; 16];
+        1
     }
 }
 
-impl<'a> Timed for Stores<'a> {
-    #[inline(never)]
-    fn ours<R: Wait>(&mut self, _rt: &R, number: u64) -> u64 {
-        self.producer.store(Sixteen::of(number)) as u64
-    }
-
-    #[inline(never)]
-    fn by_hand<R: Wait>(&mut self, _rt: &R, number: u64) -> u64 {
-        self.hand.store(&[number; 16]) as u64
-    }
-}
-
-/// Loads the value.
+/// One who loads.
+#[derive(Drop)]
 struct Loads<'a> {
     value: &'a UnrestrictedAtomic<Sixteen>,
     pass: Pass<Sixteen>,
     hand: by_hand::Value<16>,
+    locked: &'a Mutex<[u64; 16]>,
     ghost of: { IsPassOf value.now pass },
 }
 
-impl<'a> Drop for Loads<'a> {
-    fn drop(self) {
-        let Self {
-            value: _,
-            pass: _pass,
-            hand: _hand,
-        } = self;
+impl<'a> Loads<'a> {
+    #[inline(always)]
+    fn first<R: Wait>(&mut self, rt: &R) -> u64 {
+        self.value.load(rt, &mut self.pass).0
     }
 }
 
-impl<'a> Timed for Loads<'a> {
-    #[inline(never)]
-    fn ours<R: Wait>(&mut self, rt: &R, _number: u64) -> u64 {
-        self.value.load(rt, &mut self.pass).0
-    }
-
-    #[inline(never)]
-    fn by_hand<R: Wait>(&mut self, rt: &R, _number: u64) -> u64 {
-        self.hand.load(rt)[0]
-    }
-
+impl<'a> Another for Loads<'a> {
     fn another(&mut self) -> Option<Loads<'a>> {
         let pass = self.pass.split()?;
         let hand = self.hand.another()?;
@@ -134,34 +117,76 @@ impl<'a> Timed for Loads<'a> {
             value: self.value,
             pass,
             hand,
+            locked: self.locked,
         })
     }
 }
 
-/// Prints the row of a store of the value.
-pub fn store_row<R: Wait + Threads + CpuClock + Print + Sync>(
-    rt: &R,
-    alloc: Global,
-    row: &Row<'_>,
-) -> Option<()> {
-    let hand = by_hand::Value::<16>::new(alloc).ok()?;
-    let (value, pass) = UnrestrictedAtomic::new(alloc, Sixteen::of(0)).ok()?;
-    let producer = value.acquire_producer(pass).ok()?;
-    print_beside(rt, alloc, row, Stores { producer, hand })
+/// A load.
+struct Load;
+
+impl<'a> Row<Loads<'a>> for Load {
+    const NAME: &'static str = "value of 16 words: load";
+
+    fn ours<R: Wait>(on: &mut Loads<'a>, rt: &R, _number: u64) -> u64 {
+        on.first(rt)
+    }
+
+    fn theirs<R: Wait>(on: &mut Loads<'a>, rt: &R, _number: u64) -> u64 {
+        on.hand.load(rt)[0]
+    }
 }
 
-/// Prints the row of a load of the value.
-pub fn load_row<R: Wait + Threads + CpuClock + Print + Sync>(
+/// The same, beside a lock.
+struct LoadBeside;
+
+impl<'a> Row<Loads<'a>> for LoadBeside {
+    const NAME: &'static str = "value of 16 words: load";
+
+    const BESIDE: &'static str = LOCKED;
+
+    fn ours<R: Wait>(on: &mut Loads<'a>, rt: &R, _number: u64) -> u64 {
+        on.first(rt)
+    }
+
+    fn theirs<R: Wait>(on: &mut Loads<'a>, rt: &R, _number: u64) -> u64 {
+        let copy = *on.locked.lock(rt);
+        copy[0]
+    }
+}
+
+fn rows_of_stores<R: Wait + CpuClock + Print>(
     rt: &R,
     alloc: Global,
-    row: &Row<'_>,
+    asked: &Asked<'_>,
+    capacity: u32,
 ) -> Option<()> {
+    let locked = Mutex::new([0u64; 16]);
+    let (value, pass) = UnrestrictedAtomic::new(alloc, Sixteen::of(0)).ok()?;
+    let producer = value.acquire_producer(pass).ok()?;
+    let mut on = Stores {
+        producer,
+        locked: &locked,
+    };
+    asked.alone::<Store, Stores<'_>, R>(rt, capacity, &mut on)
+}
+
+pub fn rows<R: Wait + Threads + CpuClock + Print + Sync>(
+    rt: &R,
+    alloc: Global,
+    asked: &Asked<'_>,
+    capacity: u32,
+) -> Option<()> {
+    let locked = Mutex::new([0u64; 16]);
     let hand = by_hand::Value::<16>::new(alloc).ok()?;
     let (value, pass) = UnrestrictedAtomic::new(alloc, Sixteen::of(0)).ok()?;
-    let timed = Loads {
+    let mut loads = Loads {
         value: &value,
         pass,
         hand,
+        locked: &locked,
     };
-    print_beside(rt, alloc, row, timed)
+    asked.both::<Load, Loads<'_>, R>(rt, alloc, capacity, &mut loads)?;
+    asked.both::<LoadBeside, Loads<'_>, R>(rt, alloc, capacity, &mut loads)?;
+    rows_of_stores(rt, alloc, asked, capacity)
 }

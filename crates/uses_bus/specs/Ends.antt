@@ -1,5 +1,5 @@
 -- What clauses see of the ends of a bus.
-use Rattle.std.specs.Prelude.{◌≡◌, ◌⊎◌, ℕ, ◌≤◌, Ok, List}
+use Rattle.std.specs.Prelude.{◌≡◌, ◌≢◌, ◌⊎◌, ℕ, ◌/◌, ◌%◌, ◌<◌, ◌≤◌, Ok, Option, Some, None, List, [], ◌∷◌, vec_len}
 use Rattle.uses_slots.specs.declared.Keeps.{Ghosts}
 use Rattle.lock_free.specs.Coding.{Coding}
 use Rattle.lock_free.specs.Container.Handles.{knows, pass_in}
@@ -7,17 +7,22 @@ use Rattle.lock_free.specs.Container.Names.{code_of}
 use Rattle.lock_free.specs.Container.Contracts.{HasAdded}
 use Rattle.lock_free.specs.HistoryView.View.{View}
 use Rattle.lock_free.specs.Queues.Item.TheVariants.{Index}
-use Rattle.lock_free.specs.Queues.Rings.{QueueId, consumer_queue, consumer_view, producer_queue, producer_view}
-use Rattle.lock_free.specs.Queues.Contracts.{FoundNone, HasTakenFirst, PushRefused}
+use Rattle.lock_free.specs.Queues.Rings.{QueueId, consumer_queue, consumer_view, producer_queue, producer_view, view}
+use Rattle.lock_free.specs.Queues.Contracts.{PopFoundNone, PopOldest, PushRefused}
 use Rattle.lock_free.specs.Share.{Share}
 use Rattle.lock_free.specs.UniqueIndexSet.{SetId}
+use Rattle.lock_free.specs.declared.mpmc.container.ContainerHandle.{ContainerHandle}
 use Rattle.uses_bus.specs.declared.error.LoanFailure.{LoanFailure}
 use Rattle.uses_bus.specs.declared.error.LoanFailure.TheVariants.{NoSlot, NoRecord, StillRead}
+use Rattle.uses_bus.specs.declared.error.ReclaimFailure.{ReclaimFailure}
+use Rattle.uses_bus.specs.declared.error.ReclaimFailure.TheVariants.{NotHeld, InUse}
 use Rattle.uses_bus.specs.declared.holders.Holders.{Holders}
 use Rattle.uses_bus.specs.declared.outlet.Outlet.{Outlet}
-use Rattle.uses_bus.specs.declared.publisher.Loan.{Loan}
+use Rattle.uses_bus.specs.declared.loan.Emptied.{Emptied}
+use Rattle.uses_bus.specs.declared.loan.Loan.{Loan}
 use Rattle.uses_bus.specs.declared.publisher.Publisher.{Publisher}
 use Rattle.uses_bus.specs.declared.roll.Roll.{Roll}
+use Rattle.uses_bus.specs.declared.subscriber.Left.{Left}
 use Rattle.uses_bus.specs.declared.subscriber.Sample.{Sample}
 use Rattle.uses_bus.specs.declared.subscriber.Seat.{Seat}
 use Rattle.uses_bus.specs.declared.subscriber.Subscriber.{Subscriber}
@@ -25,21 +30,47 @@ use Rattle.uses_bus.specs.Outlets.{holders_in}
 use Rattle.uses_bus.specs.Pools as pools
 use Rattle.uses_bus.specs.Books.{ChangesAt, IsLoaned}
 use Rattle.uses_bus.specs.Holders.{publisher}
-use Rattle.uses_slots.specs.Slots.{slots_in}
+use Rattle.uses_loans.specs.Words.{word_of, IsWord}
+use Rattle.uses_loans.specs.declared.error.ReadFailure.{ReadFailure}
+use Rattle.uses_loans.specs.declared.error.ReadFailure.TheVariants.{Slot, Other}
+use Rattle.uses_loans.specs.declared.words.Layout.{Layout}
+use Rattle.uses_slots.specs.Slots.{slots_in, IsUnreadable, IsUntaken}
 
--- nothing changed; or one slot more is out, which the publisher has
-abbrev pub IsTakenFor : List Holders → List Holders → LoanFailure → Type 0
-IsTakenFor old new (StillRead slot) = ChangesAt slot publisher old new × IsLoaned new slot
-IsTakenFor old new (NoSlot e) = new ≡ old
-IsTakenFor old new NoRecord = new ≡ old
+-- nothing changed, and no record to write was left where that is the reason; or one slot more is out, which the publisher has
+abbrev pub IsTakenFor : ℕ → List Holders → List Holders → LoanFailure → Type 0
+IsTakenFor spares old new (StillRead slot) = ChangesAt slot publisher old new × IsLoaned new slot
+IsTakenFor spares old new (NoSlot e) = new ≡ old
+IsTakenFor spares old new NoRecord = (new ≡ old) × (spares ≡ 0)
 
--- the slot that is read
+-- the slot that is read, and the number that its record was published with
 abbrev pub received : Sample → ℕ
 received sample = sample.slot
+
+abbrev pub number_of : Sample → ℕ
+number_of sample = sample.number
+
+-- the numbers that came
+abbrev pub numbers_of : Option Sample → List ℕ
+numbers_of (Some sample) = number_of sample ∷ []
+numbers_of None = []
 
 -- the slot that is written
 abbrev pub loaned : {X K : Type 0} → Loan X K → ℕ
 loaned loan = loan.slot
+
+-- the slot that was left empty
+abbrev pub emptied : Emptied → ℕ
+emptied e = e.slot
+
+-- what one that left knew of the registry, of the queue that it received from, and of the one by which it gave back
+abbrev pub members_left : Left → View ℕ
+members_left left = knows left.members
+
+abbrev pub receives_left : Left → View ℕ
+receives_left left = view left.submission
+
+abbrev pub returns_left : Left → View ℕ
+returns_left left = view left.completion
 
 module _ {X K : Type 0} {rule : Ghosts K X} where
   -- ---- the publisher
@@ -54,6 +85,25 @@ module _ {X K : Type 0} {rule : Ghosts K X} where
   -- the number of the record that is published next
   abbrev pub next_of : Publisher X K rule → ℕ
   next_of p = p.next
+
+  -- how many records are not in a slot
+  abbrev pub spares_in : Publisher X K rule → ℕ
+  spares_in p = vec_len p.spares
+
+  -- how its words are made, and whether there is one of the next number with this slot
+  abbrev pub layout_of : Publisher X K rule → Layout
+  layout_of p = p.layout
+
+  abbrev pub room_of : Publisher X K rule → ℕ
+  room_of p = (layout_of p).room
+
+  abbrev pub HasNumber : Publisher X K rule → ℕ → Type 0
+  HasNumber p slot = IsWord (room_of p) (slots_of p) (next_of p) slot
+
+  -- why a slot is not reclaimed: it is not on loan, or its slot is not to be written
+  abbrev pub IsKept : ℕ → Publisher X K rule → ReclaimFailure → Type 0
+  IsKept slot p NotHeld = ¬ IsLoaned (table_of p) slot
+  IsKept slot p (InUse failure) = IsUntaken p.records.now slot failure
 
   -- of which set its pass is, and how much of the right to know the whole it has
   abbrev pub set_in : Publisher X K rule → SetId
@@ -73,6 +123,7 @@ module _ {X K : Type 0} {rule : Ghosts K X} where
   pub record IsSame (old new : Publisher X K rule) : Type 0 where
     pub pool : pools.IsSame old.pool new.pool
     pub records : new.records ≡ old.records
+    pub layout : layout_of new ≡ layout_of old
     pub lanes : holders_in (lanes_of new) ≡ holders_in (lanes_of old)
 
   -- ---- a subscriber
@@ -88,6 +139,36 @@ module _ {X K : Type 0} {rule : Ghosts K X} where
   abbrev pub place_before : Seat X K rule → ℕ
   place_before s = s.place
 
+  abbrev pub place_at : Subscriber X K rule → ℕ
+  place_at s = s.place
+
+  -- how it takes words apart
+  abbrev pub layout_before : Seat X K rule → Layout
+  layout_before s = s.layout
+
+  abbrev pub layout_at : Subscriber X K rule → Layout
+  layout_at s = s.layout
+
+  -- the number of the first record that it takes, and of the next
+  abbrev pub first_before : Seat X K rule → ℕ
+  first_before s = s.first
+
+  abbrev pub expected_at : Subscriber X K rule → ℕ
+  expected_at s = s.expected
+
+  -- what was published, of a sample
+  abbrev pub word_at : Subscriber X K rule → Sample → ℕ
+  word_at s sample = word_of (layout_at s).room (number_of sample) (received sample)
+
+  -- where its record is in the registry
+  abbrev pub record_of : Subscriber X K rule → ContainerHandle
+  record_of s = s.record
+
+  -- why a sample is not read: its slot is not, or another number lies there
+  abbrev pub IsUnread : Subscriber X K rule → Sample → ReadFailure → Type 0
+  IsUnread s sample (Slot failure) = IsUnreadable s.records.now (received sample) failure
+  IsUnread s sample (Other number) = number ≢ number_of sample
+
   -- how the registry's records are written in words, and what is known of it
   abbrev pub code_before : Seat X K rule → Coding ℕ
   code_before s = code_of (pass_in s.members)
@@ -101,7 +182,7 @@ module _ {X K : Type 0} {rule : Ghosts K X} where
   -- the registry was given a record of the seat's place, by this owner
   abbrev pub IsLetIn : ℕ → Seat X K rule → Subscriber X K rule → Type 0
   IsLetIn owner seat s =
-      (index : ℕ) × HasAdded (code_before seat) (record { value = place_before seat; owner = owner }) (Ok index)
+      (index : ℕ) × HasAdded (record { value = place_before seat; owner = owner }) (Ok index)
       (members_before seat) (members_view s)
 
   -- what it knows of the queue that it receives from, and of the one by which it gives back
@@ -117,12 +198,14 @@ module _ {X K : Type 0} {rule : Ghosts K X} where
   abbrev pub returns_queue : Subscriber X K rule → QueueId
   returns_queue s = producer_queue s.inlet.returns
 
-  -- nothing waited; or the queue has no room at all, and nothing is written; or what came is no slot
+  -- nothing waited; or the queue has no room at all, and nothing is written; or what came is no slot, or a record that was
+  -- published before its seat was made, or before one that it has received
   abbrev pub ReceivedNone : Subscriber X K rule → Subscriber X K rule → Type 0
   ReceivedNone old new =
-      FoundNone (receives_view old) (receives_view new)
+      PopFoundNone (receives_view old) (receives_view new)
       ⊎ ((receives_queue old).capacity ≡ 0) × (receives_view new ≡ receives_view old)
-      ⊎ (number : ℕ) × (slots_at old ≤ number) × HasTakenFirst (Index number) (receives_view old) (receives_view new)
+      ⊎ (word : ℕ) × ((slots_at old ≤ word % (layout_at old).room) ⊎ (word / (layout_at old).room < expected_at old))
+      × PopOldest (Index word) (receives_view old) (receives_view new)
 
   -- the slot was not taken back: as many waited as the queue has room for, or its last position is reached
   abbrev pub TookNoneBack : ℕ → Subscriber X K rule → Subscriber X K rule → Type 0

@@ -9,3 +9,4 @@ pub mod Pools
 pub mod Rolls
 pub mod Sequences
 pub mod Stores
+pub mod Words

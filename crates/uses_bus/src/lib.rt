@@ -5,6 +5,7 @@ pub mod bus;
 pub mod error;
 mod holders;
 mod lane;
+pub mod loan;
 pub mod news;
 pub mod numbers;
 mod outlet;

@@ -1,5 +1,6 @@
 //! The end of a bus that writes records and publishes them.
-ghost use Rattle.std.specs.Prelude.{◌≡◌, ◌+◌, ◌-◌, ◌^◌, ◌<◌, ◌≤◌, ◌↔◌, Bool, false, count_by, IsTrue, IsFalse, IfOk, IfErr, IfSome};
+ghost use Rattle.std.specs.Prelude.{◌≡◌, ◌+◌, ◌-◌, ◌^◌, ◌<◌, ◌≤◌, ◌↔◌, Bool, true};
+ghost use Rattle.std.specs.Prelude.{false, Some, count_by, slice_get, vec_len, IsTrue, IsFalse, IfOk, IfErr, IfSome};
 ghost use Rattle.lock_free.specs.Shares.{IsAll};
 ghost use Rattle.lock_free.specs.UniqueIndexSet.{set_of, share};
 ghost use Rattle.uses_bus.specs.Books.{holders_at, AllFree, ChangesAt, GainsNone, GainsOnly, IsLoaned, KeepsAllOrNone, KeepsLoans, KeepsLoansBut, held_number};
@@ -10,58 +11,19 @@ ghost use Rattle.uses_bus.specs.Pools as pools;
 ghost use Rattle.uses_bus.specs.Rolls.{HasLooked, HasRecovered};
 ghost use Rattle.uses_slots.specs.Slots.{slots_in};
 
-use crate::error::LoanFailure;
+use crate::error::{LoanFailure, ReclaimFailure, SubscribeFailure};
 use crate::holders::Holder;
+pub use crate::loan::{Emptied, Loan};
 use crate::outlet::Outlet;
-use crate::outlets::{free_inlet, send_to_all, settle_all, take_all_back};
+use crate::outlets::{free_inlet, send_to_all, settle_all, take_all_back, takes_part};
 use crate::pool::Pool;
 use crate::roll::Roll;
-use crate::subscriber::Seat;
+use crate::subscriber::{Seat, Subscriber};
 use lock_free::mpmc::container::OwnerId;
 use lock_free::mpmc::unique_index_set::Pass;
 use std::sync::Wait;
-use uses_slots::{Anything, Keeps, Slots, Writing};
-
-/// A slot, which nobody reads, and a record for it that the publisher writes in plain memory, until it publishes it or gives it
-/// up. It stays in its thread. Where it is dropped, its record is dropped too, and its slot stays out until it is reclaimed.
-pub struct Loan<'a, X: Drop, K: Keeps<X> = Anything> {
-    slot: u32,
-    /// The record, where it is written. It is one that was published before, or a spare as the publisher was given it.
-    pub value: X,
-    writing: Writing<'a, X, K>,
-}
-
-impl<'a, X: Drop, K: Keeps<X>> Drop for Loan<'a, X, K> {
-    fn drop(self) {
-        let Self {
-            slot: _,
-            value: _value,
-            writing: _writing,
-        } = self;
-    }
-}
-
-impl<'a, X: Drop, K: Keeps<X>> Loan<'a, X, K> {
-    ghost use Rattle.uses_bus.specs.Ends.{loaned};
-
-    /// The number of the slot.
-    pub fn slot(&self) -> u32
-        ensures { result ≡ loaned self.now }
-    {
-        self.slot
-    }
-
-    fn into_parts(self) -> (X, Writing<'a, X, K>)
-        ensures { result.0 ≡ self.entry.value }
-    {
-        let Self {
-            slot: _,
-            value,
-            writing,
-        } = self;
-        (value, writing)
-    }
-}
+use uses_loans::words::Layout;
+use uses_slots::{Anything, Keeps, Slots};
 
 /// Keeps what lay in a slot, if anything did, to be written again.
 fn keep<X: Drop>(spares: &mut Vec<X>, old: Option<(u64, X)>) {
@@ -75,10 +37,12 @@ pub struct Publisher<'a, X: Drop, K: Keeps<X> = Anything> {
     pool: Pool<'a>,
     records: &'a Slots<X, K>,
     spares: Vec<X>,
+    layout: Layout,
     next: u64,
     outlets: Vec<Outlet<'a>>,
     roll: Roll<'a>,
     ghost sized: { slots_in records.now ≡ pools.slots_of pool },
+    ghost fits: { layout.places ≡ slots_in records.now },
     ghost placed: { HaveTheirPlaces (holders_in outlets.items) },
     ghost shown: { AreShown roll (open_in outlets.items) },
 }
@@ -89,6 +53,7 @@ impl<'a, X: Drop, K: Keeps<X>> Drop for Publisher<'a, X, K> {
             pool: _pool,
             records: _,
             spares: _spares,
+            layout: _,
             next: _,
             outlets: _outlets,
             roll: _roll,
@@ -97,7 +62,9 @@ impl<'a, X: Drop, K: Keeps<X>> Drop for Publisher<'a, X, K> {
 }
 
 impl<'a, X: Drop, K: Keeps<X>> Publisher<'a, X, K> {
-    ghost use Rattle.uses_bus.specs.Ends.{lanes_of, loaned, next_of, roll_of, set_in, share_in, slots_before, slots_of, table_of, IsSame, IsTakenFor};
+    ghost use Rattle.uses_bus.specs.Ends.{emptied, expected_at, first_before, lanes_of, layout_before, layout_of, loaned, next_of, place_at};
+    ghost use Rattle.uses_bus.specs.Ends.{place_before, roll_of, room_of, set_in, share_in, slots_at, slots_before, slots_of, spares_in, table_of};
+    ghost use Rattle.uses_bus.specs.Ends.{HasNumber, IsKept, IsSame, IsTakenFor};
 
     pub(crate) fn of(
         pool: Pool<'a>,
@@ -111,22 +78,27 @@ impl<'a, X: Drop, K: Keeps<X>> Publisher<'a, X, K> {
         requires closed { NobodyTakesPart (open_in outlets.items) }
         ensures pool { result.pool ≡ pool.entry }
         ensures records { result.records ≡ records.entry }
+        ensures spares { spares_in result ≡ vec_len spares }
         ensures next { next_of result ≡ 0 }
     {
+        let layout = Layout::new(records.number());
         Publisher {
             pool,
             records,
             spares,
+            layout,
             next: 0,
             outlets,
             roll,
         }
     }
 
-    /// A seat for a subscriber, who may take it in another thread. None where no place is free, or no further pass can be
-    /// counted.
+    /// A seat for a subscriber, who may take it in another thread, and takes part from the next `update` after that on. It receives
+    /// no record that was published before the seat was made. None where no place is free, or no further pass can be counted.
     pub fn seat(&mut self) -> Option<Seat<'a, X, K>>
         ensures slots { IfSome result (λ s. slots_before s ≡ slots_of self.old) }
+        ensures layout { IfSome result (λ s. layout_before s ≡ layout_of self.old) }
+        ensures first { IfSome result (λ s. first_before s ≡ next_of self.old) }
         ensures table { table_of self.new ≡ table_of self.old }
         ensures taking { open_in (lanes_of self.new) ≡ open_in (lanes_of self.old) }
         ensures same { IsSame self.old self.new }
@@ -134,7 +106,46 @@ impl<'a, X: Drop, K: Keeps<X>> Publisher<'a, X, K> {
     {
         let member = self.roll.member()?;
         let (inlet, place) = free_inlet(&mut self.outlets)?;
-        Some(Seat::of(inlet, self.records, member, place as u64))
+        Some(Seat::of(
+            inlet,
+            self.records,
+            self.layout,
+            self.next,
+            member,
+            place as u64,
+        ))
+    }
+
+    /// A subscriber who takes part at once: what is published from now on goes to it. It is a `seat`, a `join` as this owner and an
+    /// `update` in one. Refused where no seat is to be had (`NoSeat`) and where the registry does not let the owner in (`NotLetIn`);
+    /// and where the look does not show it (`NotSeen`, which no clause rules out), and then it leaves again.
+    pub fn subscribe(
+        &mut self,
+        rt: &impl Wait,
+        owner: OwnerId,
+    ) -> Result<Subscriber<'a, X, K>, SubscribeFailure>
+        ensures part { IfOk result (λ s. slice_get (open_in (lanes_of self.new)) (place_at s) ≡ Some true) }
+        ensures slots { IfOk result (λ s. slots_at s ≡ slots_of self.old) }
+        ensures first { IfOk result (λ s. expected_at s ≡ next_of self.old) }
+        ensures all { KeepsAllOrNone (table_of self.old) (table_of self.new) }
+        ensures loans { KeepsLoans (table_of self.old) (table_of self.new) }
+        ensures same { IsSame self.old self.new }
+        ensures next { next_of self.new ≡ next_of self.old }
+    {
+        let Some(seat) = self.seat() else {
+            return Err(SubscribeFailure::NoSeat);
+        };
+        let subscriber = match seat.join(rt, owner) {
+            Ok(subscriber) => subscriber,
+            Err((failure, _)) => return Err(SubscribeFailure::NotLetIn(failure)),
+        };
+        self.update(rt);
+        if takes_part(&self.outlets, subscriber.place()) {
+            Ok(subscriber)
+        } else {
+            let _ = subscriber.leave(rt);
+            Err(SubscribeFailure::NotSeen)
+        }
     }
 
     /// Looks who takes part, once. Who does gets what is published from now on; and where one has left, or a recovery has
@@ -192,7 +203,8 @@ impl<'a, X: Drop, K: Keeps<X>> Publisher<'a, X, K> {
         ensures changes { IfOk result
             (λ l. ChangesAt (loaned l) publisher (table_of self.old) (table_of self.new)) }
         ensures loaned { IfOk result (λ l. IsLoaned (table_of self.new) (loaned l)) }
-        ensures refused { IfErr result (IsTakenFor (table_of self.old) (table_of self.new)) }
+        ensures spares { IfOk result (λ l. spares_in self.new + 1 ≡ spares_in self.old) }
+        ensures refused { IfErr result (IsTakenFor (spares_in self.old) (table_of self.old) (table_of self.new)) }
         ensures taking { open_in (lanes_of self.new) ≡ open_in (lanes_of self.old) }
         ensures same { IsSame self.old self.new }
         ensures next { next_of self.new ≡ next_of self.old }
@@ -210,23 +222,23 @@ impl<'a, X: Drop, K: Keeps<X>> Publisher<'a, X, K> {
         let Some(value) = self.spares.pop() else {
             unreachable!()
         };
-        Ok(Loan {
-            slot,
-            value,
-            writing,
-        })
+        Ok(Loan::of(slot, value, writing))
     }
 
     /// Publishes a record, which keeps its rule with the number that comes next, to each who takes part and has it not: how many
     /// gained it. Its slot is on loan no more, and nobody gains another. The oldest record of one who is too slow comes back. The
-    /// numbers rise by one with each record, up to 2^64 - 1.
+    /// numbers rise by one with each record.
+    ///
+    /// A number and a slot go into one word, so there are 2^64 numbers divided by the slots rounded up to a power of two (at least
+    /// 2). From the one past the last nothing is published any more: each loan is given up, 0.
     ///
     /// One step on the slot, a push for each who takes part, and a release where nobody gained it.
     pub fn publish(&mut self, loan: Loan<'a, X, K>) -> usize
         requires fits { K.holds (next_of self.old) loan.value }
-        ensures served { EachLane (IsServed (loaned loan.entry) (table_of self.old) (table_of self.new))
+        ensures served { HasNumber self.old (loaned loan.entry)
+            → EachLane (IsServed (room_of self.old) (next_of self.old) (loaned loan.entry) (table_of self.old) (table_of self.new))
             (lanes_of self.old) (lanes_of self.new) }
-        ensures number { result
+        ensures number { HasNumber self.old (loaned loan.entry) → result
             ≡ count_by (has_gained (loaned loan.entry) (table_of self.old) (table_of self.new)) (lanes_of self.old) }
         ensures rest { KeepsRest (lanes_of self.old) (table_of self.old) (table_of self.new) }
         ensures gone { ¬ IsLoaned (table_of self.new) (loaned loan.entry) }
@@ -236,15 +248,20 @@ impl<'a, X: Drop, K: Keeps<X>> Publisher<'a, X, K> {
             → ChangesAt (loaned loan.entry) publisher (table_of self.old) (table_of self.new) }
         ensures taking { open_in (lanes_of self.new) ≡ open_in (lanes_of self.old) }
         ensures same { IsSame self.old self.new }
-        ensures next { next_of self.old < 2 ^ 64 - 1 → next_of self.new ≡ next_of self.old + 1 }
+        ensures next { HasNumber self.old (loaned loan.entry) → next_of self.new ≡ next_of self.old + 1 }
+        ensures last { ¬ HasNumber self.old (loaned loan.entry) → (result ≡ 0) × (next_of self.new ≡ next_of self.old) }
     {
-        let slot = loan.slot;
-        let (value, writing) = loan.into_parts();
+        let slot = loan.slot();
         let number = self.next;
-        let (_, before) = writing.put(number, value);
+        if !self.layout.has(number, slot) {
+            self.give_up(loan);
+            return 0;
+        }
+        let (value, writing) = loan.into_parts();
+        let (laid, before) = writing.put(number, value);
         keep(&mut self.spares, before);
-        self.next = number.saturating_add(1);
-        let gained = send_to_all(&mut self.outlets, &mut self.pool, slot);
+        self.next = number + 1;
+        let gained = send_to_all(&mut self.outlets, &mut self.pool, &self.layout, &laid);
         self.pool.put_back(slot as u64, Holder::publisher());
         gained
     }
@@ -257,33 +274,38 @@ impl<'a, X: Drop, K: Keeps<X>> Publisher<'a, X, K> {
         ensures same { IsSame self.old self.new }
         ensures next { next_of self.new ≡ next_of self.old }
     {
-        let slot = loan.slot;
+        let slot = loan.slot();
         let (value, writing) = loan.into_parts();
         let _ = self.spares.push(value);
         keep(&mut self.spares, writing.empty());
         self.pool.put_back(slot as u64, Holder::publisher());
     }
 
-    /// Tries a slot again that stayed out, since it was `StillRead` or its loan was dropped: true, and it is free, where nobody
-    /// reads it any more. False where the publisher does not hold it, where somebody reads it still, or (by no clause) where its
-    /// loan is in hand; then nothing changes. A load, at most one compare-exchange and one further step on the slot, and a release.
-    pub fn reclaim(&mut self, slot: u32) -> bool
-        ensures had { IsTrue result → IsLoaned (table_of self.old) slot }
-        ensures gone { IsTrue result → ¬ IsLoaned (table_of self.new) slot }
+    /// Tries a slot again that stayed out, since it was `StillRead` or its loan was dropped: it is left empty, and it is free. Refused
+    /// where the publisher does not hold it (`NotHeld`), and where its word says that somebody reads it still or (its loan is in
+    /// hand) writes it (`InUse`); then nothing changes. A load, at most one compare-exchange and one further step on the slot, and a
+    /// release.
+    pub fn reclaim(&mut self, slot: u32) -> Result<Emptied, ReclaimFailure>
+        ensures had { IfOk result (λ e. IsLoaned (table_of self.old) slot) }
+        ensures emptied { IfOk result (λ e. emptied e ≡ slot) }
+        ensures gone { IfOk result (λ e. ¬ IsLoaned (table_of self.new) slot) }
         ensures changes { ChangesAt slot publisher (table_of self.old) (table_of self.new) }
-        ensures refused { IsFalse result → table_of self.new ≡ table_of self.old }
+        ensures refused { IfErr result (λ e. IsKept slot self.old e × (table_of self.new ≡ table_of self.old)) }
         ensures taking { open_in (lanes_of self.new) ≡ open_in (lanes_of self.old) }
         ensures same { IsSame self.old self.new }
         ensures next { next_of self.new ≡ next_of self.old }
     {
         if !self.pool.has(slot, Holder::publisher()) {
-            return false;
+            return Err(ReclaimFailure::NotHeld);
         }
-        let Ok(writing) = self.records.take(slot) else {
-            return false;
+        let writing = match self.records.take(slot) {
+            Ok(writing) => writing,
+            Err(failure) => return Err(ReclaimFailure::InUse(failure)),
         };
-        keep(&mut self.spares, writing.empty());
-        self.pool.put_back(slot as u64, Holder::publisher())
+        let (emptied, before) = Emptied::by(slot, writing);
+        keep(&mut self.spares, before);
+        self.pool.put_back(slot as u64, Holder::publisher());
+        Ok(emptied)
     }
 
     /// Takes back what subscribers have given back: nobody gains a slot, and what is on loan stays so.
@@ -331,11 +353,13 @@ impl<'a, X: Drop, K: Keeps<X>> Publisher<'a, X, K> {
     pub fn finish(self) -> (Pass, Vec<X>)
         ensures set { set_of result.0 ≡ set_in self.entry }
         ensures share { share result.0 ≡ share_in self.entry }
+        ensures spares { vec_len result.1 ≡ spares_in self.entry }
     {
         let Publisher {
             pool,
             records: _,
             spares,
+            layout: _,
             next: _,
             outlets: _,
             roll: _,

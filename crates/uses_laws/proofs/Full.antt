@@ -1,5 +1,5 @@
 -- In a young history who was refused for want of an index met a full pool.
-use Rattle.std.proofs.Common.{◌≡◌, ⊎_elim, ℕ, ◌-◌, ◌*◌, ◌^◌, ◌≤◌, Err, List, sum_by, refl, sym, ap, subst, arith}
+use Rattle.std.proofs.Common.{◌≡◌, ⊎_elim, ℕ, Err, List, sum_by, refl, sym, ap, subst, arith}
 use Rattle.steps.specs.declared.indices.enums.UniqueIndexSetAcquireFailure.TheVariants.{OutOfIndices}
 use Rattle.model.specs.declared.event.Answer.TheVariants.{NoIndex}
 use Rattle.model.specs.declared.event.Start.TheVariants.{Robust}
@@ -10,15 +10,14 @@ use Rattle.model.proofs.Moments.{held_later}
 use Rattle.lock_free.specs.Event.{Event}
 use Rattle.lock_free.specs.Event.TheVariants.{Begun, Finished}
 use Rattle.lock_free.specs.HistoryView.View.{View}
-use Rattle.lock_free.specs.Robust.Contracts.{HasTaken, WasRefused, IsWorn}
+use Rattle.lock_free.specs.Robust.Contracts.{HasTaken, WasRefused}
 use Rattle.lock_free.proofs.Sums.{sum_made}
-use Rattle.lock_free.specs.OwnerLaws.{change, changes, lock_call, lock_calls, LocksApart}
+use Rattle.lock_free.specs.OwnerLaws.{change, lock_call, lock_calls, LocksApart}
 use Rattle.uses_laws.specs.Leases.{IsYoung, WasFull}
 
--- the laws of the counter
-pub record Laws : Type 0 where
-  pub worn : (capacity : ℕ) (events : List (Event ℕ)) → IsWorn capacity events → LocksApart events → 2 ^ 64 - 2 ≤ 3 * changes events
-  pub apart : (events : List (Event ℕ)) → lock_calls events ≡ 0 → LocksApart events
+-- the law of calls that lock
+abbrev pub AreApart : Type 0
+AreApart = (events : List (Event ℕ)) → lock_calls events ≡ 0 → LocksApart events
 
 module _ (owner : ℕ) (old new : View ℕ) (taken : HasTaken owner (Err OutOfIndices) old new) where
   -- a refusal changes nothing
@@ -50,14 +49,14 @@ module _ (v : View ℕ) (whole : (f : Event ℕ → ℕ) → sum_by f v.seen ≡
       let few = young.few in
       record { unlocked = omega arith; few = omega arith }
 
-pub was_full : Laws → (owner : ℕ) (old new : View ℕ) → HasTaken owner (Err OutOfIndices) old new → WasRefused owner OutOfIndices old new
+pub was_full : AreApart → (owner : ℕ) (old new : View ℕ) → HasTaken owner (Err OutOfIndices) old new → WasRefused owner OutOfIndices old new
     → ((f : Event ℕ → ℕ) → sum_by f new.seen ≡ sum_by f new.made) → IsYoung old.made → WasFull old.capacity new.seen
-was_full laws owner old new taken refused whole young =
+was_full apart owner old new taken refused whole young =
     let now = seen_young new whole (still_young owner old new taken young) in
     let last = refused.answered in
     ⊎_elim
     (λ worn. (
-    let many = laws.worn old.capacity new.seen worn (laws.apart new.seen now.unlocked) in
+    let many = worn (apart new.seen now.unlocked) in
     let few = now.few in
     absurd (omega arith)))
     (λ full. record {

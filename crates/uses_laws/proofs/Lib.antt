@@ -7,4 +7,5 @@ pub mod Shared
 pub mod Drained
 pub mod Full
 pub mod Whole
+pub mod WrongBodies
 pub mod WrongHistories

@@ -10,7 +10,7 @@ use Rattle.model.specs.declared.families.container.ContainerStart.TheVariants.{A
 use Rattle.model.specs.declared.turn.Kind.TheVariants as kinds
 use Rattle.model.specs.Families.Container.Calls.{added}
 use Rattle.history.specs.Container as container
-use Rattle.history.specs.Settled.{SettledFrom, Settles}
+use Rattle.lock_free.specs.Container.Resting.{SettledFrom, Settles}
 use Rattle.lock_free.specs.Coding.{Coding}
 use Rattle.lock_free.specs.Container.Contracts.{HasAdded}
 use Rattle.lock_free.specs.Event.{Event}
@@ -61,15 +61,15 @@ add_so capacity p given (Err failures.OutOfSpace) es h = subst IsAdd (sym h) non
 
 -- ---- one add
 
-module _ (given : Owned ℕ) (code : Coding ℕ) where
+module _ (given : Owned ℕ) where
   abbrev start : Start ℕ
   start = Container (Add given.value given.owner)
 
   -- a pass whose last call is over begins from what it knew
-  settled_is : (old new : View ℕ) → old.going ≡ None → SettledFrom code kinds.Container old new → new ≡ old
-  settled_is old new idle settled = ⊎_elim (λ same. same.0) (λ (s : Settles code kinds.Container old new). absurd (rests s)) settled
+  settled_is : (old new : View ℕ) → old.going ≡ None → SettledFrom old new → new ≡ old
+  settled_is old new idle settled = ⊎_elim (λ same. same.0) (λ (s : Settles old new). absurd (rests s)) settled
     where
-      rests : Settles code kinds.Container old new → ⊥
+      rests : Settles old new → ⊥
       rests s = let going = s.resting.going in cc
 
   -- what it leaves of the sums over what the pass made
@@ -79,7 +79,7 @@ module _ (given : Owned ℕ) (code : Coding ℕ) where
     pub unlocked : lock_calls new.made ≡ lock_calls old.made
     pub few : 3 * changes new.made + rises new.made ≤ 3 * changes old.made + rises old.made + 6
 
-  leaves_from : (r : Added) (old from new : View ℕ) → (h : HasAdded code given r old new) → from ≡ h.from → Leaves from new
+  leaves_from : (r : Added) (old from new : View ℕ) → (h : HasAdded given r old new) → from ≡ h.from → Leaves from new
   leaves_from r old from new h is =
       let es = h.wrote in
       let so = add_so old.capacity h.by given r es h.tells in
@@ -93,18 +93,18 @@ module _ (given : Owned ℕ) (code : Coding ℕ) where
         few = (let one = made change in let two = made rise in let few = so.few in omega arith);
       })
 
-  leaves : (r : Added) (old new : View ℕ) → old.going ≡ None → HasAdded code given r old new → Leaves old new
+  leaves : (r : Added) (old new : View ℕ) → old.going ≡ None → HasAdded given r old new → Leaves old new
   leaves r old new idle h = leaves_from r old old new h (sym (settled_is old h.from idle h.settled))
 
 -- ---- the history is what was made
 
 module _ (laws : Laws) (code : Coding ℕ) (capacity : ℕ) (old between new : View ℕ) (calm : HasOnlyAdded old.made) where
-  pub whole_after : (one two : Owned ℕ) (r s : Added) → old.going ≡ None → between.going ≡ None → HasAdded code one r old between
-      → HasAdded code two s between new → ((f : Event ℕ → ℕ) → sum_by f new.seen ≡ sum_by f new.made)
+  pub whole_after : (one two : Owned ℕ) (r s : Added) → old.going ≡ None → between.going ≡ None → HasAdded one r old between
+      → HasAdded two s between new → ((f : Event ℕ → ℕ) → sum_by f new.seen ≡ sum_by f new.made)
       → IsHistory code kinds.Container capacity new.seen → IsContained new.seen
   whole_after one two r s idle rested first second all history =
-      let a = leaves one code r old between idle first in
-      let b = leaves two code s between new rested second in
+      let a = leaves one r old between idle first in
+      let b = leaves two s between new rested second in
       let recovered : recoveries new.seen ≡ 0 =
       (let same = all recovery in let x = a.recovered in let y = b.recovered in let was = calm.recovered in omega arith) in
       let removed : removals new.seen ≡ 0 =

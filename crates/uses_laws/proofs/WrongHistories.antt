@@ -1,5 +1,5 @@
 -- For fields of what contracts of threads say a history that this field refuses here.
-use Rattle.std.proofs.Common.{◌≡◌, ◌≤◌, ◌<◌, ⊎_elim, ℕ, Some, None, List, [], ◌∷◌, ◌++◌, refl, ap, subst, ◌∙◌, append_assoc, arith}
+use Rattle.std.proofs.Common.{◌≡◌, ◌≤◌, ◌<◌, ⊎_elim, ℕ, false, Some, None, List, [], ◌∷◌, ◌++◌, refl, ap, subst, ◌∙◌, append_assoc, arith}
 use Rattle.std.specs.List.{FoldsTo}
 use Rattle.model.specs.declared.event.Answer.TheVariants.{State}
 use Rattle.model.specs.declared.event.Event.{Event}
@@ -17,12 +17,12 @@ use Rattle.lock_free.specs.Queues.Closes.{Closes}
 use Rattle.lock_free.specs.Queues.Contracts.{HasTakenFirst}
 use Rattle.lock_free.specs.ReleaseMode.TheVariants.{Default}
 use Rattle.lock_free.specs.ReleaseState.TheVariants.{Unlocked}
-use Rattle.lock_free.specs.Robust.Callable.{asks, tells, questions_of, freed_of}
+use Rattle.lock_free.specs.Robust.Callable.{asks, tells, questions_of, freed_of, was_told}
 use Rattle.lock_free.specs.Robust.Contracts.{HasRecovered}
 use Rattle.lock_free.specs.Share.{Share}
 use Rattle.lock_free.specs.Shares.{all_shares}
 use Rattle.uses_laws.specs.Wrong.{first, having_seen, took_the_second, knows_of_one, nothing_left, stays, same_party}
-use Rattle.uses_laws.specs.Wrong.{never_asked, may_be_asked, never_told, asked_of_one, freed_one}
+use Rattle.uses_laws.specs.Wrong.{never_asked, may_be_asked, says_no, never_told, may_be_told, asked_of_one, freed_one}
 
 -- ---- a pop of an overflowing queue
 
@@ -108,6 +108,13 @@ forgets_party k = let e = k.party in cc
 keeps_all : HasSplit first first new → ⊥
 keeps_all k = let e = k.share in cc
 
+-- either counts others' changes that it has not seen, or has forgotten them
+counts_more : HasSplit first stays (record new { others = 1 }) → ⊥
+counts_more k = let e = k.right_others in cc
+
+forgets_others : HasSplit (record first { others = 1 }) stays new → ⊥
+forgets_others k = let e = k.others in cc
+
 -- ---- a recovery of a robust set
 
 -- what a recovery has written begins with a question, or it is its end
@@ -166,6 +173,28 @@ none_told by (v ∷ visits) is told =
 
 pub tells_nobody : HasRecovered may_be_asked never_told Default Unlocked [] [] [] [] first freed_one → ⊥
 tells_nobody k = none_told k.by k.visits k.called.made k.visited.told
+
+-- it has freed an index, and its closure had said no
+no_to_one : (by index owner : ℕ) (came : Came) (visits : List Visit)
+    → Asked 0 0 7 ∷ Told 0 0 7 ∷ FreedOf 0 0 7 ∷ ends 0 ≡ wrote_to by index owner came ++ (wrote_by by visits ++ ends by)
+    → was_told came ≡ false
+    → ⊥
+no_to_one by index owner HasAsked visits is said = head_is by visits (Told 0 0 7) (FreedOf 0 0 7 ∷ ends 0) (cc)
+no_to_one by index owner WasTold visits is said = cc
+no_to_one by index owner HasFreed visits is said = cc
+no_to_one by index owner HasLocked visits is said = cc
+
+none_agreed : (by : ℕ) (visits : List Visit) → freed_one.made ≡ Begun by (Robust (Recover Default)) ∷ (wrote_by by visits ++ ends by)
+    → FoldsTo (asks says_no) [] (questions_of visits) []
+    → ⊥
+none_agreed by [] is asked = cc
+none_agreed by (v ∷ visits) is asked =
+    let wrote : Asked 0 0 7 ∷ Told 0 0 7 ∷ FreedOf 0 0 7 ∷ ends 0 ≡ wrote_by by (v ∷ visits) ++ ends by = cc in
+    no_to_one by v.index v.owner v.came visits
+    (wrote ∙ append_assoc (wrote_to by v.index v.owner v.came) (wrote_by by visits) (ends by)) asked.1
+
+pub recover_tells_after_a_no : HasRecovered says_no may_be_told Default Unlocked [] [] [] [] first freed_one → ⊥
+recover_tells_after_a_no k = none_agreed k.by k.visits k.called.made k.visited.asked
 
 -- it has asked about an index, though it had seen the lock
 abbrev locked : View ℕ

@@ -2,16 +2,19 @@
 use Rattle.std.specs.Prelude.{◌≡◌, ◌<◌, ◌^◌, ℕ, true, List, [], ◌∷◌, ◌++◌, fold, length}
 use Rattle.pages.specs.IndexQueue.{Answer, Call, Push, Pushed, bounded_list, index_queue}
 use Rattle.pages.specs.Machine.{Event, Invoked, IsLinearizable, Responded, Turn, opening, turned}
+use Rattle.pages_threads.specs.Silent.{IsSilent}
 
 -- the history of the page's machine over these turns
 abbrev pub history_of : ℕ → List (Turn Call) → List (Event Call Answer)
 history_of capacity turns = (fold (turned (index_queue capacity)) (opening (index_queue capacity)) turns).history
 
--- this history ends with the response of a push that was taken, and an invocation of a push of this value stands before it
+-- This history ends with the response to a push of this value, which was taken: from the invocation of that push on the
+-- producer does nothing else.
 pub record EndsWithPush (value : ℕ) (history : List (Event Call Answer)) : Type 0 where
   pub before : List (Event Call Answer)
   pub during : List (Event Call Answer)
   pub is : history ≡ before ++ Invoked 0 (Push value) ∷ (during ++ Responded 0 (Pushed true) ∷ [])
+  pub alone : IsSilent 0 during
 
 -- What was seen of all threads' pushes and pops is a run of the page's machine. It had come to the end of a push, and has gone on
 -- from there to the end of another one. It is linearizable as the page says.

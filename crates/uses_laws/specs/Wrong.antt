@@ -1,5 +1,5 @@
 -- What a pass would know of histories that contracts refuse.
-use Rattle.std.specs.Prelude.{ℕ, Bool, Some, List, [], ◌∷◌, ◌++◌}
+use Rattle.std.specs.Prelude.{◌≡◌, ℕ, Bool, false, Some, List, [], ◌∷◌, ◌++◌}
 use Rattle.steps.specs.Objects.Lists.{Bounded}
 use Rattle.model.specs.declared.event.Event.{Event}
 use Rattle.model.specs.declared.event.Event.TheVariants.{Begun, Published, HandedOut, FreedOf, Asked, Told, Finished}
@@ -47,15 +47,21 @@ same_party = record stays { party = Some 0 }
 
 -- ---- a recovery
 
--- a closure that was never called, and one that may have been
+-- a closure that was never called, one that may have been, and one that says no
 abbrev pub never_asked : List ℕ → ℕ → ℕ → Bool → List ℕ → Type 0
 never_asked before owner index said after = ⊥
 
 abbrev pub may_be_asked : List ℕ → ℕ → ℕ → Bool → List ℕ → Type 0
 may_be_asked before owner index said after = Unit {0}
 
+abbrev pub says_no : List ℕ → ℕ → ℕ → Bool → List ℕ → Type 0
+says_no before owner index said after = said ≡ false
+
 abbrev pub never_told : List ℕ → ℕ → ℕ → List ℕ → Type 0
 never_told before owner index after = ⊥
+
+abbrev pub may_be_told : List ℕ → ℕ → ℕ → List ℕ → Type 0
+may_be_told before owner index after = Unit {0}
 
 -- it has done this, and answered Unlocked
 abbrev pub recovering : List (Event ℕ) → List (Event ℕ)

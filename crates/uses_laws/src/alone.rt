@@ -19,5 +19,7 @@ pub fn set_alone(rt: &impl Wait, set: &BitSet, place: usize, pass: &mut Pass) ->
 {
     whole_calls_are_alone::<u64>();
     wholes_stay::<u64>();
-    set.set(rt, place, pass)
+    let was_clear = set.set(rt, place, pass);
+    pass.history();
+    was_clear
 }

@@ -26,7 +26,6 @@ pub fn lease(
     ensures set { set_of pass.new ≡ set_of pass.old }
     ensures full { result ≡ Err OutOfIndices → WasFull (view pass.old).capacity (history pass.new) }
 {
-    owners::worn_sets_have_changed();
     owners::calls_that_lock_are_apart::<u64>();
     pool.acquire(rt, owner, pass)
 }

@@ -13,4 +13,5 @@ pub mod page;
 pub mod sole;
 pub mod totals;
 pub mod twice;
+pub mod twins;
 pub mod wrong;

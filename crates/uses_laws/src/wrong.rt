@@ -1,5 +1,6 @@
 //! Histories that contracts refuse, so that no clause that refuses one can go out of its record unnoticed. The crate
-//! `wrong_runs` has runs of machines that promises refuse.
+//! `wrong_runs` has runs of machines that promises refuse, and `proofs/WrongBodies.antt` what wrong bodies of calls would
+//! leave.
 
 ghost use Rattle.std.specs.Prelude.{List, []};
 ghost use Rattle.lock_free.specs.Passes.{HasSplit};

@@ -1,8 +1,9 @@
 -- For clients: what the calls of a sender and of a receiver come to, one after the other, and what a channel knows in the end.
-use Rattle.std.proofs.Common.{◌≡◌, true, inl, inr, ℕ, ◌+◌, ◌-◌, ◌^◌, ◌<◌, ◌≤◌, List, [], ◌∷◌, ◌++◌, length, append-nil, sym, subst, ◌∙◌, arith}
+use Rattle.std.proofs.Common.{◌≡◌, true, inl, inr, ℕ, ◌+◌, ◌-◌, ◌^◌, ◌<◌, ◌≤◌, List, [], ◌∷◌, ◌++◌, length, map, append-nil, refl, sym, ap, subst, ◌∙◌, arith}
 use Rattle.std.proofs.lemmas.List.FromFn.{length-range_with_len}
 use Rattle.std.specs.List.{range_with_len}
 use Rattle.std.specs.Prelude.{Option, Some, None}
+use mathlib.Core.List.{map-append}
 use Rattle.lock_free.specs.Loan.Sender.{IsSame}
 use Rattle.model.specs.declared.event.Item.TheVariants.{Index}
 use Rattle.lock_free_queues.specs.Queues.Contracts.{HasAcquired, HasPopped, HasReleased}
@@ -18,6 +19,7 @@ use Rattle.uses_loans.specs.declared.receiver.ReceiverParts.{ReceiverParts}
 use Rattle.uses_loans.specs.declared.sender.Sender.{Sender}
 use Rattle.uses_loans.specs.declared.sender.SenderParts.{SenderParts}
 use Rattle.uses_loans.specs.declared.words.Layout.{Layout}
+use Rattle.uses_loans.specs.Channels.{HasReceivedThrough, HasSentThrough}
 use Rattle.uses_loans.specs.Channels.{HasOpened, HasPassedOn, HasRejoined, IsReceiverOf, IsSameChannel, IsSenderOf}
 use Rattle.uses_loans.specs.Channels.{next_in, sending_view, shape_of, submission_in}
 use Rattle.uses_loans.specs.Ends.{layout_of, layout_in, next_of, places_in, receives_queue, receives_shape, receives_view, sends_queue, sends_shape, sends_view}
@@ -26,11 +28,12 @@ use Rattle.uses_loans.specs.Ends.{numbers_back, numbers_of, IsOfReceiver, IsOfSe
 use Rattle.uses_loans.specs.declared.receiver.Sample.{Sample}
 use Rattle.uses_loans.specs.declared.sender.Back.{Back}
 use Rattle.uses_loans.specs.Words.{word_of}
-use Rattle.uses_loans.specs.Ends.{received_view, sent_view, KeepsReceives, KeepsSends, HasBegun, HasReceived, HasReceivedAll, HasSent, HasSentAll, HasWaited}
-use Rattle.uses_loans.specs.Numbers.{Shape, HasAll, HasReceivedNumbers, HasSentNumbers, ReceivesOn, SendsOn}
+use Rattle.uses_loans.specs.Ends.{received_view, sent_view, KeepsReceives, KeepsSends, HasBegun, HasReceived, HasReceivedAll, HasReceivedAllAs, HasReceivedAs}
+use Rattle.uses_loans.specs.Ends.{HasSent, HasSentAll, HasWaited}
+use Rattle.uses_loans.specs.Numbers.{Shape, ArePassedOn, HasAll, HasReceivedNumbers, IsPassedOn, HasSentNumbers, ReceivesOn, SendsOn}
 use Rattle.uses_loans.proofs.Numbers.{received_nothing_yet, receives_all, receives_nothing, receives_one, receives_other, receives_still, receives_then}
 use Rattle.uses_loans.proofs.Numbers.{sends_all, sends_back, sends_one, sends_still, sends_then, sent_none}
-use Rattle.uses_loans.proofs.Relayed.{range_then, relays}
+use Rattle.uses_loans.proofs.Relayed.{are_passed_on, passed_on, range_then, relays}
 use Rattle.uses_slots.specs.declared.Keeps.{Ghosts}
 
 module _ {X K : Type 0} {rule : Ghosts K X} where
@@ -102,10 +105,19 @@ module _ {X K : Type 0} {rule : Ghosts K X} where
             (k.sends (subst (λ (q : QueueId). 0 < q.capacity) (sym h.same.1) some)))));
       }
 
+  -- nothing was sent yet
+  pub none_sent : (s : Sender X K rule) → HasSent 0 [] s s
+  none_sent s = sent_nothing s s (refl, (refl, refl, refl), refl, refl)
+
   -- after calls that send nothing, a value more is sent
   pub sends_next : (n : ℕ) (xs ys : List ℕ) (s t u w : Sender X K rule) → HasSent n xs s t → KeepsSends t u → HasSent 1 ys u w
       → HasSent (n + 1) (xs ++ ys) s w
   sends_next n xs ys s t u w h keeps k = sent_then n 1 xs ys s t w h (sent_then 0 1 [] ys t u w (sent_nothing t u keeps) k)
+
+  -- the same, where what came back is noted
+  pub sent_next : (n : ℕ) (xs ys zs : List ℕ) (s t u w : Sender X K rule) → zs ≡ xs ++ ys → HasSent n xs s t → KeepsSends t u
+      → HasSent 1 ys u w → HasSent (n + 1) zs s w
+  sent_next n xs ys zs s t u w is h keeps k = subst (λ all. HasSent (n + 1) all s w) (sym is) (sends_next n xs ys s t u w h keeps k)
 
   pub sent_all : (n : ℕ) (xs : List ℕ) (s t : Sender X K rule) (p : SenderParts) → HasSent n xs s t → HasSentAll 0 [] t p → HasSentAll n xs s p
   sent_all n xs s t p h k =
@@ -120,6 +132,10 @@ module _ {X K : Type 0} {rule : Ghosts K X} where
             (subst (λ shape. SendsOn shape [] [] (sends_view t) (sent_view p)) (shape_kept s t h.same.1 h.layout)
             (k.sends (subst (λ (q : QueueId). 0 < q.capacity) (sym h.same.1) some)))));
       }
+
+  pub sent_in_all : (n m : ℕ) (xs : List ℕ) (s t : Sender X K rule) (p : SenderParts) → n ≡ m → HasSent n xs s t → HasSentAll 0 [] t p
+      → HasSentAll m xs s p
+  sent_in_all n m xs s t p is h k = subst (λ i. HasSentAll i xs s p) is (sent_all n xs s t p h k)
 
   -- its role was taken, and given back
   pub begins : (s : Sender X K rule) (p : SenderParts) (w : View ℕ) → IsOfSender s p → next_of s ≡ p.next → sends_view s ≡ w
@@ -224,6 +240,22 @@ module _ {X K : Type 0} {rule : Ghosts K X} where
             (k.receives (subst (λ (q : QueueId). 0 < q.capacity) (sym h.same.0) some))));
       }
 
+  -- what was made of the numbers of what was received: nothing yet, then of one more, and in the end of all
+  pub none_received : {A : Type 0} (f : ℕ → A) (made : List A) (r : Receiver X K rule) → made ≡ [] → HasReceivedAs f made r r
+  none_received f made r is = ([], is, received_nothing r r (refl, (refl, refl), refl, refl))
+
+  pub received_next : {A : Type 0} (f : ℕ → A) (xs ys : List A) (y : A) (number : ℕ) (s t u w : Receiver X K rule) → ys ≡ xs ++ y ∷ []
+      → y ≡ f number → HasReceivedAs f xs s t → HasReceived (number ∷ []) t u → KeepsReceives u w → HasReceivedAs f ys s w
+  received_next f xs ys y number s t u w more is h k keeps = (
+    h.0 ++ number ∷ [],
+    more ∙ (ap (λ x. xs ++ x ∷ []) is ∙ (ap (λ zs. zs ++ f number ∷ []) h.1 ∙ sym (map-append f h.0 (number ∷ [])))),
+    receives_next h.0 (number ∷ []) s t u w h.2 k keeps,
+  )
+
+  pub received_in_all : {A : Type 0} (f : ℕ → A) (xs : List A) (s t : Receiver X K rule) (p : ReceiverParts) → HasReceivedAs f xs s t
+      → HasReceivedAll [] t p → HasReceivedAllAs f xs s p
+  received_in_all f xs s t p h k = (h.0, h.1, received_all h.0 s t p h.2 k)
+
   -- its role was taken, and given back
   pub waits : (r : Receiver X K rule) (p : ReceiverParts) (w : View ℕ) → IsOfReceiver r p → receives_view r ≡ w
       → Goes (received_view p) w → HasAcquired roles.Consumer true (received_view p) w → HasWaited p r
@@ -295,3 +327,32 @@ module _ {X K : Type 0} {rule : Ghosts K X} where
         (subst (λ shape. HasSentNumbers shape [] [] (sent_view sends) (sends_view s)) ours begun.sent)
         (subst (λ shape. HasReceivedNumbers shape [] (received_view receives) (receives_view r)) theirs waited.received)
         sends_on receives_on rejoined.taken_in rejoined.both rejoined.all rejoined.history)
+
+  -- Of the first values of a new channel each, until some point, was received or came back, once and in its order; and `made` is what
+  -- was made of the numbers of those that were received.
+  pub first_relayed : {A : Type 0} (f : ℕ → A) (made : List A) (others : List ℕ) (count : ℕ) (first left last : Channel X K rule)
+      (sends sends' : SenderParts) (receives receives' : ReceiverParts) (s : Sender X K rule) (r : Receiver X K rule)
+      → HasPassedOn [] [] [] first → next_in first ≡ 0 → HasOpened first left sends receives → IsSameChannel first left
+      → HasBegun sends s → HasWaited receives r → (sends_shape s ≡ shape_of left) × (receives_shape r ≡ shape_of left)
+      → 0 < (submission_in first).capacity → count < 2 ^ 64 - 1 → HasSentAll count others s sends'
+      → HasReceivedAllAs f made r receives' → HasRejoined left last sends' receives' → IsSameChannel left last
+      → ArePassedOn f count made others
+  first_relayed f made others count first left last sends sends' receives receives' s r fresh none opened same begun waited shapes some
+      fits all_sent all_received rejoined kept =
+      let known : HasPassedOn (range_with_len (next_in first) count) others all_received.0 last =
+      relayed [] [] [] others all_received.0 count first left last sends sends' receives receives' s r fresh opened same begun waited
+      shapes some (omega arith) all_sent all_received.2 rejoined kept in
+      are_passed_on f count made others all_received.0 all_received.1
+      (subst (λ n. IsPassedOn (range_with_len n count) all_received.0 others) none
+      (passed_on (shape_of last) (range_with_len (next_in first) count) others all_received.0 (sending_view last) known))
+
+  -- the same, of ends that each thread has made of its parts
+  pub relayed_through : {A : Type 0} (f : ℕ → A) (made : List A) (others : List ℕ) (count : ℕ) (first left last : Channel X K rule)
+      (sends sends' : SenderParts) (receives receives' : ReceiverParts) → HasPassedOn [] [] [] first → next_in first ≡ 0
+      → HasOpened first left sends receives → IsSameChannel first left → 0 < (submission_in first).capacity → count < 2 ^ 64 - 1
+      → HasSentThrough left sends count others sends' → HasReceivedThrough left receives f made receives'
+      → HasRejoined left last sends' receives' → IsSameChannel left last → ArePassedOn f count made others
+  relayed_through f made others count first left last sends sends' receives receives' fresh none opened same some fits sent received
+      rejoined kept =
+      first_relayed f made others count first left last sends sends' receives receives' sent.sender received.receiver fresh none opened
+      same sent.begun received.waited (sent.shape, received.shape) some fits sent.sent received.received rejoined kept

@@ -2,7 +2,7 @@
 -- what was known before and then what they sent and received.
 use Rattle.std.proofs.Common.{◌≡◌, ℕ, ◌+◌, ◌-◌, ◌^◌, ◌/◌, ◌<◌, ◌≤◌, zero, suc, take, List, [], ◌∷◌, ◌++◌, length}
 use Rattle.std.proofs.Common.{map, refl, sym, ap, subst, ◌∙◌, arith, sum_by}
-use Rattle.std.proofs.lemmas.List.{take-map}
+use Rattle.std.proofs.lemmas.List.{length-map, take-map}
 use Rattle.std.proofs.lemmas.List.Elements.{All-nil, All-append}
 use Rattle.std.proofs.lemmas.List.FromFn.{length-range_with_len}
 use Rattle.std.proofs.lemmas.List.Sums.{sum_by-append}
@@ -21,7 +21,7 @@ use Rattle.lock_free_queues.specs.Queues.Merges.{Merges}
 use Rattle.lock_free_queues.specs.Queues.Sums.{puts, gets}
 use Rattle.lock_free_queues.proofs.Queues.Sent.{length_named}
 use Rattle.uses_loans.specs.Numbers.{Shape, HasPlace, HavePlaces, HasSentNumbers, HasReceivedNumbers}
-use Rattle.uses_loans.specs.Numbers.{SendsOn, ReceivesOn, HasAll, HavePassed, IsPassedOn}
+use Rattle.uses_loans.specs.Numbers.{SendsOn, ReceivesOn, ArePassedOn, HasAll, HavePassed, IsPassedOn}
 use Rattle.uses_loans.proofs.Merged.{came_of, have_passed, merges_map, merges_none}
 
 -- nothing is sent yet
@@ -187,3 +187,18 @@ first_received first n received h =
     merges_none received (take (length received + 0) (range_with_len first n)) h.merged
     ∙ (ap (λ k. take k (range_with_len first n)) (let e : length received + 0 ≡ length received = omega arith in e)
     ∙ take_range first n (length received) few)
+
+-- what was made of them, where nothing came back
+pub are_passed_on : {A : Type 0} (f : ℕ → A) (sent : ℕ) (made : List A) (back received : List ℕ) → made ≡ map f received
+    → IsPassedOn (range_with_len 0 sent) received back → ArePassedOn f sent made back
+are_passed_on f sent made back received of_each passed =
+    record {
+      received = received;
+      of_each = of_each;
+      passed_on = passed;
+      in_turn =
+          λ none.
+          (let long : length made ≡ length received = ap length of_each ∙ length-map received f in
+          let all : IsPassedOn (range_with_len 0 sent) received [] = subst (IsPassedOn (range_with_len 0 sent) received) none passed in
+          of_each ∙ (ap (map f) (first_received 0 sent received all) ∙ ap (λ k. map f (range_with_len 0 k)) (sym long)));
+    }

@@ -1,5 +1,5 @@
 -- What clauses see of the ends of a channel.
-use Rattle.std.specs.Prelude.{◌≡◌, ◌≢◌, ◌⊎◌, ℕ, ◌+◌, ◌%◌, ◌^◌, ◌<◌, ◌≤◌, Option, Some, None, List, [], ◌∷◌, slice_set, vec_len}
+use Rattle.std.specs.Prelude.{◌≡◌, ◌≢◌, ◌⊎◌, ℕ, ◌+◌, ◌%◌, ◌^◌, ◌<◌, ◌≤◌, Option, Some, None, List, [], ◌∷◌, map, slice_set, vec_len}
 use Rattle.std.specs.List.{range_with_len}
 use Rattle.lock_free.specs.HistoryView.View.{View}
 use Rattle.lock_free.specs.Loan.Places.{place_at}
@@ -57,12 +57,20 @@ sent_view parts = view parts.submission
 abbrev pub sent_queue : SenderParts → QueueId
 sent_queue parts = queue_of parts.submission
 
+-- what it knows of the queue by which places come back
+abbrev pub taken_view : SenderParts → View ℕ
+taken_view parts = view parts.completion
+
 -- what a receiver is made of knows of the queue, and which queue that is
 abbrev pub received_view : ReceiverParts → View ℕ
 received_view parts = view parts.submission
 
 abbrev pub received_queue : ReceiverParts → QueueId
 received_queue parts = queue_of parts.submission
+
+-- what it knows of the queue by which places come back
+abbrev pub returned_view : ReceiverParts → View ℕ
+returned_view parts = view parts.completion
 
 module _ {X K : Type 0} {rule : Ghosts K X} where
   -- ---- the sender
@@ -220,6 +228,10 @@ module _ {X K : Type 0} {rule : Ghosts K X} where
     pub receives : 0 < (receives_queue old).capacity
         → ReceivesOn (receives_shape old) numbers (receives_view old) (receives_view new)
 
+  -- it has received values, and what stands here was made of their numbers, in their order
+  abbrev pub HasReceivedAs : {A : Type 0} → (ℕ → A) → List A → Receiver X K rule → Receiver X K rule → Type 0
+  HasReceivedAs f made old new = (numbers : List ℕ) × (made ≡ map f numbers) × HasReceived numbers old new
+
   -- the parts are for the queues of the receiver
   abbrev pub IsOfReceiver : Receiver X K rule → ReceiverParts → Type 0
   IsOfReceiver r parts =
@@ -235,6 +247,10 @@ module _ {X K : Type 0} {rule : Ghosts K X} where
     pub of : IsOfReceiver r parts
     pub receives : 0 < (receives_queue r).capacity
         → ReceivesOn (receives_shape r) numbers (receives_view r) (received_view parts)
+
+  -- the same until it was taken apart
+  abbrev pub HasReceivedAllAs : {A : Type 0} → (ℕ → A) → List A → Receiver X K rule → ReceiverParts → Type 0
+  HasReceivedAllAs f made r parts = (numbers : List ℕ) × (made ≡ map f numbers) × HasReceivedAll numbers r parts
 
   -- why a sample is not read: its slot is not, or another number lies there
   abbrev pub IsUnread : Receiver X K rule → Sample → ReadFailure → Type 0

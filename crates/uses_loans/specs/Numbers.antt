@@ -1,6 +1,6 @@
 -- What the two ends of a channel have sent and received, by the numbers of the values.
-use Rattle.std.specs.Prelude.{◌≡◌, ℕ, ◌+◌, ◌/◌, ◌%◌, ◌<◌, ◌≤◌, List, ◌++◌, length, map, take}
-use Rattle.std.specs.List.{All}
+use Rattle.std.specs.Prelude.{◌≡◌, ℕ, ◌+◌, ◌/◌, ◌%◌, ◌<◌, ◌≤◌, List, [], ◌++◌, length, map, take}
+use Rattle.std.specs.List.{All, range_with_len}
 use Rattle.history.specs.declared.view.View.{View}
 use Rattle.model.specs.declared.event.Item.TheVariants.{Index}
 use Rattle.model.specs.Families.Queues.Reading.{published, handed_out}
@@ -30,6 +30,14 @@ HavePlaces s words = All (HasPlace s) words
 pub record IsPassedOn (sent received back : List ℕ) : Type 0 where
   pub few : length received + length back ≤ length sent
   pub merged : Merges received back (take (length received + length back) sent)
+
+-- Values of the first numbers were sent. What stands here was made of the numbers of those that were received. Where nothing came
+-- back, that is of 0, 1, 2 and so on.
+pub record ArePassedOn {A : Type 0} (f : ℕ → A) (sent : ℕ) (made : List A) (back : List ℕ) : Type 0 where
+  pub received : List ℕ
+  pub of_each : made ≡ map f received
+  pub passed_on : IsPassedOn (range_with_len 0 sent) received back
+  pub in_turn : back ≡ [] → made ≡ map f (range_with_len 0 (length made))
 
 -- Who has the whole share knows all words that were sent, that came back and that were received. The latter two are a beginning of
 -- the first.

@@ -1,5 +1,5 @@
 //! What the ends of a channel share.
-ghost use Rattle.std.specs.Prelude.{◌≡◌, ◌-◌, ◌^◌, None, IfOk, IfSome, OnOk, List, [], ℕ, replicate};
+ghost use Rattle.std.specs.Prelude.{◌≡◌, ◌≤◌, ◌+◌, ◌-◌, ◌^◌, None, IfOk, IfSome, OnOk, List, [], ℕ, replicate};
 ghost use Rattle.lock_free.specs.Enums.{capacity_refusal};
 ghost use Rattle.lock_free.specs.Loan.Sender.{completion_of, submission_of};
 ghost use Rattle.lock_free.specs.declared.spsc.loan.places.Place.TheVariants.{Free};
@@ -7,7 +7,10 @@ ghost use Rattle.lock_free.specs.Queues.Rings as queues;
 ghost use Rattle.lock_free.specs.Unique.Held.{HoldsNothing};
 ghost use Rattle.lock_free.specs.UniqueIndexSet.{capacity_of, made, set_refusal, IsPassOf};
 ghost use Rattle.uses_loans.specs.Ends as ends;
+ghost use Rattle.uses_loans.specs.declared.receiver.ReceiverParts.{ReceiverParts};
+ghost use Rattle.uses_loans.specs.declared.sender.SenderParts.{SenderParts};
 ghost use Rattle.uses_loans.specs.Numbers.{IsPassedOn};
+ghost use Rattle.uses_loans.specs.Words.{IsRoomFor};
 ghost use Rattle.uses_slots.specs.Slots.{slots_in};
 
 use crate::receiver::{Receiver, ReceiverParts};
@@ -66,7 +69,7 @@ impl<X: Drop, K: Keeps<X>> Drop for Channel<X, K> {
 }
 
 impl<X: Drop, K: Keeps<X>> Channel<X, K> {
-    ghost use Rattle.uses_loans.specs.Channels.{completion_in, layout_of, next_in, places_of, sending_view, set_in, shape_of, submission_in};
+    ghost use Rattle.uses_loans.specs.Channels.{completion_in, layout_of, next_in, places_of, sending_view, set_in, shape_of, steps_in, steps_of, submission_in};
     ghost use Rattle.uses_loans.specs.Channels.{HasOpened, HasPassedOn, HasRejoined, IsReceiverOf, IsSameChannel, IsSenderOf};
 
     /// Makes `places` places, from 1 to 2^24 - 2, of which at most `queue` wait, up to 2^32 - 1. Refused as
@@ -81,6 +84,7 @@ impl<X: Drop, K: Keeps<X>> Channel<X, K> {
             (λ c. ((submission_in c).capacity ≡ queue) × ((completion_in c).capacity ≡ places)) }
         ensures fresh { IfOk result (HasPassedOn [] [] []) }
         ensures next { IfOk result (λ c. next_in c ≡ 0) }
+        ensures room { IfOk result (λ c. IsRoomFor places (shape_of c).room) }
         ensures admitted { OnOk result (set_refusal places ≡ None) }
         ensures queue { OnOk result (capacity_refusal 0 (2 ^ 32 - 1) queue ≡ None) }
     {
@@ -172,10 +176,37 @@ impl<X: Drop, K: Keeps<X>> Channel<X, K> {
             (λ e. ends.receives_queue e.1 ≡ submission_of (ends.sender_of e.0)) }
         ensures completion { IfSome result
             (λ e. ends.returns_queue e.1 ≡ completion_of (ends.sender_of e.0)) }
+        ensures sender { IfSome result
+            (λ e. (left : SenderParts) → ends.IsOfSender e.0 left → IsSenderOf self.now left) }
+        ensures receiver { IfSome result
+            (λ e. (left : ReceiverParts) → ends.IsOfReceiver e.1 left → IsReceiverOf self.now left) }
         ensures begun { IfSome result (λ e. ends.HasBegun sends e.0) }
         ensures waits { IfSome result (λ e. ends.HasWaited receives e.1) }
         ensures shapes { IfSome result
             (λ e. (ends.sends_shape e.0 ≡ shape_of self.now) × (ends.receives_shape e.1 ≡ shape_of self.now)) }
+    {
+        let sender = self.sender_with(alloc, spares, sends)?;
+        let receiver = self.receiver_with(receives)?;
+        Some((sender, receiver))
+    }
+
+    /// The sender of its parts, so that a thread may make its own end. None where there is no memory, and then the values are
+    /// dropped. Two atomic steps.
+    pub fn sender_with(
+        &self,
+        alloc: Global,
+        spares: Vec<X>,
+        sends: SenderParts,
+    ) -> Option<Sender<'_, X, K>>
+        requires sends { IsSenderOf self.now sends }
+        requires nothing { HoldsNothing (made sends.pass) }
+        ensures free { IfSome result (λ s. ends.places_of s ≡ replicate (places_of self.now) Free) }
+        ensures next { IfSome result (λ s. ends.next_of s ≡ sends.next) }
+        ensures queues { IfSome result
+            (λ s. (ends.sends_queue s ≡ submission_in self.now) × (completion_of (ends.sender_of s) ≡ completion_in self.now)) }
+        ensures left { IfSome result (λ s. (left : SenderParts) → ends.IsOfSender s left → IsSenderOf self.now left) }
+        ensures begun { IfSome result (λ s. ends.HasBegun sends s) }
+        ensures shape { IfSome result (λ s. ends.sends_shape s ≡ shape_of self.now) }
     {
         let SenderParts {
             pass,
@@ -183,37 +214,49 @@ impl<X: Drop, K: Keeps<X>> Channel<X, K> {
             completion: takes,
             next,
         } = sends;
-        let ReceiverParts {
-            submission: receives,
-            completion: returns,
-        } = receives;
         let Ok(producer) = self.submission.acquire_producer(sends) else {
             return None;
         };
         let Ok(consumer) = self.completion.acquire_consumer(takes) else {
             return None;
         };
+        let Ok(loans) = LoanSender::new(alloc, &self.set, pass, producer, consumer) else {
+            return None;
+        };
+        Some(Sender::of(loans, &self.slots, spares, self.layout, next))
+    }
+
+    /// The receiver of its parts, so that a thread may make its own end. Two atomic steps.
+    pub fn receiver_with(&self, receives: ReceiverParts) -> Option<Receiver<'_, X, K>>
+        requires { IsReceiverOf self.now receives }
+        ensures places { IfSome result (λ r. ends.places_in r ≡ places_of self.now) }
+        ensures queues { IfSome result
+            (λ r. (ends.receives_queue r ≡ submission_in self.now) × (ends.returns_queue r ≡ completion_in self.now)) }
+        ensures left { IfSome result (λ r. (left : ReceiverParts) → ends.IsOfReceiver r left → IsReceiverOf self.now left) }
+        ensures waits { IfSome result (λ r. ends.HasWaited receives r) }
+        ensures shape { IfSome result (λ r. ends.receives_shape r ≡ shape_of self.now) }
+    {
+        let ReceiverParts {
+            submission: receives,
+            completion: returns,
+        } = receives;
         let Ok(receives) = self.submission.acquire_consumer(receives) else {
             return None;
         };
         let Ok(returns) = self.completion.acquire_producer(returns) else {
             return None;
         };
-        let Ok(loans) = LoanSender::new(alloc, &self.set, pass, producer, consumer) else {
-            return None;
-        };
-        let sender = Sender::of(loans, &self.slots, spares, self.layout, next);
-        let receiver = Receiver::of(receives, returns, &self.slots, self.layout);
-        Some((sender, receiver))
+        Some(Receiver::of(receives, returns, &self.slots, self.layout))
     }
 
     /// Takes in what both ends leave (`finish_all`, `finish`). The channel then knows all that went through it, if no other end of
-    /// it was dropped (`relays` of `proofs/Ends.antt` says it), and its next sender's numbers go on. What is Loaned or Sent stays
-    /// out. At most ten atomic steps.
+    /// it was dropped (`relayed` of `proofs/Ends.antt` says it), and its next sender's numbers go on. What is Loaned or Sent stays
+    /// out. At most two atomic steps for each of five passes.
     pub fn relayed(&mut self, sends: SenderParts, receives: ReceiverParts)
         requires sends { IsSenderOf self.old sends }
         requires receives { IsReceiverOf self.old receives }
         ensures rejoined { HasRejoined self.old self.new sends receives }
+        ensures steps { steps_in self.new ≤ steps_in self.old + steps_of sends receives + 10 }
         ensures same { IsSameChannel self.old self.new }
     {
         self.next = sends.next;

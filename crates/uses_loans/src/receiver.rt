@@ -5,12 +5,14 @@ ghost use Rattle.lock_free.specs.Passes.{Goes};
 ghost use Rattle.lock_free.specs.Queues.Rings.{consumer_queue, consumer_view, producer_queue, producer_view, queue_of};
 ghost use Rattle.lock_free.specs.Queues.Role.TheVariants as roles;
 ghost use Rattle.lock_free.specs.Queues.Contracts.{HasReleased, PopOldest, PushDone};
+ghost use Rattle.uses_loans.specs.Words.{IsRoomFor};
 ghost use Rattle.uses_slots.specs.Slots.{number_in, slot_in, slots_in};
 
 use crate::error::ReadFailure;
 use crate::words::Layout;
 use lock_free::spsc::{index_queue, safely_overflowing_index_queue as overflow};
 use std::sync::Wait;
+use std::thread;
 use uses_slots::{Anything, Keeps, Reading, Slots};
 
 /// A value that was sent, by its number and its place, which may be read until it is given back. It may be sent to another thread.
@@ -83,6 +85,7 @@ impl<'a, X: Drop, K: Keeps<X>> Receiver<'a, X, K> {
             × (receives_view result ≡ consumer_view receives.entry) }
         ensures returns { (returns_queue result ≡ producer_queue returns.entry)
             × (returns_view result ≡ producer_view returns.entry) }
+        ensures room { IsRoomFor (slots_in slots.now) (layout_in result).room }
     {
         let layout = Layout::new(slots.number());
         Receiver::of(receives, returns, slots, layout)
@@ -131,6 +134,21 @@ impl<'a, X: Drop, K: Keeps<X>> Receiver<'a, X, K> {
         } else {
             None
         }
+    }
+
+    /// What comes next, by at most so many tries, between which another thread may run. None where nothing came. The steps of
+    /// `receive` for each try.
+    pub fn receive_within(&mut self, rt: &impl Wait, tries: u64) -> Option<Sample>
+        ensures within { IfSome result (λ s. received s < places_in self.old) }
+        ensures receives { HasReceived (numbers_of result) self.old self.new }
+    {
+        for _ in 0..tries {
+            if let Some(sample) = self.receive(rt) {
+                return Some(sample);
+            }
+            thread::yield_now();
+        }
+        None
     }
 
     /// Reads a value that was received, where it lies: the one that was laid in its place with its number, which keeps its rule. As

@@ -13,6 +13,7 @@ ghost use Rattle.lock_free.specs.Queues.Reading.{published};
 ghost use Rattle.lock_free.specs.Queues.Rings as queues;
 ghost use Rattle.lock_free.specs.Queues.Role.TheVariants as roles;
 ghost use Rattle.lock_free.specs.UniqueIndexSet.{set_of, view};
+ghost use Rattle.uses_loans.specs.Words.{IsRoomFor};
 ghost use Rattle.uses_slots.specs.Slots.{slots_in, slot_of};
 
 use crate::error::LoanFailure;
@@ -21,6 +22,7 @@ use lock_free::mpmc::unique_index_set::Pass;
 use lock_free::spsc::loan::LoanSender;
 use lock_free::spsc::{index_queue, safely_overflowing_index_queue as overflow};
 use std::sync::Wait;
+use std::thread;
 use uses_slots::{Anything, Keeps, Slots, Writing};
 
 /// A place that is Loaned, and a value for it that is written in plain memory, until it is sent or given up. It stays in its
@@ -123,6 +125,7 @@ impl<'a, X: Drop, K: Keeps<X>> Sender<'a, X, K> {
         ensures spares { spares_in result ≡ vec_len spares }
         ensures next { next_of result ≡ 0 }
         ensures slots { slots_of result ≡ slots_in slots.now }
+        ensures room { IsRoomFor (slots_in slots.now) (layout_of result).room }
     {
         let layout = Layout::new(slots.number());
         Sender::of(loans, slots, spares, layout, 0)
@@ -194,6 +197,32 @@ impl<'a, X: Drop, K: Keeps<X>> Sender<'a, X, K> {
         ensures { IsTrue result ↔ IsLoaned (loaned loan.now) (sender_of self.now) }
     {
         self.loans.is_loaned(loan.place)
+    }
+
+    /// A loan as soon as there is one, by at most so many tries. After one that is refused it takes back a place, or lets another
+    /// thread run where none came. None where each try was refused. A place that is `StillRead` stays Loaned.
+    ///
+    /// For each try, the steps of `loan` and those of `take_back`.
+    pub fn loan_within(&mut self, rt: &impl Wait, tries: u64) -> Option<Loan<'a, X, K>>
+        ensures is { IfSome result (λ l. IsLoaned (loaned l) (sender_of self.new)) }
+        ensures sends { KeepsSends self.old self.new }
+    {
+        for _ in 0..tries {
+            if let Ok(loan) = self.loan(rt) {
+                return Some(loan);
+            }
+            if self.take_back().is_none() {
+                thread::yield_now();
+            }
+        }
+        None
+    }
+
+    /// Whether there is a number for this loan. From the one past the last number on `send` sends nothing. No atomic step.
+    pub fn has_number(&self, loan: &Loan<'a, X, K>) -> bool
+        ensures { IsTrue result ↔ HasWord self.now (loaned loan.now) }
+    {
+        self.layout.has(self.next, loan.place)
     }
 
     /// Sends a value, which keeps its rule with the number that comes next: its place is Sent. Where the queue is full, the

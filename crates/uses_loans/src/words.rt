@@ -1,10 +1,10 @@
 //! What is sent: the number of a value and its place, in one number.
 ghost use Rattle.std.specs.Prelude.{◌≡◌, ◌⊎◌, ◌+◌, ◌*◌, ◌<◌, ◌≤◌, ◌^◌, IsTrue, IsFalse};
-ghost use Rattle.uses_loans.specs.Words.{word_of, IsWord};
+ghost use Rattle.uses_loans.specs.Words.{word_of, IsRoomFor, IsWord};
 
 use uses_slots::Laid;
 
-/// How numbers and places are put together: the number stands above the place, which has so many bits that all places have room.
+/// How numbers and places are put together: the number stands above the place, which has just as many bits as all places need.
 /// Both come out by a shift.
 #[derive(Debug, Clone, Copy)]
 pub struct Layout {
@@ -15,6 +15,7 @@ pub struct Layout {
     ghost few: { bits ≤ 32 },
     ghost small: { room ≤ 2 ^ 32 },
     ghost fits: { places ≤ room },
+    ghost least: { 2 < room → room < 2 * places },
     ghost some: { 2 ≤ room },
 }
 
@@ -23,7 +24,8 @@ impl Layout {
 
     /// Words for so many places, each of which has at least one bit for its place. No atomic step.
     pub fn new(places: u32) -> Layout
-        ensures { result.places ≡ places }
+        ensures places { result.places ≡ places }
+        ensures room { IsRoomFor places result.room }
     {
         let mut room = 2u64;
         for bits in 1..32u32 {

@@ -10,4 +10,4 @@ module _ (code : Coding (ℕ × ℕ)) (number : ℕ) (ports : List ℕ) where
   Places zero old new = new ≡ old
   Places (suc at) old new =
       (before : View (ℕ × ℕ)) × (index : ℕ) × Places at old before
-      × HasAdded code (record { value = (number, slice_index ports at); owner = number }) (Ok index) before new
+      × HasAdded (record { value = (number, slice_index ports at); owner = number }) (Ok index) before new

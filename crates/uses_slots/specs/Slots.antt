@@ -11,6 +11,7 @@ use Rattle.uses_slots.specs.declared.Laid.{Laid}
 use Rattle.uses_slots.specs.declared.Reading.{Reading}
 use Rattle.uses_slots.specs.declared.Slots.{Slots}
 use Rattle.uses_slots.specs.declared.Writing.{Writing}
+use Rattle.uses_slots.specs.Words.{lies_in, lies_with, seen_in, seen_word}
 
 -- the number that a value lies there with
 abbrev pub number_of : {X K : Type 0} → Option (Option (Kept X K)) → ℕ
@@ -35,21 +36,23 @@ slot_of writing = writing.claim.tag
 
 -- the slot that a value was laid into, and the number that it was laid there with
 abbrev pub laid_slot : Laid → ℕ
-laid_slot laid = laid.slot
+laid_slot laid = lies_in laid.lies
 
 abbrev pub laid_number : Laid → ℕ
-laid_number laid = laid.number
+laid_number laid = lies_with laid.lies
 
--- why a slot is not read: there is none, or its word says that no value lies there, or that 2^30 - 1 read it; or it changed in
--- each of 2^64 - 1 tries
+-- Why a slot is not read: there is none; or its word, which was seen there, says that no value lies there or that 2^30 - 1 read it;
+-- or it changed in each of 2^64 - 1 tries.
 abbrev pub IsUnreadable : {X K : Type 0} {rule : Ghosts K X} → Slots X K rule → ℕ → ReadFailure → Type 0
 IsUnreadable slots slot reads.NoSlot = slots_in slots ≤ slot
-IsUnreadable slots slot (reads.NotThere word) = word % 4 ≢ 1
-IsUnreadable slots slot (reads.TooMany word) = readers word ≡ 2 ^ 30 - 1
+IsUnreadable slots slot (reads.NotThere seen) = (seen_in seen ≡ slot) × (seen_word seen % 4 ≢ 1)
+IsUnreadable slots slot (reads.TooMany seen) = (seen_in seen ≡ slot) × (readers (seen_word seen) ≡ 2 ^ 30 - 1)
 IsUnreadable slots slot (reads.Busy tries) = tries ≡ 2 ^ 64 - 1
 
--- why a slot is not to be written: there is none, or its word says that it is written or read, or it changed
+-- why a slot is not to be written: there is none, or its word, which was seen there, says that it is written or read, or it changed
 abbrev pub IsUntaken : {X K : Type 0} {rule : Ghosts K X} → Slots X K rule → ℕ → TakeFailure → Type 0
 IsUntaken slots slot takes.NoSlot = slots_in slots ≤ slot
-IsUntaken slots slot (takes.InUse word) = (word % 4 ≡ 3) ⊎ (readers word ≢ 0)
-IsUntaken slots slot (takes.Changed seen found) = found ≢ seen
+IsUntaken slots slot (takes.InUse seen) =
+    (seen_in seen ≡ slot) × ((seen_word seen % 4 ≡ 3) ⊎ (readers (seen_word seen) ≢ 0))
+IsUntaken slots slot (takes.Changed seen found) =
+    (seen_in seen ≡ slot) × (seen_in found ≡ slot) × (seen_word found ≢ seen_word seen)

@@ -1,4 +1,5 @@
 //! Why a slot is not read, or not to be written.
+use crate::words::Seen;
 use thiserror::Error;
 
 /// Why a slot is not read, with the word that said so.
@@ -6,10 +7,10 @@ use thiserror::Error;
 pub enum ReadFailure {
     #[error("no such slot")]
     NoSlot,
-    #[error("it is empty or written: word {0}")]
-    NotThere(u64),
-    #[error("no further reader can be counted: word {0}")]
-    TooMany(u64),
+    #[error("it is empty or written: word {}", .0.word())]
+    NotThere(Seen),
+    #[error("no further reader can be counted: word {}", .0.word())]
+    TooMany(Seen),
     #[error("it changed between the steps of {0} tries")]
     Busy(u64),
 }
@@ -19,8 +20,8 @@ pub enum ReadFailure {
 pub enum TakeFailure {
     #[error("no such slot")]
     NoSlot,
-    #[error("it is read or written: word {0}")]
-    InUse(u64),
-    #[error("it changed from word {0} to word {1}")]
-    Changed(u64, u64),
+    #[error("it is read or written: word {}", .0.word())]
+    InUse(Seen),
+    #[error("it changed from word {} to word {}", .0.word(), .1.word())]
+    Changed(Seen, Seen),
 }

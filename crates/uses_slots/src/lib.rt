@@ -4,6 +4,7 @@
 #![tactic(auto)]
 
 pub mod error;
+pub mod words;
 
 ghost use Rattle.std.specs.Prelude.{◌≡◌, ℕ, ◌<◌, ◌-◌, ◌%◌, IsSome, IsSomeAnd, IfOk, IfErr, IfSome};
 ghost use Rattle.std.specs.List.{range_with_len};
@@ -11,6 +12,7 @@ ghost use Rattle.std.proofs.Props.{props};
 ghost use Rattle.counted_slot.specs.Counting.{readers};
 
 use crate::error::{ReadFailure, TakeFailure};
+use crate::words::{Lies, lay, look, turn};
 use counted_slot::{Claim, Counted, FREE, Fits, MOST_READERS, ONE_READER, PRESENT, TAKEN};
 use std::alloc::{AllocError, Global};
 use std::marker::PhantomData;
@@ -87,8 +89,7 @@ pub struct Writing<'a, X, K: Keeps<X> = Anything> {
 /// That a value was laid into a slot with a number. Only `put` makes one, so what asks for it comes after that.
 #[derive(Debug, Drop)]
 pub struct Laid {
-    slot: u32,
-    number: u64,
+    lies: Lies,
 }
 
 impl<'a, X, K: Keeps<X>> Reading<'a, X, K> {
@@ -134,8 +135,8 @@ impl<'a, X, K: Keeps<X>> Writing<'a, X, K> {
         ensures fits { IfSome result.1 (λ r. K.holds r.0 r.1) }
     {
         let Self { slot, claim } = self;
-        let before = value_of(claim.put(Some(with_rule(number, value)), PRESENT));
-        (Laid { slot, number }, before)
+        let (lies, before) = lay(claim, slot, number, value);
+        (Laid { lies }, value_of(before))
     }
 
     /// Leaves the slot empty, and hands out what lay there with its number, if anything did. One atomic step.
@@ -154,31 +155,20 @@ impl Laid {
     pub fn slot(&self) -> u32
         ensures { result ≡ laid_slot self.now }
     {
-        self.slot
+        self.lies.slot()
     }
 
     /// The number. No atomic step.
     pub fn number(&self) -> u64
         ensures { result ≡ laid_number self.now }
     {
-        self.number
+        self.lies.number()
     }
 }
 
 impl<'a, X: Drop, K: Keeps<X>> Drop for Writing<'a, X, K> {
     fn drop(self) {
         self.empty();
-    }
-}
-
-fn with_rule<X, K: Keeps<X>>(number: u64, value: X) -> Kept<X, K>
-    ensures number { result.number ≡ number }
-    ensures value { result.value ≡ value }
-{
-    Kept {
-        number,
-        value,
-        rule: PhantomData,
     }
 }
 
@@ -244,15 +234,16 @@ impl<X, K: Keeps<X>> Slots<X, K> {
         };
         let cell: &Counted<Option<Kept<X, K>>> = cell;
         for _ in 0..u64::MAX {
-            let seen = cell.load();
-            if seen % 4 != PRESENT {
+            let seen = look(cell, slot);
+            let word = seen.word();
+            if word % 4 != PRESENT {
                 return Err(ReadFailure::NotThere(seen));
             }
-            if reader_count(seen) == MOST_READERS {
+            if reader_count(word) == MOST_READERS {
                 return Err(ReadFailure::TooMany(seen));
             }
-            let (found, claim) = cell.turn(seen, seen + ONE_READER);
-            if found != seen {
+            let (found, claim) = turn(cell, seen, word + ONE_READER);
+            if found.word() != word {
                 claim.done();
                 continue;
             }
@@ -277,12 +268,13 @@ impl<X, K: Keeps<X>> Slots<X, K> {
             return Err(TakeFailure::NoSlot);
         };
         let cell: &Counted<Option<Kept<X, K>>> = cell;
-        let seen = cell.load();
-        if seen % 4 == TAKEN || reader_count(seen) != 0 {
+        let seen = look(cell, slot);
+        let word = seen.word();
+        if word % 4 == TAKEN || reader_count(word) != 0 {
             return Err(TakeFailure::InUse(seen));
         }
-        let (found, claim) = cell.turn(seen, seen - seen % 4 + TAKEN);
-        if found != seen {
+        let (found, claim) = turn(cell, seen, word - word % 4 + TAKEN);
+        if found.word() != word {
             claim.done();
             return Err(TakeFailure::Changed(seen, found));
         }

@@ -1,6 +1,8 @@
 pub mod Bits
 pub mod Container
 pub mod Counting
+pub mod Fairness
+pub mod FairnessOn
 pub mod HeadlineChannel
 pub mod HeadlineContainer
 pub mod HeadlineFinds
@@ -12,6 +14,7 @@ pub mod HeadlineTurns
 pub mod Indices
 pub mod Loan
 pub mod Machines
+pub mod Nexts
 pub mod Open
 pub mod OrdersContainer
 pub mod OrdersLoan
@@ -20,5 +23,6 @@ pub mod OrdersQueues
 pub mod OrdersSets
 pub mod Queues
 pub mod Robust
+pub mod Rounds
 pub mod Value
 pub mod WellFormed

@@ -1,5 +1,5 @@
 -- Which runs of a container are well-formed: a worked one that is, and two that are not.
-use Rattle.std.proofs.Common.{◌≡◌, ℕ, zero, suc, ◌+◌, Option, Some, None, List, [], ◌∷◌, ◌++◌, refl, subst, arith}
+use Rattle.std.proofs.Common.{◌≡◌, ℕ, zero, suc, Some, List, [], ◌∷◌, ◌++◌, refl, subst, arith}
 use Rattle.steps.specs.declared.indices.enums.ReleaseMode.TheVariants.{Default}
 use Rattle.steps.specs.declared.indices.enums.ReleaseState as states
 use Rattle.model.specs.declared.event.Answer.TheVariants.{Done, Index, State}

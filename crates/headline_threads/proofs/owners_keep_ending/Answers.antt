@@ -2,31 +2,37 @@ use Rattle.headline_threads.proofs.Ending as laws
 use Rattle.headline_threads.proofs.owners_keep_ending.Goals as goal
 
 pub returns-clause-robust : goal.returns-clause-robust
-returns-clause-robust g c = laws.robust_end _
+returns-clause-robust g c = (laws.robust_ends _).end
 
-pub returns-clause-robust_load : goal.returns-clause-robust_load
-returns-clause-robust_load g c = laws.robust_load _
+pub returns-clause-robust_keep : goal.returns-clause-robust_keep
+returns-clause-robust_keep g c = (laws.robust_ends _).keep
 
-pub returns-clause-robust_by_default : goal.returns-clause-robust_by_default
-returns-clause-robust_by_default g c = laws.robust_end_of _
-
-pub returns-clause-robust_known_by_default : goal.returns-clause-robust_known_by_default
-returns-clause-robust_known_by_default g c = laws.robust_known_of _
-
-pub returns-clause-robust_load_by_default : goal.returns-clause-robust_load_by_default
-returns-clause-robust_load_by_default g c = laws.robust_load_of _
-
-pub returns-clause-container_by_default : goal.returns-clause-container_by_default
-returns-clause-container_by_default g c = laws.container_end_of _
-
-pub returns-clause-container_known_by_default : goal.returns-clause-container_known_by_default
-returns-clause-container_known_by_default g c = laws.container_known_of _
-
-pub returns-clause-container_load_by_default : goal.returns-clause-container_load_by_default
-returns-clause-container_load_by_default g c = laws.container_load_of _
+pub returns-clause-robust_known : goal.returns-clause-robust_known
+returns-clause-robust_known g c = (laws.robust_ends _).known
 
 pub returns-clause-container : goal.returns-clause-container
-returns-clause-container g c = laws.container_end _
+returns-clause-container g c = (laws.container_ends _).end
 
-pub returns-clause-container_load : goal.returns-clause-container_load
-returns-clause-container_load g c = laws.container_load _
+pub returns-clause-container_keep : goal.returns-clause-container_keep
+returns-clause-container_keep g c = (laws.container_ends _).keep
+
+pub returns-clause-container_known : goal.returns-clause-container_known
+returns-clause-container_known g c = (laws.container_ends _).known
+
+pub returns-clause-robust_by_default : goal.returns-clause-robust_by_default
+returns-clause-robust_by_default g c = (laws.robust_by_default _).end
+
+pub returns-clause-robust_keep_by_default : goal.returns-clause-robust_keep_by_default
+returns-clause-robust_keep_by_default g c = (laws.robust_by_default _).keep
+
+pub returns-clause-robust_known_by_default : goal.returns-clause-robust_known_by_default
+returns-clause-robust_known_by_default g c = (laws.robust_by_default _).known
+
+pub returns-clause-container_by_default : goal.returns-clause-container_by_default
+returns-clause-container_by_default g c = (laws.container_by_default _).end
+
+pub returns-clause-container_keep_by_default : goal.returns-clause-container_keep_by_default
+returns-clause-container_keep_by_default g c = (laws.container_by_default _).keep
+
+pub returns-clause-container_known_by_default : goal.returns-clause-container_known_by_default
+returns-clause-container_known_by_default g c = (laws.container_by_default _).known

@@ -1,7 +1,7 @@
 -- What the calls of a sender do to its set, and to the two queues, one after another.
 use Rattle.lock_free.proofs.Names.{◌≡◌, ℕ, zero, suc, ◌+◌, ◌≤◌, Bool, true, false, true≢false, cond, if◌then◌else◌}
 use Rattle.lock_free.proofs.Names.{List, [], ◌∷◌, ◌++◌, length, Option, Some, None, refl, sym, ap, subst, ◌∙◌, arith}
-use Rattle.lock_free.proofs.Names.{append_assoc, append-nil, range_with_len, one_word, Start, Answer, Event, Begun}
+use Rattle.lock_free.proofs.Names.{append_assoc, append-nil, range_with_len, Start, Answer, Event, Begun}
 use Rattle.lock_free.proofs.Names.{Finished, View, Called, IsBeginning, ReleaseState, Unlocked, claims, frees}
 use Rattle.std.proofs.Common.{sum_by}
 use Rattle.std.specs.Prelude.{not, is_some, IfNone}
@@ -9,15 +9,14 @@ use Rattle.std.specs.Option.{option_map}
 use Rattle.std.specs.List.{filter}
 use Rattle.std.proofs.lemmas.List.Elements.{filter-append}
 use Rattle.model.specs.declared.event.Item.TheVariants.{Index}
-use Rattle.model.specs.declared.turn.Kind.TheVariants as kinds
 use Rattle.history.specs.Passes.{Goes}
-use Rattle.history.specs.History.{AreFirst, Knows}
+use Rattle.history.specs.History.{AreFirst}
 use Rattle.history.proofs.OneRun.{first_all, first_further}
 use Rattle.history.proofs.Known.{begins_further, itself}
 use Rattle.lock_free_queues.specs.Queues.Contracts.{HasPopped, WasEmpty, FoundNone}
 use Rattle.lock_free.specs.declared.mpmc.unique_index_set.Pass.{Pass}
 use Rattle.lock_free.specs.declared.spsc.loan.places.Place.{Place}
-use Rattle.lock_free.specs.UniqueIndexSet.{SetId, view, set_of, SamePass}
+use Rattle.lock_free.specs.UniqueIndexSet.{view, SamePass}
 use Rattle.lock_free.specs.Unique.Contracts.{HasGiven}
 use Rattle.lock_free.specs.Loan.Places.{is_sent, place_at}
 use Rattle.lock_free.specs.Loan.Contracts.{InTurn, HasFreed, HasPoppedOne, HasEmptied, sent_back}
@@ -51,14 +50,12 @@ set_goes old new goes since =
       all = goes.all;
     }
 
-pub has_freed : (old new : Pass) (index : ℕ) (state : ReleaseState) → (view old).capacity ≡ (set_of old).capacity
-    → SamePass old new → state ≡ Unlocked → HasGiven index state (view old) (view new) → HasFreed index (view old) (view new)
-has_freed old new index state known goes unlocked given =
+pub has_freed : (old new : Pass) (index : ℕ) (state : ReleaseState) → SamePass old new → state ≡ Unlocked
+    → HasGiven index state (view old) (view new) → HasFreed index (view old) (view new)
+has_freed old new index state goes unlocked given =
     record {
       given = subst (λ s. HasGiven index s (view old) (view new)) unlocked given;
       goes = set_goes old new goes (begins_before _ _ _ _ (view old) (view new) given.called);
-      knows =
-          subst (λ n. Knows one_word kinds.Indices n (view new)) (ap (λ (z : SetId). z.capacity) goes.set ∙ sym known) new.knows;
     }
 
 -- what is freed in turn is claimed no more, and freed as often as it stands in the list

@@ -5,13 +5,12 @@ use Rattle.lock_free.proofs.Names.{sum_by-cons, Answer, Event, Begun, Finished, 
 use Rattle.std.specs.List.{sum_by}
 use Rattle.std.specs.Prelude.{◌*◌}
 use Rattle.model.specs.declared.party.Party.{Party}
-use Rattle.model.specs.declared.party.Progress.{Progress}
 use Rattle.model.specs.Coding.{Coding}
-use Rattle.model.specs.Parties.{party_of, progress_after, others_of}
+use Rattle.model.specs.Parties.{party_of}
 use Rattle.model.specs.Reading.{whose, is_party}
 use Rattle.history.proofs.KnownRuns.{known_run}
 use Rattle.history.specs.Passes.{MissesNothing, HasJoined}
-use Rattle.history.specs.History.{run_of}
+use Rattle.history.specs.History.{Knows, run_of, others_by, others_in, others_so}
 use Rattle.history.specs.Steps.{TakesAtMost, TakesAlone}
 use Rattle.lock_free.specs.Whole.{begins, ends, IsDone, AllInside, HasWhole, CallsWhole}
 use Rattle.lock_free.proofs.Sums.{sum_made}
@@ -109,47 +108,38 @@ module _ {T : Type 0} where
         ends_so : passed_by c.by 0 f ≡ 0
         ends_so = rw same refl
 
-    module _ (code : Coding T) (kind : Kind) (capacity most retry : ℕ) (takes : TakesAlone code kind capacity most retry old new) where
+    module _ (code : Coding T) (kind : Kind) (capacity most retry : ℕ) (knows : Knows code kind capacity new) where
       abbrev t : Trace T
       t = run_of code kind capacity new.turns
 
       counted : IsCounted t
-      counted = counted_as kind t (known_run takes.ran.knows).reached
+      counted = counted_as kind t (known_run knows).reached
 
       -- no call is under way
       none_going : (q : ℕ) → is_going (party_of q t.world.latest) ≡ 0
       none_going q =
           let all = counted.calls q in
-          let one = ap (sum_by (begins q)) takes.ran.knows.is in
-          let two = ap (sum_by (ends q)) takes.ran.knows.is in
+          let one = ap (sum_by (begins q)) knows.is in
+          let two = ap (sum_by (ends q)) knows.is in
           let three = c.has.all (begins q) in
           let four = c.has.all (ends q) in
           let five = c.has.done q in
           omega arith
 
       none_passed_by : passed c.by t.events ≡ 0
-      none_passed_by = ap (passed c.by) (sym takes.ran.knows.is) ∙ none_ended
+      none_passed_by = ap (passed c.by) (sym knows.is) ∙ none_ended
 
-      none_of_others : takes.progress.others ≡ 0
-      none_of_others = go (party_of takes.party t.world.latest) refl
+      none_of_others : new.others ≡ 0
+      none_of_others = knows.others ∙ (ap (others_by t.world) c.mine ∙ go (party_of c.by t.world.latest) refl)
         where
-          by : takes.party ≡ c.by
-          by = let both : Some takes.party ≡ Some c.by = sym takes.mine ∙ c.mine in cc
+          go : (o : Option (Party T)) → party_of c.by t.world.latest ≡ o → others_in t.world c.by ≡ 0
+          go None is = ap (others_so t.world.changes) is
+          go (Some x) is = ap (others_so t.world.changes) is ∙ counted.others c.by x is (λ q ne. none_going q) none_passed_by
 
-          go : (o : Option (Party T)) → party_of takes.party t.world.latest ≡ o → takes.progress.others ≡ 0
-          go None is =
-              let none : ◌≡◌ {A = Option Progress} None (Some takes.progress) = sym (ap (progress_after t.world.changes) is) ∙ takes.latest in
-              absurd (cc)
-          go (Some x) is =
-              let both : progress_after t.world.changes (Some x) ≡ Some takes.progress = sym (ap (progress_after t.world.changes) is) ∙ takes.latest in
-              let same : others_of t.world.changes x.doing ≡ takes.progress.others = cc in
-              sym same
-              ∙ counted.others takes.party x is (λ q ne. none_going q) (ap (λ p. passed p t.events) by ∙ none_passed_by)
-
-      pub takes_most : TakesAtMost most old new
-      takes_most =
+      pub takes_most : TakesAlone most retry old new → TakesAtMost most old new
+      takes_most takes =
           let all : new.asked ≤ old.asked + (most + 0 * retry) =
-          subst (λ n. new.asked ≤ old.asked + (most + n * retry)) none_of_others takes.steps in
+          subst (λ n. new.asked ≤ old.asked + (most + n * retry)) none_of_others takes in
           omega arith
 
 -- ---- who has the whole keeps it

@@ -20,12 +20,17 @@ InTurn Does (x ∷ xs) old new = (between : View ℕ) × Does x old between × I
 
 -- ---- the set
 
--- The index was given back in mode Default, which never locks the set. What the pass knew then is told here, since nobody
--- else sees the pass between two of them.
+-- the index was given back in mode Default, which never locks the set
 pub record HasFreed (index : ℕ) (old new : View ℕ) : Type 0 where
   pub given : HasGiven index Unlocked old new
   pub goes : Goes old new
-  pub knows : Knows one_word kinds.Indices old.capacity new
+
+-- And what the pass knew then is a run. Of several that are freed in turn this is a law of the pass that has freed them,
+-- since nobody else sees the pass between two of them.
+pub record HasFreedInRun (capacity index : ℕ) (old new : View ℕ) : Type 0 where
+  pub given : HasGiven index Unlocked old new
+  pub goes : Goes old new
+  pub knows : Knows one_word kinds.Indices capacity new
 
 -- the indices that are sent, in ascending order
 abbrev pub all_sent : List Place → List ℕ

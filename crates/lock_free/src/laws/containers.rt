@@ -9,6 +9,6 @@ pub use history_laws::grants::{
 };
 pub use history_laws::owners::{calls_that_lock_are_apart, worn_containers_have_changed};
 pub use lock_free_owners::laws::{
-    container_histories_are_contained, container_histories_are_sound,
-    container_updates_meet_changes,
+    container_calls_end_histories, container_histories_are_contained,
+    container_histories_are_sound, container_updates_meet_changes,
 };

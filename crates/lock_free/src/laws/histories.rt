@@ -8,19 +8,19 @@ ghost use Rattle.model.specs.declared.turn.Kind.{Kind};
 ghost use Rattle.model.specs.Coding.{Coding};
 ghost use Rattle.threaded.specs.Shares.{IsAll};
 ghost use Rattle.history.specs.declared.view.View.{View};
-ghost use Rattle.history.specs.History.{Called};
+ghost use Rattle.history.specs.History.{Called, Knows};
 ghost use Rattle.history.specs.Passes.{MissesNothing, HasJoined};
 ghost use Rattle.history.specs.Steps.{TakesAlone, TakesAtMost};
 ghost use Rattle.lock_free.specs.Whole.{IsDone, AllInside, HasWhole, CallsWhole};
 
-pub use history::laws::{calls_are_in_order, calls_stand, runs_go_on};
+pub use history::laws::{calls_are_in_order, calls_stand, runs_go_on, steps_are_bounded};
 pub use threaded::laws::{any_number, any_order};
 
 /// Who has the whole share, and whose calls have ended, makes each call alone. Nobody else changes a word during it, so of
-/// what a clause `steps` allows only the number alone is left. The lemma is `takes_most` of `proofs/Whole/Alone.antt`.
+/// what a clause `steps` allows only the number alone is left. What the pass knows after the call says so (`history`). The lemma is `takes_most` of `proofs/Whole/Alone.antt`.
 pub fn whole_calls_are_alone<T>()
     ensures { (code : Coding T) (kind : Kind) (capacity alone retry : ℕ) (old new : View T)
-        → CallsWhole old new → TakesAlone code kind capacity alone retry old new → TakesAtMost alone old new }
+        → CallsWhole old new → Knows code kind capacity new → TakesAlone alone retry old new → TakesAtMost alone old new }
 {}
 
 /// Who has the whole keeps it over calls. A first pass has it, and so has a join that leaves no share out. The lemmas are

@@ -7,12 +7,21 @@ use Rattle.lock_free_owners.proofs.Names.{HeldSometime, IsAll, View, IsHistory, 
 use Rattle.lock_free_owners.proofs.Names.{SettledFrom, KeepsState, Calling, LeavesState, IsUnderWay, Ends, Since}
 use Rattle.lock_free_owners.proofs.Names.{opened, called}
 use Rattle.model.specs.declared.turn.Kind.TheVariants as kinds
+use Rattle.laws_robust.specs.Gone.{Word}
+use Rattle.laws_container.specs.Gone.{AnswersBy}
 use Rattle.lock_free_owners.specs.Container.Contracts.{Answered}
-use Rattle.lock_free_owners.proofs.ContainerSet.Sound.{sound_history}
+use Rattle.lock_free_owners.specs.Worn.{MayBeWorn}
+use Rattle.lock_free_owners.proofs.ContainerSet.Sound.{sound_history, worn_on}
+use Rattle.lock_free_owners.proofs.Worn.Laws.{worn_container}
 use Rattle.history.specs.History.{AreFirst, Continues, Knows}
 use Rattle.history.proofs.OneRun.{first_all, continues_further}
 use Rattle.history.proofs.Locks.{not_locked}
 use Rattle.lock_free_owners.proofs.RobustSet.Events.{covers}
+
+-- what an answer says, in the words of the laws
+abbrev pub AnsweredBy : {T : Type 0} → ContainerStart T → Answer T → View T → View T → Type 0
+AnsweredBy start answer old new =
+    Answered start answer (λ p before. AnswersBy Word (MayBeWorn new.seen) old.capacity before (Finished p (Container start) answer)) old new
 
 module _ {T : Type 0} (code : Coding T) (base from : View T) (settled : SettledFrom code kinds.Container base from) where
   -- ---- where it began
@@ -96,7 +105,7 @@ module _ {T : Type 0} (code : Coding T) (base from : View T) (settled : SettledF
         pub ended_called : Called ends.party (Container start) answer ends.wrote from w
         ended_called = grind (arith, called, idle_from)
 
-        unfoldable pub ended_answered : Answered code start answer base w
+        unfoldable pub ended_answered : AnsweredBy start answer base w
         ended_answered =
             let c = ended_called in
             let begin : Event T = Begun ends.party (Container start) in
@@ -108,7 +117,8 @@ module _ {T : Type 0} (code : Coding T) (base from : View T) (settled : SettledF
               before = before;
               is = is_last;
               since = subst (IsBeginning base.seen) (sym (append_assoc from.seen c.others (begin ∷ c.during))) (later (c.others ++ begin ∷ c.during));
-              right = (sound_history code base.capacity w.seen history_of).answers before [] end is_last;
+              right = worn_on (worn_container code base.capacity w.seen) base.capacity before end
+                  ((sound_history code base.capacity w.seen history_of).answers before [] end is_last);
             }
 
         -- what was unlocked at a moment of the call was when it began

@@ -18,11 +18,14 @@ use Rattle.history.specs.Container as container
 use Rattle.lock_free_owners.specs.Robust.Contracts.{WroteAt, WasFilled, WasGranted, WasFreed, HasReleased, FoundLock}
 use Rattle.lock_free_owners.specs.Container.Contracts.{IsSound, HasMade, HasAdded, HasRemoved, HasReplaced, HasCounted}
 use Rattle.lock_free_owners.specs.Container.Contracts.{HasTested, HasLooked, Answered, WasNotAdded}
+use Rattle.lock_free_owners.specs.Container.Contracts.{RemovesRight, IsRightRemove, IsRightReplace, IsRightLength, IsRightTest, IsRightLook}
+use Rattle.lock_free_owners.specs.Worn.{MayBeWorn}
 use Rattle.lock_free_owners.specs.Container.Turns.{CallEnds, AddEnds, RemoveEnds, ReplaceEnds, CountEnds, LockEnds}
 use Rattle.lock_free_owners.specs.Container.Turns.{BeginsAdd, BeginsRemove, BeginsReplace, BeginsCount, BeginsLock}
 use Rattle.lock_free_owners.proofs.ContainerSet.Sound.{sound_history}
+use Rattle.lock_free_owners.proofs.ContainerSet.Resting.{settled_so}
 use Rattle.lock_free_owners.proofs.ContainerSet.Began.{history_of as began_history, share_from, capacity_from}
-use Rattle.lock_free_owners.proofs.ContainerSet.Began.{idle_from, later, ended_goes, ended_called, ended_answered}
+use Rattle.lock_free_owners.proofs.ContainerSet.Began.{AnsweredBy, idle_from, later, ended_goes, ended_called, ended_answered}
 use Rattle.lock_free_owners.proofs.ContainerSet.Began.{ended_keeps}
 use Rattle.history.proofs.Known.{begins_further}
 use Rattle.history.proofs.Locks.{lock_stays, not_locked}
@@ -56,11 +59,11 @@ module _ {T : Type 0} (code : Coding T) where
       made_call : Called ends.over.party (Container start) answer ends.over.wrote from w
       made_call = ended_called code base from ends.settled call w e tt ends.over start is_start answer is_answer
 
-      pub made : (Wrote : ℕ → List (Event T) → Type 0) → Wrote ends.over.party ends.over.wrote → HasMade code start answer Wrote base w
+      pub made : (Wrote : ℕ → List (Event T) → Type 0) → Wrote ends.over.party ends.over.wrote → HasMade start answer Wrote base w
       made Wrote tells =
           record {
             from = from;
-            settled = ends.settled;
+            settled = settled_so code base from ends.settled;
             by = ends.over.party;
             mine = ends.over.mine;
             wrote = ends.over.wrote;
@@ -107,7 +110,7 @@ module _ {T : Type 0} (code : Coding T) where
           }
 
       -- the last answer, and what stood before it
-      pub answered : Answered code start answer base w
+      pub answered : AnsweredBy start answer base w
       answered = ended_answered code base from ends.settled call w e tt ends.over start is_start answer is_answer
 
       -- at a moment of the call the lock was not there, nor before it
@@ -118,19 +121,20 @@ module _ {T : Type 0} (code : Coding T) where
           let covered = covers p (Container start) c.during (from.seen ++ c.others) once.part once.rest once.is once.within in
           not_locked (begins_further _ _ _ (onward c.others) covered) once.held
 
-  pub last_of : {start : ContainerStart T} {answer : Answer T} {old new : View T} → (a : Answered code start answer old new) → IsBeginning a.before new.seen
-  last_of {start} {answer} {old} {new} a = record { rest = Finished a.by (Container start) answer ∷ []; is = a.is }
+  pub last_of : {start : ContainerStart T} {answer : Answer T} {Right : ℕ → List (Event T) → Type 0} {old new : View T}
+      → (a : Answered start answer Right old new) → IsBeginning a.before new.seen
+  last_of {start} {answer} a = record { rest = Finished a.by (Container start) answer ∷ []; is = a.is }
 
   -- ---- looks
 
   module _ (base w : View T) (b : Bool) (ends : LockEnds code base b tt w) where
-    pub looked : HasLooked code b base w
+    pub looked : HasLooked b base w
     looked = made BeginsLock sees_lock base w b ends IsLocked refl (Truth b) refl (λ by es. es ≡ []) ends.over.tells
 
-    pub looked_answered : Answered code IsLocked (Truth b) base w
+    pub looked_answered : IsRightLook b base w
     looked_answered = answered BeginsLock sees_lock base w b ends IsLocked refl (Truth b) refl
 
-  looked_so : (base w : View T) (b : Bool) → Answered code IsLocked (Truth b) base w → FoundLock b base w
+  looked_so : (base w : View T) (b : Bool) → IsRightLook b base w → FoundLock b base w
   looked_so base w true a = lock_stays (last_of a) (sym a.right)
   looked_so base w false a = not_locked a.since (sym a.right)
 
@@ -141,10 +145,10 @@ module _ {T : Type 0} (code : Coding T) where
 
   module _ (base w : View T) (n : ℕ) where
     module _ (ends : CountEnds code counts.Len base n tt w) where
-      pub counted : HasCounted code n base w
+      pub counted : HasCounted n base w
       counted = made BeginsCount (counts_values counts.Len) base w n ends Len refl (Number n) refl (λ by es. es ≡ []) ends.over.tells
 
-      pub counted_answered : Answered code Len (Number n) base w
+      pub counted_answered : IsRightLength n base w
       counted_answered = answered BeginsCount (counts_values counts.Len) base w n ends Len refl (Number n) refl
 
       pub counted_most : n ≤ base.capacity
@@ -162,10 +166,10 @@ module _ {T : Type 0} (code : Coding T) where
       counted_none lock = counted_answered.right.none (lock_stays counted_answered.since lock)
 
     module _ (ends : CountEnds code counts.IsEmpty base n tt w) where
-      pub tested : HasTested code (n == 0) base w
+      pub tested : HasTested (n == 0) base w
       tested = made BeginsCount (counts_values counts.IsEmpty) base w n ends IsEmpty refl (Truth (n == 0)) refl (λ by es. es ≡ []) ends.over.tells
 
-      pub tested_answered : Answered code IsEmpty (Truth (n == 0)) base w
+      pub tested_answered : IsRightTest (n == 0) base w
       tested_answered = answered BeginsCount (counts_values counts.IsEmpty) base w n ends IsEmpty refl (Truth (n == 0)) refl
 
       pub tested_none : is_locked base.seen ≡ true → (n == 0) ≡ true
@@ -176,15 +180,28 @@ module _ {T : Type 0} (code : Coding T) where
   -- ---- remove
 
   module _ (base w : View T) (given : GiveBack) where
-    pub has_removed : (answer : Removed) → RemoveEnds code given base answer tt w → HasRemoved code given answer base w
+    pub has_removed : (answer : Removed) → RemoveEnds code given base answer tt w → HasRemoved given answer base w
     has_removed answer ends =
         made (BeginsRemove given) (removes_value given) base w answer ends (Remove given.index given.owner given.mode) refl (removed answer) refl
         (λ by es. container.HasRemoved by given answer es) (ends.over.tells (idle_from code base ends.from ends.settled))
 
     pub removed_answered : (answer : Removed) → RemoveEnds code given base answer tt w
-        → Answered code (Remove given.index given.owner given.mode) (removed answer) base w
+        → AnsweredBy (Remove given.index given.owner given.mode) (removed answer) base w
     removed_answered answer ends =
         answered (BeginsRemove given) (removes_value given) base w answer ends (Remove given.index given.owner given.mode) refl (removed answer) refl
+
+    removed_so : (mode : ReleaseMode) (answer : Removed) → AnsweredBy (Remove given.index given.owner mode) (removed answer) base w
+        → Answered (Remove given.index given.owner mode) (removed answer)
+        (RemovesRight (MayBeWorn w.seen) base.capacity (record { index = given.index; owner = given.owner; mode = mode }) answer) base w
+    removed_so Default (Err e) h = h
+    removed_so LockIfLastIndex (Err e) h = h
+    removed_so Default (Ok states.Locked) h = h
+    removed_so LockIfLastIndex (Ok states.Locked) h = h
+    removed_so Default (Ok states.Unlocked) h = h
+    removed_so LockIfLastIndex (Ok states.Unlocked) h = h
+
+    pub removed_right : (answer : Removed) → RemoveEnds code given base answer tt w → IsRightRemove given answer base w
+    removed_right answer ends = removed_so given.mode answer (removed_answered answer ends)
 
     removed_at : (state : ReleaseState) (rest : List (Event T)) → (ends : RemoveEnds code given base (Ok state) tt w)
         → ends.over.wrote ≡ FreedOf ends.over.party given.index given.owner ∷ rest → WasFreed given.index given.owner base w
@@ -233,27 +250,32 @@ module _ {T : Type 0} (code : Coding T) where
   -- ---- replace
 
   module _ (base w : View T) (given : Replacement T) (answer : Replaced) (ends : ReplaceEnds code given base answer tt w) where
-    pub has_replaced : HasReplaced code given answer base w
+    pub has_replaced : HasReplaced given answer base w
     has_replaced =
         made (BeginsReplace given) (replaces_value code.size given) base w answer ends (Replace given.index given.value given.owner) refl (replaced answer) refl
         (λ by es. container.HasReplaced by given answer es) (ends.over.tells (idle_from code base ends.from ends.settled))
 
-    pub replaced_answered : Answered code (Replace given.index given.value given.owner) (replaced answer) base w
-    replaced_answered =
+    replaced_by : AnsweredBy (Replace given.index given.value given.owner) (replaced answer) base w
+    replaced_by =
         answered (BeginsReplace given) (replaces_value code.size given) base w answer ends (Replace given.index given.value given.owner) refl
         (replaced answer) refl
+
+  pub replaced_answered : (base w : View T) (given : Replacement T) (answer : Replaced) → ReplaceEnds code given base answer tt w
+      → IsRightReplace given answer base w
+  replaced_answered base w given (Err e) ends = replaced_by base w given (Err e) ends
+  replaced_answered base w given (Ok nothing) ends = replaced_by base w given (Ok nothing) ends
 
   -- ---- add
 
   module _ (base w : View T) (given : Owned T) where
-    pub has_added : (answer : Added) → AddEnds code given base answer tt w → HasAdded code given answer base w
+    pub has_added : (answer : Added) → AddEnds code given base answer tt w → HasAdded given answer base w
     has_added answer ends =
         made (BeginsAdd given) (adds_value code.size given) base w answer ends (Add given.value given.owner) refl (added answer) refl
         (λ by es. container.HasAdded base.capacity by given answer es)
         (subst (λ n. container.HasAdded n ends.over.party given answer ends.over.wrote) (capacity_from code base ends.from ends.settled)
         (ends.over.tells (idle_from code base ends.from ends.settled)))
 
-    pub added_answered : (answer : Added) → AddEnds code given base answer tt w → Answered code (Add given.value given.owner) (added answer) base w
+    pub added_answered : (answer : Added) → AddEnds code given base answer tt w → AnsweredBy (Add given.value given.owner) (added answer) base w
     added_answered answer ends =
         answered (BeginsAdd given) (adds_value code.size given) base w answer ends (Add given.value given.owner) refl (added answer) refl
 
@@ -287,7 +309,7 @@ module _ {T : Type 0} (code : Coding T) where
       pub open_so : is_locked base.seen ≡ false
       open_so = (let g = granted_so in not_locked g.since g.held.0)
 
-    pub refused_so : (e : ContainerAddFailure) → AddEnds code given base (Err e) tt w → WasNotAdded code given.value given.owner e base w
+    pub refused_so : (e : ContainerAddFailure) → AddEnds code given base (Err e) tt w → WasNotAdded given.value given.owner e base w
     refused_so failures.OutOfSpace ends =
         let a = added_answered (Err failures.OutOfSpace) ends in
         record { answered = a; unlocked = λ same. not_locked a.since a.right.0; locked = λ same. absurd (cc) }

@@ -24,6 +24,7 @@ use Rattle.lock_free_owners.specs.Container.Visits.{visits_of}
 use Rattle.lock_free_owners.specs.Container.Idle.{asks, may_rest, IsIdle}
 use Rattle.lock_free_owners.proofs.ContainerSet.FindCounts.{counts_whole, counts_below}
 use Rattle.lock_free_owners.proofs.ContainerSet.Idle.{rests, idle_none}
+use Rattle.lock_free_owners.proofs.ContainerSet.Resting.{settled_so, resting_so}
 use Rattle.lock_free_owners.proofs.ContainerSet.Began.{idle_from, capacity_from, share_from, seen_is, made_is}
 use Rattle.lock_free_owners.proofs.ContainerSet.Began.{ended_goes, ended_knows, ended_called, ended_answered, under_goes, under_knows}
 use Rattle.lock_free_owners.proofs.ContainerSet.Began.{ended_keeps, under_keeps}
@@ -180,7 +181,7 @@ module _ {T : Type 0} (code : Coding T) (law : IsCoding code) (owner : ℕ) wher
       tells : under.wrote ≡ told
       tells = under.tells (idle_from code base from settled) ∙ named_copies under.party owner id m.1
 
-      rests_so : Rests code under.party (Container (starts.Find owner)) (Number e) told from w
+      rests_so : Rests under.party (Container (starts.Find owner)) (Number e) told from w
       rests_so =
           let so = find_rests_so code law words_in kept_at put_in owner from w e m rest in
           record {
@@ -193,7 +194,7 @@ module _ {T : Type 0} (code : Coding T) (law : IsCoding code) (owner : ℕ) wher
             during_own = under.since.during_own ∙ tells;
             made = made_is code base from settled under.party (Container (starts.Find owner)) under.wrote [] w under.since
                 ∙ ap (λ ds. from.made ++ Begun under.party (Container (starts.Find owner)) ∷ ds) (append-nil under.wrote ∙ tells);
-            resting = so.0;
+            resting = resting_so code w so.0;
             party = so.1;
             of = so.2;
             ends = so.3;
@@ -215,8 +216,16 @@ module _ {T : Type 0} (code : Coding T) (law : IsCoding code) (owner : ℕ) wher
           h.trace h.run h.there rest.asks
           (no_ends code law words_in kept_at put_in owner from w e m rest h.trace.world.kept) (copies_of under.party m.1) at_work)
 
-      pub rested_so : HasSearched code cap owner e (below_question rest.asking.stage) (visits_of owner id m.1) base w
-      rested_so = grind (arith, counted_at, rests_so, asked_below)
+      pub rested_so : HasSearched cap owner e (below_question rest.asking.stage) (visits_of owner id m.1) base w
+      rested_so =
+          record {
+            from = from;
+            settled = settled_so code base from settled;
+            by = under.party;
+            mine = under.mine;
+            counts = counted_at;
+            over = inr (rests_so, sym (ap asked_below under.going));
+          }
 
       at_question : (stage : FindStage) → is_question (find_asks code.size rest.asking.capacity stage) ≡ true → asks stage ≡ true
       at_question x0 x1 = grind arith
@@ -243,11 +252,11 @@ module _ {T : Type 0} (code : Coding T) (law : IsCoding code) (owner : ℕ) wher
           subst (λ n. IsCount ends.party (IsFilledWith owner) n e w.seen) (capacity_from code base from settled ∙ sym size)
           (counts_whole code from.capacity ends.party owner e w.seen ends.last)
 
-      ended_so : cap ≡ base.capacity → HasSearched code cap owner e cap (visits_of owner id m.1) base w
+      ended_so : cap ≡ base.capacity → HasSearched cap owner e cap (visits_of owner id m.1) base w
       ended_so size =
           record {
             from = from;
-            settled = settled;
+            settled = settled_so code base from settled;
             by = ends.party;
             mine = ends.mine;
             counts = counted_so size;
@@ -273,19 +282,19 @@ module _ {T : Type 0} (code : Coding T) (law : IsCoding code) (owner : ℕ) wher
           }
 
   pub over_so : (cap : ℕ) (base w : View T) (e : ℕ) (m : Copying T) (id : ℕ) → cap ≡ base.capacity → FindDone code owner base e m w
-      → IsLeft code base w × HasSearched code cap owner e cap (visits_of owner id m.1) base w
+      → IsLeft code base w × HasSearched cap owner e cap (visits_of owner id m.1) base w
   over_so cap base w e m id size x =
       (ended_left cap base w x.from x.settled e m id x.over, ended_so cap base w x.from x.settled e m id x.over size)
 
   -- the answer has ended it at its question
   pub answer_over : (cap : ℕ) (base v : View T) (c : Find T (Buffer 128)) (m : Copying T) (index found : ℕ) → c.stage ≡ finds.Asks index found
       → FindAt code owner base v c m → (e id : ℕ) (said : Bool) → find_goes code owner c (number_of said) ≡ Done e
-      → IsLeft code base v × HasSearched code cap owner e (index + 1) (visits_of owner id m.1) base v
+      → IsLeft code base v × HasSearched cap owner e (index + 1) (visits_of owner id m.1) base v
   unfolding rests_at
   answer_over cap base v c m index found is at e id said goes =
       let x = asked_from base v c m index found is at in
       let rest = rests_at base v c m index found is e said goes at in (
         rested_left cap base v x.0 x.1 e m id rest,
-        subst (λ n. HasSearched code cap owner e n (visits_of owner id m.1) base v) (ap below_question is)
+        subst (λ n. HasSearched cap owner e n (visits_of owner id m.1) base v) (ap below_question is)
             (rested_so cap base v x.0 x.1 e m id rest),
       )

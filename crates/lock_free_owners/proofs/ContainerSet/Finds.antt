@@ -47,8 +47,8 @@ module _ {T F : Type 0} (code : Coding T) (step : F → T → ContainerHandle �
   Further w (Done n) m q = Over w n q
 
   whole : (w : View T) (n bound : ℕ) (q : F) (copies : List (ℕ × T))
-      → IsLeft code base w × HasSearched code cap owner n bound (visits_of owner id copies) base w
-      → HasFound step cap (IsNamed cap owner id) f n bound (visits_of owner id copies) q → FindTakes code cap base w → Over w n q
+      → IsLeft code base w × HasSearched cap owner n bound (visits_of owner id copies) base w
+      → HasFound step cap (IsNamed cap owner id) f n bound (visits_of owner id copies) q → FindTakes code.size cap base w → Over w n q
   whole x0 x1 x2 x3 x4 x5 x6 x7 = grind (arith, visits_of)
 
   module _ (law : IsCoding code) (small : cap < 2 ^ 32) (size : cap ≡ base.capacity) (v : View T) (c : Find T (Buffer 128)) (m : Buffer 128)
@@ -136,7 +136,7 @@ module _ {T F : Type 0} (code : Coding T) (step : F → T → ContainerHandle �
       answered q (Done n) goes stands found_all few =
           let x = answer_over code law owner cap base v c (m, h.copies) index found is h.at n id true goes in
           whole v n cap q h.copies
-          (x.0, subst (λ k. HasSearched code cap owner n k (visits_of owner id h.copies) base v) (last_is n goes) x.1) found_all few
+          (x.0, subst (λ k. HasSearched cap owner n k (visits_of owner id h.copies) base v) (last_is n goes) x.1) found_all few
 
       by_answer : (q : F) (answer : CallbackProgression) → step p (value_in_room m) (visits.named index owner id) answer q
           → Further v (find_goes code owner c (says answer)) m q

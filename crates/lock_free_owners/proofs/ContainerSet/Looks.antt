@@ -20,8 +20,9 @@ use Rattle.lock_free_owners.specs.Container.Bare.{Still, LookStands, LookEnds}
 use Rattle.lock_free_owners.specs.Container.Idle.{IsIdle}
 use Rattle.lock_free_owners.specs.Container.LookTurns.{IsOnHistory, LookAt, LookOver, IsPast, LookOnAt, LookOnOver}
 use Rattle.lock_free_owners.specs.Container.Names.{unnumbered}
-use Rattle.lock_free_owners.specs.Container.Contracts.{Answered, HasMade}
-use Rattle.lock_free_owners.proofs.ContainerSet.Began.{capacity_from, idle_from, share_from, ended_answered, ended_goes, ended_knows, ended_called}
+use Rattle.lock_free_owners.specs.Container.Contracts.{HasMade}
+use Rattle.lock_free_owners.proofs.ContainerSet.Resting.{settled_so}
+use Rattle.lock_free_owners.proofs.ContainerSet.Began.{AnsweredBy, capacity_from, idle_from, share_from, ended_answered, ended_goes, ended_knows, ended_called}
 use Rattle.lock_free_owners.proofs.ContainerSet.Idle.{rests, idle_none}
 use Rattle.lock_free_owners.proofs.ContainerSet.SameStates.{Decided}
 use Rattle.lock_free_owners.proofs.Rules.Container.LookRuns.{state_rule}
@@ -157,19 +158,19 @@ module _ {T : Type 0} (code : Coding T) (which : LookOf) (from w : View T) (seen
   pub look_goes : Goes from w
   look_goes = ended_goes code from ends.from ends.settled (looking code which from.capacity seen) w changed m ends.over.0
 
-  pub look_answered : Answered code (look_start which) (looked which (state_of_look from.capacity seen m) changed) from w
+  pub look_answered : AnsweredBy (look_start which) (looked which (state_of_look from.capacity seen m) changed) from w
   look_answered =
       ended_answered code from ends.from ends.settled (looking code which from.capacity seen) w changed m ends.over.0 (look_start which) refl
       (looked which (state_of_look from.capacity seen m) changed) refl
 
-  pub look_made : HasMade code (look_start which) (looked which (state_of_look from.capacity seen m) changed)
+  pub look_made : HasMade (look_start which) (looked which (state_of_look from.capacity seen m) changed)
       (λ by es. HasLookedAll from.capacity by changed es) from w
-  look_made = grind (arith, capacity_from, idle_from, ended_called, looking, look_start, looked, state_of_look)
+  look_made = grind (arith, capacity_from, idle_from, ended_called, settled_so, looking, look_start, looked, state_of_look)
 
 -- what was written may be said more widely
-pub made_as : {T : Type 0} (code : Coding T) (start : ContainerStart T) (answer : Answer T) (Wrote More : ℕ → List (Event T) → Type 0) (v w : View T)
-    → ((by : ℕ) (es : List (Event T)) → Wrote by es → More by es) → HasMade code start answer Wrote v w → HasMade code start answer More v w
-made_as code start answer Wrote More v w more h =
+pub made_as : {T : Type 0} (start : ContainerStart T) (answer : Answer T) (Wrote More : ℕ → List (Event T) → Type 0) (v w : View T)
+    → ((by : ℕ) (es : List (Event T)) → Wrote by es → More by es) → HasMade start answer Wrote v w → HasMade start answer More v w
+made_as start answer Wrote More v w more h =
     record { from = h.from; settled = h.settled; by = h.by; mine = h.mine; wrote = h.wrote; tells = more h.by h.wrote h.tells; called = h.called }
 
 module _ (T : Type 0) where
@@ -224,4 +225,5 @@ module _ {T : Type 0} (code : Coding T) (which : LookOf) (from : View T) (shown 
         allowed = knows.allowed;
         fresh = knows.fresh;
         is = knows.is;
+        others = knows.others;
       })

@@ -13,7 +13,8 @@ use Rattle.laws_turns.specs.Changes.{changes_of, CountsChanges, MeetsChanges}
 use Rattle.laws_turns.proofs.Meeting.{turn_kept, first_known}
 use Rattle.laws_turns.proofs.SeenTurns.{Extra}
 use Rattle.laws_turns.proofs.Taken.{taken_open}
-use Rattle.lock_free_owners.specs.Container.Contracts.{Answered, HasMet}
+use Rattle.lock_free_owners.specs.Container.Contracts.{HasMet}
+use Rattle.lock_free_owners.proofs.ContainerSet.Began.{AnsweredBy}
 use Rattle.lock_free_owners.proofs.ContainerSet.Changes.{by_word, Few, fewer, counts_after, counts_first}
 
 -- ---- every run
@@ -56,7 +57,7 @@ module _ {T : Type 0} (code : Coding T) where
       (meets_changes_open h.trace h.run.of_kind h.run.reached (subst (λ (es : List (Event T)). changes_of es < 2 ^ 64 - 1) h.is few))
 
   -- of the end of an update
-  pub has_met : (changed : Bool) (old new : View T) → Answered code UpdateState (Truth changed) old new
+  pub has_met : (changed : Bool) (old new : View T) → AnsweredBy UpdateState (Truth changed) old new
       → IsHistory code kinds.TheVariants.Container old.capacity new.seen → HasMet changed old new
   has_met changed old new a h =
       record {

@@ -28,9 +28,9 @@ use Rattle.lock_free_owners.specs.Container.Idle.{IsIdle}
 use Rattle.lock_free_owners.specs.Container.RecoverTurns.{Visiting, BeginsRecover, recovering, recover_goes}
 use Rattle.lock_free_owners.specs.Container.RecoverTurns.{recover_visiting, RecoverBegun, RecoverAt, RecoverEnds}
 use Rattle.lock_free_owners.specs.Container.RecoverTurns.{RecoverTells}
-use Rattle.lock_free_owners.specs.Container.Contracts.{Answered}
+use Rattle.lock_free_owners.specs.Container.Contracts.{IsRightRecovery}
 use Rattle.lock_free_owners.proofs.ContainerSet.Idle.{rests}
-use Rattle.lock_free_owners.proofs.ContainerSet.Began.{idle_from, seen_is, from_since, ended_goes, ended_called, ended_answered, open_since}
+use Rattle.lock_free_owners.proofs.ContainerSet.Began.{AnsweredBy, idle_from, seen_is, from_since, ended_goes, ended_called, ended_answered, open_since}
 use Rattle.lock_free_owners.proofs.ContainerSet.Sound.{sound_history}
 use Rattle.history.proofs.Locks.{lock_stays, not_locked}
 use Rattle.lock_free_owners.proofs.RobustSet.Events.{find_own, covers}
@@ -208,9 +208,14 @@ module _ {T : Type 0} (code : Coding T) (law : IsCoding code) (given : DeadOwner
         (wrote_visits ends.over.party given.owner m.1) ends.from w
     recovered_called = grind (arith, idle_from, ended_called, recovering)
 
-    pub recovered_answered : Answered code (starts.Recover given.owner given.mode) (State e) base w
-    recovered_answered =
+    recovered_by : AnsweredBy (starts.Recover given.owner given.mode) (State e) base w
+    recovered_by =
         ended_answered code base ends.from ends.settled (recovering code given) w e m ends.over (starts.Recover given.owner given.mode) refl (State e) refl
+
+  pub recovered_answered : (base w : View T) (state : ReleaseState) (m : Visiting T) → RecoverEnds code given base state m w
+      → IsRightRecovery given state base w
+  recovered_answered base w states.Locked m ends = recovered_by base w states.Locked m ends
+  recovered_answered base w states.Unlocked m ends = recovered_by base w states.Unlocked m ends
 
   recovered_lock_so : (state : ReleaseState) (base w : View T) (m : Visiting T) (ends : RecoverEnds code given base state m w)
       → FoundState state base w

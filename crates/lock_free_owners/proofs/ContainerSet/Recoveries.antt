@@ -17,6 +17,7 @@ use Rattle.lock_free_owners.specs.Container.RecoverTurns.{Visiting, IsRecovered,
 use Rattle.lock_free_owners.specs.Container.RecoverTurns.{RecoverEnds, RecoverGoes, RecoverTurns, RecoverAsks}
 use Rattle.lock_free_owners.specs.Container.RecoverTurns.{RecoverMoves, RecoverPasses, IsWithin, PassesTo, HasPassed}
 use Rattle.lock_free_owners.specs.Container.RecoverTurns.{PassesFrom}
+use Rattle.lock_free_owners.proofs.ContainerSet.Resting.{settled_so}
 use Rattle.lock_free_owners.proofs.ContainerSet.RecoverTurns.{put_in, heard_on, answer_last, asked_open, recovered_called}
 use Rattle.lock_free_owners.proofs.Rules.Container.Recovering.{SoFar, Knows, Onward, StepsOnward, IsQuiet, quietly, answered as answers_so, may_ask}
 use Rattle.lock_free_owners.proofs.Rules.Container.Recovering.{Asked, widen}
@@ -84,7 +85,7 @@ module _ {T F : Type 0} (code : Coding T) (step : F → T → Bool → F → Typ
           did =
               record {
                 from = ends.from;
-                settled = ends.settled;
+                settled = settled_so code base ends.from ends.settled;
                 by = ends.over.party;
                 mine = ends.over.mine;
                 visits = visits;

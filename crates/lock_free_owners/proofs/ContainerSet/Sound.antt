@@ -15,7 +15,7 @@ module _ {T : Type 0} {worn other : Type 0} (may : worn → other) where
   since_each x0 x1 x2 x3 x4 = grind arith
 
   -- what an answer says where its counter may be worn it says where that may be for another reason
-  worn_on : (capacity : ℕ) (before : List (Event T)) (e : Event T) → AnswersBy Word worn capacity before e → AnswersBy Word other capacity before e
+  pub worn_on : (capacity : ℕ) (before : List (Event T)) (e : Event T) → AnswersBy Word worn capacity before e → AnswersBy Word other capacity before e
   worn_on x0 x1 x2 x3 = grind (arith, since_each)
 
 pub sound_history : {T : Type 0} (code : Coding T) (capacity : ℕ) (events : List (Event T)) → IsHistory code kinds.Container capacity events

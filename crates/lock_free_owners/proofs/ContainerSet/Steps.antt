@@ -10,17 +10,16 @@ use Rattle.model.specs.declared.families.container.calls.LookOf.TheVariants as w
 use Rattle.model.specs.declared.turn.Kind.TheVariants as kinds
 use Rattle.model.specs.Progress.{Guarantee, WaitFree, ObstructionFree, guarantee_of}
 use Rattle.history.proofs.Containers.{container_pays}
-use Rattle.history.proofs.OneRun.{continues_further}
 use Rattle.history.proofs.Paid.{AllowsOne, TakesBy, takes}
 use Rattle.lock_free_owners.specs.Container.RecoverTurns.{Visiting, RecoverEnds, recovering}
 use Rattle.lock_free_owners.specs.Container.Steps.{one_if_some, to_settle, TakesFew, ContainerTakes, RemoveTakes, RecoverTakes, LookTakes}
 use Rattle.lock_free_owners.specs.Container.Turns.{AddEnds, RemoveEnds, ReplaceEnds, CountEnds, LockEnds}
-use Rattle.lock_free_owners.proofs.ContainerSet.Began.{idle_from, capacity_from, settled_ran}
+use Rattle.lock_free_owners.proofs.ContainerSet.Began.{idle_from, capacity_from}
 
 -- what a guarantee says of a call of a pass
-abbrev pub TakesThen : {T : Type 0} → Coding T → ℕ → Guarantee → View T → View T → Type 0
-TakesThen code capacity (WaitFree most) old new = TakesFew most old new
-TakesThen code capacity (ObstructionFree alone retry) old new = ContainerTakes code capacity alone retry old new
+abbrev pub TakesThen : {T : Type 0} → Guarantee → View T → View T → Type 0
+TakesThen (WaitFree most) old new = TakesFew most old new
+TakesThen (ObstructionFree alone retry) old new = ContainerTakes alone retry old new
 
 module _ {T : Type 0} (code : Coding T) (base from : View T) (settled : SettledFrom code kinds.Container base from) where
   settling : SettledFrom code kinds.Container base from → from.asked ≤ base.asked + to_settle base
@@ -34,21 +33,14 @@ module _ {T : Type 0} (code : Coding T) (base from : View T) (settled : SettledF
       → asked ≤ after + ((alone + rest) + paid)
   more_alone asked before alone paid after rest h k = omega arith
 
-  pub takes_then : (capacity : ℕ) (g : Guarantee) (w : View T) → TakesBy code kinds.Container capacity g from w → TakesThen code capacity g base w
+  pub takes_then : (capacity : ℕ) (g : Guarantee) (w : View T) → TakesBy code kinds.Container capacity g from w → TakesThen g base w
   takes_then capacity (WaitFree most) w h = more w.asked from.asked most base.asked (to_settle base) h (settling settled)
   takes_then capacity (ObstructionFree alone retry) w h =
-      record {
-        ran = continues_further code kinds.Container capacity base from w (settled_ran code base from settled settled) h.ran;
-        party = h.party;
-        mine = h.mine;
-        progress = h.progress;
-        latest = h.latest;
-        steps = more_alone w.asked from.asked alone (h.progress.others * retry) base.asked (to_settle base) h.steps (settling settled);
-      }
+      more_alone w.asked from.asked alone (w.others * retry) base.asked (to_settle base) h (settling settled)
 
   module _ {C M E : Type 0} (call : Calling T C M E) (w : View T) (e : E) (m : M) where
     pub takes_so : AllowsOne (guarantee_of kinds.Container base.capacity code.size call.start) → Ends code kinds.Container call from e m w
-        → TakesThen code base.capacity (guarantee_of kinds.Container base.capacity code.size call.start) base w
+        → TakesThen (guarantee_of kinds.Container base.capacity code.size call.start) base w
     takes_so least ends =
         takes_then base.capacity (guarantee_of kinds.Container base.capacity code.size call.start) w
         (subst (λ n. AllowsOne (guarantee_of kinds.Container n code.size call.start)
@@ -57,14 +49,14 @@ module _ {T : Type 0} (code : Coding T) (base from : View T) (settled : SettledF
 
 module _ {T : Type 0} (code : Coding T) (base w : View T) where
   pub add_takes : (given : Owned T) (answer : Added) → AddEnds code given base answer tt w
-      → ContainerTakes code base.capacity (base.capacity + 7 + code.size) (base.capacity + 1) base w
+      → ContainerTakes (base.capacity + 7 + code.size) (base.capacity + 1) base w
   add_takes given answer ends = takes_so code base ends.from ends.settled (adds_value code.size given) w answer tt (omega arith) ends.over
 
-  pub remove_takes : (given : GiveBack) (answer : Removed) → RemoveEnds code given base answer tt w → RemoveTakes code base.capacity given.mode base w
+  pub remove_takes : (given : GiveBack) (answer : Removed) → RemoveEnds code given base answer tt w → RemoveTakes base.capacity given.mode base w
   remove_takes given answer ends = by given.mode refl
     where
       of : (mode : ReleaseMode) → Type 0
-      of mode = RemoveTakes code base.capacity mode base w
+      of mode = RemoveTakes base.capacity mode base w
 
       with_mode : ReleaseMode → GiveBack
       with_mode mode = record { index = given.index; owner = given.owner; mode = mode }
@@ -83,7 +75,7 @@ module _ {T : Type 0} (code : Coding T) (base w : View T) where
   replace_takes given answer ends = takes_so code base ends.from ends.settled (replaces_value code.size given) w answer tt (omega arith) ends.over
 
   pub count_takes : (which : CountOf) (n : ℕ) → CountEnds code which base n tt w
-      → ContainerTakes code base.capacity (base.capacity + 2) (base.capacity + 2) base w
+      → ContainerTakes (base.capacity + 2) (base.capacity + 2) base w
   count_takes counts.Len n ends = takes_so code base ends.from ends.settled (counts_values counts.Len) w n tt (omega arith) ends.over
   count_takes counts.IsEmpty n ends = takes_so code base ends.from ends.settled (counts_values counts.IsEmpty) w n tt (omega arith) ends.over
 
@@ -91,14 +83,14 @@ module _ {T : Type 0} (code : Coding T) (base w : View T) where
   lock_takes b ends = takes_so code base ends.from ends.settled sees_lock w b tt (omega arith) ends.over
 
   pub recover_takes : (owner : ℕ) (mode : ReleaseMode) (state : ReleaseState) (m : Visiting T)
-      → RecoverEnds code (record { owner = owner; mode = mode }) base state m w → RecoverTakes code base.capacity mode base w
+      → RecoverEnds code (record { owner = owner; mode = mode }) base state m w → RecoverTakes code.size base.capacity mode base w
   recover_takes owner Default state m ends =
       takes_so code base ends.from ends.settled (recovering code (record { owner = owner; mode = Default })) w state m (omega arith) ends.over
   recover_takes owner LockIfLastIndex state m ends =
       takes_so code base ends.from ends.settled (recovering code (record { owner = owner; mode = LockIfLastIndex })) w state m (omega arith) ends.over
 
   pub look_takes : (which : LookOf) (seen : Numbers) (changed : Bool) (m : Showing T)
-      → RestedLooked code which base.capacity seen base changed m w → LookTakes code base.capacity base w
+      → RestedLooked code which base.capacity seen base changed m w → LookTakes code.size base.capacity base w
   look_takes which_looks.GetState seen changed m ends =
       takes_so code base ends.from ends.settled (looking code which_looks.GetState base.capacity seen) w changed m (omega arith) ends.over.0
   look_takes which_looks.UpdateState seen changed m ends =

@@ -16,19 +16,28 @@ use Rattle.model.specs.declared.turn.Kind.TheVariants as kinds
 use Rattle.model.specs.Families.Indices.Robust.Calls.{acquire_answer, release_answer}
 use Rattle.lock_free_owners.specs.Robust.Contracts.{HasTaken, HasGiven, HasRecovered, HasCounted, HasLooked, WroteAt}
 use Rattle.lock_free_owners.specs.Robust.Contracts.{WasFilled, WasGranted, WasFreed, IsSound, Answered, WasRefused}
-use Rattle.lock_free_owners.specs.Robust.Contracts.{HasReleased, FoundLock, FoundState}
+use Rattle.lock_free_owners.specs.Robust.Contracts.{HasReleased, FoundLock, FoundState, OnlyLooked}
+use Rattle.lock_free_owners.specs.Robust.Contracts.{IsRightRelease, IsRightRecovery, IsRightCount, IsRightLook}
+use Rattle.lock_free_owners.specs.Worn.{MayBeWorn}
+use Rattle.laws_robust.specs.Gone.{Word, AnswersBy}
 use Rattle.model.specs.Progress.{guarantee_of}
 use Rattle.history.proofs.Paid.{AllowsOne, TakesBy, takes}
 use Rattle.history.proofs.Robusts.{robust_pays}
-use Rattle.history.specs.Steps.{TakesAtMost}
+use Rattle.history.specs.Steps.{TakesAtMost, TakesAlone}
 use Rattle.lock_free_owners.specs.Robust.Callable.{HasVisited}
-use Rattle.lock_free_owners.specs.Robust.Steps.{SetTakes, ReleaseTakes, RecoverTakes}
+use Rattle.lock_free_owners.specs.Robust.Steps.{ReleaseTakes, RecoverTakes}
 use Rattle.lock_free_owners.proofs.RobustSet.Asking.{visits_none}
-use Rattle.lock_free_owners.proofs.RobustSet.Sound.{sound_history}
+use Rattle.lock_free_owners.proofs.RobustSet.Sound.{sound_history, worn_on}
+use Rattle.lock_free_owners.proofs.Worn.Laws.{worn_set}
 use Rattle.history.proofs.Known.{begins_further}
 use Rattle.history.proofs.OneRun.{first_further}
 use Rattle.history.proofs.Locks.{lock_stays, not_locked}
 use Rattle.lock_free_owners.proofs.RobustSet.Events.{find_own}
+
+-- what an answer says, in the words of the laws
+abbrev pub AnsweredBy : RobustStart → Answer ℕ → View ℕ → View ℕ → Type 0
+AnsweredBy start answer old new =
+    Answered start answer (λ p before. AnswersBy Word (MayBeWorn new.seen) old.capacity before (Finished p (Robust start) answer)) old new
 
 module _ (base w : View ℕ) (h : IsHistory one_word kinds.Robust base.capacity w.seen) where
   sound : IsSound base.capacity w.seen
@@ -63,7 +72,7 @@ module _ (base w : View ℕ) (h : IsHistory one_word kinds.Robust base.capacity 
         }
 
     -- the last answer, and what stood before it
-    pub answered_by : Answered start answer base w
+    pub answered_by : AnsweredBy start answer base w
     answered_by =
         let before : List (Event ℕ) = (base.seen ++ c.others) ++ begin ∷ c.during in
         let is_last : w.seen ≡ before ++ last ∷ [] = c.is ∙ sym (append_assoc (base.seen ++ c.others) (begin ∷ c.during) (last ∷ [])) in
@@ -72,11 +81,12 @@ module _ (base w : View ℕ) (h : IsHistory one_word kinds.Robust base.capacity 
           before = before;
           is = is_last;
           since = record { rest = c.others ++ begin ∷ c.during; is = append_assoc base.seen c.others (begin ∷ c.during) };
-          right = sound.answers before [] last is_last;
+          right = worn_on (worn_set base.capacity w.seen) base.capacity before last (sound.answers before [] last is_last);
         }
 
-last_of : {start : RobustStart} {answer : Answer ℕ} {old new : View ℕ} → (a : Answered start answer old new) → IsBeginning a.before new.seen
-last_of {start} {answer} {old} {new} a = record { rest = Finished a.by (Robust start) answer ∷ []; is = a.is }
+last_of : {start : RobustStart} {answer : Answer ℕ} {Right : ℕ → List (Event ℕ) → Type 0} {old new : View ℕ}
+    → (a : Answered start answer Right old new) → IsBeginning a.before new.seen
+last_of {start} {answer} a = record { rest = Finished a.by (Robust start) answer ∷ []; is = a.is }
 
 -- what any call leaves of what a pass knows
 module _ {C M E : Type 0} (call : Calling ℕ C M E) where
@@ -91,7 +101,7 @@ module _ (base w : View ℕ) (m : Unit {0}) (idle : base.going ≡ None) where
     taken x0 x1 = grind (arith, called, one_word, takes_owned)
 
     pub taken_answered : (answer : Acquired) → Ends one_word kinds.Robust (takes_owned owner) base answer m w
-        → Answered (Acquire owner) (acquire_answer answer) base w
+        → AnsweredBy (Acquire owner) (acquire_answer answer) base w
     taken_answered answer ends =
         (let t = taken answer ends in answered_by base w ends.history t.by (Acquire owner) (acquire_answer answer) t.wrote t.called)
 
@@ -152,9 +162,18 @@ module _ (base w : View ℕ) (m : Unit {0}) (idle : base.going ≡ None) where
     given x0 x1 x2 = grind (arith, called, one_word, gives_owned)
 
     pub given_answered : (mode : ReleaseMode) (answer : Released) → Ends one_word kinds.Robust (gives_owned (given_of mode)) base answer m w
-        → Answered (Release index owner mode) (release_answer answer) base w
+        → AnsweredBy (Release index owner mode) (release_answer answer) base w
     given_answered mode answer ends =
         (let t = given mode answer ends in answered_by base w ends.history t.by (Release index owner mode) (release_answer answer) t.wrote t.called)
+
+    pub given_right : (mode : ReleaseMode) (answer : Released) → Ends one_word kinds.Robust (gives_owned (given_of mode)) base answer m w
+        → IsRightRelease index owner mode answer base w
+    given_right Default (Err e) ends = given_answered Default (Err e) ends
+    given_right LockIfLastIndex (Err e) ends = given_answered LockIfLastIndex (Err e) ends
+    given_right Default (Ok states.Locked) ends = given_answered Default (Ok states.Locked) ends
+    given_right LockIfLastIndex (Ok states.Locked) ends = given_answered LockIfLastIndex (Ok states.Locked) ends
+    given_right Default (Ok states.Unlocked) ends = given_answered Default (Ok states.Unlocked) ends
+    given_right LockIfLastIndex (Ok states.Unlocked) ends = given_answered LockIfLastIndex (Ok states.Unlocked) ends
 
     freed_so : (mode : ReleaseMode) (state : ReleaseState) (rest : List (Event ℕ)) → (ends : Ends one_word kinds.Robust (gives_owned (given_of mode)) base
         (Ok state) m w)
@@ -191,7 +210,7 @@ module _ (base w : View ℕ) (m : Unit {0}) (idle : base.going ≡ None) where
   counted x0 x1 = grind (arith, called, one_word, counts_owned)
 
   module _ (n : ℕ) (ends : Ends one_word kinds.Robust counts_owned base n m w) where
-    pub counted_answered : Answered BorrowedIndices (Number n) base w
+    pub counted_answered : IsRightCount n base w
     counted_answered = (let t = counted n ends in answered_by base w ends.history t.by BorrowedIndices (Number n) t.wrote t.called)
 
     pub counted_most : n ≤ base.capacity
@@ -203,7 +222,7 @@ module _ (base w : View ℕ) (m : Unit {0}) (idle : base.going ≡ None) where
   pub looked : (b : Bool) → Ends one_word kinds.Robust looks_owned base b m w → HasLooked b base w
   looked x0 x1 = grind (arith, called, one_word, looks_owned)
 
-  pub looked_answered : (b : Bool) → Ends one_word kinds.Robust looks_owned base b m w → Answered IsLocked (Truth b) base w
+  pub looked_answered : (b : Bool) → Ends one_word kinds.Robust looks_owned base b m w → IsRightLook b base w
   looked_answered b ends = (let t = looked b ends in answered_by base w ends.history t.by IsLocked (Truth b) t.wrote t.called)
 
   pub looked_lock : (b : Bool) → Ends one_word kinds.Robust looks_owned base b m w → FoundLock b base w
@@ -230,8 +249,13 @@ module _ (base w : View ℕ) (idle : base.going ≡ None) (mode : ReleaseMode) (
         nothing = visits_none mode base w idle ends.party visits ends.wrote _ ends.since ends.history (ends.tells idle).1;
       }
 
-  pub recovered_answered : Answered (Recover mode) (State state) base w
-  recovered_answered = answered_by base w ends.history ends.party (Recover mode) (State state) (wrote_by ends.party visits) recover_called
+  recovered_by : AnsweredBy (Recover mode) (State state) base w
+  recovered_by = answered_by base w ends.history ends.party (Recover mode) (State state) (wrote_by ends.party visits) recover_called
+
+pub recovered_answered : (base w : View ℕ) (idle : base.going ≡ None) (mode : ReleaseMode) (state : ReleaseState) (visits : List Visit)
+    → Ends one_word kinds.Robust (recovers_owned mode) base state visits w → IsRightRecovery mode state base w
+recovered_answered base w idle mode states.Locked visits ends = recovered_by base w idle mode states.Locked visits ends
+recovered_answered base w idle mode states.Unlocked visits ends = recovered_by base w idle mode states.Unlocked visits ends
 
 pub recovered_lock : (base w : View ℕ) (idle : base.going ≡ None) (mode : ReleaseMode) (state : ReleaseState) (visits : List Visit)
     → Ends one_word kinds.Robust (recovers_owned mode) base state visits w → FoundState state base w
@@ -241,6 +265,26 @@ recovered_lock base w idle mode states.Unlocked visits ends =
     (let a = recovered_answered base w idle mode states.Unlocked visits ends in not_locked a.since a.right.0)
 
 -- ---- find
+
+pub only_looked : (capacity : ℕ) (v w : View ℕ) → Looks one_word kinds.Robust capacity v w → OnlyLooked v w
+only_looked capacity v w h =
+    record {
+      capacity = h.capacity;
+      party = h.party;
+      going = h.going;
+      state = h.state;
+      share = h.share;
+      made = h.made;
+      other = h.other;
+      since = h.mine;
+      first = h.ran.first;
+      theirs = h.theirs;
+      theirs_first = h.theirs_ran;
+      whole = h.whole;
+      all = h.all;
+      parties = h.parties;
+      apart = h.apart;
+    }
 
 pub looks_goes : (capacity : ℕ) (base w : View ℕ) → Looks one_word kinds.Robust capacity base w → Goes base w
 looks_goes x0 x1 x2 x3 = grind arith
@@ -266,7 +310,7 @@ module _ {C M E : Type 0} (call : Calling ℕ C M E) (base w : View ℕ) (e : E)
 
 module _ (base w : View ℕ) (idle : base.going ≡ None) where
   pub acquire_takes : (owner : ℕ) (e : Acquired) (m : Unit {0}) → Ends one_word kinds.Robust (takes_owned owner) base e m w
-      → SetTakes base.capacity (base.capacity + 3) (base.capacity + 1) base w
+      → TakesAlone (base.capacity + 3) (base.capacity + 1) base w
   acquire_takes owner e m ends = takes_so (takes_owned owner) base w e m idle (omega arith) ends
 
   pub release_takes : (index owner : ℕ) (mode : ReleaseMode) (e : Released) (m : Unit {0})
@@ -277,7 +321,7 @@ module _ (base w : View ℕ) (idle : base.going ≡ None) where
       takes_so (gives_owned (record { index = index; owner = owner; mode = LockIfLastIndex })) base w e m idle (omega arith) ends
 
   pub count_takes : (e : ℕ) (m : Unit {0}) → Ends one_word kinds.Robust counts_owned base e m w
-      → SetTakes base.capacity (base.capacity + 2) (base.capacity + 2) base w
+      → TakesAlone (base.capacity + 2) (base.capacity + 2) base w
   count_takes e m ends = takes_so counts_owned base w e m idle (omega arith) ends
 
   pub look_takes : (e : Bool) (m : Unit {0}) → Ends one_word kinds.Robust looks_owned base e m w → TakesAtMost 1 base w

@@ -10,7 +10,7 @@ use Rattle.laws_robust.specs.Open.{IsOpenSet}
 use Rattle.lock_free_owners.specs.Robust.Contracts.{IsSound}
 
 -- what an answer says where its counter may be worn it says where that may be for another reason
-worn_on : {worn other : Type 0} → (worn → other) → (capacity : ℕ) (before : List (Event ℕ)) (e : Event ℕ) → AnswersBy Word worn capacity before e
+pub worn_on : {worn other : Type 0} → (worn → other) → (capacity : ℕ) (before : List (Event ℕ)) (e : Event ℕ) → AnswersBy Word worn capacity before e
     → AnswersBy Word other capacity before e
 worn_on may capacity before (Finished p (Robust (Acquire owner)) (NoIndex OutOfIndices)) h = (h.0, ⊎_elim (λ x. inl (may x)) (λ x. inr x) h.1)
 worn_on may capacity before (Finished p (Robust (Release index owner LockIfLastIndex)) (State Unlocked)) h =

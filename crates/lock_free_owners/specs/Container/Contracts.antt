@@ -1,5 +1,5 @@
 -- What the calls on containers add to the history, and what they answer.
-use Rattle.std.specs.Prelude.{◌≡◌, ℕ, ◌<◌, ◌-◌, ◌^◌, Bool, true, false, Some, Result, Ok, Err, List, [], ◌∷◌, ◌++◌, slice_index}
+use Rattle.std.specs.Prelude.{◌≡◌, ◌≢◌, ◌⊎◌, ℕ, ◌<◌, ◌≤◌, ◌-◌, ◌^◌, Bool, true, false, Some, Result, Ok, Err, List, [], ◌∷◌, ◌++◌, slice_index}
 use Rattle.steps.specs.Container.Add.{Added}
 use Rattle.steps.specs.Container.Remove.{Removed}
 use Rattle.steps.specs.Container.Replace.{Replaced}
@@ -9,25 +9,34 @@ use Rattle.steps.specs.declared.container.add.Owned.{Owned}
 use Rattle.steps.specs.declared.container.enums.ContainerAddFailure.{ContainerAddFailure}
 use Rattle.steps.specs.declared.container.enums.ContainerAddFailure.TheVariants as failures
 use Rattle.steps.specs.declared.container.handle.ContainerHandle.{ContainerHandle}
+use Rattle.steps.specs.declared.container.recover.DeadOwner.{DeadOwner}
 use Rattle.steps.specs.declared.container.replace.Replacement.{Replacement}
 use Rattle.steps.specs.declared.container.state.ContainerState.{ContainerState}
+use Rattle.steps.specs.declared.indices.enums.ReleaseMode.{ReleaseMode}
+use Rattle.steps.specs.declared.indices.enums.ReleaseMode.TheVariants.{Default, LockIfLastIndex}
+use Rattle.steps.specs.declared.indices.enums.ReleaseState.{ReleaseState}
+use Rattle.steps.specs.declared.indices.enums.ReleaseState.TheVariants as states
 use Rattle.steps.specs.declared.indices.robust.release.GiveBack.{GiveBack}
 use Rattle.model.specs.declared.event.Answer.{Answer}
-use Rattle.model.specs.declared.event.Answer.TheVariants.{NoPlace, Number, Truth}
+use Rattle.model.specs.declared.event.Answer.TheVariants.{NoPlace, Number, State, Truth}
 use Rattle.model.specs.declared.event.Event.{Event}
 use Rattle.model.specs.declared.event.Event.TheVariants.{Finished}
 use Rattle.model.specs.declared.event.Start.TheVariants.{Container}
 use Rattle.model.specs.declared.families.container.ContainerStart.{ContainerStart}
-use Rattle.model.specs.declared.families.container.ContainerStart.TheVariants.{Add, Remove, Replace, GetState, UpdateState, Len, IsEmpty, IsLocked}
+use Rattle.model.specs.declared.families.container.ContainerStart.TheVariants.{Add, Remove, Replace, Recover, GetState, UpdateState, Len, IsEmpty, IsLocked}
 use Rattle.model.specs.declared.turn.Kind.TheVariants as kinds
 use Rattle.model.specs.Coding.{Coding}
 use Rattle.model.specs.Families.Container.Calls.{added, removed, replaced}
 use Rattle.model.specs.Families.Indices.Reading.{is_locked}
-use Rattle.model.specs.Families.Indices.Robust.Promises.{SetDoes, IsWellFormed, HoldsRight}
+use Rattle.model.specs.Families.Container.Promises.{IsLength, IsLengthTest}
+use Rattle.model.specs.Families.Container.Recoveries.{UnlockedAtLast}
+use Rattle.model.specs.Families.Indices.Robust.Promises.{IsFilledWith, IsUnlocked, FilledSinceFreed, SetDoes, IsWellFormed, HoldsRight}
+use Rattle.model.specs.Families.Indices.Robust.Reading.{filled_of}
+use Rattle.model.specs.Moments.{HeldSometime}
 use Rattle.model.specs.Reading.{Each}
 use Rattle.model.specs.World.{Trace}
 use Rattle.laws_robust.specs.Gone.{Word, IsHonest}
-use Rattle.laws_container.specs.Gone.{AsksBy, RecoversBy, AnswersBy}
+use Rattle.laws_container.specs.Gone.{AsksBy, RecoversBy, AnswersBy, HasRecoveredBy, FilledSinceEachBy}
 use Rattle.laws_turns.specs.Changes.{changes_of, MeetsChanges}
 use Rattle.history.specs.declared.view.View.{View}
 use Rattle.history.specs.Container as container
@@ -35,7 +44,9 @@ use Rattle.history.specs.ContainerFind.{HasCopied}
 use Rattle.history.specs.ContainerLooks.{HasLookedAll}
 use Rattle.history.specs.History.{Called, IsBeginning, IsRun}
 use Rattle.history.specs.Passes as passes
-use Rattle.history.specs.Settled.{SettledFrom}
+use Rattle.lock_free_owners.specs.Robust.Contracts.{MetFull}
+use Rattle.lock_free_owners.specs.Container.Resting.{SettledFrom}
+use Rattle.lock_free_owners.specs.Worn.{MayBeWorn}
 
 module _ {T : Type 0} where
   -- a container with this history may have its counter at its end
@@ -72,13 +83,13 @@ module _ {T : Type 0} where
     pub right : changes_of new.seen < 2 ^ 64 - 1
         → MeetsChanges before (Finished by (Container UpdateState) (Truth changed))
 
-module _ {T : Type 0} (code : Coding T) where
+module _ {T : Type 0} where
   -- one call of the history, by a party of the pass, and what it wrote; where the last call of the pass rested, that had
   -- ended first
   pub record HasMade (start : ContainerStart T) (answer : Answer T)
       (Wrote : ℕ → List (Event T) → Type 0) (old new : View T) : Type 0 where
     pub from : View T
-    pub settled : SettledFrom code kinds.Container old from
+    pub settled : SettledFrom old from
     pub by : ℕ
     pub mine : new.party ≡ Some by
     pub wrote : List (Event T)
@@ -123,25 +134,88 @@ module _ {T : Type 0} (code : Coding T) where
   HasUpdatedState changed old =
       HasMade UpdateState (Truth changed) (λ by es. HasLookedAll old.capacity by changed es) old
 
-  -- The last that was seen is the end of the call, and the answer said this of the container at its last step, and at
-  -- moments of the call: an add fails by OutOfSpace only where each index had an owner at a moment of it, and so on.
-  pub record Answered (start : ContainerStart T) (answer : Answer T) (old new : View T) : Type 0 where
+  -- ---- answers
+
+  -- The last that was seen is the end of the call, by this party, and what the answer says held of all before it: of the
+  -- last step of the call, or of moments of it. Where the counter may be worn `container_histories_are_sound` says the same
+  -- of the run itself.
+  pub record Answered (start : ContainerStart T) (answer : Answer T) (Right : ℕ → List (Event T) → Type 0)
+      (old new : View T) : Type 0 where
     pub by : ℕ
     pub before : List (Event T)
     pub is : new.seen ≡ before ++ Finished by (Container start) answer ∷ []
     pub since : IsBeginning old.seen before
-    pub right : AnswersBy Word (IsWorn code old.capacity new.seen) old.capacity before
-        (Finished by (Container start) answer)
+    pub right : Right by before
+
+  -- an add that placed nothing: the container was locked, or was not and each index had an owner
+  abbrev pub AddsNone : Type 0 → ℕ → ContainerAddFailure → ℕ → List (Event T) → Type 0
+  AddsNone worn capacity failures.IsLocked p before = is_locked before ≡ true
+  AddsNone worn capacity failures.OutOfSpace p before = IsUnlocked before × MetFull worn capacity p before
+
+  -- a remove that freed its index: the container was locked; or, in the mode that locks, it was not at a moment of the call,
+  -- and after the remove had freed its index some index had an owner
+  abbrev pub FreesRight : Type 0 → ℕ → ℕ → ReleaseMode → ReleaseState → ℕ → List (Event T) → Type 0
+  FreesRight worn index owner mode states.Locked p before = is_locked before ≡ true
+  FreesRight worn index owner Default states.Unlocked p before = Unit {0}
+  FreesRight worn index owner LockIfLastIndex states.Unlocked p before =
+      HeldSometime p IsUnlocked before × (worn ⊎ FilledSinceFreed p owner index before)
+
+  -- else another owner had the index, or none
+  abbrev pub RemovesRight : Type 0 → ℕ → GiveBack → Removed → ℕ → List (Event T) → Type 0
+  RemovesRight worn capacity given (Err failure) p before =
+      (capacity ≤ given.index) ⊎ (filled_of given.index before ≢ Some given.owner)
+  RemovesRight worn capacity given (Ok state) p before = FreesRight worn given.index given.owner given.mode state p before
+
+  -- a replace: its owner had the index at a moment of the call, or at its last step another had it, or none
+  abbrev pub ReplacesRight : ℕ → Replacement T → Replaced → ℕ → List (Event T) → Type 0
+  ReplacesRight capacity given (Err failure) p before =
+      (capacity ≤ given.index) ⊎ (filled_of given.index before ≢ Some given.owner)
+  ReplacesRight capacity given (Ok nothing) p before =
+      (given.index < capacity) × HeldSometime p (IsFilledWith given.owner given.index) before
+
+  -- a recovery: the container was locked; or it was not after all that the call did, which came to what stood there through
+  -- all of it, and in the mode that locks some index had an owner after each that it freed
+  abbrev pub RecoversRight : Type 0 → DeadOwner → ReleaseState → ℕ → List (Event T) → Type 0
+  RecoversRight worn given states.Locked p before = is_locked before ≡ true
+  RecoversRight worn given states.Unlocked p before =
+      UnlockedAtLast p before × HasRecoveredBy Word p given.owner before
+      × FilledSinceEachBy worn given.mode p given.owner before
+
+  abbrev pub IsRightRemove : GiveBack → Removed → View T → View T → Type 0
+  IsRightRemove given answer old new =
+      Answered (Remove given.index given.owner given.mode) (removed answer)
+      (RemovesRight (MayBeWorn new.seen) old.capacity given answer) old new
+
+  abbrev pub IsRightReplace : Replacement T → Replaced → View T → View T → Type 0
+  IsRightReplace given answer old =
+      Answered (Replace given.index given.value given.owner) (replaced answer)
+      (ReplacesRight old.capacity given answer) old
+
+  abbrev pub IsRightRecovery : DeadOwner → ReleaseState → View T → View T → Type 0
+  IsRightRecovery given state old new =
+      Answered (Recover given.owner given.mode) (State state) (RecoversRight (MayBeWorn new.seen) given state) old new
+
+  abbrev pub IsRightLength : ℕ → View T → View T → Type 0
+  IsRightLength number old =
+      Answered Len (Number number) (λ p before. IsLength p old.capacity number before) old
+
+  abbrev pub IsRightTest : Bool → View T → View T → Type 0
+  IsRightTest empty old =
+      Answered IsEmpty (Truth empty) (λ p before. IsLengthTest p old.capacity empty before) old
+
+  abbrev pub IsRightLook : Bool → View T → View T → Type 0
+  IsRightLook locked = Answered IsLocked (Truth locked) (λ p before. locked ≡ is_locked before)
 
   -- an add that placed nothing: the lock had not been seen, or is seen now
   pub record WasNotAdded (value : T) (owner : ℕ) (failure : ContainerAddFailure) (old new : View T)
       : Type 0 where
-    pub answered : Answered (Add value owner) (NoPlace failure) old new
+    pub answered : Answered (Add value owner) (NoPlace failure)
+        (AddsNone (MayBeWorn new.seen) old.capacity failure) old new
     pub unlocked : failure ≡ failures.OutOfSpace → is_locked old.seen ≡ false
     pub locked : failure ≡ failures.IsLocked → is_locked new.seen ≡ true
 
   -- the other's last call has ended where it rested, and then both are one
   pub record HasJoined (mine theirs new : View T) : Type 0 where
     pub from : View T
-    pub settled : SettledFrom code kinds.Container theirs from
+    pub settled : SettledFrom theirs from
     pub joined : passes.HasJoined mine from new

@@ -13,14 +13,14 @@ use Rattle.model.specs.declared.families.Flight.{Flight}
 use Rattle.model.specs.declared.families.Flight as flights
 use Rattle.model.specs.declared.families.container.calls.ContainerFlight as calls
 use Rattle.model.specs.declared.families.container.ContainerStart.TheVariants.{Find}
-use Rattle.model.specs.declared.turn.Kind.TheVariants as kinds
 use Rattle.model.specs.Coding.{Coding}
+use Rattle.model.specs.Families.Container.Promises.{IsFound}
 use Rattle.model.specs.Families.Indices.Robust.Promises.{IsFilledWith, IsCount}
 use Rattle.threaded.specs.Shares.{IsAll}
 use Rattle.history.specs.declared.view.View.{View}
 use Rattle.history.specs.History.{Called}
 use Rattle.history.specs.Known.{events_by}
-use Rattle.history.specs.Settled.{IsResting, SettledFrom}
+use Rattle.lock_free_owners.specs.Container.Resting.{IsResting, SettledFrom}
 use Rattle.lock_free_owners.specs.Container.Callable.{Visit, HasFound}
 use Rattle.lock_free_owners.specs.Container.Contracts.{Answered}
 use Rattle.lock_free_owners.specs.Container.FindTurns.{IsLeft}
@@ -40,7 +40,7 @@ abbrev pub asked_below : {T : Type 0} → Option (Start T × Flight T) → ℕ
 asked_below (Some (start, flights.TheVariants.Container (calls.TheVariants.Find run))) = below_question run.call.stage
 asked_below going = 0
 
-module _ {T : Type 0} (code : Coding T) where
+module _ {T : Type 0} where
   -- A call that has begun, and written this, rests: it ends with this answer before anything else that its party does, by
   -- the first step of the pass's next call, or of the join that takes the pass in.
   pub record Rests (p : ℕ) (start : Start T) (answer : Answer T) (wrote : List (Event T))
@@ -52,7 +52,7 @@ module _ {T : Type 0} (code : Coding T) where
     pub others_own : events_by p others ≡ []
     pub during_own : events_by p during ≡ wrote
     pub made : new.made ≡ old.made ++ Begun p start ∷ wrote
-    pub resting : IsResting code new
+    pub resting : IsResting new
     pub party : resting.party ≡ p
     pub of : resting.start ≡ start
     pub ends : resting.answer ≡ answer
@@ -63,15 +63,17 @@ module _ {T : Type 0} (code : Coding T) where
   -- rests where it asked about the last index below the bound.
   pub record HasSearched (capacity owner number bound : ℕ) (visits : List (Visit T)) (old new : View T) : Type 0 where
     pub from : View T
-    pub settled : SettledFrom code kinds.Container old from
+    pub settled : SettledFrom old from
     pub by : ℕ
     pub mine : new.party ≡ Some by
     pub counts : IsCount by (IsFilledWith owner) bound number new.seen
     pub over : (Called by (Container (Find owner)) (Number number) (copied by visits) from new
-        × Answered code (Find owner) (Number number) old new × (bound ≡ capacity))
+        × Answered (Find owner) (Number number) (λ p before. IsFound p owner old.capacity number before) old new
+        × (bound ≡ capacity))
         ⊎ (Rests by (Container (Find owner)) (Number number) (copied by visits) from new
         × (bound ≡ asked_below new.going))
 
+module _ {T : Type 0} (code : Coding T) where
   -- A whole find that answers this number, of the container with this id, by a closure with these steps: how it leaves
   -- the pass, what it copied and counted, what the closure became, and how many operations it took.
   pub record IsSearched {F : Type 0} (step : F → T → ContainerHandle → CallbackProgression → F → Type 0)
@@ -81,4 +83,4 @@ module _ {T : Type 0} (code : Coding T) where
     pub visits : List (Visit T)
     pub did : HasSearched capacity owner number bound visits old new
     pub found : HasFound step capacity (IsNamed capacity owner id) f number bound visits g
-    pub steps : FindTakes code capacity old new
+    pub steps : FindTakes code.size capacity old new

@@ -108,7 +108,7 @@ module _ {T : Type 0} {words : Ghosts T} where
   -- what a join leaves of a pass, which has what both had, and keeps its own state
   pub record PassJoins (old other new : Pass T words) : Type 0 where
     pub container : container_of new ≡ container_of old
-    pub joined : HasJoined (code_of old) (view old) (view other) (view new)
+    pub joined : HasJoined (view old) (view other) (view new)
     pub keeps : KeepsState (view old) (view new)
     pub all : MissesNothing new
 

@@ -7,13 +7,11 @@ use Rattle.steps.specs.declared.indices.enums.ReleaseState.{ReleaseState}
 use Rattle.model.specs.declared.event.Answer.TheVariants.{State}
 use Rattle.model.specs.declared.event.Start.TheVariants.{Container}
 use Rattle.model.specs.declared.families.container.ContainerStart.TheVariants.{Recover}
-use Rattle.model.specs.declared.turn.Kind.TheVariants as kinds
-use Rattle.model.specs.Coding.{Coding}
 use Rattle.model.specs.Families.Indices.Reading.{is_locked}
 use Rattle.history.specs.declared.view.View.{View}
 use Rattle.history.specs.ContainerRecovery.{Came, HasAsked, HasFound, HasFreed, MayCome, wrote_visits}
 use Rattle.history.specs.History.{Called}
-use Rattle.history.specs.Settled.{SettledFrom}
+use Rattle.lock_free_owners.specs.Container.Resting.{SettledFrom}
 use Rattle.lock_free_owners.specs.Container.Questions.{Answered, AnswersAscend, asks}
 
 module _ {T : Type 0} where
@@ -43,10 +41,10 @@ module _ {T : Type 0} where
 -- to these indices, of which the last comes first here, and wrote what it did with them in turn, and nothing else. It asked
 -- just their questions, at most one for each index, and none where the lock was seen before; they made the closure what it
 -- is at the end.
-pub record HasRecovered {T F : Type 0} (code : Coding T) (step : F → T → Bool → F → Type 0) (given : DeadOwner)
+pub record HasRecovered {T F : Type 0} (step : F → T → Bool → F → Type 0) (given : DeadOwner)
     (state : ReleaseState) (capacity : ℕ) (f last : F) (old new : View T) : Type 0 where
   pub from : View T
-  pub settled : SettledFrom code kinds.Container old from
+  pub settled : SettledFrom old from
   pub by : ℕ
   pub mine : new.party ≡ Some by
   pub visits : List (ℕ × Came T)

@@ -126,4 +126,4 @@ module _ {T R F : Type 0} where
 pub record IsRecovered {T F : Type 0} (code : Coding T) (step : F → T → Bool → F → Type 0) (given : DeadOwner)
     (state : ReleaseState) (capacity : ℕ) (f last : F) (old new : View T) : Type 0 where
   pub ends : (m : Visiting T) × RecoverEnds code given old state m new
-  pub did : HasRecovered code step given state capacity f last old new
+  pub did : HasRecovered step given state capacity f last old new

@@ -3,8 +3,6 @@
 use Rattle.std.specs.Prelude.{ℕ, ◌+◌, ◌*◌, Option, Some, None}
 use Rattle.steps.specs.declared.indices.enums.ReleaseMode.{ReleaseMode}
 use Rattle.steps.specs.declared.indices.enums.ReleaseMode.TheVariants.{Default, LockIfLastIndex}
-use Rattle.model.specs.declared.turn.Kind.TheVariants as kinds
-use Rattle.model.specs.Coding.{Coding}
 use Rattle.history.specs.declared.view.View.{View}
 use Rattle.history.specs.Steps.{TakesAtMost, TakesAlone}
 
@@ -19,22 +17,22 @@ module _ {T : Type 0} where
   abbrev pub TakesFew : ℕ → View T → View T → Type 0
   TakesFew most old = TakesAtMost (most + to_settle old) old
 
-module _ {T : Type 0} (code : Coding T) (capacity : ℕ) where
   abbrev pub ContainerTakes : ℕ → ℕ → View T → View T → Type 0
-  ContainerTakes alone retry old = TakesAlone code kinds.Container capacity (alone + to_settle old) retry old
+  ContainerTakes alone retry old = TakesAlone (alone + to_settle old) retry old
 
-  abbrev pub RemoveTakes : ReleaseMode → View T → View T → Type 0
-  RemoveTakes Default = ContainerTakes 6 1
-  RemoveTakes LockIfLastIndex = ContainerTakes (capacity + 9) (capacity + 3)
+  abbrev pub RemoveTakes : ℕ → ReleaseMode → View T → View T → Type 0
+  RemoveTakes capacity Default = ContainerTakes 6 1
+  RemoveTakes capacity LockIfLastIndex = ContainerTakes (capacity + 9) (capacity + 3)
 
+module _ {T : Type 0} (size capacity : ℕ) where
   abbrev pub RecoverTakes : ReleaseMode → View T → View T → Type 0
-  RecoverTakes Default = ContainerTakes (3 + capacity * (code.size + 7)) (code.size + 1)
-  RecoverTakes LockIfLastIndex = ContainerTakes (3 + capacity * (code.size + capacity + 10)) (code.size + capacity + 4)
+  RecoverTakes Default = ContainerTakes (3 + capacity * (size + 7)) (size + 1)
+  RecoverTakes LockIfLastIndex = ContainerTakes (3 + capacity * (size + capacity + 10)) (size + capacity + 4)
 
   -- of a find, whose first operation also ends one that rests
   abbrev pub FindTakes : View T → View T → Type 0
-  FindTakes = TakesAtMost (capacity * (code.size + 3))
+  FindTakes = TakesAtMost (capacity * (size + 3))
 
   -- of a look of a state
   abbrev pub LookTakes : View T → View T → Type 0
-  LookTakes = ContainerTakes (1 + capacity * (code.size + 2)) (code.size + 1)
+  LookTakes = ContainerTakes (1 + capacity * (size + 2)) (size + 1)

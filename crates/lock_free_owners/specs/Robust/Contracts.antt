@@ -1,11 +1,11 @@
 -- What the calls on robust unique index sets add to the history, and what they answer.
-use Rattle.std.specs.Prelude.{◌≡◌, ℕ, ◌<◌, Bool, true, false, Some, None, List, [], ◌∷◌, ◌++◌, slice_index}
+use Rattle.std.specs.Prelude.{◌≡◌, ◌≢◌, ◌⊎◌, ℕ, ◌<◌, Bool, true, false, Some, None, Ok, Err, List, [], ◌∷◌, ◌++◌, sum_by, slice_index}
 use Rattle.steps.specs.Indices.Robust.Acquire.{Acquired}
 use Rattle.steps.specs.Indices.Robust.Parts.{greatest}
 use Rattle.steps.specs.Indices.Robust.Release.{Released}
 use Rattle.steps.specs.declared.enums.CallbackProgression.{CallbackProgression}
 use Rattle.steps.specs.declared.indices.enums.ReleaseMode.{ReleaseMode}
-use Rattle.steps.specs.declared.indices.enums.ReleaseMode.TheVariants.{LockIfLastIndex}
+use Rattle.steps.specs.declared.indices.enums.ReleaseMode.TheVariants.{Default, LockIfLastIndex}
 use Rattle.steps.specs.declared.indices.enums.ReleaseState.{ReleaseState}
 use Rattle.steps.specs.declared.indices.enums.ReleaseState.TheVariants as states
 use Rattle.steps.specs.declared.indices.enums.UniqueIndexSetAcquireFailure.{UniqueIndexSetAcquireFailure}
@@ -22,17 +22,19 @@ use Rattle.model.specs.declared.turn.Kind.TheVariants as kinds
 use Rattle.model.specs.Coding.{one_word}
 use Rattle.model.specs.Families.Indices.Reading.{is_locked}
 use Rattle.model.specs.Families.Indices.Robust.Calls.{acquire_answer, release_answer}
-use Rattle.model.specs.Families.Indices.Robust.Promises.{IsUnlocked, SetDoes, IsWellFormed, HoldsRight}
+use Rattle.model.specs.Families.Indices.Robust.Promises.{IsFilled, IsUnlocked, IsCount, SetDoes, IsWellFormed, HoldsRight, FilledSinceFreed}
 use Rattle.model.specs.Families.Indices.Robust.Reading.{filled_of, holder_of}
 use Rattle.model.specs.Moments.{HeldSometime}
 use Rattle.model.specs.Reading.{Each}
 use Rattle.model.specs.World.{Trace}
-use Rattle.laws_robust.specs.Gone.{Word, IsHonest, AsksBy, AnswersBy}
+use Rattle.laws_robust.specs.Gone.{Word, IsHonest, AsksBy, AnswersBy, HasRecoveredBy}
+use Rattle.threaded.specs.Shares.{IsAll}
 use Rattle.history.specs.declared.view.View.{View}
-use Rattle.history.specs.History.{Called, IsBeginning, IsRun}
+use Rattle.history.specs.History.{Called, IsBeginning, IsOfParties, IsRun, AreFirst}
+use Rattle.history.specs.Known.{events_by}
 use Rattle.history.specs.Robust as robust
-use Rattle.history.specs.Views.{Looks}
 use Rattle.lock_free_owners.specs.Robust.Callable.{HasFound, HasVisited}
+use Rattle.lock_free_owners.specs.Worn.{MayBeWorn}
 
 -- one call of the history, by a party of the pass, and what it wrote
 pub record HasMade (start : RobustStart) (answer : Answer ℕ) (Wrote : ℕ → List (Event ℕ) → Type 0)
@@ -76,6 +78,25 @@ HasCounted number = HasMade BorrowedIndices (Number number) (λ by es. es ≡ []
 abbrev pub HasLooked : Bool → View ℕ → View ℕ → Type 0
 HasLooked locked = HasMade IsLocked (Truth locked) (λ by es. es ≡ [])
 
+-- Looks alone: the pass has made nothing, and has seen more of the history, all of it where it has the whole share.
+pub record OnlyLooked {T : Type 0} (old new : View T) : Type 0 where
+  pub capacity : new.capacity ≡ old.capacity
+  pub party : new.party ≡ old.party
+  pub going : new.going ≡ old.going
+  pub state : new.state ≡ old.state
+  pub share : new.share ≡ old.share
+  pub made : new.made ≡ old.made
+  pub other : new.other ≡ []
+  pub since : IsBeginning old.seen new.seen
+  pub first : AreFirst old.turns new.turns
+  pub theirs : IsBeginning old.other new.seen
+  pub theirs_first : AreFirst old.other_turns new.turns
+  pub whole : IsAll old.share → (new.seen ≡ old.seen) ⊎ (new.seen ≡ old.other)
+  pub all : IsAll old.share → (f : Event T → ℕ) → sum_by f new.seen ≡ sum_by f new.made
+  pub parties : IsOfParties new
+  pub apart : old.other ≡ [] → 0 < old.share.part → (p : ℕ) → parties.owner p ≡ parties.seat
+      → events_by p since.rest ≡ []
+
 -- A find begins with a look at the lock, which is a call of the history, so that the history shows where it begins. From the
 -- end of that call on it only looks: which indices it came to is said of the moments from there to its end.
 pub record HasSearched {F : Type 0} (step : F → ℕ → CallbackProgression → F → Type 0) (capacity owner : ℕ)
@@ -83,7 +104,7 @@ pub record HasSearched {F : Type 0} (step : F → ℕ → CallbackProgression �
   pub locked : Bool
   pub begun : View ℕ
   pub begins : HasLooked locked old begun
-  pub looks : Looks one_word kinds.Robust capacity begun new
+  pub looks : OnlyLooked begun new
   pub found : HasFound step capacity owner f number last begun.seen new.seen
 
 module _ {T : Type 0} where
@@ -132,22 +153,67 @@ pub record IsSound (capacity : ℕ) (events : List (Event ℕ)) : Type 0 where
   pub answers : Each (AnswersBy Word (IsWorn capacity events) capacity) events
   pub holds : IsWellFormed events → IsHonest events → Each HoldsRight events
 
--- The last that was seen is the end of the call, and the answer said this of the set at its last step, and at moments of
--- the call: an acquire fails by OutOfIndices only where each index had an owner at a moment of it, and so on.
-pub record Answered (start : RobustStart) (answer : Answer ℕ) (old new : View ℕ) : Type 0 where
+-- ---- answers
+
+-- The last that was seen is the end of the call, by this party, and what the answer says held of all before it: of the last
+-- step of the call, or of moments of it. Where the counter may be worn `histories_are_sound` says the same of the run itself.
+pub record Answered (start : RobustStart) (answer : Answer ℕ) (Right : ℕ → List (Event ℕ) → Type 0)
+    (old new : View ℕ) : Type 0 where
   pub by : ℕ
   pub before : List (Event ℕ)
   pub is : new.seen ≡ before ++ Finished by (Robust start) answer ∷ []
   pub since : IsBeginning old.seen before
-  pub right : AnswersBy Word (IsWorn old.capacity new.seen) old.capacity before
-      (Finished by (Robust start) answer)
+  pub right : Right by before
+
+-- each index had an owner at a moment of the call, or the counter may be worn
+abbrev pub MetFull : {T : Type 0} → Type 0 → ℕ → ℕ → List (Event T) → Type 0
+MetFull worn capacity p before =
+    worn ⊎ ((index : ℕ) → index < capacity → HeldSometime p (IsFilled index) before)
+
+-- an acquire that took no index: the set was locked, or was not and each index had an owner
+abbrev pub RefusesRight : Type 0 → ℕ → UniqueIndexSetAcquireFailure → ℕ → List (Event ℕ) → Type 0
+RefusesRight worn capacity failures.IsLocked p before = is_locked before ≡ true
+RefusesRight worn capacity failures.OutOfIndices p before = IsUnlocked before × MetFull worn capacity p before
+
+-- a release: another owner had the index, or none; the set was locked; or, in the mode that locks, it was not, and after the
+-- release had freed its index some index had an owner
+abbrev pub ReleasesRight : Type 0 → ℕ → ℕ → ReleaseMode → Released → ℕ → List (Event ℕ) → Type 0
+ReleasesRight worn index owner mode (Err failure) p before = filled_of index before ≢ Some owner
+ReleasesRight worn index owner mode (Ok states.Locked) p before = is_locked before ≡ true
+ReleasesRight worn index owner Default (Ok states.Unlocked) p before = Unit {0}
+ReleasesRight worn index owner LockIfLastIndex (Ok states.Unlocked) p before =
+    IsUnlocked before × (worn ⊎ FilledSinceFreed p owner index before)
+
+-- a recovery: the set was locked; or it was not, and the recovery asked about what stood there through all of the call
+abbrev pub RecoversRight : ReleaseState → ℕ → List (Event ℕ) → Type 0
+RecoversRight states.Locked p before = is_locked before ≡ true
+RecoversRight states.Unlocked p before = IsUnlocked before × HasRecoveredBy Word p before
+
+abbrev pub IsRightRelease : ℕ → ℕ → ReleaseMode → Released → View ℕ → View ℕ → Type 0
+IsRightRelease index owner mode answer old new =
+    Answered (Release index owner mode) (release_answer answer)
+    (ReleasesRight (MayBeWorn new.seen) index owner mode answer) old new
+
+abbrev pub IsRightRecovery : ReleaseMode → ReleaseState → View ℕ → View ℕ → Type 0
+IsRightRecovery mode state = Answered (Recover mode) (State state) (RecoversRight state)
+
+-- none where the set was locked, else a count of the call's moments
+abbrev pub IsRightCount : ℕ → View ℕ → View ℕ → Type 0
+IsRightCount number old =
+    Answered BorrowedIndices (Number number)
+    (λ p before. (is_locked before ≡ true → number ≡ 0)
+    × (IsUnlocked before → IsCount p IsFilled old.capacity number before)) old
+
+abbrev pub IsRightLook : Bool → View ℕ → View ℕ → Type 0
+IsRightLook locked = Answered IsLocked (Truth locked) (λ p before. locked ≡ is_locked before)
 
 -- ---- the lock
 
 -- an acquire that took no index: the lock had not been seen, or is seen now
 pub record WasRefused (owner : ℕ) (failure : UniqueIndexSetAcquireFailure) (old new : View ℕ)
     : Type 0 where
-  pub answered : Answered (Acquire owner) (NoIndex failure) old new
+  pub answered : Answered (Acquire owner) (NoIndex failure)
+      (RefusesRight (MayBeWorn new.seen) old.capacity failure) old new
   pub unlocked : failure ≡ failures.OutOfIndices → is_locked old.seen ≡ false
   pub locked : failure ≡ failures.IsLocked → is_locked new.seen ≡ true
 

@@ -15,7 +15,13 @@ use Rattle.plain.proofs.Lists.Cells.{values_length}
 use Rattle.plain.proofs.Words.{words_all}
 use Rattle.lock_free_queues.specs.Queues.Closes.{Closes, IsWhatWaits}
 use Rattle.lock_free_queues.specs.Queues.Kinds.{words_in_cells}
-use Rattle.lock_free_queues.specs.Queues.Reads.{WasRead, LastWords}
+use Rattle.lock_free_queues.specs.Queues.Reads.{WasRead, LastWords, LastSeen}
+use Rattle.lock_free_queues.specs.Queues.Roles.{LacksRole}
+use Rattle.lock_free_queues.specs.Queues.Rings.{queue_of, token_view, view}
+use Rattle.lock_free_queues.specs.declared.spsc.ring.rule.Kind as kinds
+use Rattle.lock_free_queues.specs.declared.spsc.ring.Pass.{Pass}
+use Rattle.steps.specs.declared.queues.roles.Role.TheVariants.{Producer, Consumer}
+use Rattle.steps.specs.declared.words.Words.{Ghosts}
 use Rattle.history.proofs.Known.{begins_further}
 use Rattle.lock_free_queues.proofs.Queues.Cells.{get_behind, item_same, Stands, stands}
 use Rattle.lock_free_queues.proofs.Queues.Facts.{listed_always}
@@ -328,21 +334,37 @@ module _ {T : Type 0} (code : Coding T) (law : IsCoding code) (kd : QueueKind) (
   pub closes : Closes named capacity v closed
   closes = closes_later words (λ word high. refl) refl (omega arith) behind (λ all. refl)
 
-  pub what_waits : IsWhatWaits code kind named capacity v closed
-  what_waits =
+  -- as the pass stood when it had seen just that
+  pub what_waits : {E : Type 0} {k : kinds.Ghosts E} {ws : Ghosts T} (pass at : Pass E T k ws) → view pass ≡ v → queue_of at ≡ queue_of pass
+      → view at ≡ l.new → IsWhatWaits named pass closed
+  what_waits pass at is queue there =
       record {
-        at = moment;
-        since = since;
-        history = history;
-        taken = taken_is;
-        waits = waiting_is words (λ word high. refl) refl (omega arith) behind
+        at = at;
+        queue = queue;
+        since = subst (λ (x : View T). IsBeginning x.seen (view at).seen) (sym is) (subst (λ (x : View T). IsBeginning v.seen x.seen) (sym there) since);
+        taken = taken_is ∙ ap (λ (x : View T). length (handed_out x.seen)) (sym there);
+        waits = ap (λ (x : View T). waiting x.seen) there
+            ∙ (waiting_is words (λ word high. refl) refl (omega arith) behind
             ∙ ap (λ xs. xs ++ map named closed.values)
             (no_element (older words (λ word high. refl) refl (omega arith) behind)
-            (let are = older_are words (λ word high. refl) refl (omega arith) behind in omega arith));
+            (let are = older_are words (λ word high. refl) refl (omega arith) behind in omega arith)));
+      }
+
+-- a pass as it stood then
+module _ {E T : Type 0} {k : kinds.Ghosts E} {ws : Ghosts T} (pass : Pass E T k ws) (capacity : ℕ) (words : List ℕ)
+    (l : LastSeen capacity pass.token words) where
+  pub made_then : (token_view l.then).made ≡ (view pass).made
+  made_then = ap (λ (x : View T). x.made) l.view ∙ (l.last.reading.made ∙ l.last.opening.made)
+
+  abbrev pub as_stood : Pass E T k ws
+  as_stood =
+      record {
+        token = l.then;
+        none = (subst (LacksRole Producer) (sym made_then) pass.none.0, subst (LacksRole Consumer) (sym made_then) pass.none.1);
       }
 
 -- nothing is lost until then
-pub closed_book : {T V : Type 0} (named : V → Item T) (code : Coding T) (kind : QueueKind) (capacity : ℕ) (v : View T) (q : Bounded V)
-    → (h : IsWhatWaits code (machine_kind kind) named capacity v q) → published h.at ≡ handed_out h.at ++ map named q.values
-closed_book named code kind capacity v q h =
-    (listed_always code capacity h.at kind h.history h.at [] (sym (append-nil h.at))).book ∙ ap (λ xs. handed_out h.at ++ xs) h.waits
+pub closed_book : {T V : Type 0} (named : V → Item T) (code : Coding T) (kind : QueueKind) (capacity : ℕ) (at : List (Event T)) (q : Bounded V)
+    → IsHistory code (machine_kind kind) capacity at → waiting at ≡ map named q.values → published at ≡ handed_out at ++ map named q.values
+closed_book named code kind capacity at q h waits =
+    (listed_always code capacity at kind h at [] (sym (append-nil at))).book ∙ ap (λ xs. handed_out at ++ xs) waits

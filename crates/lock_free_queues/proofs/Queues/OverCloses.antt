@@ -11,6 +11,12 @@ use Rattle.model.specs.declared.turn.Kind.TheVariants as kinds
 use Rattle.lock_free_queues.specs.Queues.Closes.{Closes, IsNewestThatWaits}
 use Rattle.lock_free_queues.specs.Queues.Reads.{LastWords}
 use Rattle.lock_free_queues.specs.Queues.Roles.{LacksRole}
+use Rattle.lock_free_queues.specs.Queues.Rings.{queue_of, view}
+use Rattle.lock_free_queues.specs.declared.spsc.ring.rule.Kind as queues
+use Rattle.lock_free_queues.specs.declared.spsc.ring.Pass.{Pass}
+use Rattle.steps.specs.declared.words.Words.{Ghosts}
+use Rattle.model.specs.declared.event.Item.{Item}
+use Rattle.history.specs.History.{IsBeginning}
 use Rattle.lock_free_queues.proofs.Queues.Closes as closing
 use Rattle.lock_free_queues.proofs.Queues.Facts.{grants, listed_always}
 use Rattle.lock_free_queues.proofs.Queues.Free.{is_free, few_when_free}
@@ -87,25 +93,29 @@ module _ (capacity : ℕ) (v : View ℕ) (words : List ℕ)
   pub over_closes : Closes Index capacity v (list_in capacity later)
   over_closes = closing.closes_later one_word is_coding Overflow capacity v words l later above end from to exact
 
-  pub newest : IsNewestThatWaits capacity v (list_in capacity later)
-  newest =
+  pub newest : {E : Type 0} {k : queues.Ghosts E} {ws : Ghosts ℕ} (pass at : Pass E ℕ k ws) → view pass ≡ v → queue_of at ≡ queue_of pass
+      → view at ≡ l.new → IsNewestThatWaits capacity pass (list_in capacity later)
+  newest pass at is queue there =
       let are = closing.older_are one_word is_coding Overflow capacity v words l later above end from to in
       let out = closing.taken_is one_word is_coding Overflow capacity v words l in
       let number = closing.number one_word is_coding Overflow capacity v words l in
       let one = first_is in
       let low = from in
+      let since = closing.since one_word is_coding Overflow capacity v words l in
+      let taken_out : length (handed_out (view at).seen) ≡ length (handed_out moment) = ap (λ (x : View ℕ). length (handed_out x.seen)) there in
+      let left : length (waiting (view at).seen) ≡ length (waiting moment) = ap (λ (x : View ℕ). length (waiting x.seen)) there in
       record {
-        at = moment;
-        since = closing.since one_word is_coding Overflow capacity v words l;
-        history = closing.history one_word is_coding Overflow capacity v words l;
+        at = at;
+        queue = queue;
+        since = subst (λ (x : View ℕ). IsBeginning x.seen (view at).seen) (sym is) (subst (λ (x : View ℕ). IsBeginning v.seen x.seen) (sym there) since);
         older = closing.older one_word is_coding Overflow capacity v words l later above end from to;
         taken = omega arith;
-        waits = closing.waiting_is one_word is_coding Overflow capacity v words l later above end from to;
+        waits = ap (λ (x : View ℕ). waiting x.seen) there ∙ closing.waiting_is one_word is_coding Overflow capacity v words l later above end from to;
         few = omega arith;
       }
 
 -- nothing is lost until then
-pub over_closed_book : (capacity : ℕ) (v : View ℕ) (q : Bounded ℕ) → (h : IsNewestThatWaits capacity v q)
-    → published h.at ≡ handed_out h.at ++ (h.older ++ map Index q.values)
-over_closed_book capacity v q h =
-    (listed_always one_word capacity h.at Overflow h.history h.at [] (sym (append-nil h.at))).book ∙ ap (λ xs. handed_out h.at ++ xs) h.waits
+pub over_closed_book : (capacity : ℕ) (at : List (Event ℕ)) (older : List (Item ℕ)) (q : Bounded ℕ) → IsHistory one_word kinds.Overflow capacity at
+    → waiting at ≡ older ++ map Index q.values → published at ≡ handed_out at ++ (older ++ map Index q.values)
+over_closed_book capacity at older q h waits =
+    (listed_always one_word capacity at Overflow h at [] (sym (append-nil at))).book ∙ ap (λ xs. handed_out at ++ xs) waits

@@ -41,7 +41,7 @@ module _ {T : Type 0} (code : Coding T) (base w : View T) (idle : base.going ≡
   Counts kd which n m = Ends code (machine_kind kd) (counts_waiting which base.capacity) base n m w
 
   pub length_takes : (kd : QueueKind) (which : LengthOf) (n : ℕ) (m : Unit {0}) → Counts kd which n m
-      → TakesAlone code (machine_kind kd) base.capacity 4 4 base w
+      → TakesAlone 4 4 base w
   length_takes IndexQueue measures.Len n m ends = takes_here code IndexQueue base w idle (counts_waiting measures.Len base.capacity) n m (omega arith) ends
   length_takes IndexQueue measures.IsEmpty n m ends =
       takes_here code IndexQueue base w idle (counts_waiting measures.IsEmpty base.capacity) n m (omega arith) ends
@@ -75,5 +75,5 @@ module _ {T : Type 0} (code : Coding T) (base w : View T) (idle : base.going ≡
   over_push_takes v e m (inl ends) = takes_here code Overflow base w idle (pushes_over v) e m (omega arith) ends
   over_push_takes v e m (inr left) = left_takes code kinds.Overflow (pushes_over v) base w e m 6 (omega arith) left
 
-  pub over_pop_takes : (e : Bool) (m : OneWord) → Ends code kinds.Overflow pops_over base e m w → TakesAlone code kinds.Overflow base.capacity 4 2 base w
+  pub over_pop_takes : (e : Bool) (m : OneWord) → Ends code kinds.Overflow pops_over base e m w → TakesAlone 4 2 base w
   over_pop_takes e m ends = takes_here code Overflow base w idle pops_over e m (omega arith) ends

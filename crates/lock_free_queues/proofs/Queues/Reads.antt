@@ -180,33 +180,35 @@ module _ {T : Type 0} (code : Coding T) (kind : Kind) where
   pub last_words : (capacity wide : ℕ) (v w x y : View T) (words : List ℕ) (write taken : ℕ) → capacity < 2 ^ 32 → length words ≡ 4 + wide → write < 2 ^ 64
       → HasRead v w → HasRead w x → HasRead x y → WasRead code kind capacity w w 0 write
       → CellsRead code kind capacity w x words → WasRead code kind capacity x x 1 taken → WasRead code kind capacity y y 0 write
-      → LastWords code kind wide capacity v (set (set words 0 write) 1 taken)
+      → (l : LastWords code kind wide capacity v (set (set words 0 write) 1 taken)) × (l.new ≡ x)
   last_words capacity wide v w x y words write taken small long low opening reading ending first cells took last =
       let a : List ℕ = set words 0 write in
       let la = length-set words 0 write in
       let lb = length-set a 1 taken in
       let write_is : slice_index (set a 1 taken) 0 ≡ write =
       get_or-set_other a 1 0 taken 0 (λ e. absurd (omega arith)) ∙ get_or-set_same words 0 write 0 (omega arith) in
-      let taken_is : slice_index (set a 1 taken) 1 ≡ taken = get_or-set_same a 1 taken 0 (omega arith) in
-      record {
-        begun = w;
-        new = x;
-        ended = y;
-        opening = opening;
-        reading = reading;
-        ending = ending;
-        small = small;
-        long = omega arith;
-        fits = subst (λ n. n < 2 ^ 64) (sym write_is) low;
-        first_read = subst (WasRead code kind capacity w w 0) (sym write_is) first;
-        cells = λ word high inside. (
-            let same : slice_index (set a 1 taken) word ≡ slice_index words word =
-            get_or-set_other a 1 word taken 0 (λ e. absurd (omega arith))
-            ∙ get_or-set_other words 0 word write 0 (λ e. absurd (omega arith)) in
-            subst (WasRead code kind capacity w x word) (sym same) (cells word high (omega arith)));
-        taken_read = subst (WasRead code kind capacity x x 1) (sym taken_is) took;
-        last_read = subst (WasRead code kind capacity y y 0) (sym write_is) last;
-      }
+      let taken_is : slice_index (set a 1 taken) 1 ≡ taken = get_or-set_same a 1 taken 0 (omega arith) in (
+        record {
+          begun = w;
+          new = x;
+          ended = y;
+          opening = opening;
+          reading = reading;
+          ending = ending;
+          small = small;
+          long = omega arith;
+          fits = subst (λ n. n < 2 ^ 64) (sym write_is) low;
+          first_read = subst (WasRead code kind capacity w w 0) (sym write_is) first;
+          cells = λ word high inside. (
+              let same : slice_index (set a 1 taken) word ≡ slice_index words word =
+              get_or-set_other a 1 word taken 0 (λ e. absurd (omega arith))
+              ∙ get_or-set_other words 0 word write 0 (λ e. absurd (omega arith)) in
+              subst (WasRead code kind capacity w x word) (sym same) (cells word high (omega arith)));
+          taken_read = subst (WasRead code kind capacity x x 1) (sym taken_is) took;
+          last_read = subst (WasRead code kind capacity y y 0) (sym write_is) last;
+        },
+        refl,
+      )
 
 module _ {T : Type 0} (code : Coding T) (kd : QueueKind) where
   module _ (capacity : ℕ) (v : View T) where

@@ -1,37 +1,38 @@
 -- What a pass knows of the list that its queue is in the end. Events name a value by Index, or by Value.
 use Rattle.std.specs.Prelude.{◌≡◌, ◌⊎◌, ℕ, ◌+◌, ◌-◌, ◌<◌, ◌≤◌, Some, List, ◌++◌, length, map, slice_get}
 use Rattle.steps.specs.Objects.Lists.{Bounded}
-use Rattle.model.specs.declared.event.Event.{Event}
+use Rattle.steps.specs.declared.words.Words.{Ghosts}
 use Rattle.model.specs.declared.event.Item.{Item}
 use Rattle.model.specs.declared.event.Item.TheVariants.{Index}
-use Rattle.model.specs.declared.turn.Kind.{Kind}
-use Rattle.model.specs.declared.turn.Kind.TheVariants as kinds
-use Rattle.model.specs.Coding.{Coding, one_word}
 use Rattle.model.specs.Families.Queues.Reading.{published, handed_out, waiting}
 use Rattle.threaded.specs.Shares.{IsAll}
 use Rattle.history.specs.declared.view.View.{View}
-use Rattle.history.specs.History.{IsBeginning, IsHistory}
+use Rattle.history.specs.History.{IsBeginning}
+use Rattle.lock_free_queues.specs.declared.spsc.ring.rule.Kind as kinds
+use Rattle.lock_free_queues.specs.declared.spsc.ring.Pass.{Pass}
+use Rattle.lock_free_queues.specs.Queues.Rings.{queue_of, view}
 
--- The list is what waits in a history that goes on from what the pass had seen. Before it lies what was taken out until
--- then.
-pub record IsWhatWaits {T V : Type 0} (code : Coding T) (kind : Kind) (named : V → Item T) (capacity : ℕ) (v : View T)
-    (q : Bounded V) : Type 0 where
-  pub at : List (Event T)
-  pub since : IsBeginning v.seen at
-  pub history : IsHistory code kind capacity at
-  pub taken : q.first ≡ length (handed_out at)
-  pub waits : waiting at ≡ map named q.values
+-- The list is what waited as the pass stood so, at one moment of the call. Before it lies what was taken out until then.
+-- What each pass has seen is a history, as `history` of a pass says.
+pub record IsWhatWaits {E T V : Type 0} {kind : kinds.Ghosts E} {words : Ghosts T} (named : V → Item T)
+    (pass : Pass E T kind words) (q : Bounded V) : Type 0 where
+  pub at : Pass E T kind words
+  pub queue : queue_of at ≡ queue_of pass
+  pub since : IsBeginning (view pass).seen (view at).seen
+  pub taken : q.first ≡ length (handed_out (view at).seen)
+  pub waits : waiting (view at).seen ≡ map named q.values
 
--- Of an overflowing queue: the newest of what waits there, at most the capacity. One more waits while a push is under
+-- Of an overflowing queue: the newest of what waited then, at most the capacity. One more waits while a push is under
 -- way, which then takes the oldest out.
-pub record IsNewestThatWaits (capacity : ℕ) (v : View ℕ) (q : Bounded ℕ) : Type 0 where
-  pub at : List (Event ℕ)
-  pub since : IsBeginning v.seen at
-  pub history : IsHistory one_word kinds.Overflow capacity at
+pub record IsNewestThatWaits {E : Type 0} {kind : kinds.Ghosts E} {words : Ghosts ℕ} (capacity : ℕ)
+    (pass : Pass E ℕ kind words) (q : Bounded ℕ) : Type 0 where
+  pub at : Pass E ℕ kind words
+  pub queue : queue_of at ≡ queue_of pass
+  pub since : IsBeginning (view pass).seen (view at).seen
   pub older : List (Item ℕ)
-  pub taken : q.first ≡ length (handed_out at) + length older
-  pub waits : waiting at ≡ older ++ map Index q.values
-  pub few : length older ≡ length (waiting at) - capacity
+  pub taken : q.first ≡ length (handed_out (view at).seen) + length older
+  pub waits : waiting (view at).seen ≡ older ++ map Index q.values
+  pub few : length older ≡ length (waiting (view at).seen) - capacity
 
 -- Each value that was seen to be published lies before the list, or waits at its place, and those that were seen to be
 -- taken out lie before it. Who has the whole share knows that just what was published and not taken out waits.

@@ -98,6 +98,7 @@ module _ {T : Type 0} where
         state = None;
         asked = 0;
         taken = 0;
+        others = 0;
       }
 
   -- of a bounded queue

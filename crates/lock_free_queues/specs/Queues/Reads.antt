@@ -7,6 +7,13 @@ use Rattle.threaded.specs.Shares.{IsAll}
 use Rattle.history.specs.declared.view.View.{View}
 use Rattle.history.specs.History.{IsBeginning, IsRun}
 use Rattle.history.specs.Passes.{MissesNothing}
+use Rattle.steps.specs.declared.words.Words.{Ghosts}
+use Rattle.lock_free_queues.specs.declared.spsc.ring.rule.Kind as kinds
+use Rattle.lock_free_queues.specs.declared.spsc.ring.rule.RingRule.{RingRule}
+use Rattle.lock_free_queues.specs.declared.spsc.ring.Held.{Held}
+use Rattle.lock_free_queues.specs.Queues.Bounded.{machine_kind}
+use Rattle.lock_free_queues.specs.Queues.Kinds.{words_in_cells}
+use Rattle.lock_free_queues.specs.Queues.Rings.{code_of, token_queue, token_view}
 
 module _ {T : Type 0} (code : Coding T) (kind : Kind) where
   -- the word was read of a machine whose history lies between the two
@@ -48,3 +55,12 @@ pub record LastWords {T : Type 0} (code : Coding T) (kind : Kind) (wide capacity
   pub cells : CellsRead code kind capacity begun new words
   pub taken_read : WasRead code kind capacity new new 1 (slice_index words 1)
   pub last_read : WasRead code kind capacity ended ended 0 (slice_index words 0)
+
+-- They were read by a seat, which had seen just what it had read up to the read position.
+pub record LastSeen {E T : Type 0} {kind : kinds.Ghosts E} {words : Ghosts T} (capacity : ℕ)
+    (old : Held E T (RingRule E T) kind words) (read : List ℕ) : Type 0 where
+  pub last : LastWords (code_of old) (machine_kind kind.KIND) (words_in_cells words.WORDS kind.KIND capacity) capacity
+      (token_view old) read
+  pub then : Held E T (RingRule E T) kind words
+  pub queue : token_queue then ≡ token_queue old
+  pub view : token_view then ≡ last.new

@@ -5,7 +5,7 @@ use Rattle.steps.specs.declared.words.Words.{Ghosts}
 use Rattle.model.specs.declared.families.queues.QueueKind.{QueueKind}
 use Rattle.model.specs.Coding.{Coding, coding_of}
 use Rattle.history.specs.declared.view.View.{View}
-use Rattle.history.specs.History.{IsHistory}
+use Rattle.history.specs.History.{IsHistory, Knows}
 use Rattle.threaded.specs.Seats.{home_id}
 use Rattle.lock_free_queues.specs.Queues.Bounded.{machine_kind}
 pub use Rattle.history.specs.Passes.{Goes, MissesNothing}
@@ -114,11 +114,15 @@ module _ {E T : Type 0} {kind : kinds.Ghosts E} {words : Ghosts T} where
   abbrev pub FromConsumer : Consumer E T kind words → Pass E T kind words → Type 0
   FromConsumer end pass = IsSameQueue end.token pass.token
 
+  -- what each pass of such a queue has seen is the history of a run, whose turns it knows
+  abbrev pub EachKnows : Pass E T kind words → Type 0
+  EachKnows pass =
+      (p : Pass E T kind words) → Knows (code_of p.token) (machine_kind kind.KIND) (queue_of p).capacity (view p)
+
   -- what a join leaves of a seat: it is of the same queue, and has what both had
   pub record Joins (old other new : Held E T (RingRule E T) kind words) : Type 0 where
     pub queue : token_queue new ≡ token_queue old
     pub joined : HasJoined (token_view old) (token_view other) (token_view new)
-    pub history : HasHistory (code_of old) kind.KIND (token_queue old).capacity (token_view new)
     pub all : MissesNothing (token_view new)
 
   abbrev pub PassJoins : Pass E T kind words → Pass E T kind words → Pass E T kind words → Type 0

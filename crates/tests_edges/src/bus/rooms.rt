@@ -108,7 +108,7 @@ fn publishes(rt: &impl Wait, publisher: &mut Publisher<'_, Words>, number: u64) 
 
 /// Whether a record is of this number, and has no more words.
 fn is_of(subscriber: &Subscriber<'_, Words>, sample: &Sample, number: u64) -> bool {
-    let Some(reading) = subscriber.read(sample) else {
+    let Ok(reading) = subscriber.read(sample) else {
         return false;
     };
     let words = reading.get();
@@ -210,7 +210,7 @@ impl<'a> Room<'a> {
         let Some(sample) = subscriber.receive(rt) else {
             return false;
         };
-        let Some(reading) = subscriber.read(&sample) else {
+        let Ok(reading) = subscriber.read(&sample) else {
             return false;
         };
         forget(reading);
@@ -257,7 +257,7 @@ impl<'a> Room<'a> {
             Step::Loans(some) => self.loans(rt) == some,
             Step::GivesUp => self.gives_up(),
             Step::DropsLoan => self.loan.take().is_some(),
-            Step::Reclaims(slot, free) => self.publisher.reclaim(slot) == free,
+            Step::Reclaims(slot, free) => self.publisher.reclaim(slot).is_ok() == free,
             Step::IsStillRead(slot) => self.is_still_read(rt, slot),
             Step::IsNext(number) => self.publisher.next_number() == number,
             Step::Recovers(number) => self.recovers(rt, number),

@@ -253,7 +253,7 @@ fn is_whole(words: &Words) -> bool {
 fn numbers_of(subscriber: &Subscriber<'_, Words, OwnNumber>, sample: &Sample) -> Option<(u64, u64)>
     ensures { IfSome result (λ r. r.0 ≡ r.1) }
 {
-    let reading = subscriber.read(sample)?;
+    let reading = subscriber.read(sample).ok()?;
     let words = reading.get();
     if !is_whole(words) {
         return None;

@@ -26,7 +26,7 @@ fn publish(rt: &impl Wait, publisher: &mut Publisher<'_, Vec<u8>>) -> u8 {
 fn receive(rt: &impl Wait, subscriber: &mut Subscriber<'_, Vec<u8>>) -> Option<u8> {
     for _ in rt.forever() {
         if let Some(sample) = subscriber.receive(rt) {
-            let first = *subscriber.read(&sample)?.get().first()?;
+            let first = *subscriber.read(&sample).ok()?.get().first()?;
             subscriber.give_back(sample);
             if first == 9 {
                 return Some(first);

@@ -2,7 +2,7 @@
 //! to one. Nothing of the caller's runs inside these calls: the number of their steps draws them out. So who gets the
 //! processor beside the first nearly always finds it inside.
 use crate::inside::{CALLS, GoesOn};
-use crate::limit::Flag;
+use crate::limit::{Flag, Limit, TURNS};
 use crate::tasks::{Task, two_run};
 use lock_free::mpmc::bit_set::BitSet;
 use lock_free::mpmc::container::{Container, OwnerId};
@@ -20,7 +20,7 @@ use std::time::Clock;
 /// How many places there are.
 const MANY: usize = 1_000_000;
 
-/// How often all calls are to be made inside one of the other's, and in how many turns at most.
+/// How often all calls are to be made inside one of the other's, and how often they are made at most.
 const TIMES: u64 = 10;
 
 const MOST: u64 = 10_000;
@@ -82,17 +82,32 @@ impl<'s, G: GoesOn> Tries<'s, G> {
         true
     }
 
+    /// The number of the other's call that is under way, as soon as there is one. None if it makes no more.
+    fn finds_inside(&self) -> Option<u64> {
+        let mut limit = Limit::new(TURNS);
+        for _ in 0..u64::MAX {
+            let turn = self.door.turn.load(Ordering::SeqCst);
+            if turn % 2 == 1 {
+                return Some(turn);
+            }
+            if !limit.waits() {
+                return None;
+            }
+        }
+        None
+    }
+
     fn tries(&mut self, rt: &impl Wait) -> bool {
         let mut times = 0u64;
         for turn in 0..MOST {
-            let before = self.door.turn.load(Ordering::SeqCst);
-            if before % 2 == 1 {
-                if !self.makes_all(rt, turn) {
-                    return false;
-                }
-                if self.door.turn.load(Ordering::SeqCst) == before {
-                    times = times.wrapping_add(1);
-                }
+            let Some(before) = self.finds_inside() else {
+                return false;
+            };
+            if !self.makes_all(rt, turn) {
+                return false;
+            }
+            if self.door.turn.load(Ordering::SeqCst) == before {
+                times = times.wrapping_add(1);
             }
             if times == TIMES {
                 return true;

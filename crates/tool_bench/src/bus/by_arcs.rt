@@ -10,29 +10,16 @@ use std::sync::{Arc, Wait};
 type Shared = Arc<Vec<u64>, Global>;
 
 /// Who writes records where they lie, as soon as nobody else has them, and passes them on.
+#[derive(Drop)]
 pub struct Shares {
     ring: Producer<Shared>,
     records: Vec<Shared>,
 }
 
-impl Drop for Shares {
-    fn drop(self) {
-        let Self {
-            ring: _ring,
-            records: _records,
-        } = self;
-    }
-}
-
 /// Who reads them there.
+#[derive(Drop)]
 pub struct Looks {
     ring: Consumer<Shared>,
-}
-
-impl Drop for Looks {
-    fn drop(self) {
-        let Self { ring: _ring } = self;
-    }
 }
 
 /// Writes a record of this number where nobody else has it: whether nobody has.

@@ -28,29 +28,15 @@ pub fn spares(alloc: Global, words: usize) -> Result<Vec<Vec<u64>>, AllocError> 
 }
 
 /// Who publishes records.
+#[derive(Drop)]
 pub struct Publishes<'a> {
     publisher: Publisher<'a, Vec<u64>>,
 }
 
-impl<'a> Drop for Publishes<'a> {
-    fn drop(self) {
-        let Self {
-            publisher: _publisher,
-        } = self;
-    }
-}
-
 /// Those who receive them.
+#[derive(Drop)]
 pub struct Receives<'a> {
     subscribers: Vec<Subscriber<'a, Vec<u64>>>,
-}
-
-impl<'a> Drop for Receives<'a> {
-    fn drop(self) {
-        let Self {
-            subscribers: _subscribers,
-        } = self;
-    }
 }
 
 impl<'a> Publishes<'a> {
@@ -97,7 +83,7 @@ fn read_next<R: Wait>(rt: &R, subscriber: &mut Subscriber<'_, Vec<u64>>) -> Opti
 /// The sum of the words of a record.
 #[inline(always)]
 fn sum_of(subscriber: &Subscriber<'_, Vec<u64>>, sample: &Sample) -> Option<u64> {
-    let reading = subscriber.read(sample)?;
+    let reading = subscriber.read(sample).ok()?;
     let mut sum = 0u64;
     for word in reading.get().iter() {
         sum = sum.wrapping_add(*word);

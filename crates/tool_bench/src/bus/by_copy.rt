@@ -5,20 +5,11 @@ use std::alloc::{AllocError, Global};
 use std::sync::{Mutex, Wait};
 
 /// The records that wait, in cells that are taken in turn. Each number is written at its place, by how many came before.
+#[derive(Drop)]
 pub struct Waiting {
     cells: Vec<Vec<u64>>,
     put: usize,
     taken: usize,
-}
-
-impl Drop for Waiting {
-    fn drop(self) {
-        let Self {
-            cells: _cells,
-            put: _,
-            taken: _,
-        } = self;
-    }
 }
 
 /// A record of so many words.
@@ -86,35 +77,18 @@ fn copies(from: &[u64], to: &mut [u64]) -> bool {
 }
 
 /// Who copies records in.
+#[derive(Drop)]
 pub struct Puts<'a> {
     waiting: &'a Mutex<Waiting>,
     record: Vec<u64>,
 }
 
-impl<'a> Drop for Puts<'a> {
-    fn drop(self) {
-        let Self {
-            waiting: _,
-            record: _record,
-        } = self;
-    }
-}
-
 /// Those who copy them out, each for itself.
+#[derive(Drop)]
 pub struct Takes<'a> {
     waiting: &'a Mutex<Waiting>,
     record: Vec<u64>,
     readers: usize,
-}
-
-impl<'a> Drop for Takes<'a> {
-    fn drop(self) {
-        let Self {
-            waiting: _,
-            record: _record,
-            readers: _,
-        } = self;
-    }
 }
 
 impl<'a> Writer for Puts<'a> {

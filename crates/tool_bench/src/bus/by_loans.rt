@@ -8,27 +8,15 @@ use uses_loans::receiver::{Receiver, Sample};
 use uses_loans::sender::{Loan, Sender};
 
 /// Who writes records into places that it loans, and sends them.
+#[derive(Drop)]
 pub struct Sends<'a> {
     sender: Sender<'a, Vec<u64>>,
 }
 
-impl<'a> Drop for Sends<'a> {
-    fn drop(self) {
-        let Self { sender: _sender } = self;
-    }
-}
-
 /// Who reads them there, and gives the places back.
+#[derive(Drop)]
 pub struct Gets<'a> {
     receiver: Receiver<'a, Vec<u64>>,
-}
-
-impl<'a> Drop for Gets<'a> {
-    fn drop(self) {
-        let Self {
-            receiver: _receiver,
-        } = self;
-    }
 }
 
 impl<'a> Sends<'a> {

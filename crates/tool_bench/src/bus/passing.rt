@@ -43,18 +43,10 @@ pub fn pause(looks: u32) {
 }
 
 /// The two ends of a way that records go.
-pub struct Ends<W, D> {
+#[derive(Drop)]
+pub struct Ends<W: Drop, D: Drop> {
     pub writer: W,
     pub reader: D,
-}
-
-impl<W: Drop, D: Drop> Drop for Ends<W, D> {
-    fn drop(self) {
-        let Self {
-            writer: _writer,
-            reader: _reader,
-        } = self;
-    }
 }
 
 /// Writes so many records: whether there was room for each.

@@ -6,6 +6,7 @@ use std::alloc::{AllocError, Global};
 use std::sync::Wait;
 
 /// A bit set: the reset position, and 64 flags to a word.
+#[derive(Drop)]
 pub struct Bits {
     words: Words,
     capacity: u32,
@@ -13,16 +14,6 @@ pub struct Bits {
     ghost some: { 0 < capacity },
     ghost all: { capacity ≤ 64 * elements },
     ghost sized: { words.size ≡ 1 + elements },
-}
-
-impl Drop for Bits {
-    fn drop(self) {
-        let Self {
-            words: _words,
-            capacity: _,
-            elements: _,
-        } = self;
-    }
 }
 
 impl Bits {
@@ -69,13 +60,6 @@ impl Bits {
             found = now;
         }
         unreachable!()
-    }
-
-    /// Sets each place.
-    pub fn fill<R: Wait>(&mut self, rt: &R) {
-        for place in 0..self.capacity {
-            self.set(rt, place);
-        }
     }
 
     /// Resets this place, if it stands.
@@ -145,20 +129,12 @@ impl Bits {
 }
 
 /// Counts, each of one place.
+#[derive(Drop)]
 pub struct Counts {
     words: Words,
     capacity: u32,
     ghost some: { 0 < capacity },
     ghost sized: { words.size ≡ capacity },
-}
-
-impl Drop for Counts {
-    fn drop(self) {
-        let Self {
-            words: _words,
-            capacity: _,
-        } = self;
-    }
 }
 
 impl Counts {

@@ -7,15 +7,10 @@ use std::alloc::{AllocError, Global};
 use std::sync::Wait;
 
 /// The counter, the owner of each index, how many changes there were, the number of each element, and the elements.
+#[derive(Drop)]
 pub struct Values {
     owners: Owners,
     ghost sized: { owners.words.size ≡ 2 + (owners.capacity + owners.capacity) + owners.capacity },
-}
-
-impl Drop for Values {
-    fn drop(self) {
-        let Self { owners: _owners } = self;
-    }
 }
 
 impl Values {
@@ -143,11 +138,6 @@ impl Values {
         let changes = 1 + self.owners.capacity as usize;
         self.owners.words.add(changes, 1);
         is_open
-    }
-
-    #[inline(always)]
-    pub fn len<R: Wait>(&mut self, rt: &R) -> u64 {
-        self.owners.filled(rt)
     }
 
     pub fn another(&mut self) -> Option<Values> {

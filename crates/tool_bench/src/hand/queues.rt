@@ -1,5 +1,5 @@
 //! The queues by hand. The words are those that `steps::queues` names.
-ghost use Rattle.std.specs.Prelude.{◌≡◌, ◌+◌, ◌*◌, ◌<◌, ◌≤◌, ◌^◌};
+ghost use Rattle.std.specs.Prelude.{◌≡◌, ◌+◌, ◌<◌, ◌^◌};
 
 use super::Words;
 use std::alloc::{AllocError, Global};
@@ -15,20 +15,12 @@ pub fn slot(slots: u32, position: u64) -> usize
 }
 
 /// A queue of numbers.
+#[derive(Drop)]
 pub struct Numbers {
     words: Words,
     capacity: u32,
     ghost some: { 0 < capacity },
     ghost sized: { words.size ≡ 4 + capacity },
-}
-
-impl Drop for Numbers {
-    fn drop(self) {
-        let Self {
-            words: _words,
-            capacity: _,
-        } = self;
-    }
 }
 
 impl Numbers {
@@ -83,21 +75,13 @@ impl Numbers {
 }
 
 /// The overflowing queue of numbers.
+#[derive(Drop)]
 pub struct Overflowing {
     words: Words,
     capacity: u32,
     ghost few: { capacity + 1 < 2 ^ 32 },
     ghost some: { 0 < capacity },
     ghost sized: { words.size ≡ 4 + (capacity + 1) },
-}
-
-impl Drop for Overflowing {
-    fn drop(self) {
-        let Self {
-            words: _words,
-            capacity: _,
-        } = self;
-    }
 }
 
 impl Overflowing {
@@ -109,24 +93,6 @@ impl Overflowing {
         let numbers = Vec::from_elem(alloc, 0u64, 4 + (capacity as usize + 1))?;
         let words = Words::new(alloc, numbers.as_slice())?;
         Ok(Overflowing { words, capacity })
-    }
-
-    #[inline(never)]
-    pub fn push(&mut self, value: u64) -> Option<u64> {
-        let write = self.words.load(0);
-        if write == u64::MAX {
-            return Some(value);
-        }
-        let read = self.words.load(1);
-        self.words.store(4 + slot(self.capacity + 1, write), value);
-        self.words.store(0, write.wrapping_add(1));
-        if write.wrapping_sub(read) != self.capacity as u64 {
-            return None;
-        }
-        if self.words.exchange(1, read, read.wrapping_add(1)) != read {
-            return None;
-        }
-        Some(self.words.load(4 + slot(self.capacity + 1, read)))
     }
 
     #[inline(never)]
@@ -144,77 +110,5 @@ impl Overflowing {
             read = found;
         }
         unreachable!()
-    }
-}
-
-/// The first word of the cell of a value of 16 words.
-#[inline(always)]
-fn cell(capacity: u32, position: u64) -> usize
-    requires { 0 < capacity }
-    ensures { result + 16 ≤ 4 + 16 * capacity }
-{
-    4 + 16 * slot(capacity, position)
-}
-
-/// A queue of values of 16 words.
-pub struct Records {
-    words: Words,
-    capacity: u32,
-    ghost some: { 0 < capacity },
-    ghost sized: { words.size ≡ 4 + 16 * capacity },
-}
-
-impl Drop for Records {
-    fn drop(self) {
-        let Self {
-            words: _words,
-            capacity: _,
-        } = self;
-    }
-}
-
-impl Records {
-    /// An empty one.
-    pub fn new(alloc: Global, capacity: u32) -> Result<Records, AllocError> {
-        if capacity == 0 {
-            return Err(AllocError);
-        }
-        let numbers = Vec::from_elem(alloc, 0u64, 4 + 16 * capacity as usize)?;
-        let words = Words::new(alloc, numbers.as_slice())?;
-        Ok(Records { words, capacity })
-    }
-
-    #[inline(never)]
-    pub fn push(&mut self, value: &[u64; 16]) -> bool {
-        let write = self.words.load(0);
-        if write == u64::MAX {
-            return false;
-        }
-        let read = self.words.load(1);
-        if write.wrapping_sub(read) == self.capacity as u64 {
-            return false;
-        }
-        let cell = cell(self.capacity, write);
-        for at in 0..16 {
-            self.words.store(cell + at, value[at]);
-        }
-        self.words.store(0, write.wrapping_add(1));
-        true
-    }
-
-    #[inline(never)]
-    pub fn pop(&mut self) -> Option<[u64; 16]> {
-        let read = self.words.load(1);
-        let write = self.words.load(0);
-        if write == read {
-            return None;
-        }
-        let cell = cell(self.capacity, read);
-        let mut value = [0u64; 16];
-        for at in 0..16 {
-            value[at] = self.words.load(cell + at);
-        }
-        self.words.store(1, read.wrapping_add(1));
-        Some(value)
     }
 }

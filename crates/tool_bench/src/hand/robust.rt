@@ -1,4 +1,4 @@
-//! The robust index set by hand, of which no index is out or each one is. The container has its first words too.
+//! The robust index set by hand. The container has its first words too.
 ghost use Rattle.std.specs.Prelude.{◌≡◌, ◌+◌, ◌≤◌};
 
 use super::Words;
@@ -12,25 +12,17 @@ pub const LOCKED: u64 = u64::MAX;
 const GREATEST: u64 = u64::MAX - 1;
 
 /// The counter, the owner of each index, and further words.
+#[derive(Drop)]
 pub struct Owners {
     pub words: Words,
     pub capacity: u32,
     ghost sized: { 1 + capacity ≤ words.size },
 }
 
-impl Drop for Owners {
-    fn drop(self) {
-        let Self {
-            words: _words,
-            capacity: _,
-        } = self;
-    }
-}
-
 impl Owners {
-    /// A set in which each index has this owner, or `EMPTY`.
-    pub fn new(alloc: Global, capacity: u32, owner: u64) -> Result<Owners, AllocError> {
-        let mut numbers = Vec::from_elem(alloc, owner, 1 + capacity as usize)?;
+    /// A set of which no index is out.
+    pub fn new(alloc: Global, capacity: u32) -> Result<Owners, AllocError> {
+        let mut numbers = Vec::from_elem(alloc, EMPTY, 1 + capacity as usize)?;
         numbers[0] = 0;
         let words = Words::new(alloc, numbers.as_slice())?;
         Ok(Owners { words, capacity })
@@ -101,32 +93,6 @@ impl Owners {
         }
         self.raise(rt);
         true
-    }
-
-    /// How many indices have an owner.
-    #[inline(always)]
-    pub fn filled<R: Wait>(&mut self, rt: &R) -> u64
-        ensures capacity { self.new.capacity ≡ self.old.capacity }
-        ensures size { self.new.words.size ≡ self.old.words.size }
-    {
-        for _ in rt.forever() {
-            let counter = self.words.load(0);
-            if counter == LOCKED {
-                return 0;
-            }
-            let mut filled = 0u64;
-            for index in 0..self.capacity {
-                if self.words.load(1 + index as usize) != EMPTY {
-                    filled = filled.wrapping_add(1);
-                }
-            }
-            if counter == GREATEST
-                || self.words.exchange(0, counter, counter.wrapping_add(1)) == counter
-            {
-                return filled;
-            }
-        }
-        unreachable!()
     }
 
     #[inline(never)]

@@ -6,6 +6,7 @@ use std::alloc::{AllocError, Global};
 use std::sync::Wait;
 
 /// A set of indices: the head, a next index for each, and 64 claim flags to a word.
+#[derive(Drop)]
 pub struct Unique {
     words: Words,
     capacity: u32,
@@ -13,16 +14,6 @@ pub struct Unique {
     ghost few: { capacity < 2 ^ 24 },
     ghost all: { capacity ≤ 64 * flags },
     ghost sized: { words.size ≡ 1 + capacity + flags },
-}
-
-impl Drop for Unique {
-    fn drop(self) {
-        let Self {
-            words: _words,
-            capacity: _,
-            flags: _,
-        } = self;
-    }
 }
 
 impl Unique {
@@ -114,58 +105,6 @@ impl Unique {
         let new = (index as u64) << 40 | aba << 24 | borrowed;
         if self.words.exchange(0, head, new) != head {
             self.words.add(0, u64::MAX);
-        }
-    }
-
-    #[inline(always)]
-    pub fn borrowed_indices(&mut self) -> u64 {
-        let borrowed = self.words.load(0) % 0x100_0000;
-        if borrowed == 0xff_ffff { 0 } else { borrowed }
-    }
-
-    #[inline(always)]
-    pub fn is_locked(&mut self) -> bool {
-        self.words.load(0) % 0x100_0000 == 0xff_ffff
-    }
-
-    /// Gives an index back, and locks the set where it was the last: whether it has.
-    #[inline(never)]
-    pub fn release_or_lock<R: Wait>(&mut self, rt: &R, index: u32) -> bool {
-        if index >= self.capacity {
-            return false;
-        }
-        let flag = 1u64 << (index % 64);
-        self.words
-            .and(1 + self.capacity as usize + (index / 64) as usize, !flag);
-        let mut head = self.words.load(0);
-        for _ in rt.forever() {
-            self.words.store(1 + index as usize, head / 0x100_0000_0000);
-            let aba = (head / 0x100_0000).wrapping_add(1) % 0x1_0000;
-            let is_last = head % 0x100_0000 == 1;
-            let borrowed = if is_last {
-                0xff_ffff
-            } else {
-                (head % 0x100_0000).wrapping_sub(1) % 0x100_0000
-            };
-            let new = (index as u64) << 40 | aba << 24 | borrowed;
-            let found = self.words.exchange(0, head, new);
-            if found == head {
-                return is_last;
-            }
-            head = found;
-        }
-        unreachable!()
-    }
-
-    /// Takes an index and gives it back.
-    #[inline(always)]
-    pub fn turns<R: Wait>(&mut self, rt: &R) -> u64 {
-        match self.acquire(rt) {
-            Some(index) => {
-                self.release(index);
-                index as u64
-            }
-            None => 1 << 32,
         }
     }
 }

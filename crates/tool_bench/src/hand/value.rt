@@ -6,16 +6,11 @@ use std::alloc::{AllocError, Global};
 use std::sync::Wait;
 
 /// A value of so many words.
+#[derive(Drop)]
 pub struct Value<const N: usize> {
     words: Words,
     ghost some: { (0 < N) × (N < 1000) },
     ghost sized: { words.size ≡ 2 + (N + N) },
-}
-
-impl<const N: usize> Drop for Value<N> {
-    fn drop(self) {
-        let Self { words: _words } = self;
-    }
 }
 
 impl<const N: usize> Value<N> {
@@ -42,19 +37,6 @@ impl<const N: usize> Value<N> {
         ensures { result + N ≤ 2 + (N + N) }
     {
         if version % 2 == 1 { 2 } else { 2 + N }
-    }
-
-    pub fn store(&mut self, value: &[u64; N]) -> bool {
-        let version = self.words.load(0);
-        if version == u64::MAX {
-            return false;
-        }
-        let cell = Value::<N>::cell(version.wrapping_add(1));
-        for at in 0..N {
-            self.words.store(cell + at, value[at]);
-        }
-        self.words.add(0, 1);
-        true
     }
 
     pub fn load<R: Wait>(&mut self, rt: &R) -> [u64; N] {

@@ -69,7 +69,7 @@ fn publish_all(
 
 /// Whether a record was published with this number, and each of its words is the same.
 fn is_whole(subscriber: &Subscriber<'_, Vec<u64>>, sample: &Sample, number: u64) -> bool {
-    let Some(reading) = subscriber.read(sample) else {
+    let Ok(reading) = subscriber.read(sample) else {
         return false;
     };
     let words = reading.get();

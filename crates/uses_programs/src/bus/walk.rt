@@ -92,7 +92,7 @@ fn publish<R: Wait + Print>(
 fn square_of(subscriber: &Subscriber<'_, Square, IsSquare>, sample: &Sample) -> Option<(u64, u64)>
     ensures { IfSome result (λ r. r.1 ≡ r.0 * r.0) }
 {
-    let reading = subscriber.read(sample)?;
+    let reading = subscriber.read(sample).ok()?;
     let found = reading.get();
     Some((found.root, found.square))
 }

@@ -1,4 +1,4 @@
-use Rattle.history_laws.proofs.OwnersLaws.{none_overlap}
+use Rattle.lock_free_owners.proofs.Worn.Laws.{none_overlap}
 use Rattle.history_laws.proofs.owners.calls_that_lock_are_apart.Goals as goal
 
 pub returns : goal.returns

@@ -1,4 +1,4 @@
-use Rattle.history_laws.proofs.OwnersLaws.{worn_container}
+use Rattle.lock_free_owners.proofs.Worn.Laws.{worn_container}
 use Rattle.history_laws.proofs.owners.worn_containers_have_changed.Goals as goal
 
 pub returns : goal.returns

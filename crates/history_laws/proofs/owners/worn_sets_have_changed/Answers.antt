@@ -1,4 +1,4 @@
-use Rattle.history_laws.proofs.OwnersLaws.{worn_set}
+use Rattle.lock_free_owners.proofs.Worn.Laws.{worn_set}
 use Rattle.history_laws.proofs.owners.worn_sets_have_changed.Goals as goal
 
 pub returns : goal.returns

@@ -12,7 +12,6 @@ ghost use Rattle.lock_free.specs.Sets.Calls.{capacity_of, IsPassOf, view, SamePa
 ghost use Rattle.lock_free.specs.Bits.Callable.{TakesPlaces, Visited};
 ghost use Rattle.lock_free.specs.Bits.Contracts.{HasSet, StoodOnce, HasReset, CameFromPosition, AllClearOnce};
 ghost use Rattle.lock_free.specs.Bits.Contracts.{HasCleanedOut, MissedNoPlace};
-ghost use Rattle.model.specs.Coding.{one_word};
 ghost use Rattle.history.specs.Steps.{TakesAtMost, TakesAlone};
 
 use super::drives::{ResetsNext, SetsPlace};
@@ -100,7 +99,7 @@ impl BitSet {
         ensures same { SamePass pass.old pass.new }
         ensures added { HasSet id result (view pass.old) (view pass.new) }
         ensures stood { IsFalse result → StoodOnce id (view pass.new) }
-        ensures steps { TakesAlone one_word kinds.Bits (capacity_of self.now) 2 1 (view pass.old) (view pass.new) }
+        ensures steps { TakesAlone 2 1 (view pass.old) (view pass.new) }
     {
         let place = id as u64;
         let end = pass
@@ -120,8 +119,7 @@ impl BitSet {
         ensures cleared { HasReset result (view pass.old) (view pass.new) }
         ensures came { IfSome result (λ place. CameFromPosition (capacity_of self.now) place (view pass.new)) }
         ensures clear { result ≡ None → AllClearOnce (capacity_of self.now) (view pass.new) }
-        ensures steps { TakesAlone one_word kinds.Bits (capacity_of self.now) (3 + capacity_of self.now) 1
-            (view pass.old) (view pass.new) }
+        ensures steps { TakesAlone (3 + capacity_of self.now) 1 (view pass.old) (view pass.new) }
     {
         let call = ResetNext::new(pass.capacity);
         let end = pass

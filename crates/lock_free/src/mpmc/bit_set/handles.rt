@@ -6,8 +6,6 @@ ghost use Rattle.lock_free.specs.Bits.Contracts.{HasSet, StoodOnce, HasReset, Ca
 ghost use Rattle.lock_free.specs.Bits.Contracts.{HasCleanedOut, MissedNoPlace};
 ghost use Rattle.lock_free.specs.Sets.Handles.{set_in, pass_in, knows};
 ghost use Rattle.steps.specs.Bits.Words.{elements};
-ghost use Rattle.model.specs.declared.turn.Kind.TheVariants as kinds;
-ghost use Rattle.model.specs.Coding.{one_word};
 ghost use Rattle.history.specs.Steps.{TakesAtMost, TakesAlone};
 
 use super::Handle;
@@ -21,8 +19,7 @@ impl<'a> Handle<'a> {
         ensures same { SamePass (pass_in self.old) (pass_in self.new) }
         ensures added { HasSet id result (knows self.old) (knows self.new) }
         ensures stood { IsFalse result → StoodOnce id (knows self.new) }
-        ensures steps { TakesAlone one_word kinds.Bits (capacity_of (set_in self.old)) 2 1
-            (knows self.old) (knows self.new) }
+        ensures steps { TakesAlone 2 1 (knows self.old) (knows self.new) }
     {
         self.set.set(rt, id, &mut self.pass)
     }
@@ -36,8 +33,7 @@ impl<'a> Handle<'a> {
         ensures came { IfSome result
             (λ place. CameFromPosition (capacity_of (set_in self.old)) place (knows self.new)) }
         ensures clear { result ≡ None → AllClearOnce (capacity_of (set_in self.old)) (knows self.new) }
-        ensures steps { TakesAlone one_word kinds.Bits (capacity_of (set_in self.old))
-            (3 + capacity_of (set_in self.old)) 1 (knows self.old) (knows self.new) }
+        ensures steps { TakesAlone (3 + capacity_of (set_in self.old)) 1 (knows self.old) (knows self.new) }
     {
         self.set.reset_next(rt, &mut self.pass)
     }

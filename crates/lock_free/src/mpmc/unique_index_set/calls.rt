@@ -9,8 +9,6 @@ ghost use Rattle.history.specs.Held.{Holds};
 ghost use Rattle.lock_free.specs.Unique.Held.{HeldBy, HoldsNothing, HoldsAll, HoldsSome};
 ghost use Rattle.lock_free.specs.Unique.Contracts.{HasAcquired, WasRefused, HasGiven, HasGivenOrLocked, HasCounted, HasLooked, Answered};
 ghost use Rattle.lock_free.specs.UniqueIndexSet.{capacity_of, IsPassOf, view, history, made, SamePass, value_of, index_pass, index_view};
-ghost use Rattle.model.specs.declared.turn.Kind.TheVariants as kinds;
-ghost use Rattle.model.specs.Coding.{one_word};
 ghost use Rattle.history.specs.Steps.{TakesAtMost, TakesAlone};
 
 use super::drives::{CountsOut, Gives, GivesOrLocks, LooksLocked, Takes};
@@ -39,10 +37,8 @@ impl UniqueIndexSet {
         ensures acquired { IfOk result (λ i. HasAcquired (value_of i) (view pass) (index_view i)) }
         ensures refused_same { IfErr result (λ r. SamePass pass r.1) }
         ensures refused { IfErr result (λ r. WasRefused r.0 (view pass) (view r.1)) }
-        ensures steps { IfOk result (λ i. TakesAlone one_word kinds.Indices (capacity_of self.now)
-            (4 + capacity_of self.now) (max 2 (capacity_of self.now)) (view pass) (index_view i)) }
-        ensures refused_steps { IfErr result (λ r. TakesAlone one_word kinds.Indices (capacity_of self.now)
-            (4 + capacity_of self.now) (max 2 (capacity_of self.now)) (view pass) (view r.1)) }
+        ensures steps { IfOk result (λ i. TakesAlone (4 + capacity_of self.now) (max 2 (capacity_of self.now)) (view pass) (index_view i)) }
+        ensures refused_steps { IfErr result (λ r. TakesAlone (4 + capacity_of self.now) (max 2 (capacity_of self.now)) (view pass) (view r.1)) }
     {
         let mut pass = pass;
         match self.acquire_raw_index(rt, &mut pass) {
@@ -67,8 +63,7 @@ impl UniqueIndexSet {
         ensures acquired { IfOk result (λ i. HasAcquired i (view pass.old) (view pass.new)) }
         ensures within { IfOk result (λ i. i < capacity_of self.now) }
         ensures refused { IfErr result (λ e. WasRefused e (view pass.old) (view pass.new)) }
-        ensures steps { TakesAlone one_word kinds.Indices (capacity_of self.now) (4 + capacity_of self.now)
-            (max 2 (capacity_of self.now)) (view pass.old) (view pass.new) }
+        ensures steps { TakesAlone (4 + capacity_of self.now) (max 2 (capacity_of self.now)) (view pass.old) (view pass.new) }
     {
         let call = Acquire::new(self.capacity);
         pass.seated
@@ -103,7 +98,7 @@ impl UniqueIndexSet {
             (view pass.old) (view pass.new) }
         ensures nothing { result ≡ Locked → HoldsNothing (made pass.new) }
         ensures whole { result ≡ Unlocked → HoldsSome (view pass.new) }
-        ensures steps { TakesAlone one_word kinds.Indices (capacity_of self.now) 4 2 (view pass.old) (view pass.new) }
+        ensures steps { TakesAlone 4 2 (view pass.old) (view pass.new) }
     {
         let call = Release::<LockMode>::new(self.capacity);
         pass.seated

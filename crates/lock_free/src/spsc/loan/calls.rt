@@ -126,8 +126,7 @@ impl<'a> LoanSender<'a> {
         ensures queues { KeepsQueues self.old self.new }
         ensures same { IsSame self.old self.new }
         ensures share { share_of self.new ≡ share_of self.old }
-        ensures steps { TakesAlone one_word kinds.Indices (set_of_sender self.old).capacity
-            (4 + (set_of_sender self.old).capacity) (max 2 (set_of_sender self.old).capacity)
+        ensures steps { TakesAlone (4 + (set_of_sender self.old).capacity) (max 2 (set_of_sender self.old).capacity)
             (pass_view self.old) (pass_view self.new) }
     {
         let index = self.set.acquire_raw_index(rt, &mut self.pass)?;

@@ -5,16 +5,15 @@
 ghost use Rattle.std.specs.Prelude.{◌≡◌, ◌+◌, ◌≤◌, true, Err, IfOk, IfErr, OnOk};
 ghost use Rattle.steps.specs.declared.container.enums.ContainerAddFailure.TheVariants.{IsLocked as Locked};
 ghost use Rattle.steps.specs.declared.container.enums.ContainerRemoveError.TheVariants.{ContainerHandleNotOwnedByContainer as NotOwned};
-ghost use Rattle.model.specs.declared.event.Answer.TheVariants.{Number, Truth};
-ghost use Rattle.model.specs.declared.families.container.ContainerStart.TheVariants as starts;
 ghost use Rattle.model.specs.Families.Container.Calls.{removed, replaced};
 ghost use Rattle.model.specs.Families.Indices.Reading.{is_locked};
 ghost use Rattle.history.specs.ContainerLooks.{KeepsState};
 ghost use Rattle.lock_free_owners.specs.Robust.Contracts.{WasFilled, WasGranted, WasFreed, HasReleased, FoundLock};
 ghost use Rattle.lock_free_owners.specs.Container.Steps.{TakesFew, ContainerTakes, RemoveTakes};
 ghost use Rattle.lock_free_owners.specs.Container.Contracts.{placed, HasAdded, HasRemoved, HasReplaced, HasCounted};
-ghost use Rattle.lock_free_owners.specs.Container.Contracts.{HasTested, HasLooked, Answered, WasNotAdded};
-ghost use Rattle.lock_free_owners.specs.Container.Names.{view, history, code_of, container_of, capacity_of, IsPassOf, IsHandleFor, IsOwn, SamePass};
+ghost use Rattle.lock_free_owners.specs.Container.Contracts.{HasTested, HasLooked, WasNotAdded, IsRightLength};
+ghost use Rattle.lock_free_owners.specs.Container.Contracts.{IsRightLook, IsRightRemove, IsRightReplace, IsRightTest};
+ghost use Rattle.lock_free_owners.specs.Container.Names.{view, history, container_of, capacity_of, IsPassOf, IsHandleFor, IsOwn, SamePass};
 
 use super::counts::count_all;
 use super::drives::{Adds, HowMany, LooksLocked, Removes, Replaces, WhetherNone};
@@ -47,14 +46,14 @@ impl<T: Words> Container<T> {
         ensures same { SamePass pass.old pass.new }
         ensures keeps { KeepsState (view pass.old) (view pass.new) }
         ensures handle { IfOk result (IsHandleFor self.now owner) }
-        ensures added { HasAdded (code_of pass.old) (record { value = value; owner = owner }) (placed result)
+        ensures added { HasAdded (record { value = value; owner = owner }) (placed result)
             (view pass.old) (view pass.new) }
         ensures filled { IfOk result (λ h. WasFilled h.index owner (view pass.old) (view pass.new)) }
         ensures granted { IfOk result (λ h. WasGranted h.index owner (view pass.old) (view pass.new)) }
-        ensures refused { IfErr result (λ e. WasNotAdded (code_of pass.old) value owner e
+        ensures refused { IfErr result (λ e. WasNotAdded value owner e
             (view pass.old) (view pass.new)) }
         ensures lock { is_locked (history pass.old) ≡ true → result ≡ Err Locked }
-        ensures steps { ContainerTakes (code_of pass.old) (capacity_of self.now) (capacity_of self.now + 7 + T.WORDS) (capacity_of self.now + 1)
+        ensures steps { ContainerTakes (capacity_of self.now + 7 + T.WORDS) (capacity_of self.now + 1)
             (view pass.old) (view pass.new) }
     {
         let call = Add::new(pass.token.capacity);
@@ -94,13 +93,13 @@ impl<T: Words> Container<T> {
         ensures same { IsOwn self.now handle → SamePass pass.old pass.new }
         ensures keeps { IsOwn self.now handle → KeepsState (view pass.old) (view pass.new) }
         ensures own { OnOk result (IsOwn self.now handle) }
-        ensures removed { IsOwn self.now handle → HasRemoved (code_of pass.old)
+        ensures removed { IsOwn self.now handle → HasRemoved
             (record { index = handle.index; owner = handle.owner; mode = mode }) result (view pass.old) (view pass.new) }
         ensures freed { OnOk result (WasFreed handle.index handle.owner (view pass.old) (view pass.new)) }
-        ensures answered { IsOwn self.now handle → Answered (code_of pass.old)
-            (starts.Remove handle.index handle.owner mode) (removed result) (view pass.old) (view pass.new) }
+        ensures answered { IsOwn self.now handle → IsRightRemove
+            (record { index = handle.index; owner = handle.owner; mode = mode }) result (view pass.old) (view pass.new) }
         ensures released { IfOk result (λ s. HasReleased s mode (view pass.old) (view pass.new)) }
-        ensures steps { IsOwn self.now handle → RemoveTakes (code_of pass.old) (capacity_of self.now) mode
+        ensures steps { IsOwn self.now handle → RemoveTakes (capacity_of self.now) mode
             (view pass.old) (view pass.new) }
     {
         if handle.container != self.id || handle.index >= self.capacity {
@@ -136,11 +135,11 @@ impl<T: Words> Container<T> {
         ensures same { IsOwn self.now handle → SamePass pass.old pass.new }
         ensures keeps { IsOwn self.now handle → KeepsState (view pass.old) (view pass.new) }
         ensures own { OnOk result (IsOwn self.now handle) }
-        ensures replaced { IsOwn self.now handle → HasReplaced (code_of pass.old)
+        ensures replaced { IsOwn self.now handle → HasReplaced
             (record { index = handle.index; owner = handle.owner; value = value }) result
             (view pass.old) (view pass.new) }
-        ensures answered { IsOwn self.now handle → Answered (code_of pass.old)
-            (starts.Replace handle.index value handle.owner) (replaced result) (view pass.old) (view pass.new) }
+        ensures answered { IsOwn self.now handle → IsRightReplace
+            (record { index = handle.index; owner = handle.owner; value = value }) result (view pass.old) (view pass.new) }
         ensures steps { IsOwn self.now handle → TakesFew (5 + T.WORDS) (view pass.old) (view pass.new) }
     {
         if handle.container != self.id || handle.index >= self.capacity {
@@ -166,11 +165,11 @@ impl<T: Words> Container<T> {
         requires { IsPassOf self.now pass.old }
         ensures same { SamePass pass.old pass.new }
         ensures keeps { KeepsState (view pass.old) (view pass.new) }
-        ensures counted { HasCounted (code_of pass.old) result (view pass.old) (view pass.new) }
-        ensures answered { Answered (code_of pass.old) starts.Len (Number result) (view pass.old) (view pass.new) }
+        ensures counted { HasCounted result (view pass.old) (view pass.new) }
+        ensures answered { IsRightLength result (view pass.old) (view pass.new) }
         ensures most { result ≤ capacity_of self.now }
         ensures lock { is_locked (history pass.old) ≡ true → result ≡ 0 }
-        ensures steps { ContainerTakes (code_of pass.old) (capacity_of self.now) (capacity_of self.now + 2)
+        ensures steps { ContainerTakes (capacity_of self.now + 2)
             (capacity_of self.now + 2) (view pass.old) (view pass.new) }
     {
         count_all::<T, HowMany>(&mut pass.token.seated, rt, pass.token.capacity)
@@ -182,10 +181,10 @@ impl<T: Words> Container<T> {
         requires { IsPassOf self.now pass.old }
         ensures same { SamePass pass.old pass.new }
         ensures keeps { KeepsState (view pass.old) (view pass.new) }
-        ensures tested { HasTested (code_of pass.old) result (view pass.old) (view pass.new) }
-        ensures answered { Answered (code_of pass.old) starts.IsEmpty (Truth result) (view pass.old) (view pass.new) }
+        ensures tested { HasTested result (view pass.old) (view pass.new) }
+        ensures answered { IsRightTest result (view pass.old) (view pass.new) }
         ensures lock { is_locked (history pass.old) ≡ true → result ≡ true }
-        ensures steps { ContainerTakes (code_of pass.old) (capacity_of self.now) (capacity_of self.now + 2)
+        ensures steps { ContainerTakes (capacity_of self.now + 2)
             (capacity_of self.now + 2) (view pass.old) (view pass.new) }
     {
         count_all::<T, WhetherNone>(&mut pass.token.seated, rt, pass.token.capacity) == 0
@@ -197,8 +196,8 @@ impl<T: Words> Container<T> {
         requires { IsPassOf self.now pass.old }
         ensures same { SamePass pass.old pass.new }
         ensures keeps { KeepsState (view pass.old) (view pass.new) }
-        ensures looked { HasLooked (code_of pass.old) result (view pass.old) (view pass.new) }
-        ensures answered { Answered (code_of pass.old) starts.IsLocked (Truth result) (view pass.old) (view pass.new) }
+        ensures looked { HasLooked result (view pass.old) (view pass.new) }
+        ensures answered { IsRightLook result (view pass.old) (view pass.new) }
         ensures lock { FoundLock result (view pass.old) (view pass.new) }
         ensures steps { TakesFew 1 (view pass.old) (view pass.new) }
     {

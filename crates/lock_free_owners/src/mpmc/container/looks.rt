@@ -77,12 +77,12 @@ impl<T: Words> Container<T> {
         requires { IsPassOf self.now pass.old }
         ensures container { container_of pass.new ≡ container_of pass.old }
         ensures same { IfOk result (λ s. SamePass pass.old pass.new) }
-        ensures got { IfOk result (λ s. HasGotState (code_of pass.old) s (view pass.old) (view pass.new)) }
+        ensures got { IfOk result (λ s. HasGotState s (view pass.old) (view pass.new)) }
         ensures latest { IfOk result (IsLatestState pass.new) }
         ensures shows { IfOk result (λ s. ShowsCopied s.shown (view pass.new)) }
         ensures refused { IfErr result (λ e. view pass.new ≡ view pass.old) }
         ensures state { IfOk result (IsStateOf self.now) }
-        ensures steps { IfOk result (λ s. LookTakes (code_of pass.old) (capacity_of self.now) (view pass.old) (view pass.new)) }
+        ensures steps { IfOk result (λ s. LookTakes T.WORDS (capacity_of self.now) (view pass.old) (view pass.new)) }
     {
         let mut state = ContainerState::new(self.alloc, self.id, self.capacity)?;
         bring_up::<T, Brand>(&mut pass.token.seated, rt, &mut state, pass.token.capacity);
@@ -106,7 +106,7 @@ impl<T: Words> Container<T> {
         ensures container { container_of pass.new ≡ container_of pass.old }
         ensures same { IsLatestState pass.old state.old → SamePass pass.old pass.new }
         ensures updated { IsLatestState pass.old state.old
-            → HasUpdatedState (code_of pass.old) result (view pass.old) (view pass.new) }
+            → HasUpdatedState result (view pass.old) (view pass.new) }
         ensures met { IsLatestState pass.old state.old → HasMet result (view pass.old) (view pass.new) }
         ensures latest { IsLatestState pass.old state.old → IsLatestState pass.new state.new }
         ensures shows { IsLatestState pass.old state.old → ShowsCopied state.new.shown (view pass.new) }
@@ -114,7 +114,7 @@ impl<T: Words> Container<T> {
         ensures state { IsStateOf self.now state.new }
         ensures left { IsFalse result → IsLeft state.old state.new }
         ensures steps { IsLatestState pass.old state.old
-            → LookTakes (code_of pass.old) (capacity_of self.now) (view pass.old) (view pass.new) }
+            → LookTakes T.WORDS (capacity_of self.now) (view pass.old) (view pass.new) }
     {
         bring_up::<T, Brand>(&mut pass.token.seated, rt, state, pass.token.capacity)
     }

@@ -5,6 +5,7 @@ ghost use Rattle.model.specs.declared.turn.Kind.TheVariants as kinds;
 ghost use Rattle.history.specs.History.{Knows};
 ghost use Rattle.history.specs.Passes.{HasSplit};
 ghost use Rattle.history.specs.Steps.{TakesAtMost, JoinsWithin};
+ghost use Rattle.lock_free_owners.specs.Container.Idle.{IsIdle};
 ghost use Rattle.lock_free_owners.specs.Container.Names.{code_of, view, container_of, HasHistory, PassJoins};
 
 use super::Pass;
@@ -14,11 +15,12 @@ use history::plays::{Both, Cut};
 use steps::words::Words;
 
 impl<T: Words> Pass<T> {
-    /// What the pass has seen is the history of a run of the machine, whose turns it knows. It does nothing. This
-    /// project's own.
+    /// What the pass has seen is the history of a run of the machine, whose turns it knows. Its last call has ended, or
+    /// is a find that rests at its question. It does nothing. This project's own.
     pub fn history(&self)
         ensures run { Knows (code_of self.now) kinds.Container (container_of self.now).capacity (view self.now) }
         ensures history { HasHistory self.now }
+        ensures rests { IsIdle (view self.now) }
     {
         let _ = &self.token;
     }

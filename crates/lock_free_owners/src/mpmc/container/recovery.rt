@@ -7,8 +7,6 @@ ghost use Rattle.steps.specs.Container.Recover.{first_recover};
 ghost use Rattle.steps.specs.Copied.{value_in};
 ghost use Rattle.steps.specs.declared.ask.Op.TheVariants.{Load};
 ghost use Rattle.model.specs.Coding.{coding_of};
-ghost use Rattle.model.specs.declared.event.Answer.TheVariants.{State};
-ghost use Rattle.model.specs.declared.families.container.ContainerStart.TheVariants as starts;
 ghost use Rattle.model.specs.declared.turn.Kind.TheVariants as kinds;
 ghost use Rattle.model.specs.Families.Indices.Reading.{is_locked};
 ghost use Rattle.model.specs.Families.Queues.Calls.{fresh_cell};
@@ -23,9 +21,9 @@ ghost use Rattle.lock_free_owners.specs.Container.RecoverTurns.{IsRecovered, Rec
 ghost use Rattle.lock_free_owners.specs.Container.RecoverTurns.{RecoverTells, RecoverTurns, RecoverAsks, RecoverMoves};
 ghost use Rattle.lock_free_owners.specs.Container.RecoverTurns.{at_cell, RecoverPasses, HasPassed, IsWithin, PassesFrom};
 ghost use Rattle.lock_free_owners.specs.Container.Steps.{RecoverTakes};
-ghost use Rattle.lock_free_owners.specs.Container.Contracts.{Answered};
+ghost use Rattle.lock_free_owners.specs.Container.Contracts.{IsRightRecovery};
 ghost use Rattle.lock_free_owners.specs.Container.Turns.{IsBoard};
-ghost use Rattle.lock_free_owners.specs.Container.Names.{view, history, code_of, capacity_of, IsPassOf, SamePass};
+ghost use Rattle.lock_free_owners.specs.Container.Names.{view, history, capacity_of, IsPassOf, SamePass};
 
 use super::rule::Seat;
 use super::{Container, OwnerId, Pass};
@@ -272,13 +270,13 @@ impl<T: Words> Container<T> {
             (λ p x b q. F.step p x b q) (capacity_of self.now) predicate.old }
         ensures same { SamePass pass.old pass.new }
         ensures keeps { KeepsState (view pass.old) (view pass.new) }
-        ensures recovered { HasRecovered (code_of pass.old) (λ p x b q. F.step p x b q)
+        ensures recovered { HasRecovered (λ p x b q. F.step p x b q)
             (record { owner = owner; mode = mode }) result (capacity_of self.now) predicate.old predicate.new
             (view pass.old) (view pass.new) }
-        ensures answered { Answered (code_of pass.old) (starts.Recover owner mode) (State result)
+        ensures answered { IsRightRecovery (record { owner = owner; mode = mode }) result
             (view pass.old) (view pass.new) }
         ensures lock { FoundState result (view pass.old) (view pass.new) }
-        ensures steps { RecoverTakes (code_of pass.old) (capacity_of self.now) mode (view pass.old) (view pass.new) }
+        ensures steps { RecoverTakes T.WORDS (capacity_of self.now) mode (view pass.old) (view pass.new) }
     {
         free_all(
             &mut pass.token.seated,

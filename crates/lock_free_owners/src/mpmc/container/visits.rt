@@ -274,11 +274,11 @@ impl<T: Words> Container<T> {
         ensures goes { Goes (view pass.old) (view pass.new) }
         ensures keeps { KeepsState (view pass.old) (view pass.new) }
         ensures found { (visits : List (Visit T)) × (bound : ℕ)
-            × HasSearched (code_of pass.old) (capacity_of self.now) owner result bound visits
+            × HasSearched (capacity_of self.now) owner result bound visits
             (view pass.old) (view pass.new)
             × HasFound (λ p x h a q. F.step p x h a q) (capacity_of self.now)
             (IsHandleFor self.now owner) visit.old result bound visits visit.new }
-        ensures steps { FindTakes (code_of pass.old) (capacity_of self.now) (view pass.old) (view pass.new) }
+        ensures steps { FindTakes T.WORDS (capacity_of self.now) (view pass.old) (view pass.new) }
     {
         find_all(
             &mut pass.token.seated,

@@ -1,14 +1,11 @@
 //! The calls on a set by a pass that ask nothing of their caller. No contract says that an index taken is the lowest.
 ghost use Rattle.std.specs.Prelude.{◌≡◌, ◌+◌, ◌<◌, ◌≤◌, true, Ok, Err, IfOk, IfErr, OnOk};
 ghost use Rattle.steps.specs.declared.indices.enums.UniqueIndexSetAcquireFailure.TheVariants.{IsLocked as Locked};
-ghost use Rattle.model.specs.declared.event.Answer.TheVariants.{Number, Truth};
-ghost use Rattle.model.specs.declared.families.indices.robust.RobustStart.TheVariants as starts;
 ghost use Rattle.model.specs.Families.Indices.Reading.{is_locked};
-ghost use Rattle.model.specs.Families.Indices.Robust.Calls.{release_answer};
-ghost use Rattle.history.specs.Steps.{TakesAtMost};
-ghost use Rattle.lock_free_owners.specs.Robust.Steps.{SetTakes, ReleaseTakes};
+ghost use Rattle.history.specs.Steps.{TakesAtMost, TakesAlone};
+ghost use Rattle.lock_free_owners.specs.Robust.Steps.{ReleaseTakes};
 ghost use Rattle.lock_free_owners.specs.Robust.Contracts.{HasTaken, HasGiven, HasCounted, HasLooked, WasFilled, WasGranted};
-ghost use Rattle.lock_free_owners.specs.Robust.Contracts.{WasFreed, WasRefused, Answered, HasReleased, FoundLock};
+ghost use Rattle.lock_free_owners.specs.Robust.Contracts.{WasFreed, WasRefused, HasReleased, FoundLock, IsRightCount, IsRightLook, IsRightRelease};
 ghost use Rattle.lock_free_owners.specs.RobustUniqueIndexSet.{view, history, capacity_of, IsPassOf, SamePass};
 
 use super::acquires::acquire_all;
@@ -43,7 +40,7 @@ impl RobustUniqueIndexSet {
         ensures granted { IfOk result (λ index. WasGranted index owner (view pass.old) (view pass.new)) }
         ensures refused { IfErr result (λ e. WasRefused owner e (view pass.old) (view pass.new)) }
         ensures lock { is_locked (history pass.old) ≡ true → result ≡ Err Locked }
-        ensures steps { SetTakes (capacity_of self.now) (capacity_of self.now + 3) (capacity_of self.now + 1)
+        ensures steps { TakesAlone (capacity_of self.now + 3) (capacity_of self.now + 1)
             (view pass.old) (view pass.new) }
     {
         match acquire_all(&mut pass.seated, rt, pass.capacity, owner) {
@@ -73,7 +70,7 @@ impl RobustUniqueIndexSet {
         ensures given { HasGiven (record { index = index; owner = owner; mode = mode }) result
             (view pass.old) (view pass.new) }
         ensures freed { OnOk result (WasFreed index owner (view pass.old) (view pass.new)) }
-        ensures answered { Answered (starts.Release index owner mode) (release_answer result)
+        ensures answered { IsRightRelease index owner mode result
             (view pass.old) (view pass.new) }
         ensures released { IfOk result (λ s. HasReleased s mode (view pass.old) (view pass.new)) }
         ensures steps { ReleaseTakes (capacity_of self.now) mode (view pass.old) (view pass.new) }
@@ -97,10 +94,10 @@ impl RobustUniqueIndexSet {
         requires { IsPassOf self.now pass.old }
         ensures same { SamePass pass.old pass.new }
         ensures counted { HasCounted result (view pass.old) (view pass.new) }
-        ensures answered { Answered starts.BorrowedIndices (Number result) (view pass.old) (view pass.new) }
+        ensures answered { IsRightCount result (view pass.old) (view pass.new) }
         ensures most { result ≤ capacity_of self.now }
         ensures lock { is_locked (history pass.old) ≡ true → result ≡ 0 }
-        ensures steps { SetTakes (capacity_of self.now) (capacity_of self.now + 2) (capacity_of self.now + 2)
+        ensures steps { TakesAlone (capacity_of self.now + 2) (capacity_of self.now + 2)
             (view pass.old) (view pass.new) }
     {
         count_all(&mut pass.seated, rt, pass.capacity)
@@ -112,7 +109,7 @@ impl RobustUniqueIndexSet {
         requires { IsPassOf self.now pass.old }
         ensures same { SamePass pass.old pass.new }
         ensures looked { HasLooked result (view pass.old) (view pass.new) }
-        ensures answered { Answered starts.IsLocked (Truth result) (view pass.old) (view pass.new) }
+        ensures answered { IsRightLook result (view pass.old) (view pass.new) }
         ensures lock { FoundLock result (view pass.old) (view pass.new) }
         ensures steps { TakesAtMost 1 (view pass.old) (view pass.new) }
     {

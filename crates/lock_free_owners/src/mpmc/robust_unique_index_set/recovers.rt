@@ -4,15 +4,13 @@
 //! was freed. Its questions, answers and frees stand in the history.
 ghost use Rattle.std.specs.Prelude.{◌≡◌, ℕ, false, None, List, [], IsTrue, IsFalse};
 ghost use Rattle.steps.specs.Indices.Robust.Recover.{first_recover, recover_after};
-ghost use Rattle.model.specs.declared.event.Answer.TheVariants.{State};
-ghost use Rattle.model.specs.declared.families.indices.robust.RobustStart.TheVariants as starts;
 ghost use Rattle.model.specs.Families.Indices.Reading.{is_locked};
 ghost use Rattle.history.specs.Robust.{Visit};
 ghost use Rattle.threaded.specs.Seats.{seen, IsSame};
 ghost use Rattle.lock_free_owners.specs.Robust.Callable.{TakesQuestions, TakesFreed, HasVisited};
 ghost use Rattle.lock_free_owners.specs.Robust.Stages.{LooksAgain, RecoverAsks, RecoverMoves, has_freed};
 ghost use Rattle.lock_free_owners.specs.Robust.Steps.{RecoverTakes};
-ghost use Rattle.lock_free_owners.specs.Robust.Contracts.{HasRecovered, Answered, FoundState};
+ghost use Rattle.lock_free_owners.specs.Robust.Contracts.{HasRecovered, FoundState, IsRightRecovery};
 ghost use Rattle.lock_free_owners.specs.Robust.Turns.{IsBoard, RecoverAt, RecoverEnds, RecoverStands, RecoverGoes, RecoverSteps};
 ghost use Rattle.lock_free_owners.specs.RobustUniqueIndexSet.{view, history, capacity_of, IsPassOf, SamePass};
 
@@ -209,7 +207,7 @@ impl RobustUniqueIndexSet {
         ensures same { SamePass pass.old pass.new }
         ensures recovered { HasRecovered (λ p o i b q. F.step p o i b q) (λ s o i t. S.step s o i tt t) mode result
             predicate.old recover_success.old predicate.new recover_success.new (view pass.old) (view pass.new) }
-        ensures answered { Answered (starts.Recover mode) (State result) (view pass.old) (view pass.new) }
+        ensures answered { IsRightRecovery mode result (view pass.old) (view pass.new) }
         ensures lock { FoundState result (view pass.old) (view pass.new) }
         ensures steps { RecoverTakes (capacity_of self.now) mode (view pass.old) (view pass.new) }
     {

@@ -5,8 +5,6 @@
 ghost use Rattle.std.specs.Prelude.{◌≡◌, IfOk, IfErr};
 ghost use Rattle.steps.specs.declared.enums.UniqueIndexCreationError.TheVariants.{NoMemory};
 ghost use Rattle.model.specs.declared.event.Item.TheVariants.{Index};
-ghost use Rattle.model.specs.declared.turn.Kind.TheVariants as kinds;
-ghost use Rattle.model.specs.Coding.{one_word};
 ghost use Rattle.lock_free_queues.specs.Queues.Calls.{capacity_of, inner, view, IsPassOf};
 ghost use Rattle.lock_free_queues.specs.Queues.Closes.{Closes, IsWhatWaits};
 
@@ -26,8 +24,7 @@ impl IndexQueue {
     pub fn close(self, pass: Pass) -> Result<List, UniqueIndexCreationError>
         requires { IsPassOf self pass }
         ensures list { IfOk result (λ q. Closes Index (capacity_of self) (view pass) q) }
-        ensures waits { IfOk result (λ q. IsWhatWaits one_word kinds.IndexQueue Index (capacity_of self)
-            (view pass) q) }
+        ensures waits { IfOk result (λ q. IsWhatWaits Index pass q) }
         ensures refused { IfErr result (λ e. e ≡ NoMemory) }
     {
         let words = self.last_words(pass, FIRST_CELL + self.capacity as usize)?;
@@ -40,7 +37,7 @@ impl<const CAPACITY: usize> FixedSizeIndexQueue<CAPACITY> {
     pub fn close(self, pass: Pass) -> Result<List, UniqueIndexCreationError>
         requires { IsPassOf (inner self) pass }
         ensures list { IfOk result (λ q. Closes Index CAPACITY (view pass) q) }
-        ensures waits { IfOk result (λ q. IsWhatWaits one_word kinds.IndexQueue Index CAPACITY (view pass) q) }
+        ensures waits { IfOk result (λ q. IsWhatWaits Index pass q) }
         ensures refused { IfErr result (λ e. e ≡ NoMemory) }
     {
         self.into_ring().close(pass)

@@ -5,8 +5,6 @@
 ghost use Rattle.std.specs.Prelude.{◌≡◌, IfOk, IfErr};
 ghost use Rattle.steps.specs.declared.enums.UniqueIndexCreationError.TheVariants.{NoMemory};
 ghost use Rattle.model.specs.declared.event.Item.TheVariants.{Value};
-ghost use Rattle.model.specs.declared.turn.Kind.TheVariants as kinds;
-ghost use Rattle.model.specs.Coding.{coding_of};
 ghost use Rattle.lock_free_queues.specs.Queues.Values.{capacity_of, inner, view, IsPassOf};
 ghost use Rattle.lock_free_queues.specs.Queues.Closes.{Closes, IsWhatWaits};
 
@@ -27,8 +25,7 @@ impl<T: Words> Ring<T> {
     pub fn close(self, pass: Pass<T>) -> Result<List<T>, UniqueIndexCreationError>
         requires { IsPassOf self pass }
         ensures list { IfOk result (λ q. Closes Value (capacity_of self) (view pass) q) }
-        ensures waits { IfOk result (λ q. IsWhatWaits (coding_of T.WORDS T.words_of T.value_of) kinds.Queue Value
-            (capacity_of self) (view pass) q) }
+        ensures waits { IfOk result (λ q. IsWhatWaits Value pass q) }
         ensures refused { IfErr result (λ e. e ≡ NoMemory) }
     {
         let count = FIRST_CELL + T::WORDS * self.capacity as usize;
@@ -42,8 +39,7 @@ impl<T: Words, const CAPACITY: usize> Queue<T, CAPACITY> {
     pub fn close(self, pass: Pass<T>) -> Result<List<T>, UniqueIndexCreationError>
         requires { IsPassOf (inner self) pass }
         ensures list { IfOk result (λ q. Closes Value CAPACITY (view pass) q) }
-        ensures waits { IfOk result (λ q. IsWhatWaits (coding_of T.WORDS T.words_of T.value_of) kinds.Queue Value
-            CAPACITY (view pass) q) }
+        ensures waits { IfOk result (λ q. IsWhatWaits Value pass q) }
         ensures refused { IfErr result (λ e. e ≡ NoMemory) }
     {
         self.into_ring().close(pass)

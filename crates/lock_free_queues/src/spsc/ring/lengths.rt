@@ -3,13 +3,11 @@ ghost use Rattle.std.specs.Prelude.{◌≡◌, ◌≤◌};
 ghost use Rattle.steps.specs.declared.queues.roles.Role.{Role};
 ghost use Rattle.model.specs.declared.event.Answer.TheVariants.{Number, Truth};
 ghost use Rattle.model.specs.declared.families.queues.calls.LengthOf.TheVariants as measures;
-ghost use Rattle.model.specs.Coding.{coding_of};
 ghost use Rattle.model.specs.Families.Queues.Calls.{length_answer};
 ghost use Rattle.history.specs.Steps.{TakesAlone};
-ghost use Rattle.lock_free_queues.specs.Queues.Bounded.{machine_kind};
 ghost use Rattle.lock_free_queues.specs.Queues.Kinds.{most_waiting};
 ghost use Rattle.lock_free_queues.specs.Queues.Roles.{Moved};
-ghost use Rattle.lock_free_queues.specs.Queues.Rings.{capacity_of, token_queue, token_view, queue_of, view};
+ghost use Rattle.lock_free_queues.specs.Queues.Rings.{capacity_of, token_queue, token_view, view};
 ghost use Rattle.lock_free_queues.specs.Queues.Rings.{producer_queue, producer_view, consumer_queue, consumer_view};
 ghost use Rattle.lock_free_queues.specs.Queues.Rings.{IsPassOf, IsSameQueue, SamePass, SameProducer, SameConsumer};
 ghost use Rattle.lock_free_queues.specs.Queues.Contracts.{HasMeasured};
@@ -28,9 +26,7 @@ impl<E: Kind, T: Words> Held<E, T, RingRule<E, T>> {
         ensures measured { HasMeasured W.WHICH (token_queue self.old).capacity
             (length_answer W.WHICH (token_queue self.old).capacity result) (token_view self.old) (token_view self.new) }
         ensures few { W.WHICH ≡ measures.Len → result ≤ most_waiting E.KIND (token_queue self.old).capacity }
-        ensures steps { TakesAlone (coding_of T.WORDS T.words_of T.value_of) (machine_kind E.KIND)
-            (token_queue self.old).capacity 4 4
-            (token_view self.old) (token_view self.new) }
+        ensures steps { TakesAlone 4 4 (token_view self.old) (token_view self.new) }
         ensures roles { (r : Role) → Moved r 0 0 (token_view self.old).made (token_view self.new).made }
     {
         let call = Len::new(self.capacity);
@@ -44,9 +40,7 @@ impl<E: Kind, T: Words> Held<E, T, RingRule<E, T>> {
         ensures counted { HasMeasured measures.Len (token_queue self.old).capacity (Number result)
             (token_view self.old) (token_view self.new) }
         ensures few { result ≤ most_waiting E.KIND (token_queue self.old).capacity }
-        ensures steps { TakesAlone (coding_of T.WORDS T.words_of T.value_of) (machine_kind E.KIND)
-            (token_queue self.old).capacity 4 4
-            (token_view self.old) (token_view self.new) }
+        ensures steps { TakesAlone 4 4 (token_view self.old) (token_view self.new) }
         ensures roles { (r : Role) → Moved r 0 0 (token_view self.old).made (token_view self.new).made }
     {
         self.measure::<Length>(rt)
@@ -57,9 +51,7 @@ impl<E: Kind, T: Words> Held<E, T, RingRule<E, T>> {
         ensures same { IsSameQueue self.old self.new }
         ensures measured { HasMeasured measures.IsEmpty (token_queue self.old).capacity (Truth result)
             (token_view self.old) (token_view self.new) }
-        ensures steps { TakesAlone (coding_of T.WORDS T.words_of T.value_of) (machine_kind E.KIND)
-            (token_queue self.old).capacity 4 4
-            (token_view self.old) (token_view self.new) }
+        ensures steps { TakesAlone 4 4 (token_view self.old) (token_view self.new) }
         ensures roles { (r : Role) → Moved r 0 0 (token_view self.old).made (token_view self.new).made }
     {
         self.measure::<Emptiness>(rt) == 0
@@ -70,9 +62,7 @@ impl<E: Kind, T: Words> Held<E, T, RingRule<E, T>> {
         ensures same { IsSameQueue self.old self.new }
         ensures measured { HasMeasured measures.IsFull (token_queue self.old).capacity (Truth result)
             (token_view self.old) (token_view self.new) }
-        ensures steps { TakesAlone (coding_of T.WORDS T.words_of T.value_of) (machine_kind E.KIND)
-            (token_queue self.old).capacity 4 4
-            (token_view self.old) (token_view self.new) }
+        ensures steps { TakesAlone 4 4 (token_view self.old) (token_view self.new) }
         ensures roles { (r : Role) → Moved r 0 0 (token_view self.old).made (token_view self.new).made }
     {
         self.measure::<Fullness>(rt) == self.capacity as u64
@@ -89,9 +79,7 @@ impl<E: Kind, T: Words> Ring<E, T> {
         ensures counted { HasMeasured measures.Len (capacity_of self.now) (Number result)
             (view pass.old) (view pass.new) }
         ensures few { result ≤ most_waiting E.KIND (capacity_of self.now) }
-        ensures steps { TakesAlone (coding_of T.WORDS T.words_of T.value_of) (machine_kind E.KIND)
-            (queue_of pass.old).capacity 4 4
-            (view pass.old) (view pass.new) }
+        ensures steps { TakesAlone 4 4 (view pass.old) (view pass.new) }
     {
         pass.token.len(rt) as usize
     }
@@ -103,9 +91,7 @@ impl<E: Kind, T: Words> Ring<E, T> {
         ensures same { SamePass pass.old pass.new }
         ensures measured { HasMeasured measures.IsEmpty (capacity_of self.now) (Truth result)
             (view pass.old) (view pass.new) }
-        ensures steps { TakesAlone (coding_of T.WORDS T.words_of T.value_of) (machine_kind E.KIND)
-            (queue_of pass.old).capacity 4 4
-            (view pass.old) (view pass.new) }
+        ensures steps { TakesAlone 4 4 (view pass.old) (view pass.new) }
     {
         pass.token.is_empty(rt)
     }
@@ -117,9 +103,7 @@ impl<E: Kind, T: Words> Ring<E, T> {
         ensures same { SamePass pass.old pass.new }
         ensures measured { HasMeasured measures.IsFull (capacity_of self.now) (Truth result)
             (view pass.old) (view pass.new) }
-        ensures steps { TakesAlone (coding_of T.WORDS T.words_of T.value_of) (machine_kind E.KIND)
-            (queue_of pass.old).capacity 4 4
-            (view pass.old) (view pass.new) }
+        ensures steps { TakesAlone 4 4 (view pass.old) (view pass.new) }
     {
         pass.token.is_full(rt)
     }
@@ -139,9 +123,7 @@ impl<'a, E: Kind, T: Words> Producer<'a, E, T> {
         ensures counted { HasMeasured measures.Len (producer_queue self.old).capacity (Number result)
             (producer_view self.old) (producer_view self.new) }
         ensures few { result ≤ most_waiting E.KIND (producer_queue self.old).capacity }
-        ensures steps { TakesAlone (coding_of T.WORDS T.words_of T.value_of) (machine_kind E.KIND)
-            (producer_queue self.old).capacity 4 4
-            (producer_view self.old) (producer_view self.new) }
+        ensures steps { TakesAlone 4 4 (producer_view self.old) (producer_view self.new) }
     {
         self.token.len(rt) as usize
     }
@@ -151,9 +133,7 @@ impl<'a, E: Kind, T: Words> Producer<'a, E, T> {
         ensures same { SameProducer self.old self.new }
         ensures measured { HasMeasured measures.IsEmpty (producer_queue self.old).capacity (Truth result)
             (producer_view self.old) (producer_view self.new) }
-        ensures steps { TakesAlone (coding_of T.WORDS T.words_of T.value_of) (machine_kind E.KIND)
-            (producer_queue self.old).capacity 4 4
-            (producer_view self.old) (producer_view self.new) }
+        ensures steps { TakesAlone 4 4 (producer_view self.old) (producer_view self.new) }
     {
         self.token.is_empty(rt)
     }
@@ -163,9 +143,7 @@ impl<'a, E: Kind, T: Words> Producer<'a, E, T> {
         ensures same { SameProducer self.old self.new }
         ensures measured { HasMeasured measures.IsFull (producer_queue self.old).capacity (Truth result)
             (producer_view self.old) (producer_view self.new) }
-        ensures steps { TakesAlone (coding_of T.WORDS T.words_of T.value_of) (machine_kind E.KIND)
-            (producer_queue self.old).capacity 4 4
-            (producer_view self.old) (producer_view self.new) }
+        ensures steps { TakesAlone 4 4 (producer_view self.old) (producer_view self.new) }
     {
         self.token.is_full(rt)
     }
@@ -185,9 +163,7 @@ impl<'a, E: Kind, T: Words> Consumer<'a, E, T> {
         ensures counted { HasMeasured measures.Len (consumer_queue self.old).capacity (Number result)
             (consumer_view self.old) (consumer_view self.new) }
         ensures few { result ≤ most_waiting E.KIND (consumer_queue self.old).capacity }
-        ensures steps { TakesAlone (coding_of T.WORDS T.words_of T.value_of) (machine_kind E.KIND)
-            (consumer_queue self.old).capacity 4 4
-            (consumer_view self.old) (consumer_view self.new) }
+        ensures steps { TakesAlone 4 4 (consumer_view self.old) (consumer_view self.new) }
     {
         self.token.len(rt) as usize
     }
@@ -197,9 +173,7 @@ impl<'a, E: Kind, T: Words> Consumer<'a, E, T> {
         ensures same { SameConsumer self.old self.new }
         ensures measured { HasMeasured measures.IsEmpty (consumer_queue self.old).capacity (Truth result)
             (consumer_view self.old) (consumer_view self.new) }
-        ensures steps { TakesAlone (coding_of T.WORDS T.words_of T.value_of) (machine_kind E.KIND)
-            (consumer_queue self.old).capacity 4 4
-            (consumer_view self.old) (consumer_view self.new) }
+        ensures steps { TakesAlone 4 4 (consumer_view self.old) (consumer_view self.new) }
     {
         self.token.is_empty(rt)
     }
@@ -209,9 +183,7 @@ impl<'a, E: Kind, T: Words> Consumer<'a, E, T> {
         ensures same { SameConsumer self.old self.new }
         ensures measured { HasMeasured measures.IsFull (consumer_queue self.old).capacity (Truth result)
             (consumer_view self.old) (consumer_view self.new) }
-        ensures steps { TakesAlone (coding_of T.WORDS T.words_of T.value_of) (machine_kind E.KIND)
-            (consumer_queue self.old).capacity 4 4
-            (consumer_view self.old) (consumer_view self.new) }
+        ensures steps { TakesAlone 4 4 (consumer_view self.old) (consumer_view self.new) }
     {
         self.token.is_full(rt)
     }

@@ -6,7 +6,7 @@ ghost use Rattle.lock_free_queues.specs.Queues.Bounded.{machine_kind};
 ghost use Rattle.lock_free_queues.specs.Queues.Rings.{HasHistory, code_of};
 ghost use Rattle.lock_free_queues.specs.Queues.Rings.{token_queue, token_view, queue_of, view, producer_queue};
 ghost use Rattle.lock_free_queues.specs.Queues.Rings.{producer_view, consumer_queue, consumer_view};
-ghost use Rattle.lock_free_queues.specs.Queues.Rings.{IsSameQueue, SamePass, Joins, PassJoins, ProducerJoins, ConsumerJoins};
+ghost use Rattle.lock_free_queues.specs.Queues.Rings.{IsSameQueue, SamePass, Joins, PassJoins, ProducerJoins, ConsumerJoins, EachKnows};
 ghost use Rattle.lock_free_queues.specs.Queues.Contracts.{HasSplit, HasLooked};
 
 use super::rule::{Kind, RingRule};
@@ -61,9 +61,11 @@ impl<E: Kind, T: Words> Held<E, T, RingRule<E, T>> {
 }
 
 impl<E: Kind, T: Words> Pass<E, T> {
-    /// What the pass has seen is the history of a run of the machine, whose turns it knows. It does nothing. This
+    /// What the pass has seen is the history of a run of the machine, whose turns it knows (`run`, `history`). So it is of
+    /// each pass of such queues, and of a pass as it stood before (`each`), of which `close` tells. It does nothing. This
     /// project's own.
     pub fn history(&self)
+        ensures each { EachKnows self.now }
         ensures run { Knows (code_of self.now.token) (machine_kind E.KIND) (queue_of self.now).capacity (view self.now) }
         ensures history { HasHistory (code_of self.now.token) E.KIND (queue_of self.now).capacity (view self.now) }
     {

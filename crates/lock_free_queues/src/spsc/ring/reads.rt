@@ -4,8 +4,8 @@ ghost use Rattle.steps.specs.declared.enums.UniqueIndexCreationError.TheVariants
 ghost use Rattle.model.specs.Coding.{coding_of};
 ghost use Rattle.lock_free_queues.specs.Queues.Bounded.{machine_kind};
 ghost use Rattle.lock_free_queues.specs.Queues.Kinds.{words_in_cells};
-ghost use Rattle.lock_free_queues.specs.Queues.Rings.{capacity_of, token_queue, token_view, view, IsPassOf, MissesNothing};
-ghost use Rattle.lock_free_queues.specs.Queues.Reads.{WasRead, CellsRead, HasRead, LastWords};
+ghost use Rattle.lock_free_queues.specs.Queues.Rings.{capacity_of, token_queue, token_view, IsPassOf, MissesNothing};
+ghost use Rattle.lock_free_queues.specs.Queues.Reads.{WasRead, CellsRead, HasRead, LastSeen};
 
 use super::rule::{Kind, RingRule};
 use super::{Held, Pass, Ring};
@@ -17,7 +17,7 @@ use steps::words::Words;
 
 impl<E: Kind, T: Words> Held<E, T, RingRule<E, T>> {
     /// Loads one word, which shows the whole history as it stands there.
-    pub fn read(&mut self, word: usize) -> u64
+    pub(crate) fn read(&mut self, word: usize) -> u64
         requires { word < 4 + words_in_cells T.WORDS E.KIND (token_queue self.old).capacity }
         ensures queue { token_queue self.new ≡ token_queue self.old }
         ensures fits { result < 2 ^ 64 }
@@ -33,7 +33,7 @@ impl<E: Kind, T: Words> Held<E, T, RingRule<E, T>> {
     }
 
     /// Loads each word of the cells into its place: one load for each.
-    pub fn read_cells(&mut self, words: &mut Vec<u64>)
+    pub(crate) fn read_cells(&mut self, words: &mut Vec<u64>)
         requires long { length words.old.items ≡ 4 + words_in_cells T.WORDS E.KIND (token_queue self.old).capacity }
         requires all { MissesNothing (token_view self.old) }
         ensures queue { token_queue self.new ≡ token_queue self.old }
@@ -52,11 +52,9 @@ impl<E: Kind, T: Words> Held<E, T, RingRule<E, T>> {
     /// Returns the words, `count` of them, of the list that the queue is in the end. It takes three loads, and one for
     /// each word of the cells. If something was published between the first load and the last, it loads all but the
     /// first again.
-    pub fn last_words(&mut self, alloc: Global, count: usize) -> Result<Vec<u64>, AllocError>
+    pub(crate) fn last_words(&mut self, alloc: Global, count: usize) -> Result<Vec<u64>, AllocError>
         requires { count ≡ 4 + words_in_cells T.WORDS E.KIND (token_queue self.old).capacity }
-        ensures { IfOk result (λ words. LastWords (coding_of T.WORDS T.words_of T.value_of) (machine_kind E.KIND)
-            (words_in_cells T.WORDS E.KIND (token_queue self.old).capacity) (token_queue self.old).capacity
-            (token_view self.old) words.items) }
+        ensures { IfOk result (λ words. LastSeen (token_queue self.old).capacity self.old words.items) }
     {
         let mut words = Vec::from_elem(alloc, 0u64, count)?;
         words[PRODUCER] = 1;
@@ -85,8 +83,7 @@ impl<E: Kind, T: Words> Ring<E, T> {
     ) -> Result<Vec<u64>, UniqueIndexCreationError>
         requires pass { IsPassOf self.now pass }
         requires count { count ≡ 4 + words_in_cells T.WORDS E.KIND (capacity_of self.now) }
-        ensures words { IfOk result (λ words. LastWords (coding_of T.WORDS T.words_of T.value_of) (machine_kind E.KIND)
-            (words_in_cells T.WORDS E.KIND (capacity_of self.now)) (capacity_of self.now) (view pass) words.items) }
+        ensures words { IfOk result (λ words. LastSeen (capacity_of self.now) pass.token words.items) }
         ensures refused { IfErr result (λ e. e ≡ NoMemory) }
     {
         let mut token = pass.into_token();

@@ -3,11 +3,9 @@ ghost use Rattle.std.specs.Prelude.{◌≡◌, ◌⊎◌, ◌<◌, IfSome, IfNon
 ghost use Rattle.steps.specs.declared.queues.roles.Role.{Role};
 ghost use Rattle.steps.specs.declared.queues.roles.Role.TheVariants as roles;
 ghost use Rattle.model.specs.declared.event.Item.TheVariants.{Index};
-ghost use Rattle.model.specs.declared.turn.Kind.TheVariants as kinds;
-ghost use Rattle.model.specs.Coding.{one_word};
 ghost use Rattle.history.specs.Roles.{HasRole};
 ghost use Rattle.history.specs.Steps.{TakesAtMost, TakesAlone};
-ghost use Rattle.lock_free_queues.specs.Queues.Overflowing.{token_queue, token_view, IsSameQueue, PushAdded, PushReplaced};
+ghost use Rattle.lock_free_queues.specs.Queues.Overflowing.{token_view, IsSameQueue, PushAdded, PushReplaced};
 ghost use Rattle.lock_free_queues.specs.Queues.Roles.{Moved};
 ghost use Rattle.lock_free_queues.specs.Queues.Contracts.{WasAtEnd, PopOldest, PopFoundNone};
 
@@ -47,8 +45,7 @@ impl Held<Overflowing, u64, RingRule<Overflowing, u64>> {
         ensures popped { IfSome result (λ x. PopOldest (Index x) (token_view self.old) (token_view self.new)) }
         ensures empty { IfNone result (PopFoundNone (token_view self.old) (token_view self.new)) }
         ensures roles { (r : Role) → Moved r 0 0 (token_view self.old).made (token_view self.new).made }
-        ensures steps { TakesAlone one_word kinds.Overflow (token_queue self.old).capacity 4 2 (token_view self.old)
-            (token_view self.new) }
+        ensures steps { TakesAlone 4 2 (token_view self.old) (token_view self.new) }
     {
         let mut room = OneWord(0);
         let call = Pop::new(self.capacity);

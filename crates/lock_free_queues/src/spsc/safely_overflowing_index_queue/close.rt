@@ -24,7 +24,7 @@ impl SafelyOverflowingIndexQueue {
     pub fn close(self, pass: Pass) -> Result<List, UniqueIndexCreationError>
         requires { IsPassOf self pass }
         ensures list { IfOk result (λ q. Closes Index (capacity_of self) (view pass) q) }
-        ensures waits { IfOk result (λ q. IsNewestThatWaits (capacity_of self) (view pass) q) }
+        ensures waits { IfOk result (λ q. IsNewestThatWaits (capacity_of self) pass q) }
         ensures refused { IfErr result (λ e. e ≡ NoMemory) }
     {
         let capacity = self.capacity;
@@ -43,7 +43,7 @@ impl<const CAPACITY: usize> FixedSizeSafelyOverflowingIndexQueue<CAPACITY> {
     pub fn close(self, pass: Pass) -> Result<List, UniqueIndexCreationError>
         requires { IsPassOf (inner self) pass }
         ensures list { IfOk result (λ q. Closes Index CAPACITY (view pass) q) }
-        ensures waits { IfOk result (λ q. IsNewestThatWaits CAPACITY (view pass) q) }
+        ensures waits { IfOk result (λ q. IsNewestThatWaits CAPACITY pass q) }
         ensures refused { IfErr result (λ e. e ≡ NoMemory) }
     {
         self.into_ring().close(pass)

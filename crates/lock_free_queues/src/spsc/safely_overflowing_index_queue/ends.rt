@@ -1,8 +1,6 @@
 //! The calls of those that have a role. Without capacity no step is taken, and nothing changes.
 ghost use Rattle.std.specs.Prelude.{◌≡◌, ◌<◌, Some, None, IfSome, IfNone};
 ghost use Rattle.model.specs.declared.event.Item.TheVariants.{Index};
-ghost use Rattle.model.specs.declared.turn.Kind.TheVariants as kinds;
-ghost use Rattle.model.specs.Coding.{one_word};
 ghost use Rattle.history.specs.Steps.{TakesAtMost, TakesAlone};
 ghost use Rattle.lock_free_queues.specs.Queues.Overflowing.{producer_queue, producer_view, consumer_queue, consumer_view};
 ghost use Rattle.lock_free_queues.specs.Queues.Overflowing.{PushAdded, PushHandedBack, SameProducerByCapacity, SameConsumerByCapacity};
@@ -40,8 +38,7 @@ impl<'a> Consumer<'a> {
         ensures empty { 0 < (consumer_queue self.old).capacity
             → IfNone result (PopFoundNone (consumer_view self.old) (consumer_view self.new)) }
         ensures none { (consumer_queue self.old).capacity ≡ 0 → result ≡ None }
-        ensures steps { 0 < (consumer_queue self.old).capacity → TakesAlone one_word kinds.Overflow
-            (consumer_queue self.old).capacity 4 2 (consumer_view self.old) (consumer_view self.new) }
+        ensures steps { 0 < (consumer_queue self.old).capacity → TakesAlone 4 2 (consumer_view self.old) (consumer_view self.new) }
     {
         if self.token.capacity == 0 {
             None

@@ -1,9 +1,7 @@
 //! The calls of an unrestricted atomic value.
-ghost use Rattle.std.specs.Prelude.{◌≡◌, ◌+◌, true, false, IsTrue, IsFalse, IfOk, IfErr};
+ghost use Rattle.std.specs.Prelude.{◌+◌, true, false, IsTrue, IsFalse, IfOk, IfErr};
 ghost use Rattle.lock_free_value.specs.Calls.{view, IsPassOf, producer_view, WasAtEnd};
 ghost use Rattle.lock_free_value.specs.Calls.{SamePass, SameProducer, ToProducer, FromProducer};
-ghost use Rattle.model.specs.Coding.{coding_of};
-ghost use Rattle.model.specs.declared.turn.Kind.TheVariants as kinds;
 ghost use Rattle.history.specs.Steps.{TakesAtMost, TakesAlone};
 ghost use Rattle.lock_free_value.specs.ValueContracts.{HasAcquired, HasReleased, HasStored, HasLoaded};
 
@@ -38,8 +36,7 @@ impl<T: Words> UnrestrictedAtomic<T> {
         requires { IsPassOf self.now pass.old }
         ensures same { SamePass pass.old pass.new }
         ensures loaded { HasLoaded result (view pass.old) (view pass.new) }
-        ensures steps { TakesAlone (coding_of T.WORDS T.words_of T.value_of) kinds.Atomic 1 (2 + T.WORDS) (1 + T.WORDS)
-            (view pass.old) (view pass.new) }
+        ensures steps { TakesAlone (2 + T.WORDS) (1 + T.WORDS) (view pass.old) (view pass.new) }
     {
         pass.token.load(rt)
     }

@@ -1,6 +1,5 @@
 //! The load at a seat, by way of a room. The loads of a cell have a loop of their own.
 ghost use Rattle.std.specs.Prelude.{◌≡◌, ◌≤◌, ◌+◌, ℕ, replicate};
-ghost use Rattle.model.specs.declared.turn.Kind.TheVariants as kinds;
 ghost use Rattle.history.specs.Steps.{TakesAlone};
 ghost use Rattle.steps.specs.Atomic.{at_load, first_load, load_after};
 ghost use Rattle.steps.specs.declared.atomic.LoadStage.TheVariants as stages;
@@ -141,8 +140,7 @@ impl<T: Words> Held<T, ValueRule<T>> {
         ensures same { IsSame self.old self.new }
         ensures loaded { HasLoaded result (seen self.old) (seen self.new) }
         ensures role { Moved 0 0 (seen self.old).made (seen self.new).made }
-        ensures steps { TakesAlone (coding_of T.WORDS T.words_of T.value_of) kinds.Atomic 1 (2 + T.WORDS) (1 + T.WORDS)
-            (seen self.old) (seen self.new) }
+        ensures steps { TakesAlone (2 + T.WORDS) (1 + T.WORDS) (seen self.old) (seen self.new) }
     {
         // a room is filled with zeros: the smallest that the words fit in
         if T::WORDS <= 2 {
@@ -161,8 +159,7 @@ impl<T: Words> Held<T, ValueRule<T>> {
         ensures same { IsSame self.old self.new }
         ensures loaded { HasLoaded result (seen self.old) (seen self.new) }
         ensures role { Moved 0 0 (seen self.old).made (seen self.new).made }
-        ensures steps { TakesAlone (coding_of T.WORDS T.words_of T.value_of) kinds.Atomic 1 (2 + T.WORDS) (1 + T.WORDS)
-            (seen self.old) (seen self.new) }
+        ensures steps { TakesAlone (2 + T.WORDS) (1 + T.WORDS) (seen self.old) (seen self.new) }
     {
         let mut room = room;
         let end = load_all(&mut self.seated, rt, &mut room);

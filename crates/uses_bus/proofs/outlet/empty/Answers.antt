@@ -3,8 +3,8 @@ use Rattle.lock_free.specs.Queues.Overflowing.{QueueId, consumer_queue, consumer
 use Rattle.uses_bus.proofs.ViewLemmas.{found_since}
 use Rattle.uses_bus.proofs.outlet.empty.Goals as goal
 
-pub returns-in-None : goal.returns-in-None
-returns-in-None g c some is =
+pub returns-in-None-clause-empty : goal.returns-in-None-clause-empty
+returns-in-None-clause-empty g c some is =
     let same = ap (λ (q : QueueId). q.capacity) c.loop.invariant.0 in
     let wide : 0 < (consumer_queue c.loop.receives).capacity = subst (λ n. 0 < n) (sym same) some in
     found_since (consumer_view c.args.receives.now) (consumer_view c.loop.receives) (consumer_view c.pop.new.self)

@@ -8,7 +8,7 @@ use Rattle.uses_laws.proofs.leases.lease.Goals as goal
 pub returns-clause-full : goal.returns-clause-full
 returns-clause-full g c is =
     let still : IsAll (share c.acquire.new.pass) = search rules in
-    was_full (record { worn = c.worn_sets_have_changed.ensures; apart = c.calls_that_lock_are_apart.ensures }) c.args.owner
+    was_full c.calls_that_lock_are_apart.ensures c.args.owner
     (view c.args.pass.now) (view c.acquire.new.pass)
     (subst (λ r. HasTaken c.args.owner r (view c.args.pass.now) (view c.acquire.new.pass)) is c.acquire.ensures.taken)
     (subst (λ r. IfErr r (λ e. WasRefused c.args.owner e (view c.args.pass.now) (view c.acquire.new.pass))) is c.acquire.ensures.refused)

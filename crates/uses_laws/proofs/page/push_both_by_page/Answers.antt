@@ -1,5 +1,6 @@
-use Rattle.std.proofs.Common.{◌≡◌, ◌<◌, ◌^◌, ℕ, true, List, [], ◌∷◌, ◌++◌, ap, length, subst, sym, ◌∙◌}
+use Rattle.std.proofs.Common.{◌≡◌, ◌<◌, ◌^◌, ℕ, true, List, [], ◌∷◌, ◌++◌, ap, length, refl, subst, sym, ◌∙◌}
 use Rattle.std.proofs.lemmas.List.Concat.{flat_map-append}
+use Rattle.std.specs.List.{AllByRecursion}
 use Rattle.model.specs.declared.event.Answer.TheVariants.{Truth}
 use Rattle.model.specs.declared.event.Event.{Event}
 use Rattle.model.specs.declared.event.Event.TheVariants.{Begun, Finished}
@@ -17,6 +18,8 @@ use Rattle.pages.specs.IndexQueueBridge.{by_role}
 use Rattle.pages.specs.Machine as machine
 use Rattle.pages.specs.RolesBridge.{all_told, told}
 use Rattle.pages_threads.specs.Known.{RunsThePage, index_page, turns_of}
+use Rattle.pages_threads.specs.Silent.{IsSilent, party_of}
+use Rattle.pages_threads.proofs.PushAlone.{IsQuiet, push_alone}
 use Rattle.uses_laws.specs.Page.{EndsWithPush, history_of}
 use Rattle.uses_laws.proofs.page.push_both_by_page.Goals as goal
 
@@ -30,13 +33,16 @@ call_told p value before during =
     flat_map-append (told by_role) before (Begun p (Queues (PushIndex value)) ∷ (during ++ end))
     ∙ ap (λ es. all_told by_role before ++ machine.Invoked 0 (page.Push value) ∷ es) (flat_map-append (told by_role) during end)
 
-ends : (capacity value : ℕ) (old new : View ℕ) → HasPushed (Index value) true old new → RunsThePage (index_page capacity) new
-    → EndsWithPush value (history_of capacity (turns_of (index_page capacity) new))
-ends capacity value old new push runs =
+ends : (capacity value : ℕ) (old new : View ℕ) → HasPushed (Index value) true old new → Knows one_word IndexQueue capacity new
+    → RunsThePage (index_page capacity) new → EndsWithPush value (history_of capacity (turns_of (index_page capacity) new))
+ends capacity value old new push knows runs =
     record {
       before = all_told by_role (old.seen ++ push.called.others);
       during = all_told by_role push.called.during;
       is = sym runs ∙ (ap (all_told by_role) push.called.is ∙ call_told push.by value (old.seen ++ push.called.others) push.called.during);
+      alone =
+          push_alone capacity new knows runs push.by value (Truth true) (old.seen ++ push.called.others) push.called.during push.called.is
+          (subst (AllByRecursion IsQuiet) (sym push.called.during_own) (tt, (tt, tt)));
     }
 
 pub returns : goal.returns
@@ -60,9 +66,42 @@ returns c both =
     record {
       turns = turns;
       more = goes.more;
-      once = ends capacity c.args.first old between one first_run;
-      twice = subst (λ ts. EndsWithPush c.args.second (history_of capacity ts)) goes.is (ends capacity c.args.second between new two goes.runs);
+      once = ends capacity c.args.first old between one known first_run;
+      twice = subst (λ ts. EndsWithPush c.args.second (history_of capacity ts)) goes.is (ends capacity c.args.second between new two knows goes.runs);
       all = goes.runs ∙ ap (history_of capacity) goes.is;
       linearizable = λ few.
           c.passes_are_linearizable.ensures.index capacity new knows (subst (λ ts. length ts < 2 ^ 63) (sym goes.is) few);
     }
+
+-- ---- what the definition refuses
+
+-- two pushes, one after the other
+abbrev both : List (machine.Event page.Call page.Answer)
+both =
+    machine.Invoked 0 (page.Push 5) ∷ machine.Responded 0 (page.Pushed true)
+    ∷ machine.Invoked 0 (page.Push 6) ∷ machine.Responded 0 (page.Pushed true) ∷ []
+
+with_the_second : EndsWithPush 6 both
+with_the_second =
+    record {
+      before = machine.Invoked 0 (page.Push 5) ∷ machine.Responded 0 (page.Pushed true) ∷ [];
+      during = [];
+      is = refl;
+      alone = tt;
+    }
+
+not_first : (before during : List (machine.Event page.Call page.Answer))
+    → both ≡ before ++ machine.Invoked 0 (page.Push 5) ∷ (during ++ machine.Responded 0 (page.Pushed true) ∷ []) → IsSilent 0 during → ⊥
+not_first [] [] is alone = absurd (cc)
+not_first [] (d ∷ during) is alone =
+    let same : machine.Responded 0 (page.Pushed true) ≡ d = cc in
+    alone.0 (ap party_of (sym same))
+not_first (a ∷ []) during is alone = absurd (cc)
+not_first (a ∷ b ∷ []) during is alone = absurd (cc)
+not_first (a ∷ b ∷ c ∷ []) during is alone = absurd (cc)
+not_first (a ∷ b ∷ c ∷ d ∷ []) during is alone = absurd (cc)
+not_first (a ∷ b ∷ c ∷ d ∷ e ∷ before) during is alone = absurd (cc)
+
+-- with the first it does not end, whose response stands earlier
+not_with_the_first : EndsWithPush 5 both → ⊥
+not_with_the_first h = not_first h.before h.during h.is h.alone

@@ -18,10 +18,9 @@ loop-at-preserved g c =
         view c.loop-at.pass,
         c.in_ok-ok.field-0.index,
         c.loop-at.invariant.placed,
-        subst (λ o. HasAdded (code_of c.args.pass) (record { value = (c.args.number, slice_index c.args.ports.now c.loop-at.at); owner = o })
+        subst (λ o. HasAdded (record { value = (c.args.number, slice_index c.args.ports.now c.loop-at.at); owner = o })
             (placed (Ok c.in_ok-ok.field-0)) (view c.loop-at.pass) (view c.add.new.pass)) named
-            (subst (λ r. HasAdded (code_of c.args.pass)
-            (record { value = (c.args.number, slice_index c.args.ports.now c.loop-at.at); owner = c.in_ok-owner.owner })
+            (subst (λ r. HasAdded (record { value = (c.args.number, slice_index c.args.ports.now c.loop-at.at); owner = c.in_ok-owner.owner })
             (placed r) (view c.loop-at.pass) (view c.add.new.pass)) added c.add.ensures.added),
       );
     }

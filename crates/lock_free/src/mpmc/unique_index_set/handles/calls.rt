@@ -79,11 +79,9 @@ impl<'a> Handle<'a> {
         ensures acquired { IfOk result (λ i. HasAcquired (value_of i) (knows self.entry) (index_view i)) }
         ensures refused_same { IfErr result (λ r. SamePass (pass_in self.entry) (pass_in r.1)) }
         ensures refused { IfErr result (λ r. WasRefused r.0 (knows self.entry) (knows r.1)) }
-        ensures steps { IfOk result (λ i. TakesAlone one_word kinds.Indices (capacity_of (set_in self.entry))
-            (4 + capacity_of (set_in self.entry)) (max 2 (capacity_of (set_in self.entry)))
+        ensures steps { IfOk result (λ i. TakesAlone (4 + capacity_of (set_in self.entry)) (max 2 (capacity_of (set_in self.entry)))
             (knows self.entry) (index_view i)) }
-        ensures refused_steps { IfErr result (λ r. TakesAlone one_word kinds.Indices (capacity_of (set_in self.entry))
-            (4 + capacity_of (set_in self.entry)) (max 2 (capacity_of (set_in self.entry)))
+        ensures refused_steps { IfErr result (λ r. TakesAlone (4 + capacity_of (set_in self.entry)) (max 2 (capacity_of (set_in self.entry)))
             (knows self.entry) (knows r.1)) }
     {
         let Handle { set, pass } = self;

@@ -6,10 +6,8 @@ ghost use Rattle.model.specs.declared.event.Answer.TheVariants.{State};
 ghost use Rattle.model.specs.declared.families.indices.IndexStart.TheVariants as starts;
 ghost use Rattle.lock_free.specs.Unique.Held.{HoldsNothing, HoldsSome};
 ghost use Rattle.lock_free.specs.Unique.Contracts.{HasGiven, HasGivenOrLocked, Answered};
-ghost use Rattle.lock_free.specs.UniqueIndexSet.{made, value_of, index_set, index_pass, index_view, SamePass};
+ghost use Rattle.lock_free.specs.UniqueIndexSet.{made, value_of, index_pass, index_view, SamePass};
 ghost use Rattle.lock_free.specs.Unique.Handles.{pass_in, knows};
-ghost use Rattle.model.specs.declared.turn.Kind.TheVariants as kinds;
-ghost use Rattle.model.specs.Coding.{one_word};
 ghost use Rattle.history.specs.Steps.{TakesAtMost, TakesAlone};
 
 use super::Handle;
@@ -42,8 +40,7 @@ impl<'a> UniqueIndex<'a> {
             (index_view self.entry) (knows result.1) }
         ensures nothing { result.0 ≡ Locked → HoldsNothing (made (pass_in result.1)) }
         ensures whole { result.0 ≡ Unlocked → HoldsSome (knows result.1) }
-        ensures steps { TakesAlone one_word kinds.Indices (index_set self.entry).capacity 4 2
-            (index_view self.entry) (knows result.1) }
+        ensures steps { TakesAlone 4 2 (index_view self.entry) (knows result.1) }
     {
         let UniqueIndex {
             set,

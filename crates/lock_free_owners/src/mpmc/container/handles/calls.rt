@@ -2,14 +2,14 @@
 ghost use Rattle.std.specs.Prelude.{◌≡◌, ◌+◌, ◌≤◌, true, None, Err, IfSome, IfNone, IfOk, IfErr, OnOk};
 ghost use Rattle.steps.specs.declared.container.enums.ContainerAddFailure.TheVariants.{IsLocked as Locked};
 ghost use Rattle.steps.specs.declared.container.enums.ContainerRemoveError.TheVariants.{ContainerHandleNotOwnedByContainer as NotOwned};
-ghost use Rattle.model.specs.declared.event.Answer.TheVariants.{Number, Truth};
-ghost use Rattle.model.specs.declared.families.container.ContainerStart.TheVariants as starts;
 ghost use Rattle.model.specs.Families.Container.Calls.{removed, replaced};
 ghost use Rattle.model.specs.Families.Indices.Reading.{is_locked};
 ghost use Rattle.lock_free_owners.specs.Robust.Contracts.{WasFilled, WasGranted, WasFreed, HasReleased, FoundLock};
 ghost use Rattle.lock_free_owners.specs.Container.Steps.{TakesFew, ContainerTakes, RemoveTakes};
 ghost use Rattle.lock_free_owners.specs.Container.Contracts.{placed, HasAdded, HasRemoved, HasReplaced, HasCounted};
-ghost use Rattle.lock_free_owners.specs.Container.Contracts.{HasTested, HasLooked, Answered, WasNotAdded};
+ghost use Rattle.lock_free_owners.specs.Container.Contracts.{HasTested, HasLooked, WasNotAdded, IsRightLength};
+ghost use Rattle.lock_free_owners.specs.Container.Contracts.{IsRightLook, IsRightRemove, IsRightReplace, IsRightTest};
+ghost use Rattle.lock_free_owners.specs.Container.Idle.{IsIdle};
 ghost use Rattle.lock_free_owners.specs.Container.Names.{history, code_of, capacity_of, container_of, HasHistory, IsPassOf, IsHandleFor, IsOwn, SamePass};
 ghost use Rattle.model.specs.declared.turn.Kind.TheVariants as kinds;
 ghost use Rattle.history.specs.ContainerLooks.{KeepsState};
@@ -49,10 +49,12 @@ impl<'a, T: Words> Handle<'a, T> {
         pass
     }
 
-    /// What the handle's pass has seen is a history, as `history` of the pass says. It does nothing.
+    /// What the handle's pass has seen is a history, and its last call has ended or rests, as `history` of the pass says.
+    /// It does nothing.
     pub fn history(&self)
         ensures run { Knows (code_of (pass_in self.now)) kinds.Container (container_of (pass_in self.now)).capacity (knows self.now) }
         ensures history { HasHistory (pass_in self.now) }
+        ensures rests { IsIdle (knows self.now) }
     {
         self.pass.history();
     }
@@ -93,16 +95,15 @@ impl<'a, T: Words> Handle<'a, T> {
         ensures same { SamePass (pass_in self.old) (pass_in self.new) }
         ensures keeps { KeepsState (knows self.old) (knows self.new) }
         ensures handle { IfOk result (IsHandleFor (container_in self.old) owner) }
-        ensures added { HasAdded (code_of (pass_in self.old)) (record { value = value; owner = owner }) (placed
+        ensures added { HasAdded (record { value = value; owner = owner }) (placed
             result)
             (knows self.old) (knows self.new) }
         ensures filled { IfOk result (λ h. WasFilled h.index owner (knows self.old) (knows self.new)) }
         ensures granted { IfOk result (λ h. WasGranted h.index owner (knows self.old) (knows self.new)) }
-        ensures refused { IfErr result (λ e. WasNotAdded (code_of (pass_in self.old)) value owner e
+        ensures refused { IfErr result (λ e. WasNotAdded value owner e
             (knows self.old) (knows self.new)) }
         ensures lock { is_locked (history (pass_in self.old)) ≡ true → result ≡ Err Locked }
-        ensures steps { ContainerTakes (code_of (pass_in self.old)) (capacity_of (container_in self.old))
-            (capacity_of (container_in self.old) + 7 + T.WORDS) (capacity_of (container_in self.old) + 1)
+        ensures steps { ContainerTakes (capacity_of (container_in self.old) + 7 + T.WORDS) (capacity_of (container_in self.old) + 1)
             (knows self.old) (knows self.new) }
     {
         self.container.add(rt, value, owner, &mut self.pass)
@@ -121,15 +122,14 @@ impl<'a, T: Words> Handle<'a, T> {
         ensures same { IsOwn (container_in self.old) handle → SamePass (pass_in self.old) (pass_in self.new) }
         ensures keeps { IsOwn (container_in self.old) handle → KeepsState (knows self.old) (knows self.new) }
         ensures own { OnOk result (IsOwn (container_in self.old) handle) }
-        ensures removed { IsOwn (container_in self.old) handle → HasRemoved (code_of (pass_in self.old))
+        ensures removed { IsOwn (container_in self.old) handle → HasRemoved
             (record { index = handle.index; owner = handle.owner; mode = mode }) result
             (knows self.old) (knows self.new) }
         ensures freed { OnOk result (WasFreed handle.index handle.owner (knows self.old) (knows self.new)) }
-        ensures answered { IsOwn (container_in self.old) handle → Answered (code_of (pass_in self.old))
-            (starts.Remove handle.index handle.owner mode) (removed result) (knows self.old) (knows self.new) }
+        ensures answered { IsOwn (container_in self.old) handle → IsRightRemove
+            (record { index = handle.index; owner = handle.owner; mode = mode }) result (knows self.old) (knows self.new) }
         ensures released { IfOk result (λ s. HasReleased s mode (knows self.old) (knows self.new)) }
-        ensures steps { IsOwn (container_in self.old) handle → RemoveTakes (code_of (pass_in self.old))
-            (capacity_of (container_in self.old)) mode (knows self.old) (knows self.new) }
+        ensures steps { IsOwn (container_in self.old) handle → RemoveTakes (capacity_of (container_in self.old)) mode (knows self.old) (knows self.new) }
     {
         self.container.remove(rt, handle, mode, &mut self.pass)
     }
@@ -142,11 +142,11 @@ impl<'a, T: Words> Handle<'a, T> {
         ensures same { IsOwn (container_in self.old) handle → SamePass (pass_in self.old) (pass_in self.new) }
         ensures keeps { IsOwn (container_in self.old) handle → KeepsState (knows self.old) (knows self.new) }
         ensures own { OnOk result (IsOwn (container_in self.old) handle) }
-        ensures replaced { IsOwn (container_in self.old) handle → HasReplaced (code_of (pass_in self.old))
+        ensures replaced { IsOwn (container_in self.old) handle → HasReplaced
             (record { index = handle.index; owner = handle.owner; value = value }) result
             (knows self.old) (knows self.new) }
-        ensures answered { IsOwn (container_in self.old) handle → Answered (code_of (pass_in self.old))
-            (starts.Replace handle.index value handle.owner) (replaced result) (knows self.old) (knows self.new) }
+        ensures answered { IsOwn (container_in self.old) handle → IsRightReplace
+            (record { index = handle.index; owner = handle.owner; value = value }) result (knows self.old) (knows self.new) }
         ensures steps { IsOwn (container_in self.old) handle → TakesFew (5 + T.WORDS) (knows self.old) (knows self.new) }
     {
         self.container.replace(handle, value, &mut self.pass)
@@ -157,13 +157,12 @@ impl<'a, T: Words> Handle<'a, T> {
         ensures container { container_in self.new ≡ container_in self.old }
         ensures same { SamePass (pass_in self.old) (pass_in self.new) }
         ensures keeps { KeepsState (knows self.old) (knows self.new) }
-        ensures counted { HasCounted (code_of (pass_in self.old)) result (knows self.old) (knows self.new) }
-        ensures answered { Answered (code_of (pass_in self.old)) starts.Len (Number result)
+        ensures counted { HasCounted result (knows self.old) (knows self.new) }
+        ensures answered { IsRightLength result
             (knows self.old) (knows self.new) }
         ensures most { result ≤ capacity_of (container_in self.old) }
         ensures lock { is_locked (history (pass_in self.old)) ≡ true → result ≡ 0 }
-        ensures steps { ContainerTakes (code_of (pass_in self.old)) (capacity_of (container_in self.old))
-            (capacity_of (container_in self.old) + 2) (capacity_of (container_in self.old) + 2) (knows self.old) (knows self.new) }
+        ensures steps { ContainerTakes (capacity_of (container_in self.old) + 2) (capacity_of (container_in self.old) + 2) (knows self.old) (knows self.new) }
     {
         self.container.len(rt, &mut self.pass)
     }
@@ -173,12 +172,11 @@ impl<'a, T: Words> Handle<'a, T> {
         ensures container { container_in self.new ≡ container_in self.old }
         ensures same { SamePass (pass_in self.old) (pass_in self.new) }
         ensures keeps { KeepsState (knows self.old) (knows self.new) }
-        ensures tested { HasTested (code_of (pass_in self.old)) result (knows self.old) (knows self.new) }
-        ensures answered { Answered (code_of (pass_in self.old)) starts.IsEmpty (Truth result)
+        ensures tested { HasTested result (knows self.old) (knows self.new) }
+        ensures answered { IsRightTest result
             (knows self.old) (knows self.new) }
         ensures lock { is_locked (history (pass_in self.old)) ≡ true → result ≡ true }
-        ensures steps { ContainerTakes (code_of (pass_in self.old)) (capacity_of (container_in self.old))
-            (capacity_of (container_in self.old) + 2) (capacity_of (container_in self.old) + 2) (knows self.old) (knows self.new) }
+        ensures steps { ContainerTakes (capacity_of (container_in self.old) + 2) (capacity_of (container_in self.old) + 2) (knows self.old) (knows self.new) }
     {
         self.container.is_empty(rt, &mut self.pass)
     }
@@ -188,8 +186,8 @@ impl<'a, T: Words> Handle<'a, T> {
         ensures container { container_in self.new ≡ container_in self.old }
         ensures same { SamePass (pass_in self.old) (pass_in self.new) }
         ensures keeps { KeepsState (knows self.old) (knows self.new) }
-        ensures looked { HasLooked (code_of (pass_in self.old)) result (knows self.old) (knows self.new) }
-        ensures answered { Answered (code_of (pass_in self.old)) starts.IsLocked (Truth result)
+        ensures looked { HasLooked result (knows self.old) (knows self.new) }
+        ensures answered { IsRightLook result
             (knows self.old) (knows self.new) }
         ensures lock { FoundLock result (knows self.old) (knows self.new) }
         ensures steps { TakesFew 1 (knows self.old) (knows self.new) }

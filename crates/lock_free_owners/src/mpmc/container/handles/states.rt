@@ -17,12 +17,12 @@ impl<'a, T: Words> Handle<'a, T> {
     pub fn get_state(&mut self, rt: &impl Wait) -> Result<ContainerState<T>, ContainerStateError>
         ensures container { container_in self.new ≡ container_in self.old }
         ensures same { IfOk result (λ s. SamePass (pass_in self.old) (pass_in self.new)) }
-        ensures got { IfOk result (λ s. HasGotState (code_of (pass_in self.old)) s (knows self.old) (knows self.new)) }
+        ensures got { IfOk result (λ s. HasGotState s (knows self.old) (knows self.new)) }
         ensures latest { IfOk result (IsLatestState (pass_in self.new)) }
         ensures shows { IfOk result (λ s. ShowsCopied s.shown (knows self.new)) }
         ensures refused { IfErr result (λ e. knows self.new ≡ knows self.old) }
         ensures state { IfOk result (IsStateOf (container_in self.old)) }
-        ensures steps { IfOk result (λ s. LookTakes (code_of (pass_in self.old)) (capacity_of (container_in self.old))
+        ensures steps { IfOk result (λ s. LookTakes T.WORDS (capacity_of (container_in self.old))
             (knows self.old) (knows self.new)) }
     {
         self.container.get_state(rt, &mut self.pass)
@@ -34,7 +34,7 @@ impl<'a, T: Words> Handle<'a, T> {
         ensures container { container_in self.new ≡ container_in self.old }
         ensures same { IsLatestState (pass_in self.old) state.old → SamePass (pass_in self.old) (pass_in self.new) }
         ensures updated { IsLatestState (pass_in self.old) state.old
-            → HasUpdatedState (code_of (pass_in self.old)) result (knows self.old) (knows self.new) }
+            → HasUpdatedState result (knows self.old) (knows self.new) }
         ensures met { IsLatestState (pass_in self.old) state.old → HasMet result (knows self.old) (knows self.new) }
         ensures latest { IsLatestState (pass_in self.old) state.old → IsLatestState (pass_in self.new) state.new }
         ensures shows { IsLatestState (pass_in self.old) state.old → ShowsCopied state.new.shown (knows self.new) }
@@ -42,7 +42,7 @@ impl<'a, T: Words> Handle<'a, T> {
         ensures state { IsStateOf (container_in self.old) state.new }
         ensures left { IsFalse result → IsLeft state.old state.new }
         ensures steps { IsLatestState (pass_in self.old) state.old
-            → LookTakes (code_of (pass_in self.old)) (capacity_of (container_in self.old)) (knows self.old) (knows self.new) }
+            → LookTakes T.WORDS (capacity_of (container_in self.old)) (knows self.old) (knows self.new) }
     {
         self.container.update_state(rt, state, &mut self.pass)
     }

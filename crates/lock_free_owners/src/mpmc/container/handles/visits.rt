@@ -1,8 +1,5 @@
 //! The calls by a handle that come to the values of an owner.
 ghost use Rattle.std.specs.Prelude.{◌≡◌, ℕ, false, List};
-ghost use Rattle.model.specs.declared.event.Answer.TheVariants.{State};
-ghost use Rattle.model.specs.declared.families.container.ContainerStart.TheVariants as starts;
-ghost use Rattle.model.specs.declared.turn.Kind.TheVariants as kinds;
 ghost use Rattle.model.specs.Families.Indices.Reading.{is_locked};
 ghost use Rattle.history.specs.ContainerLooks.{KeepsState};
 ghost use Rattle.history.specs.Passes.{Goes};
@@ -12,8 +9,8 @@ ghost use Rattle.lock_free_owners.specs.Container.FindContract.{HasSearched};
 ghost use Rattle.lock_free_owners.specs.Container.Questions.{TakesValues};
 ghost use Rattle.lock_free_owners.specs.Container.RecoverContract.{HasRecovered};
 ghost use Rattle.lock_free_owners.specs.Container.Steps.{FindTakes, RecoverTakes};
-ghost use Rattle.lock_free_owners.specs.Container.Contracts.{Answered};
-ghost use Rattle.lock_free_owners.specs.Container.Names.{history, code_of, capacity_of, IsHandleFor, SamePass};
+ghost use Rattle.lock_free_owners.specs.Container.Contracts.{IsRightRecovery};
+ghost use Rattle.lock_free_owners.specs.Container.Names.{history, capacity_of, IsHandleFor, SamePass};
 ghost use Rattle.lock_free_owners.specs.Container.Handles.{container_in, pass_in, knows};
 
 use super::Handle;
@@ -35,11 +32,11 @@ impl<'a, T: Words> Handle<'a, T> {
         ensures goes { Goes (knows self.old) (knows self.new) }
         ensures keeps { KeepsState (knows self.old) (knows self.new) }
         ensures found { (visits : List (Visit T)) × (bound : ℕ)
-            × HasSearched (code_of (pass_in self.old)) (capacity_of (container_in self.old)) owner result
+            × HasSearched (capacity_of (container_in self.old)) owner result
             bound visits (knows self.old) (knows self.new)
             × HasFound (λ p x h a q. F.step p x h a q) (capacity_of (container_in self.old))
             (IsHandleFor (container_in self.old) owner) visit.old result bound visits visit.new }
-        ensures steps { FindTakes (code_of (pass_in self.old)) (capacity_of (container_in self.old)) (knows self.old) (knows self.new) }
+        ensures steps { FindTakes T.WORDS (capacity_of (container_in self.old)) (knows self.old) (knows self.new) }
     {
         self.container.find(owner, visit, &mut self.pass)
     }
@@ -57,13 +54,13 @@ impl<'a, T: Words> Handle<'a, T> {
         ensures container { container_in self.new ≡ container_in self.old }
         ensures same { SamePass (pass_in self.old) (pass_in self.new) }
         ensures keeps { KeepsState (knows self.old) (knows self.new) }
-        ensures recovered { HasRecovered (code_of (pass_in self.old)) (λ p x b q. F.step p x b q)
+        ensures recovered { HasRecovered (λ p x b q. F.step p x b q)
             (record { owner = owner; mode = mode }) result (capacity_of (container_in self.old)) predicate.old
             predicate.new (knows self.old) (knows self.new) }
-        ensures answered { Answered (code_of (pass_in self.old)) (starts.Recover owner mode) (State result)
+        ensures answered { IsRightRecovery (record { owner = owner; mode = mode }) result
             (knows self.old) (knows self.new) }
         ensures lock { FoundState result (knows self.old) (knows self.new) }
-        ensures steps { RecoverTakes (code_of (pass_in self.old)) (capacity_of (container_in self.old)) mode
+        ensures steps { RecoverTakes T.WORDS (capacity_of (container_in self.old)) mode
             (knows self.old) (knows self.new) }
     {
         self.container

@@ -1,18 +1,15 @@
 //! The calls by a handle: those of its set.
 ghost use Rattle.std.specs.Prelude.{◌≡◌, ◌+◌, ◌<◌, ◌≤◌, true, Err, IfSome, IfNone, IfOk, IfErr, OnOk};
 ghost use Rattle.steps.specs.declared.indices.enums.UniqueIndexSetAcquireFailure.TheVariants.{IsLocked as Locked};
-ghost use Rattle.model.specs.declared.event.Answer.TheVariants.{Number, Truth};
-ghost use Rattle.model.specs.declared.families.indices.robust.RobustStart.TheVariants as starts;
 ghost use Rattle.model.specs.Families.Indices.Reading.{is_locked};
-ghost use Rattle.model.specs.Families.Indices.Robust.Calls.{release_answer};
 ghost use Rattle.model.specs.declared.turn.Kind.TheVariants as kinds;
 ghost use Rattle.model.specs.Coding.{one_word};
 ghost use Rattle.history.specs.History.{Knows};
 ghost use Rattle.history.specs.Passes.{HasSplit};
-ghost use Rattle.history.specs.Steps.{TakesAtMost};
-ghost use Rattle.lock_free_owners.specs.Robust.Steps.{SetTakes, ReleaseTakes};
+ghost use Rattle.history.specs.Steps.{TakesAtMost, TakesAlone};
+ghost use Rattle.lock_free_owners.specs.Robust.Steps.{ReleaseTakes};
 ghost use Rattle.lock_free_owners.specs.Robust.Contracts.{HasTaken, HasGiven, HasCounted, HasLooked, WasFilled, WasGranted};
-ghost use Rattle.lock_free_owners.specs.Robust.Contracts.{WasFreed, WasRefused, Answered, HasReleased, FoundLock};
+ghost use Rattle.lock_free_owners.specs.Robust.Contracts.{WasFreed, WasRefused, HasReleased, FoundLock, IsRightCount, IsRightLook, IsRightRelease};
 ghost use Rattle.lock_free_owners.specs.RobustUniqueIndexSet.{capacity_of, set_of, IsPassOf, HasHistory, SamePass, history};
 ghost use Rattle.lock_free_owners.specs.Robust.Handles.{set_in, pass_in, knows};
 
@@ -87,7 +84,7 @@ impl<'a> Handle<'a> {
         ensures granted { IfOk result (λ index. WasGranted index owner (knows self.old) (knows self.new)) }
         ensures refused { IfErr result (λ e. WasRefused owner e (knows self.old) (knows self.new)) }
         ensures lock { is_locked (history (pass_in self.old)) ≡ true → result ≡ Err Locked }
-        ensures steps { SetTakes (capacity_of (set_in self.old)) (capacity_of (set_in self.old) + 3)
+        ensures steps { TakesAlone (capacity_of (set_in self.old) + 3)
             (capacity_of (set_in self.old) + 1) (knows self.old) (knows self.new) }
     {
         self.set.acquire(rt, owner, &mut self.pass)
@@ -107,7 +104,7 @@ impl<'a> Handle<'a> {
         ensures given { HasGiven (record { index = index; owner = owner; mode = mode }) result
             (knows self.old) (knows self.new) }
         ensures freed { OnOk result (WasFreed index owner (knows self.old) (knows self.new)) }
-        ensures answered { Answered (starts.Release index owner mode) (release_answer result)
+        ensures answered { IsRightRelease index owner mode result
             (knows self.old) (knows self.new) }
         ensures released { IfOk result (λ s. HasReleased s mode (knows self.old) (knows self.new)) }
         ensures steps { ReleaseTakes (capacity_of (set_in self.old)) mode (knows self.old) (knows self.new) }
@@ -120,7 +117,7 @@ impl<'a> Handle<'a> {
         ensures set { set_in self.new ≡ set_in self.old }
         ensures same { SamePass (pass_in self.old) (pass_in self.new) }
         ensures looked { HasLooked result (knows self.old) (knows self.new) }
-        ensures answered { Answered starts.IsLocked (Truth result) (knows self.old) (knows self.new) }
+        ensures answered { IsRightLook result (knows self.old) (knows self.new) }
         ensures lock { FoundLock result (knows self.old) (knows self.new) }
         ensures steps { TakesAtMost 1 (knows self.old) (knows self.new) }
     {
@@ -132,10 +129,10 @@ impl<'a> Handle<'a> {
         ensures set { set_in self.new ≡ set_in self.old }
         ensures same { SamePass (pass_in self.old) (pass_in self.new) }
         ensures counted { HasCounted result (knows self.old) (knows self.new) }
-        ensures answered { Answered starts.BorrowedIndices (Number result) (knows self.old) (knows self.new) }
+        ensures answered { IsRightCount result (knows self.old) (knows self.new) }
         ensures most { result ≤ capacity_of (set_in self.old) }
         ensures lock { is_locked (history (pass_in self.old)) ≡ true → result ≡ 0 }
-        ensures steps { SetTakes (capacity_of (set_in self.old)) (capacity_of (set_in self.old) + 2)
+        ensures steps { TakesAlone (capacity_of (set_in self.old) + 2)
             (capacity_of (set_in self.old) + 2) (knows self.old) (knows self.new) }
     {
         self.set.borrowed_indices(rt, &mut self.pass)

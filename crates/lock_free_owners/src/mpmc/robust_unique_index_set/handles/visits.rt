@@ -1,14 +1,12 @@
 //! The calls by a handle that come to the indices of owners.
 ghost use Rattle.std.specs.Prelude.{◌≡◌, ◌+◌, false};
 ghost use Rattle.steps.specs.declared.enums.CallbackProgression.TheVariants.{Continue};
-ghost use Rattle.model.specs.declared.event.Answer.TheVariants.{State};
-ghost use Rattle.model.specs.declared.families.indices.robust.RobustStart.TheVariants as starts;
 ghost use Rattle.model.specs.Families.Indices.Reading.{is_locked};
 ghost use Rattle.history.specs.Steps.{TakesAtMost};
 ghost use Rattle.threaded.specs.Callable.{TakesPlaces};
 ghost use Rattle.lock_free_owners.specs.Robust.Callable.{TakesQuestions, TakesFreed};
 ghost use Rattle.lock_free_owners.specs.Robust.Steps.{RecoverTakes};
-ghost use Rattle.lock_free_owners.specs.Robust.Contracts.{HasRecovered, HasSearched, Answered, FoundState};
+ghost use Rattle.lock_free_owners.specs.Robust.Contracts.{HasRecovered, HasSearched, FoundState, IsRightRecovery};
 ghost use Rattle.lock_free_owners.specs.RobustUniqueIndexSet.{capacity_of, history, SamePass};
 ghost use Rattle.lock_free_owners.specs.Robust.Handles.{set_in, pass_in, knows};
 
@@ -51,7 +49,7 @@ impl<'a> Handle<'a> {
         ensures same { SamePass (pass_in self.old) (pass_in self.new) }
         ensures recovered { HasRecovered (λ p o i b q. F.step p o i b q) (λ s o i t. S.step s o i tt t) mode result
             predicate.old recover_success.old predicate.new recover_success.new (knows self.old) (knows self.new) }
-        ensures answered { Answered (starts.Recover mode) (State result) (knows self.old) (knows self.new) }
+        ensures answered { IsRightRecovery mode result (knows self.old) (knows self.new) }
         ensures lock { FoundState result (knows self.old) (knows self.new) }
         ensures steps { RecoverTakes (capacity_of (set_in self.old)) mode (knows self.old) (knows self.new) }
     {

@@ -3,7 +3,6 @@ ghost use Rattle.std.specs.Prelude.{◌≡◌, ◌≤◌, true, false, IfSome, I
 ghost use Rattle.steps.specs.declared.queues.roles.Role.TheVariants as roles;
 ghost use Rattle.model.specs.declared.event.Answer.TheVariants.{Number, Truth};
 ghost use Rattle.model.specs.declared.families.queues.calls.LengthOf.TheVariants as measures;
-ghost use Rattle.model.specs.Coding.{coding_of};
 ghost use Rattle.history.specs.History.{Knows};
 ghost use Rattle.history.specs.Steps.{TakesAtMost, TakesAlone};
 ghost use Rattle.lock_free_queues.specs.Queues.Bounded.{machine_kind};
@@ -108,9 +107,7 @@ impl<'a, E: Kind, T: Words> Handle<'a, E, T> {
         ensures counted { HasMeasured measures.Len (capacity_of (ring_in self.old)) (Number result)
             (knows self.old) (knows self.new) }
         ensures few { result ≤ most_waiting E.KIND (capacity_of (ring_in self.old)) }
-        ensures steps { TakesAlone (coding_of T.WORDS T.words_of T.value_of) (machine_kind E.KIND) (queue_of
-            (pass_in self.old)).capacity 4 4
-            (knows self.old) (knows self.new) }
+        ensures steps { TakesAlone 4 4 (knows self.old) (knows self.new) }
     {
         self.ring.len(rt, &mut self.pass)
     }
@@ -120,9 +117,7 @@ impl<'a, E: Kind, T: Words> Handle<'a, E, T> {
         ensures same { SameHandle self.old self.new }
         ensures measured { HasMeasured measures.IsEmpty (capacity_of (ring_in self.old)) (Truth result)
             (knows self.old) (knows self.new) }
-        ensures steps { TakesAlone (coding_of T.WORDS T.words_of T.value_of) (machine_kind E.KIND) (queue_of
-            (pass_in self.old)).capacity 4 4
-            (knows self.old) (knows self.new) }
+        ensures steps { TakesAlone 4 4 (knows self.old) (knows self.new) }
     {
         self.ring.is_empty(rt, &mut self.pass)
     }
@@ -132,9 +127,7 @@ impl<'a, E: Kind, T: Words> Handle<'a, E, T> {
         ensures same { SameHandle self.old self.new }
         ensures measured { HasMeasured measures.IsFull (capacity_of (ring_in self.old)) (Truth result)
             (knows self.old) (knows self.new) }
-        ensures steps { TakesAlone (coding_of T.WORDS T.words_of T.value_of) (machine_kind E.KIND) (queue_of
-            (pass_in self.old)).capacity 4 4
-            (knows self.old) (knows self.new) }
+        ensures steps { TakesAlone 4 4 (knows self.old) (knows self.new) }
     {
         self.ring.is_full(rt, &mut self.pass)
     }

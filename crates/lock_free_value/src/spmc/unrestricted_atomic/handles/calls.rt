@@ -1,6 +1,5 @@
 //! The calls by a handle: those of its value.
 ghost use Rattle.std.specs.Prelude.{◌≡◌, ◌+◌, true, false, IfSome, IfNone, IfOk, IfErr};
-ghost use Rattle.model.specs.Coding.{coding_of};
 ghost use Rattle.model.specs.declared.turn.Kind.TheVariants as kinds;
 ghost use Rattle.history.specs.History.{Knows};
 ghost use Rattle.history.specs.Steps.{TakesAtMost, TakesAlone};
@@ -77,8 +76,7 @@ impl<'a, T: Words> Handle<'a, T> {
     pub fn load(&mut self, rt: &impl Wait) -> T
         ensures same { SameHandle self.old self.new }
         ensures loaded { HasLoaded result (knows self.old) (knows self.new) }
-        ensures steps { TakesAlone (coding_of T.WORDS T.words_of T.value_of) kinds.Atomic 1 (2 + T.WORDS) (1 + T.WORDS)
-            (knows self.old) (knows self.new) }
+        ensures steps { TakesAlone (2 + T.WORDS) (1 + T.WORDS) (knows self.old) (knows self.new) }
     {
         self.value.load(rt, &mut self.pass)
     }

@@ -1,12 +1,11 @@
 use Rattle.std.proofs.Common.{◌≡◌, ◌↔◌, inr, Bool, IsTrue, List, sym, ap, subst, ◌∙◌}
 use Rattle.std.specs.Int.{bit_at}
-use Rattle.lock_free.specs.Queues.Contracts.{FoundNone}
 use Rattle.uses_bus.specs.declared.holders.Holders.{Holders}
 use Rattle.uses_bus.specs.declared.outlet.Outlet.{Outlet}
 use Rattle.uses_bus.specs.declared.outlet.Tenancy.TheVariants.{Free, Closed, Open}
 use Rattle.uses_bus.specs.declared.roll.Roll.{Roll}
 use Rattle.uses_bus.specs.Books.{HasNone, holders_at}
-use Rattle.uses_bus.specs.Outlets.{holder_of, is_open, place_of, takes_view, IsFree, IsSettled}
+use Rattle.uses_bus.specs.Outlets.{holder_of, is_open, place_of, FoundEmpty, IsFree, IsSettled}
 use Rattle.uses_bus.specs.Rolls.{IsShown}
 use Rattle.uses_bus.proofs.outlet.Outlet.settle_by.Goals as goal
 use Rattle.uses_bus.proofs.outlet.Outlet.settle_by.Goals.{in-Closed, in-Open+else-not-has_changed}
@@ -14,7 +13,7 @@ use Rattle.uses_bus.proofs.outlet.Outlet.settle_by.Goals.{in-Closed, in-Open+els
 -- a lane that was not free, settled by whether the roll shows its place
 settled : (roll : Roll) (before after : List Holders) (old new : Outlet) (takes : Bool) → (IsFree old → ⊥) → is_open new ≡ takes
     → (IsTrue takes ↔ IsShown roll (place_of old))
-    → (IsFree new → HasNone (holder_of old) after × FoundNone (takes_view old) (takes_view new))
+    → (IsFree new → HasNone (holder_of old) after × FoundEmpty old new)
     → ((IsFree new → ⊥) → after ≡ before) → IsSettled roll before after old new
 settled roll before after old new takes leased taking shown free kept =
     record {

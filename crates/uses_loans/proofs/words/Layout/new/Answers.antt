@@ -9,10 +9,11 @@ loop-bits-preserved c =
     let low : c.loop-bits.bits ≤ 31 = omega arith in
     let some : 0 < 2 = omega arith in
     let most : 2 ^ c.loop-bits.bits ≤ 2 ^ 31 = pow-le-pow_right some low in
-    (ap (λ n. n * 2) inv.0 ∙ sym (pow-add 2 c.loop-bits.bits 1), omega arith, omega arith)
+    (ap (λ n. n * 2) inv.0 ∙ sym (pow-add 2 c.loop-bits.bits 1), omega arith, omega arith, λ more. omega arith)
 
 pub invariant_of-result-2 : goal.invariant_of-result-2
 invariant_of-result-2 c =
     let last : c.loop-bits.bits ≡ 32 = omega arith in
     let power : c.loop-bits.room ≡ 2 ^ 32 = c.loop-bits.invariant.0 ∙ ap (λ n. 2 ^ n) last in
-    record { power = power; few = omega arith; small = omega arith; fits = omega arith; some = omega arith }
+    let least = c.loop-bits.invariant.3 in
+    record { power = power; few = omega arith; small = omega arith; fits = omega arith; least = least; some = omega arith }

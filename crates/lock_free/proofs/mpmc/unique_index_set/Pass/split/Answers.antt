@@ -33,5 +33,5 @@ invariant_of-self-clause-knows c =
     let k = c.args.self.now.knows in
     by_result c.split.result c.split.ensures.cut c.split.ensures.none
     (λ t h. subst (λ (z : View ℕ). Knows one_word kinds.Indices size z) (sym h.2)
-    (record { coded = k.coded; admitted = k.admitted; allowed = k.allowed; fresh = k.fresh; is = k.is }))
+    (record { coded = k.coded; admitted = k.admitted; allowed = k.allowed; fresh = k.fresh; is = k.is; others = k.others }))
     (λ same. subst (λ (z : View ℕ). Knows one_word kinds.Indices size z) (sym same) k)

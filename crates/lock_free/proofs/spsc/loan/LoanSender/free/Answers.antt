@@ -18,5 +18,5 @@ invariant_of-self-clause-book c =
 pub returns-clause-freed : goal.returns-clause-freed
 returns-clause-freed c =
     let released = c.release_raw_index in
-    has_freed c.args.self.now.pass released.new.pass c.args.sent released.result c.args.self.now.pass.known
+    has_freed c.args.self.now.pass released.new.pass c.args.sent released.result
     released.ensures.same released.ensures.unlocked released.ensures.given

@@ -143,7 +143,7 @@ returns-in-Ok-clause-steps g c =
     let code : Coding g.row.T.Denot = coding_of g.T.Words.WORDS g.T.Words.words_of g.T.Words.value_of in
     let v = seen c.args.pass.now.token.seated in
     let w = seen c.drive_on-end.new.self in
-    subst (λ n. ContainerTakes code n (n + 7 + g.T.Words.WORDS) (n + 1) v w) (c.args.pass.now.token.known ∙ ap (λ (z : SetId). z.capacity) c.requires)
+    subst (λ n. ContainerTakes (n + 7 + g.T.Words.WORDS) (n + 1) v w) (c.args.pass.now.token.known ∙ ap (λ (z : SetId). z.capacity) c.requires)
     (add_takes code v w (record { value = c.args.value; owner = c.args.owner }) c.drive_on-end.result c.drive_on-end.ensures.end)
 
 pub returns-in-Err-clause-steps : goal.returns-in-Err-clause-steps
@@ -151,5 +151,5 @@ returns-in-Err-clause-steps g c =
     let code : Coding g.row.T.Denot = coding_of g.T.Words.WORDS g.T.Words.words_of g.T.Words.value_of in
     let v = seen c.args.pass.now.token.seated in
     let w = seen c.drive_on-end.new.self in
-    subst (λ n. ContainerTakes code n (n + 7 + g.T.Words.WORDS) (n + 1) v w) (c.args.pass.now.token.known ∙ ap (λ (z : SetId). z.capacity) c.requires)
+    subst (λ n. ContainerTakes (n + 7 + g.T.Words.WORDS) (n + 1) v w) (c.args.pass.now.token.known ∙ ap (λ (z : SetId). z.capacity) c.requires)
     (add_takes code v w (record { value = c.args.value; owner = c.args.owner }) c.drive_on-end.result c.drive_on-end.ensures.end)

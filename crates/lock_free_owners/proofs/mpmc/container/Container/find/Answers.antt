@@ -39,7 +39,7 @@ returns-clause-found g c =
     let size = ap (λ (z : SetId). z.capacity) c.requires.pass in (
       searched.visits,
       searched.bound,
-      subst (λ n. HasSearched code n c.args.owner c.find_all.result searched.bound searched.visits (seen c.args.pass.now.token.seated)
+      subst (λ n. HasSearched n c.args.owner c.find_all.result searched.bound searched.visits (seen c.args.pass.now.token.seated)
           (seen c.find_all.new.seat)) size searched.did,
       subst (λ n. HasFound (λ p x h a q. given.F-step g p x h a q) n (IsNamed n c.args.owner (number_of c.args.self.now)) c.args.visit.now
           c.find_all.result searched.bound searched.visits c.find_all.new.visit)
@@ -52,5 +52,5 @@ returns-clause-keeps g c = c.find_all.ensures.searched.left.keeps
 pub returns-clause-steps : goal.returns-clause-steps
 returns-clause-steps g c =
     let code : Coding g.row.T.Denot = coding_of g.T.Words.WORDS g.T.Words.words_of g.T.Words.value_of in
-    subst (λ n. FindTakes code n (seen c.args.pass.now.token.seated) (seen c.find_all.new.seat)) (ap (λ (z : SetId). z.capacity) c.requires.pass)
+    subst (λ n. FindTakes code.size n (seen c.args.pass.now.token.seated) (seen c.find_all.new.seat)) (ap (λ (z : SetId). z.capacity) c.requires.pass)
     c.find_all.ensures.searched.steps

@@ -53,7 +53,7 @@ returns-clause-got g c =
       subst (λ (n : ℕ). state.shown ≡ shows_nothing g.T.Words.value_of g.T.Words.WORDS n) (sym size) c.in_ok-state.ensures.shown,
     )
     in
-    made_as code starts.GetState (Number (shown_number m.elements)) (λ by es. HasLookedAll v.capacity by c.bring_up.result es)
+    made_as starts.GetState (Number (shown_number m.elements)) (λ by es. HasLookedAll v.capacity by c.bring_up.result es)
     (λ by es. HasCopied by 0 v.capacity es) v w (λ by es h. some_copied g.row.T.Denot v.capacity by c.bring_up.result es h)
     (look_made code GetState v w state.seen c.bring_up.result m (c.bring_up.ensures.over.0 on))
 
@@ -99,5 +99,5 @@ returns-clause-steps g c =
       subst (λ (n : ℕ). state.shown ≡ shows_nothing g.T.Words.value_of g.T.Words.WORDS n) (sym size) c.in_ok-state.ensures.shown,
     )
     in
-    subst (λ (n : ℕ). LookTakes code n v (seen c.bring_up.new.seat)) size
+    subst (λ (n : ℕ). LookTakes code.size n v (seen c.bring_up.new.seat)) size
     (look_takes code v (seen c.bring_up.new.seat) GetState state.seen c.bring_up.result c.bring_up.new.state.shown (c.bring_up.ensures.over.0 on))

@@ -61,5 +61,5 @@ returns-clause-steps g c =
     let code : Coding g.row.T.Denot = coding_of g.T.Words.WORDS g.T.Words.words_of g.T.Words.value_of in
     let v = seen c.args.pass.now.token.seated in
     let w = seen c.count_all.new.seat in
-    subst (λ n. ContainerTakes code n (n + 2) (n + 2) v w) (c.args.pass.now.token.known ∙ ap (λ (z : SetId). z.capacity) c.requires)
+    subst (λ n. ContainerTakes (n + 2) (n + 2) v w) (c.args.pass.now.token.known ∙ ap (λ (z : SetId). z.capacity) c.requires)
     (count_takes code v w counts.Len c.count_all.result c.count_all.ensures.ends)

@@ -47,7 +47,7 @@ pub returns-clause-recovered : goal.returns-clause-recovered
 returns-clause-recovered g c =
     let code : Coding g.row.T.Denot = coding_of g.T.Words.WORDS g.T.Words.words_of g.T.Words.value_of in
     let dead : DeadOwner = record { owner = c.args.owner; mode = c.args.mode } in
-    subst (λ n. HasRecovered code (λ p x b q. given.F-step g p x b q) dead c.free_all.result n c.args.predicate.now c.free_all.new.predicate
+    subst (λ n. HasRecovered (λ p x b q. given.F-step g p x b q) dead c.free_all.result n c.args.predicate.now c.free_all.new.predicate
     (seen c.args.pass.now.token.seated) (seen c.free_all.new.seat))
     (ap (λ (z : SetId). z.capacity) c.requires.pass) c.free_all.ensures.recovered.did
 
@@ -77,5 +77,5 @@ returns-clause-steps g c =
     let code : Coding g.row.T.Denot = coding_of g.T.Words.WORDS g.T.Words.words_of g.T.Words.value_of in
     let v = seen c.args.pass.now.token.seated in
     let w = seen c.free_all.new.seat in
-    subst (λ n. RecoverTakes code n c.args.mode v w) (c.args.pass.now.token.known ∙ ap (λ (z : SetId). z.capacity) c.requires.pass)
+    subst (λ n. RecoverTakes code.size n c.args.mode v w) (c.args.pass.now.token.known ∙ ap (λ (z : SetId). z.capacity) c.requires.pass)
     (recover_takes code v w c.args.owner c.args.mode c.free_all.result c.free_all.ensures.recovered.ends.0 c.free_all.ensures.recovered.ends.1)

@@ -2,7 +2,7 @@ use Rattle.lock_free_owners.proofs.Names.{◌<◌, rules, sym, ap, subst, ◌∙
 use Rattle.lock_free_owners.proofs.Names.{coding_of, seen, SetId, removes_value}
 use Rattle.lock_free_owners.specs.Container.Turns.{BeginsRemove, RemoveAt}
 use Rattle.lock_free_owners.proofs.ContainerSet.Begins.{remove_keeps, remove_begins}
-use Rattle.lock_free_owners.proofs.ContainerSet.Facts.{goes, has_removed, removed_answered, freed, released}
+use Rattle.lock_free_owners.proofs.ContainerSet.Facts.{goes, has_removed, removed_right, freed, released}
 use Rattle.lock_free_owners.proofs.ContainerSet.States.{remove_leaves}
 use Rattle.lock_free_owners.specs.Container.Steps.{RemoveTakes}
 use Rattle.lock_free_owners.proofs.ContainerSet.Steps.{remove_takes}
@@ -49,7 +49,7 @@ returns-clause-freed g c =
 
 pub returns-clause-answered : goal.returns-clause-answered
 returns-clause-answered g c own =
-    removed_answered (coding_of g.T.Words.WORDS g.T.Words.words_of g.T.Words.value_of) (seen c.args.pass.now.token.seated) (seen c.drive_on.new.self)
+    removed_right (coding_of g.T.Words.WORDS g.T.Words.words_of g.T.Words.value_of) (seen c.args.pass.now.token.seated) (seen c.drive_on.new.self)
     (record { index = c.args.handle.index; owner = c.args.handle.owner; mode = c.args.mode }) c.drive_on.result c.drive_on.ensures.end
 
 pub returns-clause-released : goal.returns-clause-released
@@ -67,5 +67,5 @@ returns-clause-steps g c own =
     let code : Coding g.row.T.Denot = coding_of g.T.Words.WORDS g.T.Words.words_of g.T.Words.value_of in
     let v = seen c.args.pass.now.token.seated in
     let w = seen c.drive_on.new.self in
-    subst (λ n. RemoveTakes code n c.args.mode v w) (c.args.pass.now.token.known ∙ ap (λ (z : SetId). z.capacity) c.requires)
+    subst (λ n. RemoveTakes n c.args.mode v w) (c.args.pass.now.token.known ∙ ap (λ (z : SetId). z.capacity) c.requires)
     (remove_takes code v w (record { index = c.args.handle.index; owner = c.args.handle.owner; mode = c.args.mode }) c.drive_on.result c.drive_on.ensures.end)

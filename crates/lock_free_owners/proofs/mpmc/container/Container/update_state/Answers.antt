@@ -166,6 +166,6 @@ returns-clause-steps g c latest =
     let w = seen c.bring_up.new.seat in
     let state = c.args.state.now in
     let size = mine.known ∙ ap (λ (z : SetId). z.capacity) c.requires.pass in
-    subst (λ n. LookTakes code n v w) size
+    subst (λ n. LookTakes code.size n v w) size
     (look_takes code v w UpdateState state.seen c.bring_up.result c.bring_up.new.state.shown
     (c.bring_up.ensures.over.0 (on_history code v state (c.requires.state.1 ∙ sym size) latest)))

@@ -3,3 +3,6 @@ use Rattle.lock_free_owners.proofs.mpmc.container.Pass.history.Goals as goal
 
 pub returns-clause-history : goal.returns-clause-history
 returns-clause-history g c = known_history c.args.self.now.token.knows
+
+pub returns-clause-rests : goal.returns-clause-rests
+returns-clause-rests g c = c.args.self.now.token.idle

@@ -9,6 +9,7 @@ use Rattle.history.specs.Views.{LooksOnce}
 use Rattle.history.proofs.PassLooks.{owes_look}
 use Rattle.lock_free_owners.specs.Container.Settling.{HasSettled}
 use Rattle.lock_free_owners.proofs.ContainerSet.Passes.{settled_once}
+use Rattle.lock_free_owners.proofs.ContainerSet.Resting.{settled_so}
 use Rattle.lock_free_owners.proofs.ContainerSet.Settling.{owes_settling, settled_capacity}
 use Rattle.lock_free_owners.proofs.mpmc.container.Pass.join.Goals as goal
 
@@ -87,7 +88,7 @@ returns-clause-same g c =
       container = search rules;
       joined = record {
         from = h.from;
-        settled = h.settled;
+        settled = settled_so code c.args.other.token.seated.seat.me.0 h.from h.settled;
         joined = record {
           made = looked.made ∙ ap (λ (z : View g.row.T.Denot). mine.made ++ z.made) h.counted;
           party = looked.party;

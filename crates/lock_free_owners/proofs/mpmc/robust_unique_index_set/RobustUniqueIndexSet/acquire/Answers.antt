@@ -4,7 +4,7 @@ use Rattle.lock_free_owners.proofs.Names.{seen, acquire_first}
 use Rattle.lock_free_owners.specs.Robust.Turns.{AcquireAt}
 use Rattle.steps.specs.declared.indices.enums.UniqueIndexSetAcquireFailure.TheVariants.{IsLocked as Locked}
 use Rattle.lock_free_owners.specs.Robust.Contracts.{WasFilled, WasGranted, WasRefused}
-use Rattle.lock_free_owners.specs.Robust.Steps.{SetTakes}
+use Rattle.history.specs.Steps.{TakesAlone}
 use Rattle.lock_free_owners.proofs.RobustSet.Facts.{filled, granted, refused, shut, acquire_takes}
 use Rattle.lock_free_owners.proofs.mpmc.robust_unique_index_set.RobustUniqueIndexSet.acquire.Goals as goal
 
@@ -53,12 +53,12 @@ pub returns-in-Ok-clause-steps : goal.returns-in-Ok-clause-steps
 returns-in-Ok-clause-steps g c =
     let v = seen c.args.pass.now.seated in
     let w = seen c.acquire_all.new.seat in
-    subst (λ n. SetTakes n (n + 3) (n + 1) v w) (c.args.pass.now.known ∙ ap (λ (z : SetId). z.capacity) c.requires)
+    subst (λ n. TakesAlone (n + 3) (n + 1) v w) (c.args.pass.now.known ∙ ap (λ (z : SetId). z.capacity) c.requires)
     (acquire_takes v w c.args.pass.now.idle c.args.owner c.acquire_all.result tt c.acquire_all.ensures.ends)
 
 pub returns-in-Err-clause-steps : goal.returns-in-Err-clause-steps
 returns-in-Err-clause-steps g c =
     let v = seen c.args.pass.now.seated in
     let w = seen c.acquire_all.new.seat in
-    subst (λ n. SetTakes n (n + 3) (n + 1) v w) (c.args.pass.now.known ∙ ap (λ (z : SetId). z.capacity) c.requires)
+    subst (λ n. TakesAlone (n + 3) (n + 1) v w) (c.args.pass.now.known ∙ ap (λ (z : SetId). z.capacity) c.requires)
     (acquire_takes v w c.args.pass.now.idle c.args.owner c.acquire_all.result tt c.acquire_all.ensures.ends)

@@ -2,7 +2,7 @@ use Rattle.lock_free_owners.proofs.Names.{◌≤◌, rules, ap, subst, ◌∙◌
 use Rattle.lock_free_owners.proofs.Names.{◌+◌}
 use Rattle.lock_free_owners.proofs.Names.{counts_owned, count_first}
 use Rattle.lock_free_owners.specs.Robust.Turns.{CountAt}
-use Rattle.lock_free_owners.specs.Robust.Steps.{SetTakes}
+use Rattle.history.specs.Steps.{TakesAlone}
 use Rattle.lock_free_owners.proofs.RobustSet.Facts.{goes, counted, counted_answered, counted_most, counted_none, count_takes}
 use Rattle.lock_free_owners.proofs.mpmc.robust_unique_index_set.RobustUniqueIndexSet.borrowed_indices.Goals as goal
 
@@ -42,5 +42,5 @@ pub returns-clause-steps : goal.returns-clause-steps
 returns-clause-steps g c =
     let v = seen c.args.pass.now.seated in
     let w = seen c.count_all.new.seat in
-    subst (λ n. SetTakes n (n + 2) (n + 2) v w) (c.args.pass.now.known ∙ ap (λ (z : SetId). z.capacity) c.requires)
+    subst (λ n. TakesAlone (n + 2) (n + 2) v w) (c.args.pass.now.known ∙ ap (λ (z : SetId). z.capacity) c.requires)
     (count_takes v w c.args.pass.now.idle c.count_all.result tt c.count_all.ensures.ends)

@@ -3,7 +3,7 @@ use Rattle.model.specs.declared.turn.Kind.TheVariants as kinds
 use Rattle.threaded.proofs.Callable.{takes_places_at}
 use Rattle.history.specs.Steps.{TakesAtMost}
 use Rattle.lock_free_owners.specs.Robust.Callable.{HasFound}
-use Rattle.lock_free_owners.proofs.RobustSet.Facts.{looks_after}
+use Rattle.lock_free_owners.proofs.RobustSet.Facts.{looks_after, only_looked}
 use Rattle.lock_free_owners.proofs.mpmc.robust_unique_index_set.RobustUniqueIndexSet.find.Goals as goal
 use Rattle.lock_free_owners.proofs.mpmc.robust_unique_index_set.RobustUniqueIndexSet.find.Given as given
 
@@ -28,7 +28,9 @@ returns-clause-found g c =
       locked = c.is_locked.result;
       begun = seen c.is_locked.new.pass.seated;
       begins = c.is_locked.ensures.looked;
-      looks = subst (λ n. Looks one_word kinds.Robust n (seen c.is_locked.new.pass.seated) (seen c.find_all.new.seat)) same c.find_all.ensures.looked;
+      looks = only_looked c.args.pass.now.capacity (seen c.is_locked.new.pass.seated) (seen c.find_all.new.seat)
+          (subst (λ n. Looks one_word kinds.Robust n (seen c.is_locked.new.pass.seated) (seen c.find_all.new.seat))
+          (ap (λ (z : SetId). z.capacity) c.is_locked.ensures.same.set) c.find_all.ensures.looked);
       found = subst (λ n. HasFound (λ p x a q. given.F-step g p x a q) n c.args.owner c.args.visit.now c.find_all.result c.find_all.new.visit
           (seen c.is_locked.new.pass.seated).seen (seen c.find_all.new.seat).seen) same c.find_all.ensures.found;
     }

@@ -2,7 +2,7 @@ use Rattle.lock_free_owners.proofs.Names.{◌<◌, rules, sym, ap, subst, ◌∙
 use Rattle.lock_free_owners.proofs.Names.{SetId, gives_owned, At, release_keeps, release_first}
 use Rattle.model.specs.declared.turn.Kind.TheVariants as kinds
 use Rattle.lock_free_owners.specs.Robust.Steps.{ReleaseTakes}
-use Rattle.lock_free_owners.proofs.RobustSet.Facts.{goes, given, given_of, given_answered, freed, released, release_takes}
+use Rattle.lock_free_owners.proofs.RobustSet.Facts.{goes, given, given_of, given_right, freed, released, release_takes}
 use Rattle.lock_free_owners.proofs.mpmc.robust_unique_index_set.RobustUniqueIndexSet.release.Goals as goal
 
 pub drive_on-requires-clause-rule : goal.drive_on-requires-clause-rule
@@ -36,7 +36,7 @@ returns-clause-freed g c = freed (seen c.args.pass.now.seated)
     (seen c.drive_on.new.self) tt c.args.pass.now.idle c.args.index c.args.owner c.args.mode c.drive_on.result c.drive_on.ensures.end
 
 pub returns-clause-answered : goal.returns-clause-answered
-returns-clause-answered g c = given_answered (seen c.args.pass.now.seated)
+returns-clause-answered g c = given_right (seen c.args.pass.now.seated)
     (seen c.drive_on.new.self) tt c.args.pass.now.idle c.args.index c.args.owner c.args.mode c.drive_on.result c.drive_on.ensures.end
 
 pub returns-clause-released : goal.returns-clause-released

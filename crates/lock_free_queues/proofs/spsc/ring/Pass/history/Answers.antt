@@ -3,3 +3,6 @@ use Rattle.lock_free_queues.proofs.spsc.ring.Pass.history.Goals as goal
 
 pub returns-clause-history : goal.returns-clause-history
 returns-clause-history g c = known_history c.args.self.now.token.knows
+
+pub returns-clause-each : goal.returns-clause-each
+returns-clause-each g c p = p.token.knows

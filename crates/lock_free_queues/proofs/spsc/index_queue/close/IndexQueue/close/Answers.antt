@@ -1,23 +1,24 @@
 use Rattle.lock_free_queues.proofs.Names.{refl, sym, subst, Index, IndexQueue, one_word}
-use Rattle.model.specs.declared.turn.Kind.TheVariants as kinds
 use Rattle.lock_free_queues.specs.Queues.Calls.{view}
 use Rattle.lock_free_queues.specs.Queues.Closes.{Closes, IsWhatWaits}
-use Rattle.lock_free_queues.proofs.Queues.Closes.{fits, closes, what_waits}
+use Rattle.lock_free_queues.proofs.Queues.Closes.{fits, closes, what_waits, as_stood}
 use Rattle.lock_free_queues.proofs.Queues.Indices.{is_coding}
 use Rattle.lock_free_queues.proofs.spsc.index_queue.close.IndexQueue.close.Goals as goal
 
 pub of_words-requires : goal.of_words-requires
-of_words-requires c = fits one_word is_coding IndexQueue c.args.self.capacity (view c.args.pass) c.in_ok-words.words.items c.in_ok-words.ensures.words refl
+of_words-requires c = fits one_word is_coding IndexQueue c.args.self.capacity (view c.args.pass) c.in_ok-words.words.items c.in_ok-words.ensures.words.last refl
 
 pub returns-clause-list : goal.returns-clause-list
 returns-clause-list c =
     let v = view c.args.pass in
     let size = c.args.self.capacity in
-    subst (Closes Index size v) (sym c.of_words.ensures) (closes one_word is_coding IndexQueue size v c.in_ok-words.words.items c.in_ok-words.ensures.words)
+    subst (Closes Index size v) (sym c.of_words.ensures)
+    (closes one_word is_coding IndexQueue size v c.in_ok-words.words.items c.in_ok-words.ensures.words.last)
 
 pub returns-clause-waits : goal.returns-clause-waits
 returns-clause-waits c =
-    let v = view c.args.pass in
+    let read = c.in_ok-words.ensures.words in
     let size = c.args.self.capacity in
-    subst (IsWhatWaits one_word kinds.IndexQueue Index size v) (sym c.of_words.ensures)
-    (what_waits one_word is_coding IndexQueue size v c.in_ok-words.words.items c.in_ok-words.ensures.words)
+    subst (IsWhatWaits Index c.args.pass) (sym c.of_words.ensures)
+    (what_waits one_word is_coding IndexQueue size (view c.args.pass) c.in_ok-words.words.items read.last c.args.pass
+    (as_stood c.args.pass size c.in_ok-words.words.items read) refl read.queue read.view)

@@ -1,8 +1,7 @@
 use Rattle.lock_free_queues.proofs.Names.{refl, sym, subst, Value, Queue, Coding, IsCoding, coding_of}
-use Rattle.model.specs.declared.turn.Kind.TheVariants as kinds
 use Rattle.lock_free_queues.specs.Queues.Values.{view}
 use Rattle.lock_free_queues.specs.Queues.Closes.{Closes, IsWhatWaits}
-use Rattle.lock_free_queues.proofs.Queues.Closes.{fits, closes, what_waits}
+use Rattle.lock_free_queues.proofs.Queues.Closes.{fits, closes, what_waits, as_stood}
 use Rattle.lock_free_queues.proofs.spsc.queue.close.Ring+T.close.Goals as goal
 
 pub of_words-requires : goal.of_words-requires
@@ -10,7 +9,7 @@ of_words-requires g c =
     let met = g.met.T.Words in
     let code : Coding g.row.T.Denot = coding_of g.T.Words.WORDS g.T.Words.words_of g.T.Words.value_of in
     let law : IsCoding code = record { some = met.some; few = met.few; sized = met.sized; given_back = met.given_back } in
-    fits code law Queue c.args.self.capacity (view c.args.pass) c.in_ok-words.words.items c.in_ok-words.ensures.words refl
+    fits code law Queue c.args.self.capacity (view c.args.pass) c.in_ok-words.words.items c.in_ok-words.ensures.words.last refl
 
 pub returns-clause-list : goal.returns-clause-list
 returns-clause-list g c =
@@ -19,14 +18,15 @@ returns-clause-list g c =
     let law : IsCoding code = record { some = met.some; few = met.few; sized = met.sized; given_back = met.given_back } in
     let v = view c.args.pass in
     let size = c.args.self.capacity in
-    subst (Closes Value size v) (sym c.of_words.ensures) (closes code law Queue size v c.in_ok-words.words.items c.in_ok-words.ensures.words)
+    subst (Closes Value size v) (sym c.of_words.ensures) (closes code law Queue size v c.in_ok-words.words.items c.in_ok-words.ensures.words.last)
 
 pub returns-clause-waits : goal.returns-clause-waits
 returns-clause-waits g c =
     let met = g.met.T.Words in
     let code : Coding g.row.T.Denot = coding_of g.T.Words.WORDS g.T.Words.words_of g.T.Words.value_of in
     let law : IsCoding code = record { some = met.some; few = met.few; sized = met.sized; given_back = met.given_back } in
-    let v = view c.args.pass in
+    let read = c.in_ok-words.ensures.words in
     let size = c.args.self.capacity in
-    subst (IsWhatWaits code kinds.Queue Value size v) (sym c.of_words.ensures)
-    (what_waits code law Queue size v c.in_ok-words.words.items c.in_ok-words.ensures.words)
+    subst (IsWhatWaits Value c.args.pass) (sym c.of_words.ensures)
+    (what_waits code law Queue size (view c.args.pass) c.in_ok-words.words.items read.last c.args.pass
+    (as_stood c.args.pass size c.in_ok-words.words.items read) refl read.queue read.view)

@@ -6,7 +6,6 @@ use Rattle.lock_free_queues.specs.Queues.Rings.{token_view}
 use Rattle.lock_free_queues.specs.Queues.Kinds.{most_waiting}
 use Rattle.lock_free_queues.specs.Queues.Contracts.{HasMeasured}
 use Rattle.lock_free_queues.proofs.Queues.Facts.{measured, few}
-use Rattle.history.specs.Steps.{TakesAlone}
 use Rattle.lock_free_queues.proofs.Queues.Paid.{length_takes}
 use Rattle.lock_free_queues.proofs.spsc.ring.lengths.Held+E+T+RingRule+E+T.measure.Goals as goal
 
@@ -51,5 +50,4 @@ returns-clause-steps g c =
     let code : Coding g.row.T.Denot = coding_of g.T.Words.WORDS g.T.Words.words_of g.T.Words.value_of in
     let v = token_view mine in
     let w = c.drive_on.new.self.seat.me.0 in
-    subst (λ n. TakesAlone code (machine_kind g.E.Kind.KIND) n 4 4 v w) mine.known
-    (length_takes code v w mine.idle g.E.Kind.KIND g.W.Measure.WHICH c.drive_on.result tt c.drive_on.ensures.end)
+    length_takes code v w mine.idle g.E.Kind.KIND g.W.Measure.WHICH c.drive_on.result tt c.drive_on.ensures.end

@@ -1,4 +1,4 @@
-use Rattle.lock_free_queues.proofs.Names.{rules, ◌≡◌, ◌≢◌, ap, subst, ◌∙◌, arith, Coding, coding_of}
+use Rattle.lock_free_queues.proofs.Names.{rules, ◌≡◌, ◌≢◌, sym, ap, subst, ◌∙◌, arith, Coding, coding_of}
 use Rattle.lock_free_queues.specs.Queues.Bounded.{machine_kind}
 use Rattle.lock_free_queues.specs.Queues.Calls.{QueueId}
 use Rattle.lock_free_queues.specs.Queues.Rings.{token_view}
@@ -25,13 +25,20 @@ returns-then-again-write g c =
     let same : c.read-again.result ≡ c.loop-write.write = search rules in
     let cells : CellsRead code (machine_kind g.E.Kind.KIND) size w r words =
     subst (λ n. CellsRead code (machine_kind g.E.Kind.KIND) n w r words) one c.read_cells.ensures.cells in
+    let last =
     last_words code (machine_kind g.E.Kind.KIND) size (words_in_cells g.T.Words.WORDS g.E.Kind.KIND size) v w x y words
     c.loop-write.write c.read-read.result mine.small (c.read_cells.ensures.long ∙ (inv.long ∙ c.requires)) inv.few inv.read
     (then_read w r x c.read_cells.ensures.read c.read-read.ensures.read) c.read-again.ensures.read inv.found
     (λ word high low. read_until code (machine_kind g.E.Kind.KIND) size word _ w r x (cells word high low) c.read-read.ensures.read)
     (subst (λ n. WasRead code (machine_kind g.E.Kind.KIND) n x x 1 c.read-read.result) two c.read-read.ensures.last)
     (subst (WasRead code (machine_kind g.E.Kind.KIND) size y y 0) same
-    (subst (λ n. WasRead code (machine_kind g.E.Kind.KIND) n y y 0 c.read-again.result) three c.read-again.ensures.last))
+    (subst (λ n. WasRead code (machine_kind g.E.Kind.KIND) n y y 0 c.read-again.result) three c.read-again.ensures.last)) in
+    record {
+      last = last.0;
+      then = c.read-read.new.self;
+      queue = c.read-read.ensures.queue ∙ (c.read_cells.ensures.queue ∙ inv.queue);
+      view = sym last.1;
+    }
 
 pub loop-write-smaller : goal.loop-write-smaller
 loop-write-smaller g c =

@@ -6,7 +6,6 @@ use Rattle.history.proofs.OverflowPops.{over_pop_keeps, over_pop_first}
 use Rattle.lock_free_queues.specs.Queues.Overflowing.{token_view}
 use Rattle.lock_free_queues.specs.Queues.Contracts.{PopOldest, PopFoundNone}
 use Rattle.lock_free_queues.proofs.Queues.OverEnded.{over_popped, over_taken_if, over_empty_if}
-use Rattle.history.specs.Steps.{TakesAlone}
 use Rattle.lock_free_queues.proofs.Queues.Paid.{over_pop_takes}
 use Rattle.lock_free_queues.proofs.spsc.safely_overflowing_index_queue.calls.Held+Overflowing+u64+RingRule+Overflowing+u64.pop.Goals as goal
 
@@ -47,5 +46,4 @@ returns-clause-steps g c =
     let mine = c.args.self.now in
     let v = token_view mine in
     let w = c.drive_on-end.new.self.seat.me.0 in
-    subst (λ n. TakesAlone one_word kinds.Overflow n 4 2 v w) mine.known
-    (over_pop_takes one_word v w mine.idle c.drive_on-end.result c.drive_on-end.new.room c.drive_on-end.ensures.end)
+    over_pop_takes one_word v w mine.idle c.drive_on-end.result c.drive_on-end.new.room c.drive_on-end.ensures.end

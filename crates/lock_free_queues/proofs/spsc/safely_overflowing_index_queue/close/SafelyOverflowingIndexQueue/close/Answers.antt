@@ -1,7 +1,8 @@
-use Rattle.lock_free_queues.proofs.Names.{rules, ◌≡◌, ◌-◌, max, set, slice_index, sym, ap, subst, ◌∙◌, list_in, Index}
+use Rattle.lock_free_queues.proofs.Names.{rules, ◌≡◌, ◌-◌, max, set, slice_index, refl, sym, ap, subst, ◌∙◌, list_in, Index}
 use Rattle.plain.specs.Overflowing.{Represents}
 use Rattle.lock_free_queues.specs.Queues.Closes.{Closes, IsNewestThatWaits}
 use Rattle.lock_free_queues.specs.Queues.Overflowing.{view}
+use Rattle.lock_free_queues.proofs.Queues.Closes.{as_stood}
 use Rattle.lock_free_queues.proofs.Queues.OverCloses.{over_fits, over_closes, newest}
 use Rattle.lock_free_queues.proofs.spsc.safely_overflowing_index_queue.close.SafelyOverflowingIndexQueue.close.Goals as goal
 
@@ -12,7 +13,7 @@ of_words-requires c =
     let oldest : c.saturating_sub-oldest.result ≡ slice_index words 0 - size = search rules in
     let later : c.max.result ≡ max (slice_index words 1) c.saturating_sub-oldest.result = search rules in
     subst (λ n. Represents size (set words 1 n)) (sym (later ∙ ap (λ n. max (slice_index words 1) n) oldest))
-    (over_fits size (view c.args.pass) words c.in_ok-words.ensures.words c.args.pass.none.0)
+    (over_fits size (view c.args.pass) words c.in_ok-words.ensures.words.last c.args.pass.none.0)
 
 pub returns-clause-list : goal.returns-clause-list
 returns-clause-list c =
@@ -24,7 +25,7 @@ returns-clause-list c =
     subst (Closes Index size v) (sym c.of_words.ensures)
     (subst (λ n. Closes Index size v (list_in size (set words 1 n)))
     (sym (later ∙ ap (λ n. max (slice_index words 1) n) oldest))
-    (over_closes size v words c.in_ok-words.ensures.words c.args.pass.none.0))
+    (over_closes size v words c.in_ok-words.ensures.words.last c.args.pass.none.0))
 
 pub returns-clause-waits : goal.returns-clause-waits
 returns-clause-waits c =
@@ -33,7 +34,8 @@ returns-clause-waits c =
     let words = c.in_ok-words.words.items in
     let oldest : c.saturating_sub-oldest.result ≡ slice_index words 0 - size = search rules in
     let later : c.max.result ≡ max (slice_index words 1) c.saturating_sub-oldest.result = search rules in
-    subst (IsNewestThatWaits size v) (sym c.of_words.ensures)
-    (subst (λ n. IsNewestThatWaits size v (list_in size (set words 1 n)))
+    let read = c.in_ok-words.ensures.words in
+    subst (IsNewestThatWaits size c.args.pass) (sym c.of_words.ensures)
+    (subst (λ n. IsNewestThatWaits size c.args.pass (list_in size (set words 1 n)))
     (sym (later ∙ ap (λ n. max (slice_index words 1) n) oldest))
-    (newest size v words c.in_ok-words.ensures.words c.args.pass.none.0))
+    (newest size v words read.last c.args.pass.none.0 c.args.pass (as_stood c.args.pass size words read) refl read.queue read.view))

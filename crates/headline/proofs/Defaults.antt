@@ -1,0 +1,96 @@
+-- A robust set and a container end calls by turns, in runs in which no call may lock with the small bounds.
+use Rattle.std.proofs.Common.{◌≡◌, false, Option, Some, None, List, [], ◌∷◌, ◌++◌, refl, sym, ap, subst, ◌∙◌, arith}
+use Rattle.std.specs.List.{AllByRecursion}
+use Rattle.model.specs.declared.event.Start.{Start}
+use Rattle.model.specs.declared.turn.Kind.{Kind}
+use Rattle.model.specs.declared.turn.Kind.TheVariants.{Robust, Container}
+use Rattle.model.specs.declared.turn.Refusal.{Refusal}
+use Rattle.model.specs.declared.turn.Turn.{Turn}
+use Rattle.model.specs.Loads.{EndsLoadOf}
+use Rattle.model.specs.LockFree.{Bound, BeginsSuch, IsDefault, default_bound, default_container_bound, room_bound}
+use Rattle.model.specs.Refusals.{call_refusal, refusal_of}
+use Rattle.model.specs.Turns.{IsReached, IsReachedOn, after_turn, attempt, attempt_on, run, run_on, unless_refused}
+use Rattle.model.specs.World.{Trace, opened, opening}
+use Rattle.model.proofs.LockFree.Fairly.{own_in_all}
+use Rattle.model.proofs.LockFree.Machines.{all_allowed, loads_in_runs}
+use Rattle.model.proofs.Names.{is_loan}
+use Rattle.model.proofs.Openings.{opened_others}
+use Rattle.model.proofs.Reached.{turn_making}
+use Rattle.model.proofs.Rows.{passes}
+use Rattle.laws_container.specs.LockFree.{room_container_bound}
+use Rattle.machine.proofs.Loads.{robust_load_ends, container_load_ends, room_load_ends, room_container_load_ends}
+use Rattle.headline.specs.Going.{EndsByTurnsOf}
+use Rattle.headline.specs.Nexts.{EndsByTurns}
+use Rattle.headline.proofs.Nexts.{turns_end, turns_pay}
+
+module _ {T : Type 0} (Such : Start T → Type 0) where
+  -- some turns that begin no call but such ones lead there
+  record ReachedBySuch (t : Trace T) : Type 0 where
+    pub reached : IsReachedOn t
+    pub such : AllByRecursion (BeginsSuch Such) reached.turns
+
+  all_more : (xs : List (Turn T)) (x : Turn T) → AllByRecursion (BeginsSuch Such) xs → BeginsSuch Such x → AllByRecursion (BeginsSuch Such) (xs ++ x ∷ [])
+  all_more [] x all here = (here, tt)
+  all_more (y ∷ xs) x all here = (all.0, all_more xs x all.1 here)
+
+  run_more : (xs : List (Turn T)) (x : Turn T) (first : Trace T) → run_on (xs ++ x ∷ []) first ≡ attempt_on (run_on xs first) x
+  run_more [] x first = refl
+  run_more (y ∷ xs) x first = run_more xs x (attempt_on first y)
+
+  leads_on : (xs : List (Turn T)) (turn : Turn T) (t first : Trace T) → call_refusal t.world turn ≡ None → t ≡ run_on xs first
+      → after_turn t turn ≡ run_on (xs ++ turn ∷ []) first
+  leads_on xs turn t first e is =
+      sym (ap (unless_refused t (after_turn t turn)) e) ∙ (ap (λ u. attempt_on u turn) is ∙ sym (run_more xs turn first))
+
+  one_more : (t : Trace T) (turn : Turn T) → call_refusal t.world turn ≡ None → BeginsSuch Such turn → ReachedBySuch t → ReachedBySuch (after_turn t turn)
+  one_more t turn e here h =
+      let r = h.reached in
+      let making = turn_making t.world turn in
+      let more = leads_on r.turns turn t (opening t.world.coding t.world.kind t.world.capacity t.world.parties) e r.is in
+      record {
+        reached =
+            record {
+              coded = rw making.coding r.coded;
+              admitted = rw (making.kind, making.capacity) r.admitted;
+              turns = r.turns ++ turn ∷ [];
+              is = rw (making.coding, making.kind, making.capacity, making.parties) more;
+            };
+        such = all_more r.turns turn h.such here;
+      }
+
+  by_run : (turns : List (Turn T)) (t : Trace T) → AllByRecursion (BeginsSuch Such) turns → ReachedBySuch t → ReachedBySuch (run turns t)
+  by_run [] t all h = h
+  by_run (turn ∷ turns) t all h = by_run turns (attempt t turn) all.1 (attempted (refusal_of t.world turn) refl)
+    where
+      attempted : (o : Option Refusal) → refusal_of t.world turn ≡ o → ReachedBySuch (unless_refused t (after_turn t turn) o)
+      attempted None free = one_more t turn (passes t.world turn free).on all.0 h
+      attempted (Some refusal) free = h
+
+  reached_by_such : (t : Trace T) → is_loan t.world.kind ≡ false → (r : IsReached t) → AllByRecursion (BeginsSuch Such) r.turns → ReachedBySuch t
+  reached_by_such t no_loan r all =
+      subst ReachedBySuch (sym r.is)
+      (by_run r.turns (opened t.world.coding t.world.kind t.world.capacity r.queue t.world.parties) all
+      (subst ReachedBySuch (sym (opened_others t.world.coding t.world.kind t.world.capacity r.queue t.world.parties no_loan))
+      (record { reached = record { coded = r.coded; admitted = r.admitted; turns = []; is = refl }; such = tt })))
+
+  turns_end_of : (kind : Kind) → is_loan kind ≡ false → (bound : Bound) → EndsLoadOf T kind Such bound → EndsByTurnsOf T kind Such bound
+  turns_end_of kind no_loan bound loads t is r before p turns allowed such many =
+      let none : is_loan t.world.kind ≡ false = subst (λ k. is_loan k ≡ false) (sym is) no_loan in
+      let there = reached_by_such t none r before in
+      let on = all_allowed t turns t.world.parties refl allowed in
+      let paid = turns_pay t r p turns allowed in
+      let own = own_in_all p t turns in
+      let most = loads t is there.reached there.such t.world.parties turns on.0 on.1 such in
+      omega arith
+
+pub robust_by_turns : (T : Type 0) → EndsByTurnsOf T Robust IsDefault default_bound
+robust_by_turns T = turns_end_of IsDefault Robust refl default_bound (robust_load_ends T)
+
+pub container_by_turns : (T : Type 0) → EndsByTurnsOf T Container IsDefault default_container_bound
+container_by_turns T = turns_end_of IsDefault Container refl default_container_bound (container_load_ends T)
+
+pub robust_room_by_turns : (T : Type 0) → EndsByTurns T Robust room_bound
+robust_room_by_turns T = turns_end Robust room_bound (loads_in_runs Robust refl room_bound (room_load_ends T))
+
+pub container_room_by_turns : (T : Type 0) → EndsByTurns T Container room_container_bound
+container_room_by_turns T = turns_end Container room_container_bound (loads_in_runs Container refl room_container_bound (room_container_load_ends T))

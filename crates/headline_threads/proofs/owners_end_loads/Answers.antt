@@ -1,0 +1,38 @@
+use Rattle.headline_threads.proofs.Ending as laws
+use Rattle.headline_threads.proofs.owners_end_loads.Goals as goal
+
+pub returns-clause-robust_between : goal.returns-clause-robust_between
+returns-clause-robust_between g c = (laws.robust_ends _).between
+
+pub returns-clause-robust_load : goal.returns-clause-robust_load
+returns-clause-robust_load g c = (laws.robust_ends _).load
+
+pub returns-clause-robust_rest : goal.returns-clause-robust_rest
+returns-clause-robust_rest g c = (laws.robust_ends _).rest
+
+pub returns-clause-container_between : goal.returns-clause-container_between
+returns-clause-container_between g c = (laws.container_ends _).between
+
+pub returns-clause-container_load : goal.returns-clause-container_load
+returns-clause-container_load g c = (laws.container_ends _).load
+
+pub returns-clause-container_rest : goal.returns-clause-container_rest
+returns-clause-container_rest g c = (laws.container_ends _).rest
+
+pub returns-clause-robust_between_by_default : goal.returns-clause-robust_between_by_default
+returns-clause-robust_between_by_default g c = (laws.robust_by_default _).between
+
+pub returns-clause-robust_load_by_default : goal.returns-clause-robust_load_by_default
+returns-clause-robust_load_by_default g c = (laws.robust_by_default _).load
+
+pub returns-clause-robust_rest_by_default : goal.returns-clause-robust_rest_by_default
+returns-clause-robust_rest_by_default g c = (laws.robust_by_default _).rest
+
+pub returns-clause-container_between_by_default : goal.returns-clause-container_between_by_default
+returns-clause-container_between_by_default g c = (laws.container_by_default _).between
+
+pub returns-clause-container_load_by_default : goal.returns-clause-container_load_by_default
+returns-clause-container_load_by_default g c = (laws.container_by_default _).load
+
+pub returns-clause-container_rest_by_default : goal.returns-clause-container_rest_by_default
+returns-clause-container_rest_by_default g c = (laws.container_by_default _).rest

@@ -1,0 +1,140 @@
+-- Who has begun a call has one in the run: its latest.
+use Rattle.history.proofs.Names.{◌≡◌, ◌≢◌, ⊎_elim, ℕ, ◌+◌, ◌≤◌, ◌*◌, Bool, false, Option, Some, None, List, [], ◌∷◌, ◌++◌, refl, sym, ap, subst, ◌∙◌, arith}
+use Rattle.history.proofs.Names.{cases_eq, sum_by-append, Start, Flight, Kind, Party, Doing, Going, Over, Turn, Begin, Next, Decide, Answer}
+use Rattle.history.proofs.Names.{party_of, party_put_same, party_put_other, after_begin, after_next, after_decision, after_answer, Event, Begun, Finished}
+use Rattle.history.proofs.Names.{after_turn, events_of, first_of, number_of, old_of, ask_of_doing, Coding, World, Trace, Ask, is_none}
+use Rattle.model.specs.declared.turn.Turn.TheVariants.{Die}
+use Rattle.model.specs.declared.turn.Kind.TheVariants as kinds
+use Rattle.model.specs.Loads.{begun_of, begun}
+use Rattle.model.specs.Parties.{progress_after, others_of, put}
+use Rattle.model.specs.Turns.{AreAllowedBy, after_turns}
+use Rattle.model.specs.World.{opening}
+use Rattle.model.proofs.LockFree.Counted.{begins_are}
+use Rattle.model.proofs.Rows.{IsPossible, possible_on}
+use Rattle.laws_robust.proofs.OpenRuns.{possible_open}
+use Rattle.history.specs.declared.view.View.{View}
+use Rattle.history.specs.History.{Called, Knows, others_so, others_by, refusal_as, run_of}
+use Rattle.history.specs.Known.{events_by, own_of}
+use Rattle.history.specs.Steps.{TakesAlone, TakesInRun}
+use Rattle.history.proofs.Known.{by_more, own_mine, by_other, sum_first}
+use Rattle.history.proofs.Paid.{progress_of}
+
+module _ {T : Type 0} where
+  possible_as : (kind : Kind) (w : World T) (turn : Turn T) → refusal_as kind w turn ≡ None → IsPossible w turn
+  possible_as kinds.Robust w turn e = possible_open w turn e
+  possible_as kinds.Container w turn e = possible_open w turn e
+  possible_as kind w turn e = possible_on w turn e
+
+  module _ (p : ℕ) where
+    -- how often the party has begun a call
+    abbrev begun_by : List (Event T) → ℕ
+    begun_by es = begun (events_by p es)
+
+    more : (xs ys : List (Event T)) → begun_by (xs ++ ys) ≡ begun_by xs + begun_by ys
+    more xs ys = ap begun (by_more p xs ys) ∙ sum_by-append begun_of (events_by p xs) (events_by p ys)
+
+    few : (e : Event T) → begun (own_of p e) ≤ begun_of e
+    few e = grind arith
+
+    fewer : (es : List (Event T)) → begun_by es ≤ begun es
+    fewer [] = omega arith
+    fewer (e ∷ es) =
+        let here = few e in
+        let rest = fewer es in
+        let one = sum_by-append begun_of (own_of p e) (events_by p es) in
+        let two = sum_first begun_of e es in
+        omega arith
+
+    -- a party with no call has begun none
+    abbrev None_begun : Trace T → Type 0
+    None_begun t = party_of p t.world.latest ≡ None → begun_by t.events ≡ 0
+
+    -- ---- a turn keeps it
+
+    never : (q : ℕ) (x : Party T) (latest : List (ℕ × Party T)) → party_of q (put q x latest) ≡ None → ⊥
+    never q x latest none = (let no : ◌≡◌ {A = Option (Party T)} (Some x) None = sym (party_put_same q x latest) ∙ none in absurd (cc))
+
+    begins : (w : World T) (q : ℕ) (start : Start T) (o : Option (Flight T)) → is_none o ≡ false
+        → party_of p (after_begin w q start o).latest ≡ None → (party_of p w.latest ≡ None) × (p ≢ q)
+    begins w q start None some none = absurd (cc)
+    begins w q start (Some flight) some none =
+        ⊎_elim (λ (e : p ≡ q). absurd (never q _ w.latest (subst (λ n. party_of n (after_begin w q start (Some flight)).latest ≡ None) e none)))
+        (λ (ne : p ≢ q). (sym (party_put_other p q _ w.latest ne) ∙ none, ne)) (cases_eq p q)
+
+    answers : (w : World T) (q : ℕ) (x : Party T) (ask : Option Ask) (n : ℕ) (doing : Doing T)
+        → party_of p (after_answer w q x ask n doing).latest ≡ None → party_of p w.latest ≡ None
+    answers w q x ask n (Over others) none = none
+    answers w q x ask n' (Going flight since) none =
+        ⊎_elim (λ (e : p ≡ q). absurd (never q _ w.latest (subst (λ n. party_of n (after_answer w q x ask n' (Going flight since)).latest ≡ None) e none)))
+        (λ (ne : p ≢ q). sym (party_put_other p q _ w.latest ne) ∙ none) (cases_eq p q)
+
+    nexts : (w : World T) (q : ℕ) (o : Option (Party T)) → party_of p (after_next w q o).latest ≡ None → party_of p w.latest ≡ None
+    nexts w q None none = none
+    nexts w q (Some x) none = answers w q x (ask_of_doing w.coding x.doing) (old_of w.words (ask_of_doing w.coding x.doing)) x.doing none
+
+    decides : (w : World T) (q : ℕ) (said : Bool) (o : Option (Party T)) → party_of p (after_decision w q said o).latest ≡ None
+        → party_of p w.latest ≡ None
+    decides w q said None none = none
+    decides w q said (Some x) none = answers w q x None (number_of said) x.doing none
+
+    -- where the turn begins no call
+    quiet : (t : Trace T) (turn : Turn T) → begun (after_turns t (turn ∷ [])).events ≡ begun t.events → begun_by t.events ≡ 0
+        → begun_by (after_turn t turn).events ≡ 0
+    quiet t turn same none =
+        let all = sum_by-append begun_of t.events (events_of t.world turn) in
+        let few = fewer (events_of t.world turn) in
+        let both = more t.events (events_of t.world turn) in
+        omega arith
+
+    turned : (t : Trace T) (turn : Turn T) → IsPossible t.world turn → None_begun t → None_begun (after_turn t turn)
+    turned t (Begin q start) may was none =
+        let before = begins t.world q start (first_of t.world.kind t.world.capacity start t.world.kept) may.call none in
+        let here : begun_by (Begun q start ∷ []) ≡ 0 = ap begun (by_other q p (Begun q start ∷ []) before.1 (refl, tt)) in
+        let all = more t.events (Begun q start ∷ []) in
+        let zero = was before.0 in
+        omega arith
+    turned t (Next q) may was none =
+        quiet t (Next q) (let is = begins_are t (Next q ∷ []) in omega arith) (was (nexts t.world q (party_of q t.world.latest) none))
+    turned t (Decide q said) may was none =
+        quiet t (Decide q said) (let is = begins_are t (Decide q said ∷ []) in omega arith) (was (decides t.world q said (party_of q t.world.latest) none))
+    turned t (Die owner) may was none = quiet t (Die owner) (let is = begins_are t (Die owner ∷ []) in omega arith) (was none)
+
+    turns_keep : (kind : Kind) (t : Trace T) (turns : List (Turn T)) → AreAllowedBy (refusal_as kind) t turns → None_begun t → None_begun (after_turns t turns)
+    turns_keep kind t [] allowed was = was
+    turns_keep kind t (turn ∷ turns) allowed was =
+        turns_keep kind (after_turn t turn) turns allowed.1 (turned t turn (possible_as kind t.world turn allowed.0) was)
+
+  -- ---- of a call that a pass has made
+
+  module _ (code : Coding T) (kind : Kind) (capacity alone retry p : ℕ) (start : Start T) (answer : Answer T) (wrote : List (Event T)) (old new : View T)
+      (called : Called p start answer wrote old new) (mine : new.party ≡ Some p) (knows : Knows code kind capacity new) where
+    abbrev known : Trace T
+    known = run_of code kind capacity new.turns
+
+    one : 1 ≤ begun_by p known.events
+    one =
+        let is : known.events ≡ (old.seen ++ called.others) ++ Begun p start ∷ (called.during ++ Finished p start answer ∷ []) = sym knows.is ∙ called.is in
+        let all = more p (old.seen ++ called.others) (Begun p start ∷ (called.during ++ Finished p start answer ∷ [])) in
+        let first = more p (Begun p start ∷ []) (called.during ++ Finished p start answer ∷ []) in
+        let here : begun_by p (Begun p start ∷ []) ≡ 1 = ap (λ es. begun (es ++ [])) (own_mine p (Begun p start) refl) in
+        let same : begun_by p known.events ≡ begun_by p ((old.seen ++ called.others) ++ Begun p start ∷ (called.during ++ Finished p start answer ∷ [])) =
+        ap (begun_by p) is in
+        omega arith
+
+    pub takes_in_run : TakesAlone alone retry old new → TakesInRun code kind capacity alone retry p old new
+    takes_in_run takes = go (party_of p known.world.latest) refl
+      where
+        go : (o : Option (Party T)) → party_of p known.world.latest ≡ o → TakesInRun code kind capacity alone retry p old new
+        go None none =
+            let zero = turns_keep p kind (opening code kind capacity 0) new.turns knows.allowed (λ none. refl) none in
+            let some = one in
+            absurd (omega arith)
+        go (Some x) found =
+            let counts : new.others ≡ others_of known.world.changes x.doing =
+            knows.others ∙ (ap (others_by known.world) mine ∙ ap (others_so known.world.changes) found) in
+            record {
+              progress = progress_of known.world.changes x;
+              latest = ap (progress_after known.world.changes) found;
+              counts = counts;
+              steps = subst (λ n. new.asked ≤ old.asked + (alone + n * retry)) counts takes;
+            }

@@ -1,0 +1,6 @@
+use Rattle.history.proofs.Latest.{takes_in_run}
+use Rattle.history.proofs.laws.steps_are_bounded.Goals as goal
+
+pub returns : goal.returns
+returns g c code kind capacity alone retry p start answer wrote old new called mine knows takes =
+    takes_in_run code kind capacity alone retry p start answer wrote old new called mine knows takes

@@ -1,0 +1,69 @@
+-- What contracts say of a call that rests follows from what the machine has of it.
+use Rattle.lock_free_owners.proofs.Names.{◌≡◌, inl, inr, ℕ, false, true, true≢false, refl, sym, subst, ◌∙◌, Done, Number}
+use Rattle.lock_free_owners.proofs.Names.{Answer, Flight, Coding, goes_of, want_of, is_question, number_of, View}
+use Rattle.steps.specs.declared.container.find.FindStage.{FindStage}
+use Rattle.steps.specs.declared.container.find.FindStage as finds
+use Rattle.model.specs.declared.families.Flight as flights
+use Rattle.model.specs.declared.families.Registry.{Registry}
+use Rattle.model.specs.declared.families.Registry as registries
+use Rattle.model.specs.declared.families.container.calls.ContainerFlight as calls
+use Rattle.model.specs.declared.turn.Kind.TheVariants as kinds
+use Rattle.history.specs.Settled as machine
+use Rattle.lock_free_owners.specs.Container.Resting.{FindEndsAs, EndsAs, IsResting, Settles, SettledFrom}
+
+module _ {T : Type 0} (code : Coding T) where
+  pub ends_as : (p : ℕ) (answer : Answer T) (flight : Flight T) → is_question (want_of code flight) ≡ true
+      → ((kept : Registry T) → goes_of code p flight (number_of false) kept ≡ Done answer) → EndsAs flight answer
+  ends_as p answer (flights.TheVariants.Container (calls.TheVariants.Find run)) asks ends = go run.call.stage refl
+    where
+      go : (stage : FindStage) → run.call.stage ≡ stage → FindEndsAs run.call.stage answer
+      go (finds.TheVariants.LoadsCell index found) is = absurd (true≢false (sym asks ∙ rw is refl))
+      go (finds.TheVariants.LoadsCount index found) is = absurd (true≢false (sym asks ∙ rw is refl))
+      go (finds.TheVariants.LoadsWord index found count at) is = absurd (true≢false (sym asks ∙ rw is refl))
+      go (finds.TheVariants.ChecksCount index found count) is = absurd (true≢false (sym asks ∙ rw is refl))
+      go (finds.TheVariants.Asks index found) is =
+          let flight : Flight T = flights.TheVariants.Container (calls.TheVariants.Find run) in
+          let no : goes_of code p flight (number_of false) registries.TheVariants.Nothing ≡ Done (Number found) = rw is refl in
+          let ended = ends registries.TheVariants.Nothing in
+          let same : answer ≡ Number found = cc in
+          subst (λ stage. FindEndsAs stage answer) (sym is) same
+  ends_as p answer flight asks ends = tt
+
+  abbrev pub resting_so : (v : View T) → machine.IsResting code v → IsResting v
+  resting_so v h =
+      record {
+        party = h.party;
+        mine = h.mine;
+        start = h.start;
+        flight = h.flight;
+        going = h.going;
+        answer = h.answer;
+        ends = ends_as h.party h.answer h.flight h.asks h.ends;
+        alone = h.alone;
+        some = h.some;
+      }
+
+  settles : (old new : View T) → machine.Settles code kinds.Container old new → Settles old new
+  settles old new h =
+      record {
+        resting = resting_so old h.resting;
+        capacity = h.capacity;
+        party = h.party;
+        share = h.share;
+        state = h.state;
+        idle = h.idle;
+        asked = h.asked;
+        fresh = h.fresh;
+        others = h.others;
+        seen = h.seen;
+        alone = h.alone;
+        others_own = h.others_own;
+        made = h.made;
+        first = h.ran.first;
+        all = h.all;
+        parties = h.parties;
+      }
+
+  pub settled_so : (old new : View T) → machine.SettledFrom code kinds.Container old new → SettledFrom old new
+  settled_so old new (inl same) = inl same
+  settled_so old new (inr h) = inr (settles old new h)

@@ -1,0 +1,10 @@
+pub mod Parts
+pub mod RobustPays
+pub mod RobustCalls
+pub mod ContainerPays
+pub mod ContainerCalls
+pub mod Bounded
+pub mod Turns
+pub mod RobustWorn
+pub mod ContainerWorn
+pub mod Laws

@@ -1,0 +1,285 @@
+-- The counter of a robust index set, or of a container, is bounded by the changes of its history, where no two calls that
+-- may lock overlap: what holds between two turns, and what a turn owes that keeps it.
+use Rattle.std.proofs.Common.{◌≡◌, ◌≢◌, ◌⊎◌, ⊎_elim, ℕ, ◌+◌, ◌*◌, ◌<◌, ◌≤◌, ◌==◌, Bool, true, false, true≢false, Option, Some, None, List, [], ◌++◌, length}
+use Rattle.std.proofs.Common.{refl, sym, ap, subst, ◌∙◌, append-nil, arith}
+use Rattle.std.proofs.lemmas.Bool.{cases_eq}
+use Rattle.std.proofs.lemmas.List.Sums.{sum_by-append}
+use Rattle.steps.specs.Indices.Robust.Parts.{locked}
+use Rattle.steps.specs.declared.indices.enums.ReleaseMode.{ReleaseMode}
+use Rattle.steps.specs.declared.indices.enums.ReleaseMode.TheVariants.{Default, LockIfLastIndex}
+use Rattle.steps.specs.declared.container.recover.RecoverStage as container_recovers
+use Rattle.steps.specs.declared.container.remove.RemoveStage as removes
+use Rattle.steps.specs.declared.indices.robust.recover.RecoverStage as recovers
+use Rattle.steps.specs.declared.indices.robust.release.ReleaseStage as releases
+use Rattle.model.specs.declared.event.Answer.{Answer}
+use Rattle.model.specs.declared.event.Event.{Event}
+use Rattle.model.specs.declared.event.Start.{Start}
+use Rattle.model.specs.declared.families.Flight.{Flight}
+use Rattle.model.specs.declared.families.Flight as flights
+use Rattle.model.specs.declared.families.container.calls.ContainerFlight as container_calls
+use Rattle.model.specs.declared.families.indices.robust.calls.RobustFlight as robust_calls
+use Rattle.model.specs.Turns.{ending_of}
+use Rattle.model.specs.World.{Trace, flight_in}
+use Rattle.laws_indices.proofs.Sums.{sum_below, sum_moved, sum_longer}
+use Rattle.lock_free_owners.specs.Worn.{change, changes}
+use Rattle.laws_robust.proofs.Counter.{tested}
+use Rattle.lock_free_owners.proofs.Worn.Parts.{locks_in, lock_late_most, release_late, counts_move}
+use Rattle.laws_robust.proofs.Counter.{counter_of}
+use Rattle.lock_free_owners.proofs.Worn.RobustPays.{late_in, late_in_most, recover_late, robust_credit, robust_late, robust_locks}
+use Rattle.lock_free_owners.proofs.Worn.ContainerPays.{remove_late, container_credit, container_late, container_locks}
+use Rattle.lock_free_owners.proofs.Worn.ContainerPays as container
+
+-- ---- a call that does not lock is not late, and one that does is so by 1
+
+late_by_mode : (mode : ReleaseMode) (n : ℕ) → locks_in mode ≡ false → late_in mode n ≡ 0
+late_by_mode Default n e = refl
+late_by_mode LockIfLastIndex n e = absurd (cc)
+
+robust_not_late : (n : ℕ) (flight : robust_calls.RobustFlight) → robust_locks flight ≡ false → robust_late n flight ≡ 0
+robust_not_late n (robust_calls.TheVariants.Release run) e = late_by_mode run.given.mode (release_late n run.call.stage) e
+robust_not_late n (robust_calls.TheVariants.Recover run) e = late_by_mode run.given (recover_late n run.call.stage) e
+robust_not_late n (robust_calls.TheVariants.Acquire run) e = refl
+robust_not_late n (robust_calls.TheVariants.Find run) e = refl
+robust_not_late n (robust_calls.TheVariants.BorrowedIndices run) e = refl
+robust_not_late n (robust_calls.TheVariants.IsLocked run) e = refl
+
+release_late_most : (n : ℕ) (stage : releases.ReleaseStage) → release_late n stage ≤ 1
+release_late_most n (releases.TheVariants.Locks lock) = lock_late_most n lock
+release_late_most n stage = omega arith
+
+remove_late_most : (n : ℕ) (stage : removes.RemoveStage) → remove_late n stage ≤ 1
+remove_late_most n (removes.TheVariants.Releases count stage) = release_late_most n stage
+remove_late_most n stage = omega arith
+
+recover_late_most : (n : ℕ) (stage : recovers.RecoverStage) → recover_late n stage ≤ 1
+recover_late_most n (recovers.TheVariants.Locks index lock) = lock_late_most n lock
+recover_late_most n stage = omega arith
+
+container_recover_late_most : (n : ℕ) (stage : container_recovers.RecoverStage) → container.recover_late n stage ≤ 1
+container_recover_late_most n (container_recovers.TheVariants.Locks index lock) = lock_late_most n lock
+container_recover_late_most n stage = omega arith
+
+robust_late_once : (n : ℕ) (flight : robust_calls.RobustFlight) → robust_late n flight ≤ 1
+robust_late_once n (robust_calls.TheVariants.Release run) =
+    let most = release_late_most n run.call.stage in let less = late_in_most run.given.mode (release_late n run.call.stage) in omega arith
+robust_late_once n (robust_calls.TheVariants.Recover run) =
+    let most = recover_late_most n run.call.stage in let less = late_in_most run.given (recover_late n run.call.stage) in omega arith
+robust_late_once n flight = omega arith
+
+-- ---- a call of any family
+
+module _ {T : Type 0} where
+  abbrev pub credit : Flight T → ℕ
+  credit (flights.TheVariants.Robust flight) = robust_credit flight
+  credit (flights.TheVariants.Container flight) = container_credit flight
+  credit flight = 0
+
+  abbrev pub late : ℕ → Flight T → ℕ
+  late n (flights.TheVariants.Robust flight) = robust_late n flight
+  late n (flights.TheVariants.Container flight) = container_late n flight
+  late n flight = 0
+
+  abbrev pub locks : Flight T → Bool
+  locks (flights.TheVariants.Robust flight) = robust_locks flight
+  locks (flights.TheVariants.Container flight) = container_locks flight
+  locks flight = false
+
+  abbrev pub credit_of : Option (Flight T) → ℕ
+  credit_of None = 0
+  credit_of (Some flight) = credit flight
+
+  abbrev pub late_of : ℕ → Option (Flight T) → ℕ
+  late_of n None = 0
+  late_of n (Some flight) = late n flight
+
+  abbrev pub locks_of : Option (Flight T) → Bool
+  locks_of None = false
+  locks_of (Some flight) = locks flight
+
+  container_not_late : (n : ℕ) (flight : container_calls.ContainerFlight T) → container_locks flight ≡ false → container_late n flight ≡ 0
+  container_not_late n (container_calls.TheVariants.Remove run) e = late_by_mode run.given.mode (remove_late n run.call.stage) e
+  container_not_late n (container_calls.TheVariants.Recover run) e = late_by_mode run.given.mode (container.recover_late n run.call.stage) e
+  container_not_late n (container_calls.TheVariants.Add run) e = refl
+  container_not_late n (container_calls.TheVariants.Replace run) e = refl
+  container_not_late n (container_calls.TheVariants.Find run) e = refl
+  container_not_late n (container_calls.TheVariants.Look which call) e = refl
+  container_not_late n (container_calls.TheVariants.Count which run) e = refl
+  container_not_late n (container_calls.TheVariants.IsLocked run) e = refl
+
+  not_late : (n : ℕ) (flight : Flight T) → locks flight ≡ false → late n flight ≡ 0
+  not_late n (flights.TheVariants.Robust flight) e = robust_not_late n flight e
+  not_late n (flights.TheVariants.Container flight) e = container_not_late n flight e
+  not_late n flight e = refl
+
+  pub none_late : (n : ℕ) (o : Option (Flight T)) → locks_of o ≡ false → late_of n o ≡ 0
+  none_late n None e = refl
+  none_late n (Some flight) e = not_late n flight e
+
+  container_late_once : (n : ℕ) (flight : container_calls.ContainerFlight T) → container_late n flight ≤ 1
+  container_late_once n (container_calls.TheVariants.Remove run) =
+      let most = remove_late_most n run.call.stage in let less = late_in_most run.given.mode (remove_late n run.call.stage) in omega arith
+  container_late_once n (container_calls.TheVariants.Recover run) =
+      let most = container_recover_late_most n run.call.stage in
+      let less = late_in_most run.given.mode (container.recover_late n run.call.stage) in
+      omega arith
+  container_late_once n flight = omega arith
+
+  late_once : (n : ℕ) (flight : Flight T) → late n flight ≤ 1
+  late_once n (flights.TheVariants.Robust flight) = robust_late_once n flight
+  late_once n (flights.TheVariants.Container flight) = container_late_once n flight
+  late_once n flight = omega arith
+
+  pub late_most : (n : ℕ) (o : Option (Flight T)) → late_of n o ≤ 1
+  late_most n None = omega arith
+  late_most n (Some flight) = late_once n flight
+
+  -- ---- what all calls have
+
+  abbrev pub credit_at : Trace T → ℕ → ℕ
+  credit_at t q = credit_of (flight_in t.world q)
+
+  abbrev pub locks_at : Trace T → ℕ → Bool
+  locks_at t q = locks_of (flight_in t.world q)
+
+  abbrev pub counter : Trace T → ℕ
+  counter t = counter_of t.world.words
+
+  -- so many parties have begun calls; one of them at most may lock
+  pub record Bounded (t : Trace T) : Type 0 where
+    pub some : 0 < length t.world.words
+    pub seats : ℕ
+    pub beyond : (q : ℕ) → seats ≤ q → flight_in t.world q ≡ None
+    pub alone : (q r : ℕ) → locks_at t q ≡ true → locks_at t r ≡ true → q ≡ r
+    pub fits : counter t ≢ locked → counter t + sum_below (credit_at t) seats ≤ 3 * changes t.events
+    pub late : counter t ≢ locked → (q : ℕ)
+        → counter t + sum_below (credit_at t) seats + late_of (counter t) (flight_in t.world q) ≤ 3 * changes t.events
+
+  -- ---- a turn of a party
+
+  pub record Owes (old new : Trace T) (p : ℕ) (es : List (Event T)) : Type 0 where
+    pub wide : length new.world.words ≡ length old.world.words
+    pub events : new.events ≡ old.events ++ es
+    pub others : (q : ℕ) → q ≢ p → flight_in new.world q ≡ flight_in old.world q
+    pub opens : counter new ≢ locked → counter old ≢ locked
+    pub pays : counter new ≢ locked
+        → counter new + (credit_at new p + late_of (counter new) (flight_in new.world p)) + counts_move (locks_at old p) (counter old) (counter new)
+        ≤ counter old + (credit_at old p + late_of (counter old) (flight_in old.world p)) + 3 * changes es
+    pub alone : locks_at new p ≡ true → (locks_at old p ≡ true) ⊎ ((q : ℕ) → q ≢ p → locks_at old q ≡ false)
+
+  pub changes_more : (xs ys : List (Event T)) → changes (xs ++ ys) ≡ changes xs + changes ys
+  changes_more xs ys = sum_by-append change xs ys
+
+  pub ends_none : (p : ℕ) (start : Start T) (o : Option (Answer T)) → changes (ending_of p start o) ≡ 0
+  ends_none p start None = refl
+  ends_none p start (Some answer) = refl
+
+  module _ (old new : Trace T) (p : ℕ) (es : List (Event T)) (owes : Owes old new p es) (b : Bounded old) where
+    abbrev seats : ℕ
+    seats = b.seats + (p + 1)
+
+    abbrev before : ℕ
+    before = sum_below (credit_at old) b.seats
+
+    abbrev after : ℕ
+    after = sum_below (credit_at new) seats
+
+    longer : sum_below (credit_at old) seats ≡ before
+    longer = sum_longer (credit_at old) b.seats seats (omega arith) (λ i far. ap credit_of (b.beyond i far))
+
+    differ : after + credit_at old p ≡ before + credit_at new p
+    differ =
+        let moves = sum_moved (credit_at new) (credit_at old) seats p (omega arith) (λ i ne. ap credit_of (owes.others i ne)) in
+        let long = longer in
+        omega arith
+
+    all_changes : changes new.events ≡ changes old.events + changes es
+    all_changes = ap changes owes.events ∙ changes_more old.events es
+
+    here : counter new ≢ locked → counter new + after + late_of (counter new) (flight_in new.world p) ≤ 3 * changes new.events
+    here open_now =
+        let was = b.late (owes.opens open_now) p in
+        let pays = owes.pays open_now in
+        let moves = differ in
+        let more = all_changes in
+        omega arith
+
+    -- a call of another is late only where it may lock, and then this one may not
+    there : (q : ℕ) → q ≢ p → counter new ≢ locked → counter new + after + late_of (counter new) (flight_in old.world q) ≤ 3 * changes new.events
+    there q ne open_now = by (locks_at old q) refl (locks_at old p) refl
+      where
+        by : (m : Bool) → locks_at old q ≡ m → (k : Bool) → locks_at old p ≡ k
+            → counter new + after + late_of (counter new) (flight_in old.world q) ≤ 3 * changes new.events
+        by false m k e = let none = none_late (counter new) (flight_in old.world q) m in let own = here open_now in omega arith
+        by true m true k = absurd (ne (b.alone q p m k))
+        by true m false k = stays (counter new == counter old) refl
+          where
+            stays : (t : Bool) → (counter new == counter old) ≡ t
+                → counter new + after + late_of (counter new) (flight_in old.world q) ≤ 3 * changes new.events
+            stays true t =
+                let same = tested (counter new) (counter old) t in
+                let was = b.late (owes.opens open_now) q in
+                let is : late_of (counter new) (flight_in old.world q) ≡ late_of (counter old) (flight_in old.world q) =
+                ap (λ x. late_of x (flight_in old.world q)) same in
+                let own = none_late (counter old) (flight_in old.world p) k in
+                let pays = owes.pays open_now in
+                let moves = differ in
+                let more = all_changes in
+                omega arith
+            stays false t =
+                let pays : counter new + (credit_at new p + late_of (counter new) (flight_in new.world p)) + 1
+                ≤ counter old + (credit_at old p + late_of (counter old) (flight_in old.world p)) + 3 * changes es =
+                rw (k, t) at (owes.pays open_now)
+                in
+                let was = b.fits (owes.opens open_now) in
+                let once = late_most (counter new) (flight_in old.world q) in
+                let own = none_late (counter old) (flight_in old.world p) k in
+                let moves = differ in
+                let more = all_changes in
+                omega arith
+
+    at_any : counter new ≢ locked → (q : ℕ) → counter new + after + late_of (counter new) (flight_in new.world q) ≤ 3 * changes new.events
+    at_any open_now q = ⊎_elim mine theirs (cases_eq q p)
+      where
+        mine : q ≡ p → counter new + after + late_of (counter new) (flight_in new.world q) ≤ 3 * changes new.events
+        mine e = subst (λ i. counter new + after + late_of (counter new) (flight_in new.world i) ≤ 3 * changes new.events) (sym e) (here open_now)
+
+        theirs : q ≢ p → counter new + after + late_of (counter new) (flight_in new.world q) ≤ 3 * changes new.events
+        theirs ne =
+            subst (λ o. counter new + after + late_of (counter new) o ≤ 3 * changes new.events) (sym (owes.others q ne)) (there q ne open_now)
+
+    other_locks : (q : ℕ) → q ≢ p → locks_at new q ≡ true → locks_at old q ≡ true
+    other_locks q ne e = sym (ap locks_of (owes.others q ne)) ∙ e
+
+    with_other : (q : ℕ) → q ≢ p → locks_at new p ≡ true → locks_at new q ≡ true → p ≡ q
+    with_other q ne mine other =
+        ⊎_elim (λ was. b.alone p q was (other_locks q ne other)) (λ none. absurd (true≢false (sym (other_locks q ne other) ∙ none q ne))) (owes.alone mine)
+
+    still_alone : (q r : ℕ) → locks_at new q ≡ true → locks_at new r ≡ true → q ≡ r
+    still_alone q r x y = ⊎_elim first (λ ne. ⊎_elim (second ne) (neither ne) (cases_eq r p)) (cases_eq q p)
+      where
+        first : q ≡ p → q ≡ r
+        first e = ⊎_elim (λ f. e ∙ sym f) (λ ne. e ∙ with_other r ne (subst (λ i. locks_at new i ≡ true) e x) y) (cases_eq r p)
+
+        second : q ≢ p → r ≡ p → q ≡ r
+        second ne f = sym (f ∙ with_other q ne (subst (λ i. locks_at new i ≡ true) f y) x)
+
+        neither : q ≢ p → r ≢ p → q ≡ r
+        neither ne nf = b.alone q r (other_locks q ne x) (other_locks r nf y)
+
+    beyond : (q : ℕ) → seats ≤ q → flight_in new.world q ≡ None
+    beyond q far = owes.others q (λ e. absurd (omega arith)) ∙ b.beyond q (omega arith)
+
+    pub bounded_on : Bounded new
+    bounded_on =
+        record {
+          some = let wide = owes.wide in let was = b.some in omega arith;
+          seats = seats;
+          beyond = beyond;
+          alone = still_alone;
+          fits = λ open_now. (let own = here open_now in omega arith);
+          late = at_any;
+        }
+
+  -- nothing has happened
+  pub bounded_same : (t : Trace T) → Bounded t → Bounded record { world = t.world; events = t.events ++ [] }
+  bounded_same t b = subst (λ es. Bounded record { world = t.world; events = es }) (sym (append-nil t.events)) b

@@ -1,0 +1,67 @@
+-- A find that an answer has ended takes no step behind it: it stands at its question until the pass takes a step again. That
+-- step is a load, with which the find ends.
+use Rattle.std.specs.Prelude.{◌≡◌, ◌⊎◌, ℕ, ◌<◌, ◌≤◌, ◌+◌, None, Some, List, [], ◌∷◌, ◌++◌, sum_by}
+use Rattle.steps.specs.declared.container.find.FindStage as finds
+use Rattle.model.specs.declared.event.Answer.{Answer}
+use Rattle.model.specs.declared.event.Answer.TheVariants.{Number}
+use Rattle.model.specs.declared.event.Event.{Event}
+use Rattle.model.specs.declared.event.Event.TheVariants.{Finished}
+use Rattle.model.specs.declared.event.Start.{Start}
+use Rattle.model.specs.declared.families.Flight.{Flight}
+use Rattle.model.specs.declared.families.Flight as flights
+use Rattle.model.specs.declared.families.container.calls.ContainerFlight as calls
+use Rattle.threaded.specs.Shares.{IsAll}
+use Rattle.history.specs.declared.view.View.{View}
+use Rattle.history.specs.Known.{events_by}
+use Rattle.history.specs.History.{AreFirst, IsOfParties}
+
+module _ {T : Type 0} where
+  -- a find stands at its question, and ends with the number of indices that it has come to
+  abbrev pub FindEndsAs : finds.FindStage → Answer T → Type 0
+  FindEndsAs (finds.TheVariants.LoadsCell index found) answer = ⊥
+  FindEndsAs (finds.TheVariants.LoadsCount index found) answer = ⊥
+  FindEndsAs (finds.TheVariants.LoadsWord index found count at) answer = ⊥
+  FindEndsAs (finds.TheVariants.ChecksCount index found count) answer = ⊥
+  FindEndsAs (finds.TheVariants.Asks index found) answer = answer ≡ Number found
+
+  -- Of other calls nothing is said: that only a find rests is a clause of the pass's `history`.
+  abbrev pub EndsAs : Flight T → Answer T → Type 0
+  EndsAs (flights.TheVariants.Container (calls.TheVariants.Find run)) answer = FindEndsAs run.call.stage answer
+  EndsAs flight answer = Unit {0}
+
+  -- its call stands so
+  pub record IsResting (v : View T) : Type 0 where
+    pub party : ℕ
+    pub mine : v.party ≡ Some party
+    pub start : Start T
+    pub flight : Flight T
+    pub going : v.going ≡ Some (start, flight)
+    pub answer : Answer T
+    pub ends : EndsAs flight answer
+    pub alone : v.other ≡ []
+    pub some : 0 < v.share.part
+
+  -- its call has ended since, and the pass did nothing else
+  pub record Settles (old new : View T) : Type 0 where
+    pub resting : IsResting old
+    pub capacity : new.capacity ≡ old.capacity
+    pub party : new.party ≡ old.party
+    pub share : new.share ≡ old.share
+    pub state : new.state ≡ old.state
+    pub idle : new.going ≡ None
+    pub asked : new.asked ≤ old.asked + 1
+    pub fresh : new.other ≡ []
+    pub others : List (Event T)
+    pub seen : new.seen
+        ≡ (old.seen ++ others) ++ Finished resting.party resting.start resting.answer ∷ []
+    pub alone : IsAll old.share → others ≡ []
+    pub others_own : events_by resting.party others ≡ []
+    pub made : new.made ≡ old.made ++ Finished resting.party resting.start resting.answer ∷ []
+    pub first : AreFirst old.turns new.turns
+    -- who has the whole has made all of it
+    pub all : IsAll old.share → (f : Event T → ℕ) → sum_by f new.seen ≡ sum_by f new.made
+    pub parties : IsOfParties new
+
+  -- the view with which a call of the pass began, once the one before it had ended
+  abbrev pub SettledFrom : View T → View T → Type 0
+  SettledFrom old new = ((new ≡ old) × (old.going ≡ None)) ⊎ Settles old new

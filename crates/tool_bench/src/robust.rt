@@ -1,0 +1,169 @@
+//! The rows of the robust index set.
+ghost use Rattle.lock_free.specs.RobustUniqueIndexSet.{IsPassOf};
+
+use crate::hand::robust as by_hand;
+use crate::timing::{Another, Asked, Row};
+use lock_free::mpmc::robust_unique_index_set::{
+    CallbackProgression, OwnerId, Pass, RobustUniqueIndexSet,
+};
+use lock_free::mpmc::unique_index_set_enums::{ReleaseMode, ReleaseState};
+use std::alloc::Global;
+use std::sync::Wait;
+use std::thread::Threads;
+use std::time::CpuClock;
+
+/// A set with a pass, the owner that acquires, and a dead one.
+#[derive(Drop)]
+struct Robust<'a> {
+    set: &'a RobustUniqueIndexSet,
+    pass: Pass,
+    owner: OwnerId,
+    dead: OwnerId,
+    hand: by_hand::Owners,
+    ghost of: { IsPassOf set.now pass },
+}
+
+impl<'a> Another for Robust<'a> {
+    fn another(&mut self) -> Option<Robust<'a>> {
+        let pass = self.pass.split()?;
+        let hand = self.hand.another()?;
+        Some(Robust {
+            set: self.set,
+            pass,
+            owner: self.owner,
+            dead: self.dead,
+            hand,
+        })
+    }
+}
+
+impl<'a> Robust<'a> {
+    /// Takes so many indices on both sides.
+    fn fill<R: Wait>(&mut self, rt: &R, number: u32) {
+        for _ in 0..number {
+            let _ = self.set.acquire(rt, self.owner, &mut self.pass);
+            self.hand.acquire(rt, 7);
+        }
+    }
+
+    /// Frees what the dead one has.
+    #[inline(never)]
+    fn recovers<R: Wait>(&mut self, rt: &R) -> u64 {
+        let dead = self.dead;
+        let state = self.set.recover(
+            rt,
+            ReleaseMode::Default,
+            &mut |owner, _| owner == dead,
+            &mut |_, _| {},
+            &mut self.pass,
+        );
+        match state {
+            ReleaseState::Unlocked => 1,
+            ReleaseState::Locked => 0,
+        }
+    }
+}
+
+/// Takes an index, and gives it back.
+struct Turns;
+
+impl<'a> Row<Robust<'a>> for Turns {
+    const NAME: &'static str = "robust index set: acquire and release";
+
+    fn ours<R: Wait>(on: &mut Robust<'a>, rt: &R, _number: u64) -> u64 {
+        match on.set.acquire(rt, on.owner, &mut on.pass) {
+            Ok(index) => {
+                let mode = ReleaseMode::Default;
+                let released = on.set.release(rt, index, on.owner, mode, &mut on.pass);
+                released.is_ok() as u64
+            }
+            Err(_) => 2,
+        }
+    }
+
+    fn theirs<R: Wait>(on: &mut Robust<'a>, rt: &R, _number: u64) -> u64 {
+        match on.hand.acquire(rt, 7) {
+            Some(index) => on.hand.release(rt, index, 7) as u64,
+            None => 2,
+        }
+    }
+}
+
+/// Takes an index for the dead one, and frees it.
+struct RecoverOne;
+
+impl<'a> Row<Robust<'a>> for RecoverOne {
+    const NAME: &'static str = "robust index set: acquire, and recover of it";
+
+    fn ours<R: Wait>(on: &mut Robust<'a>, rt: &R, _number: u64) -> u64 {
+        let _ = on.set.acquire(rt, on.dead, &mut on.pass);
+        on.recovers(rt)
+    }
+
+    fn theirs<R: Wait>(on: &mut Robust<'a>, rt: &R, _number: u64) -> u64 {
+        on.hand.acquire(rt, 9);
+        on.hand.recover(rt, 9) as u64
+    }
+}
+
+/// Frees what the dead one has, which is nothing.
+struct RecoverFull;
+
+impl<'a> Row<Robust<'a>> for RecoverFull {
+    const NAME: &'static str = "robust index set: recover of a full one, none freed";
+
+    fn ours<R: Wait>(on: &mut Robust<'a>, rt: &R, _number: u64) -> u64 {
+        on.recovers(rt)
+    }
+
+    fn theirs<R: Wait>(on: &mut Robust<'a>, rt: &R, _number: u64) -> u64 {
+        on.hand.recover(rt, 9) as u64
+    }
+}
+
+/// Finds what the owner has.
+struct FindEach;
+
+impl<'a> Row<Robust<'a>> for FindEach {
+    const NAME: &'static str = "robust index set: find of each index";
+
+    fn ours<R: Wait>(on: &mut Robust<'a>, _rt: &R, _number: u64) -> u64 {
+        let mut sum = 0u64;
+        on.set.find(
+            on.owner,
+            &mut |index| {
+                sum = sum.wrapping_add((index as u64).wrapping_add(1));
+                CallbackProgression::Continue
+            },
+            &mut on.pass,
+        );
+        sum
+    }
+
+    fn theirs<R: Wait>(on: &mut Robust<'a>, _rt: &R, _number: u64) -> u64 {
+        on.hand.find(7)
+    }
+}
+
+pub fn rows<R: Wait + Threads + CpuClock + Print + Sync>(
+    rt: &R,
+    alloc: Global,
+    asked: &Asked<'_>,
+    capacity: u32,
+) -> Option<()> {
+    let (owner, dead) = OwnerId::new(7).ok().zip(OwnerId::new(9).ok())?;
+    let hand = by_hand::Owners::new(alloc, capacity).ok()?;
+    let (set, pass) = RobustUniqueIndexSet::new(alloc, capacity as usize).ok()?;
+    let mut on = Robust {
+        set: &set,
+        pass,
+        owner,
+        dead,
+        hand,
+    };
+    asked.both::<Turns, Robust<'_>, R>(rt, alloc, capacity, &mut on)?;
+    asked.alone::<RecoverOne, Robust<'_>, R>(rt, capacity, &mut on)?;
+    on.fill(rt, capacity);
+    asked.alone::<RecoverFull, Robust<'_>, R>(rt, capacity, &mut on)?;
+    asked.alone::<FindEach, Robust<'_>, R>(rt, capacity, &mut on)
+}

@@ -1,0 +1,150 @@
+//! The rows of the unique index set: an index is taken and given back.
+ghost use Rattle.lock_free.specs.UniqueIndexSet.{IsPassOf};
+
+use crate::hand::unique as by_hand;
+use crate::timing::{Another, Asked, Row};
+use lock_free::mpmc::unique_index_set::{Pass, UniqueIndexSet};
+use slab::Slab;
+use std::alloc::{AllocError, Global};
+use std::sync::{Mutex, Wait};
+use std::thread::Threads;
+use std::time::CpuClock;
+
+const NAME: &str = "unique index set: acquire and release";
+
+/// No index came.
+const NONE: u64 = 1 << 32;
+
+/// A set with a pass, and what a user would take instead: a slab, for one thread, and the free indices under a lock.
+#[derive(Drop)]
+struct Unique<'a> {
+    set: &'a UniqueIndexSet,
+    pass: Pass,
+    hand: by_hand::Unique,
+    slab: Option<Slab<u64>>,
+    free: &'a Mutex<Vec<u32>>,
+    ghost of: { IsPassOf set.now pass },
+}
+
+impl<'a> Another for Unique<'a> {
+    fn another(&mut self) -> Option<Unique<'a>> {
+        let pass = self.pass.split()?;
+        let hand = self.hand.another()?;
+        Some(Unique {
+            set: self.set,
+            pass,
+            hand,
+            slab: None,
+            free: self.free,
+        })
+    }
+}
+
+impl<'a> Unique<'a> {
+    #[inline(always)]
+    fn turns<R: Wait>(&mut self, rt: &R) -> u64 {
+        match self.set.acquire_raw_index(rt, &mut self.pass) {
+            Ok(index) => {
+                self.set.release_raw_index(index, &mut self.pass);
+                index as u64
+            }
+            Err(_) => NONE,
+        }
+    }
+}
+
+struct Turns;
+
+impl<'a> Row<Unique<'a>> for Turns {
+    const NAME: &'static str = NAME;
+
+    fn ours<R: Wait>(on: &mut Unique<'a>, rt: &R, _number: u64) -> u64 {
+        on.turns(rt)
+    }
+
+    fn theirs<R: Wait>(on: &mut Unique<'a>, rt: &R, _number: u64) -> u64 {
+        match on.hand.acquire(rt) {
+            Some(index) => {
+                on.hand.release(index);
+                index as u64
+            }
+            None => NONE,
+        }
+    }
+}
+
+struct BesideSlab;
+
+impl<'a> Row<Unique<'a>> for BesideSlab {
+    const NAME: &'static str = NAME;
+
+    const BESIDE: &'static str = "`slab`";
+
+    fn ours<R: Wait>(on: &mut Unique<'a>, rt: &R, _number: u64) -> u64 {
+        on.turns(rt)
+    }
+
+    fn theirs<R: Wait>(on: &mut Unique<'a>, _rt: &R, number: u64) -> u64 {
+        let Some(slab) = &mut on.slab else {
+            return NONE;
+        };
+        let Ok(key) = slab.insert(number) else {
+            return NONE;
+        };
+        match slab.try_remove(key) {
+            Some(_) => key as u64,
+            None => NONE,
+        }
+    }
+}
+
+struct BesideStack;
+
+impl<'a> Row<Unique<'a>> for BesideStack {
+    const NAME: &'static str = NAME;
+
+    const BESIDE: &'static str = "`Mutex<Vec>`";
+
+    fn ours<R: Wait>(on: &mut Unique<'a>, rt: &R, _number: u64) -> u64 {
+        on.turns(rt)
+    }
+
+    fn theirs<R: Wait>(on: &mut Unique<'a>, rt: &R, _number: u64) -> u64 {
+        let popped = on.free.lock(rt).pop();
+        match popped {
+            Some(index) if on.free.lock(rt).push(index).is_ok() => index as u64,
+            _ => NONE,
+        }
+    }
+}
+
+/// All indices, the lowest on top.
+fn free(alloc: Global, capacity: u32) -> Result<Vec<u32>, AllocError> {
+    let mut free = Vec::new(alloc);
+    for index in 0..capacity {
+        free.push(capacity - 1 - index)?;
+    }
+    Ok(free)
+}
+
+pub fn rows<R: Wait + Threads + CpuClock + Print + Sync>(
+    rt: &R,
+    alloc: Global,
+    asked: &Asked<'_>,
+    capacity: u32,
+) -> Option<()> {
+    let free = Mutex::new(free(alloc, capacity).ok()?);
+    let slab = Slab::with_capacity(alloc, capacity as usize).ok()?;
+    let hand = by_hand::Unique::new(alloc, capacity).ok()?;
+    let (set, pass) = UniqueIndexSet::new(alloc, capacity as usize).ok()?;
+    let mut on = Unique {
+        set: &set,
+        pass,
+        hand,
+        slab: Some(slab),
+        free: &free,
+    };
+    asked.both::<Turns, Unique<'_>, R>(rt, alloc, capacity, &mut on)?;
+    asked.alone::<BesideSlab, Unique<'_>, R>(rt, capacity, &mut on)?;
+    asked.both::<BesideStack, Unique<'_>, R>(rt, alloc, capacity, &mut on)
+}

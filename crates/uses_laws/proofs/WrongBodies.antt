@@ -1,0 +1,326 @@
+-- What a wrong body of a call would leave or answer, and which of the call's clauses refuses that. It is said of every history, as
+-- far as a premise does not ask for more. A name says what the body does.
+use Rattle.std.proofs.Common.{◌≡◌, ◌≢◌, ℕ, zero, suc, ◌+◌, ◌-◌, ◌*◌, ◌^◌, ◌<◌, ◌≤◌, ⊎_elim, true, false, Option, List, [], ◌∷◌, ◌++◌, if◌then◌else◌}
+use Rattle.std.proofs.Common.{length, length-append, length-set, map, slice_set, get_or-set_same, get_or-append-add, append-nil, append_assoc}
+use Rattle.std.proofs.Common.{add-mul, mul-add, mul-pos, refl, ap, ap₂, sym, subst, ◌∙◌, arith}
+use Rattle.std.proofs.Math.Nat.{eq_of_mul-eq-mul_left}
+use Rattle.std.proofs.Math.Seq.{get_or-append_seam}
+use Rattle.std.proofs.lemmas.List.{append_cancel_left, same_from_push}
+use Rattle.std.specs.List.{FoldsTo}
+use Rattle.steps.specs.declared.enums.CallbackProgression.{CallbackProgression}
+use Rattle.steps.specs.Objects.Lists.{Bounded, popped}
+use Rattle.model.specs.declared.event.Answer.{Answer}
+use Rattle.model.specs.declared.event.Event.{Event}
+use Rattle.model.specs.declared.event.Event.TheVariants.{Begun, Finished}
+use Rattle.model.specs.declared.event.Item.{Item}
+use Rattle.model.specs.declared.event.Start.{Start}
+use Rattle.model.specs.declared.event.Item.TheVariants.{Index}
+use Rattle.model.specs.Families.Indices.Reading.{is_locked}
+use Rattle.model.specs.Families.Queues.Reading.{published, handed_out}
+use Rattle.model.proofs.Locks.{locked_later}
+use Rattle.steps.specs.declared.queues.roles.Role.{Role}
+use Rattle.threaded.specs.Callable.{Ascends}
+use Rattle.lock_free.specs.BitState.{BitState}
+use Rattle.lock_free.specs.Bits.Contracts.{HasCleanedOut}
+use Rattle.lock_free.specs.Counts.Contracts.{HasTakenOut, taken_by}
+use Rattle.lock_free.specs.History.{Called}
+use Rattle.lock_free.specs.HistorySteps.{TakesAtMost}
+use Rattle.lock_free.specs.HistoryView.View.{View}
+use Rattle.lock_free.specs.Loan.Contracts.{InTurn, HasPoppedOne, HasEmptied}
+use Rattle.lock_free.specs.Loan.Places.{is_sent, place_at, returned}
+use Rattle.lock_free.specs.Passes.{HasSplit, HasJoined}
+use Rattle.lock_free.specs.declared.spsc.loan.places.Place.{Place}
+use Rattle.lock_free.specs.declared.spsc.loan.places.Place.TheVariants.{Free, Loaned, Sent}
+use Rattle.lock_free.specs.Queues.Closes.{Closes}
+use Rattle.lock_free.specs.Queues.Contracts as queues
+use Rattle.lock_free.specs.Queues.Contracts.{PushDone, PushRefused, PopDone, PopEmpty, HasLooked}
+use Rattle.lock_free.specs.Queues.Overflowing.{HasOverflowed}
+use Rattle.lock_free.specs.ReleaseState.TheVariants.{Unlocked}
+use Rattle.lock_free.specs.Robust.Callable.{HasFound}
+use Rattle.lock_free.specs.Robust.Contracts as owners
+use Rattle.lock_free.specs.Robust.Contracts.{HasSearched}
+use Rattle.lock_free.specs.Share.{Share}
+use Rattle.lock_free.specs.Shares.{IsAll, half_of, both_of}
+use Rattle.lock_free.specs.Unique.Contracts.{HasAcquired, HasGiven}
+use Rattle.lock_free.specs.Value.Contracts as value
+use Rattle.lock_free.specs.Value.Contracts.{HasStored, HasLoaded}
+
+-- two halves of one fraction are less than it and another one
+other_share : (part parts other others : ℕ) → 0 < parts → 0 < other → parts * others ≡ (parts + parts) * (parts + parts)
+    → part * others + other * parts ≡ part * (parts + parts) + part * (parts + parts)
+    → ⊥
+other_share part parts other others whole some all is =
+    let four = eq_of_mul-eq-mul_left parts whole _ _ (all ∙ (add-mul parts parts (parts + parts) ∙ sym (mul-add parts (parts + parts) (parts + parts)))) in
+    let same = ap (λ (n : ℕ). part * n) four ∙ mul-add part (parts + parts) (parts + parts) in
+    let more = mul-pos some whole in
+    absurd (omega arith)
+
+module _ {T : Type 0} where
+  -- what a call makes: its begin, what it wrote, and its end
+  pub makes : (p : ℕ) (start : Start T) (answer : Answer T) (wrote : List (Event T)) (v w : View T) → Called p start answer wrote v w
+      → length w.made ≡ length v.made + (2 + length wrote)
+  makes p start answer wrote v w c =
+      let all = length-append v.made (Begun p start ∷ (wrote ++ Finished p start answer ∷ [])) in
+      let last = length-append wrote (Finished p start answer ∷ []) in
+      let same = ap length c.made in
+      omega arith
+
+  -- a pass that has made nothing has made no call
+  pub no_call : (p : ℕ) (start : Start T) (answer : Answer T) (wrote : List (Event T)) (v w : View T) → w.made ≡ v.made
+      → Called p start answer wrote v w
+      → ⊥
+  no_call p start answer wrote v w none c =
+      let long = makes p start answer wrote v w c in
+      let same = ap length none in
+      absurd (omega arith)
+
+  -- one call wrote and answered just one thing
+  pub made_once : (p q : ℕ) (start : Start T) (one other : Answer T) (wrote written : List (Event T)) (v w : View T)
+      → Called p start one wrote v w
+      → Called q start other written v w
+      → (wrote ≡ written) × (Finished p start one ≡ Finished q start other)
+  made_once p q start one other wrote written v w c d =
+      let is = append_cancel_left v.made _ _ (sym c.made ∙ d.made) in
+      let rest : wrote ++ Finished p start one ∷ [] ≡ written ++ Finished q start other ∷ [] = cc in
+      same_from_push _ _ _ _ rest
+
+  -- ---- queues
+
+  -- a push that answers true, and has not called
+  pub push_writes_nothing : (item : Item T) (v : View T) → PushDone item v v → ⊥
+  push_writes_nothing item v k = no_call _ _ _ _ v v refl k.0.called
+
+  -- one that answers false after a look, where the last position is not reached
+  pub push_is_false_after_a_look : (capacity : ℕ) (item : Item T) (v w : View T) → HasLooked v w → length (published w.seen) < 2 ^ 64 - 1
+      → PushRefused capacity item v w
+      → ⊥
+  push_is_false_after_a_look capacity item v w look few k =
+      ⊎_elim (λ full. no_call _ _ _ _ v w look.made full.0.called)
+      (λ end. let e = end.end in absurd (omega arith))
+      k
+
+  -- one that answers false since it did not get a lock
+  pub mutex_round_the_words : (capacity : ℕ) (item : Item T) (v : View T) → length (published v.seen) < 2 ^ 64 - 1
+      → PushRefused capacity item v v
+      → ⊥
+  mutex_round_the_words capacity item v few k =
+      push_is_false_after_a_look capacity item v v (record { made = refl; whole = λ all. refl }) few k
+
+  -- a pop that answers none after a look
+  pub pop_takes_nothing : (v w : View T) → HasLooked v w → PopEmpty v w → ⊥
+  pop_takes_nothing v w look k = no_call _ _ _ _ v w look.made k.0.called
+
+  -- one that takes two out, and answers the second, or that there is none
+  pub pop_skips_a_position : (first second : Item T) (u v w : View T) → PopDone first u v → PopDone second v w → PopDone second u w → ⊥
+  pop_skips_a_position first second u v w one two k =
+      let a = ap length (one.1).list in
+      let b = ap length (two.1).list in
+      let c = ap length (k.1).list in
+      let d = length-append (handed_out u.seen) (first ∷ []) in
+      let e = length-append (handed_out v.seen) (second ∷ []) in
+      let f = length-append (handed_out u.seen) (second ∷ []) in
+      absurd (omega arith)
+
+  pub pop_skips_the_last : (first : Item T) (u v w : View T) → PopDone first u v → PopEmpty v w → PopEmpty u w → ⊥
+  pop_skips_the_last first u v w one none k =
+      let a = ap length (one.1).list in
+      let b = ap length (none.1).list in
+      let c = ap length (k.1).list in
+      let d = length-append (handed_out u.seen) (first ∷ []) in
+      absurd (omega arith)
+
+  -- the list of `close` without its oldest value, where nobody else may have taken that
+  pub close_forgets_the_oldest : {V : Type 0} (named : V → Item T) (capacity : ℕ) (v : View T) (q : Bounded V) → IsAll v.share
+      → 0 < length q.values
+      → Closes named capacity v q
+      → Closes named capacity v (popped q)
+      → ⊥
+  close_forgets_the_oldest named capacity v q all some right k =
+      let a = (right.whole all).0 in
+      let b = (k.whole all).0 in
+      absurd (omega arith)
+
+  -- a producer that is handed out without a step, or while another is one
+  pub role_for_two_producers : (role : Role) (v : View T) → queues.HasAcquired role true v v → ⊥
+  role_for_two_producers role v k = no_call _ _ _ _ v v refl k.called
+
+  -- a join that takes in a half of its own in place of the other pass
+  pub join_adds_a_share_of_its_own : (mine theirs left right new : View T) → HasSplit mine left right → HasJoined left right new
+      → 0 < mine.share.parts
+      → 0 < theirs.share.part
+      → HasJoined mine theirs new
+      → ⊥
+  join_adds_a_share_of_its_own mine theirs left right new split joined whole some k =
+      let own : new.share ≡ both_of (half_of mine.share) (half_of mine.share) = joined.share ∙ ap₂ both_of split.share split.right_share in
+      let is = sym k.share ∙ own in
+      other_share mine.share.part mine.share.parts theirs.share.part theirs.share.parts whole some
+      (ap (λ (s : Share). s.parts) is) (ap (λ (s : Share). s.part) is)
+
+  -- ---- the value
+
+  pub role_without_a_step : (v : View T) → value.HasAcquired true v v → ⊥
+  role_without_a_step v k = no_call _ _ _ _ v v refl k.called
+
+  -- a store of another value than is given
+  pub store_keeps_zeros : (x zeros : T) (v w : View T) → x ≢ zeros → HasStored zeros v w → HasStored x v w → ⊥
+  store_keeps_zeros x zeros v w other wrong k =
+      other (same_from_push _ _ x zeros (sym k.list ∙ wrong.list)).1
+
+  -- a load that answers another value than it has loaded
+  pub load_answers_zeros : (x zeros : T) (v w : View T) → x ≢ zeros → HasLoaded x v w → HasLoaded zeros v w → ⊥
+  load_answers_zeros x zeros v w other right k =
+      let e = (made_once _ _ _ _ _ _ _ v w right.called k.called).1 in
+      let same : x ≡ zeros = cc in
+      other same
+
+  -- a look that takes two steps
+  pub look_looks_twice : (u v w : View T) → v.asked ≡ u.asked + 1 → w.asked ≡ v.asked + 1 → TakesAtMost 1 u w → ⊥
+  look_looks_twice u v w one two k = absurd (omega arith)
+
+-- ---- bit sets
+
+-- a closure that notes what it is called with
+abbrev notes : {X : Type 0} → List X → X → List X → Type 0
+notes before x after = after ≡ before ++ x ∷ []
+
+noted : {X : Type 0} (first xs last : List X) → FoldsTo notes first xs last → last ≡ first ++ xs
+noted first [] last h = sym h ∙ sym (append-nil first)
+noted first (x ∷ xs) last h = noted h.0 xs last h.2 ∙ (ap (λ zs. zs ++ xs) h.1 ∙ append_assoc first (x ∷ []) xs)
+
+-- what ascends below a number has none twice, and none from there on
+none_twice : (before after : List ℕ) (place capacity : ℕ) → Ascends capacity (before ++ place ∷ place ∷ after) → ⊥
+none_twice before after place capacity up =
+    let all = length-append before (place ∷ place ∷ after) in
+    let less = up.0 (length before) (length before + 1) 0 (omega arith) (omega arith) in
+    let one = get_or-append_seam before place (place ∷ after) 0 in
+    let two = get_or-append-add before (place ∷ place ∷ after) 1 0 in
+    absurd (omega arith)
+
+none_past : (before after : List ℕ) (place capacity : ℕ) → capacity ≤ place → Ascends capacity (before ++ place ∷ after) → ⊥
+none_past before after place capacity past up =
+    let all = length-append before (place ∷ after) in
+    let less = up.1 (length before) 0 (omega arith) in
+    let one = get_or-append_seam before place after 0 in
+    absurd (omega arith)
+
+-- a reset that visits a place twice, or one that there is not
+pub reset_all_visits_twice : (capacity place : ℕ) (before after : List ℕ) (v w : View ℕ)
+    → HasCleanedOut notes capacity [] (before ++ place ∷ place ∷ after) v w
+    → ⊥
+reset_all_visits_twice capacity place before after v w k =
+    none_twice before after place capacity (subst (Ascends capacity) (sym (noted [] k.places _ k.calls)) k.ascend)
+
+pub reset_all_past_the_capacity : (capacity place : ℕ) (before after : List ℕ) (v w : View ℕ) → capacity ≤ place
+    → HasCleanedOut notes capacity [] (before ++ place ∷ after) v w
+    → ⊥
+reset_all_past_the_capacity capacity place before after v w past k =
+    none_past before after place capacity past (subst (Ascends capacity) (sym (noted [] k.places _ k.calls)) k.ascend)
+
+-- one of counts that hands out others than it took
+same_counts : (p q : ℕ) (xs ys : List BitState) → map (taken_by p) xs ≡ map (taken_by q) ys → xs ≡ ys
+same_counts p q [] [] e = refl
+same_counts p q [] (y ∷ ys) e = cc
+same_counts p q (x ∷ xs) [] e = cc
+same_counts p q (x ∷ xs) (y ∷ ys) e =
+    let bit : x.bit ≡ y.bit = cc in
+    let count : x.count ≡ y.count = cc in
+    let rest : map (taken_by p) xs ≡ map (taken_by q) ys = cc in
+    let one : x ≡ y = ap₂ (λ (b c : ℕ). record { bit = b; count = c }) bit count in
+    let more = same_counts p q xs ys rest in
+    cc
+
+pub reset_all_hands_out_at_most_1000 : (capacity : ℕ) (took told : List BitState) (v w : View ℕ) → took ≢ told
+    → HasTakenOut notes capacity [] took v w
+    → HasTakenOut notes capacity [] told v w
+    → ⊥
+reset_all_hands_out_at_most_1000 capacity took told v w other right k =
+    let wrote = (made_once _ _ _ _ _ _ _ v w right.made.called k.made.called).0 in
+    other (noted [] right.states took right.calls ∙ (same_counts _ _ right.states k.states wrote ∙ sym (noted [] k.states told k.calls)))
+
+-- ---- indices
+
+-- an acquire that hands out another index than it claimed
+pub acquire_hands_out_a_held_index : (index held : ℕ) (v w : View ℕ) → index ≢ held → HasAcquired index v w → HasAcquired held v w → ⊥
+acquire_hands_out_a_held_index index held v w other right k =
+    let e = (made_once _ _ _ _ _ _ _ v w right.taken.called k.taken.called).0 in
+    let same : index ≡ held = cc in
+    other same
+
+-- one that claims an index of a set which it has seen locked
+pub acquire_goes_on_after_the_lock : (index : ℕ) (v w : View ℕ) → is_locked v.seen ≡ true → HasAcquired index v w → ⊥
+acquire_goes_on_after_the_lock index v w locked k =
+    let still = ap is_locked k.free.since.is ∙ locked_later v.seen k.free.since.rest locked in
+    let unlocked = k.free.unlocked in
+    cc
+
+-- ---- the loan channel
+
+-- a loan that is given up, and stays with the pass
+pub loan_give_up_keeps_the_index : (index : ℕ) (v : View ℕ) → HasGiven index Unlocked v v → ⊥
+loan_give_up_keeps_the_index index v k = no_call _ _ _ _ v v refl k.called
+
+-- a send that settles what came back before the index is Sent, where its own came back
+loaned_within : (places : List Place) (index : ℕ) → place_at places index ≡ Loaned → index < length places
+loaned_within [] index e = cc
+loaned_within (p ∷ places) zero e = omega arith
+loaned_within (p ∷ places) (suc index) e = let less = loaned_within places index e in omega arith
+
+pub loan_send_settles_before_its_table : (places : List Place) (index : ℕ) → place_at places index ≡ Loaned
+    → slice_set (returned index places) index Sent ≡ returned index (slice_set places index Sent)
+    → ⊥
+loan_send_settles_before_its_table places index loaned e =
+    let within = loaned_within places index loaned in
+    let before : returned index places ≡ places =
+    ap (λ (p : Place). if is_sent p then slice_set places index Free else places) loaned in
+    let sent : place_at (slice_set places index Sent) index ≡ Sent = get_or-set_same places index Sent Free within in
+    let after : returned index (slice_set places index Sent) ≡ slice_set (slice_set places index Sent) index Free =
+    ap (λ (p : Place). if is_sent p then slice_set (slice_set places index Sent) index Free else slice_set places index Sent) sent in
+    let long = length-set places index Sent in
+    let free : place_at (slice_set (slice_set places index Sent) index Free) index ≡ Free =
+    get_or-set_same (slice_set places index Sent) index Free Free (omega arith) in
+    let wrong = ap (λ (ps : List Place). place_at (slice_set ps index Sent) index) before in
+    let same = ap (λ (ps : List Place). place_at ps index) (e ∙ after) in
+    let is : Sent ≡ Free = sym sent ∙ (sym wrong ∙ (same ∙ free)) in
+    cc
+
+-- a reclaim that pops once, though something waits
+popped_all : (numbers : List ℕ) (v w : View ℕ) → InTurn HasPoppedOne numbers v w → length w.made ≡ length v.made + 4 * length numbers
+popped_all [] v w k = let e = ap (λ (u : View ℕ). length u.made) k in omega arith
+popped_all (n ∷ numbers) v w k =
+    let one = makes _ _ _ _ v k.0 k.1.called in
+    let rest = popped_all numbers k.0 w k.2 in
+    omega arith
+
+pub loan_reclaim_pops_once : (number : ℕ) (v w : View ℕ) → PopDone (Index number) v w → HasEmptied v w → ⊥
+loan_reclaim_pops_once number v w one k =
+    let once = makes _ _ _ _ v w one.0.called in
+    let all = popped_all k.numbers v k.last k.popped in
+    let none = makes _ _ _ _ k.last w k.none.called in
+    absurd (omega arith)
+
+-- one that pushes an index, where the queue takes it
+pub loan_reclaim_pushes : (number : ℕ) (back : Option ℕ) (v w : View ℕ) → HasOverflowed number back v w → w ≡ v → ⊥
+loan_reclaim_pushes number back v w pushed k = no_call _ _ _ _ v w (ap (λ (u : View ℕ). u.made) k) pushed.called
+
+-- ---- owners
+
+-- a look at the lock that answers otherwise than it found
+pub is_locked_is_always_true : (v w : View ℕ) → owners.HasLooked false v w → owners.HasLooked true v w → ⊥
+is_locked_is_always_true v w right k = let e = (made_once _ _ _ _ _ _ _ v w right.called k.called).1 in cc
+
+-- a find that calls its closure twice with an index: each closure that notes them, whatever it says
+abbrev hears : List ℕ → ℕ → CallbackProgression → List ℕ → Type 0
+hears before index progression after = after ≡ before ++ index ∷ []
+
+heard : (capacity owner number : ℕ) (seen : List ℕ) (old new : List (Event ℕ)) → (k : HasFound hears capacity owner [] number seen old new)
+    → seen ≡ k.indices
+heard capacity owner number seen old new k =
+    ⊎_elim (λ all. noted [] k.indices seen all.0)
+    (λ end. end.stops ∙ (ap (λ (is : List ℕ). is ++ end.index ∷ []) (noted [] end.before end.now end.calls) ∙ sym end.is))
+    k.calls
+
+pub find_visits_twice : (capacity owner number index : ℕ) (before after : List ℕ) (v w : View ℕ)
+    → HasSearched hears capacity owner [] number (before ++ index ∷ index ∷ after) v w
+    → ⊥
+find_visits_twice capacity owner number index before after v w k =
+    none_twice before after index capacity (subst (Ascends capacity) (sym (heard _ _ _ _ _ _ k.found)) k.found.ascend)

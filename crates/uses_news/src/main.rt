@@ -1,0 +1,231 @@
+//! One thread publishes a hundred blocks of 64 KiB, each full of the mark of its number, and two others read them where they lie.
+//! Proved of what each of them reads in its thread: they are the marks of numbers that rise strictly, from the one that came next
+//! when it subscribed, and of those that are published, though nobody copies a block.
+#![tactic(auto)]
+
+ghost use Rattle.std.specs.Prelude.{◌≡◌, ◌<◌, IfSome, IsTrue, replicate};
+ghost use Rattle.uses_bus.specs.Ends.{expected_at, next_of, number_of};
+ghost use Rattle.uses_news.specs.Marks.{mark, AreNewsFrom, HasRead};
+
+use lock_free::mpmc::container::OwnerId;
+use std::alloc::Global;
+use std::process::ExitCode;
+use std::sync::Wait;
+use std::thread::Threads;
+use std::{io, thread};
+use uses_bus::bus::{Bus, Sizes};
+use uses_bus::publisher::{Loan, Publisher};
+use uses_bus::subscriber::{Sample, Subscriber};
+use uses_slots::Keeps;
+
+/// How many words of 8 bytes a block has: 64 KiB.
+const WORDS: usize = 8192;
+
+/// How many blocks are published.
+const BLOCKS: u64 = 100;
+
+/// How often a thread lets the others run before it gives up.
+const TRIES: u64 = 1 << 26;
+
+const SIZES: Sizes = Sizes {
+    slots: 7,
+    subscribers: 2,
+    queue: 2,
+};
+
+/// The rule that a block is full of the mark of its number, which is one of a hundred.
+struct Marked;
+
+impl Keeps<Vec<u64>> for Marked {
+    ghost use Rattle.uses_news.specs.Marks.{IsBlockOf};
+
+    ghost holds = { λ number block. IsBlockOf number block.items };
+}
+
+/// So many blocks to write.
+fn blocks(alloc: Global, number: usize) -> Option<Vec<Vec<u64>>> {
+    let mut blocks = Vec::new(alloc);
+    for _ in 0..number {
+        blocks.push(vec![in alloc; 0u64; WORDS].ok()?).ok()?;
+    }
+    Some(blocks)
+}
+
+/// Fills a block. False where it has another size.
+fn fill(block: &mut Vec<u64>, word: u64) -> bool
+    ensures { IsTrue result → block.new.items ≡ replicate 8192 word }
+{
+    if block.len() != WORDS {
+        return false;
+    }
+    block.fill(word);
+    true
+}
+
+/// A slot to write, as soon as there is one.
+fn loan_one<'a>(
+    rt: &impl Wait,
+    publisher: &mut Publisher<'a, Vec<u64>, Marked>,
+) -> Option<Loan<'a, Vec<u64>, Marked>>
+    ensures { next_of publisher.new ≡ next_of publisher.old }
+{
+    for _ in 0..TRIES {
+        publisher.collect();
+        if let Ok(loan) = publisher.loan(rt) {
+            return Some(loan);
+        }
+        thread::yield_now();
+    }
+    None
+}
+
+/// Publishes the block of the number that comes next: to how many it went. None where there is no slot, or all are published.
+fn publish_one(rt: &impl Wait, publisher: &mut Publisher<'_, Vec<u64>, Marked>) -> Option<usize> {
+    let number = publisher.next_number();
+    if number >= BLOCKS {
+        return None;
+    }
+    let mut loan = loan_one(rt, publisher)?;
+    if !fill(&mut loan.value, 3 * number + 1) {
+        return None;
+    }
+    Some(publisher.publish(loan))
+}
+
+/// Publishes all blocks: to how many they went in all.
+fn publish_all(rt: &impl Wait, publisher: &mut Publisher<'_, Vec<u64>, Marked>) -> usize {
+    let mut sent: usize = 0;
+    for _ in 0..BLOCKS {
+        match publish_one(rt, publisher) {
+            Some(gained) => sent = sent.saturating_add(gained),
+            None => return sent,
+        }
+    }
+    sent
+}
+
+/// The mark of what was received, which is that of its number.
+fn mark_of(subscriber: &Subscriber<'_, Vec<u64>, Marked>, sample: &Sample) -> Option<u64>
+    ensures mark { IfSome result (λ m. m ≡ mark (number_of sample.now)) }
+    ensures published { IfSome result (λ m. number_of sample.now < 100) }
+{
+    let reading = subscriber.read(sample).ok()?;
+    reading.get().first().copied()
+}
+
+/// Receives a block if one waits, and reads its mark: whether it is that of the last number. None where it could not be read.
+fn receive_one(
+    rt: &impl Wait,
+    subscriber: &mut Subscriber<'_, Vec<u64>, Marked>,
+    marks: &mut Vec<u64>,
+) -> Option<bool>
+    ensures { IfSome result (λ _. HasRead marks.old.items marks.new.items (expected_at subscriber.old) (expected_at subscriber.new)) }
+{
+    let Some(sample) = subscriber.receive(rt) else {
+        thread::yield_now();
+        return Some(false);
+    };
+    let mark = mark_of(subscriber, &sample)?;
+    let is_last = sample.number() == BLOCKS - 1;
+    let Ok(()) = marks.push(mark) else {
+        return None;
+    };
+    subscriber.give_back(sample);
+    Some(is_last)
+}
+
+/// Receives blocks until the last one comes, and reads their marks. None where one could not be read.
+fn receive_all(
+    rt: &impl Wait,
+    alloc: Global,
+    mut subscriber: Subscriber<'_, Vec<u64>, Marked>,
+) -> Option<Vec<u64>>
+    ensures { IfSome result (λ marks. AreNewsFrom (expected_at subscriber.entry) marks.items) }
+{
+    let mut marks = Vec::new(alloc);
+    for _ in 0..TRIES {
+        if receive_one(rt, &mut subscriber, &mut marks)? {
+            return Some(marks);
+        }
+    }
+    Some(marks)
+}
+
+/// The marks that two subscribers read, each in a thread of its own, by the contract of `receive_all`.
+fn read_both<R: Threads + Wait + Sync>(
+    rt: &R,
+    alloc: Global,
+    one: Subscriber<'_, Vec<u64>, Marked>,
+    other: Subscriber<'_, Vec<u64>, Marked>,
+) -> Option<(Vec<u64>, Vec<u64>)> {
+    let (first, second) = thread::join(
+        rt,
+        move || receive_all(rt, alloc, one),
+        move || receive_all(rt, alloc, other),
+    );
+    Some((first?, second?))
+}
+
+/// One more subscriber, as the owner of this number. It takes part at once.
+fn subscribe<'a>(
+    rt: &impl Wait,
+    publisher: &mut Publisher<'a, Vec<u64>, Marked>,
+    number: u64,
+) -> Option<Subscriber<'a, Vec<u64>, Marked>>
+    ensures first { IfSome result (λ s. expected_at s ≡ next_of publisher.old) }
+    ensures next { next_of publisher.new ≡ next_of publisher.old }
+{
+    let Ok(owner) = OwnerId::new(number) else {
+        return None;
+    };
+    match publisher.subscribe(rt, owner) {
+        Ok(subscriber) => Some(subscriber),
+        Err(_) => None,
+    }
+}
+
+/// The marks that two subscribers read, each in a thread of its own, of what a third thread publishes.
+fn run<R: Threads + Wait + Sync>(
+    rt: &R,
+    alloc: Global,
+    publisher: &mut Publisher<'_, Vec<u64>, Marked>,
+) -> Option<(Vec<u64>, Vec<u64>)> {
+    let one = subscribe(rt, publisher, 1)?;
+    let other = subscribe(rt, publisher, 2)?;
+    // (`join` calls its first closure last where no thread can be made)
+    let (marks, _) = thread::join(
+        rt,
+        move || read_both(rt, alloc, one, other),
+        move || publish_all(rt, publisher),
+    );
+    marks
+}
+
+/// The same on a new bus.
+fn relay<R: Threads + Wait + Sync>(rt: &R, alloc: Global) -> Option<(Vec<u64>, Vec<u64>)> {
+    let records = blocks(alloc, SIZES.slots + 1)?;
+    let Ok((mut bus, pass)) = Bus::new(alloc, SIZES) else {
+        return None;
+    };
+    let Ok(mut publisher) = bus.publisher(rt, alloc, pass, records) else {
+        return None;
+    };
+    run(rt, alloc, &mut publisher)
+}
+
+/// Whether the marks end with that of the last number.
+fn has_last(marks: &[u64]) -> bool {
+    marks.last().copied() == Some(3 * (BLOCKS - 1) + 1)
+}
+
+fn main(rt: HostRuntime) -> io::Result<ExitCode> {
+    let Some((one, other)) = relay(&rt, rt.alloc()) else {
+        eprintln!(rt; "no memory, or a block could not be read")?;
+        return Ok(ExitCode::FAILURE);
+    };
+    println!(rt;
+        "the last of a hundred blocks was read by both: {}",
+        has_last(&one) && has_last(&other)
+    )?;
+    Ok(ExitCode::SUCCESS)
+}

@@ -1,0 +1,191 @@
+//! One thread fills blocks of 64 KiB with the marks of numbers and sends them, and another reads them where they lie. Proved: each
+//! block of the first ones, until some point, was read or came back, once and in its order, and what was read is the mark of its
+//! number. So where nothing came back the first mark is that of 0, the next that of 1, and so on, though nobody copies a block.
+#![tactic(auto)]
+
+ghost use Rattle.std.specs.Prelude.{◌≡◌, ◌++◌, IfSome, replicate};
+ghost use Rattle.lock_free.specs.Unique.Held.{HoldsNothing};
+ghost use Rattle.lock_free.specs.UniqueIndexSet.{made};
+ghost use Rattle.uses_loans.specs.Channels.{HasReceivedThrough, HasSentThrough, IsReceiverOf, IsSenderOf};
+ghost use Rattle.uses_loans.specs.Ends.{number_of, numbers_back, HasReceivedAllAs, HasSentAll};
+ghost use Rattle.uses_loans.specs.Numbers.{ArePassedOn};
+ghost use Rattle.uses_values.specs.Marks.{mark};
+
+use std::alloc::Global;
+use std::process::ExitCode;
+use std::sync::Wait;
+use std::thread::Threads;
+use std::{io, thread};
+use uses_loans::channel::Channel;
+use uses_loans::receiver::{Receiver, ReceiverParts, Sample};
+use uses_loans::sender::{Back, Sender, SenderParts};
+use uses_slots::Keeps;
+
+/// How many words of 8 bytes a block has: 64 KiB.
+const WORDS: usize = 8192;
+
+/// How often a thread lets the other one run before it gives up.
+const TRIES: u64 = 1 << 26;
+
+/// The rule that a block is full of the mark of its number.
+struct Marked;
+
+impl Keeps<Vec<u64>> for Marked {
+    ghost use Rattle.uses_values.specs.Marks.{IsBlockOf};
+
+    ghost holds = { λ number block. IsBlockOf number block.items };
+}
+
+/// So many blocks to write.
+fn blocks(alloc: Global, number: usize) -> Option<Vec<Vec<u64>>> {
+    let mut blocks = Vec::new(alloc);
+    for _ in 0..number {
+        blocks.push(vec![in alloc; 0u64; WORDS].ok()?).ok()?;
+    }
+    Some(blocks)
+}
+
+/// Fills a block with the mark of a number. None where it has another size, or the mark is too large.
+fn fill(block: &mut Vec<u64>, number: u64) -> Option<()>
+    ensures { IfSome result (λ _. block.new.items ≡ replicate 8192 (mark number)) }
+{
+    let mark = number.checked_mul(3)?.checked_add(1)?;
+    if block.len() != WORDS {
+        return None;
+    }
+    block.fill(mark);
+    Some(())
+}
+
+/// Notes the number of what came back, if anything did. None where there is no memory.
+fn note(back: &mut Vec<u64>, came: Option<Back>) -> Option<()>
+    ensures { IfSome result (λ _. back.new.items ≡ back.old.items ++ numbers_back came) }
+{
+    match came {
+        Some(Back { number, place: _ }) => back.push(number).ok(),
+        None => Some(()),
+    }
+}
+
+/// Makes so many blocks, each of the next number, and sends them: also the numbers of what came back. None where no place came, or
+/// where there is no memory.
+fn send_all(
+    rt: &impl Wait,
+    alloc: Global,
+    mut sender: Sender<'_, Vec<u64>, Marked>,
+    count: u32,
+) -> Option<(SenderParts, Vec<u64>)>
+    ensures { IfSome result (λ r. HasSentAll count r.1.items sender.entry r.0) }
+{
+    let mut back = Vec::new(alloc);
+    for _ in 0..count {
+        let mut loan = sender.loan_within(rt, TRIES)?;
+        fill(&mut loan.value, sender.next_number())?;
+        if !sender.has_number(&loan) {
+            return None;
+        }
+        let came = sender.send(loan);
+        note(&mut back, came)?;
+    }
+    let (parts, _) = sender.finish_all();
+    Some((parts, back))
+}
+
+/// The same by a sender of its own.
+fn send_through(
+    rt: &impl Wait,
+    alloc: Global,
+    channel: &Channel<Vec<u64>, Marked>,
+    spares: Vec<Vec<u64>>,
+    sends: SenderParts,
+    count: u32,
+) -> Option<(SenderParts, Vec<u64>)>
+    requires sends { IsSenderOf channel.now sends }
+    requires nothing { HoldsNothing (made sends.pass) }
+    ensures { IfSome result (λ r. HasSentThrough channel.now sends count r.1.items r.0) }
+{
+    let sender = channel.sender_with(alloc, spares, sends)?;
+    let (left, back) = send_all(rt, alloc, sender, count)?;
+    Some((left, back))
+}
+
+/// The mark of what was received.
+fn mark_of(receiver: &Receiver<'_, Vec<u64>, Marked>, sample: &Sample) -> Option<u64>
+    ensures { IfSome result (λ m. m ≡ mark (number_of sample.now)) }
+{
+    let reading = receiver.read(sample).ok()?;
+    reading.get().first().copied()
+}
+
+/// Receives so many blocks, and reads their marks. None where one did not come, or could not be read.
+fn receive_all(
+    rt: &impl Wait,
+    alloc: Global,
+    mut receiver: Receiver<'_, Vec<u64>, Marked>,
+    count: usize,
+) -> Option<(ReceiverParts, Vec<u64>)>
+    ensures { IfSome result (λ r. HasReceivedAllAs mark r.1.items receiver.entry r.0) }
+{
+    let mut marks = Vec::new(alloc);
+    for _ in 0..count {
+        let sample = receiver.receive_within(rt, TRIES)?;
+        let mark = mark_of(&receiver, &sample)?;
+        let Ok(()) = marks.push(mark) else {
+            return None;
+        };
+        receiver.give_back(sample);
+    }
+    Some((receiver.finish(), marks))
+}
+
+/// The same by a receiver of its own.
+fn receive_through(
+    rt: &impl Wait,
+    alloc: Global,
+    channel: &Channel<Vec<u64>, Marked>,
+    receives: ReceiverParts,
+    count: usize,
+) -> Option<(ReceiverParts, Vec<u64>)>
+    requires { IsReceiverOf channel.now receives }
+    ensures { IfSome result (λ r. HasReceivedThrough channel.now receives mark r.1.items r.0) }
+{
+    let receiver = channel.receiver_with(receives)?;
+    let (left, marks) = receive_all(rt, alloc, receiver, count)?;
+    Some((left, marks))
+}
+
+/// Sends the blocks of the first numbers from one thread to another, which reads so many of them: their marks, and the numbers of
+/// those that came back.
+fn relay<R: Threads + Wait + Sync>(
+    rt: &R,
+    alloc: Global,
+    sent: u32,
+    count: usize,
+) -> Option<(Vec<u64>, Vec<u64>)>
+    ensures { IfSome result (λ r. ArePassedOn mark sent r.0.items r.1.items) }
+{
+    let Ok(mut channel) = Channel::<Vec<u64>, Marked>::new(alloc, 4, 4) else {
+        return None;
+    };
+    let spares = blocks(alloc, 5)?;
+    let (sends, receives) = channel.open()?;
+    let shared = &channel;
+    let (sent_all, received) = thread::join(
+        rt,
+        move || send_through(rt, alloc, shared, spares, sends, sent),
+        move || receive_through(rt, alloc, shared, receives, count),
+    );
+    let (sent_all, back) = sent_all?;
+    let (received, marks) = received?;
+    channel.relayed(sent_all, received);
+    Some((marks, back))
+}
+
+fn main(rt: HostRuntime) -> io::Result<ExitCode> {
+    let Some((marks, _)) = relay(&rt, rt.alloc(), 12, 10) else {
+        eprintln!(rt; "no memory, or no place")?;
+        return Ok(ExitCode::FAILURE);
+    };
+    println!(rt; "of twelve blocks ten were read: {marks:?}")?;
+    Ok(ExitCode::SUCCESS)
+}

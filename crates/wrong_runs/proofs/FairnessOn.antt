@@ -1,0 +1,93 @@
+-- An endless schedule of an index queue, on which turns are refused, that is fair to one party of two, and not to the other.
+use Rattle.std.proofs.Common.{◌≡◌, ◌≢◌, ◌≤◌, ◌⊎◌, inl, inr, ⊎_elim, ℕ, zero, suc, ◌+◌, Some, None, ◌∷◌, [], ◌++◌, refl, sym, ap, ◌∙◌, arith}
+use Rattle.model.specs.declared.event.Start.TheVariants.{Queues}
+use Rattle.model.specs.declared.families.queues.QueueStart.TheVariants.{AcquireProducer, PushIndex, Len}
+use Rattle.model.specs.declared.turn.Kind.TheVariants.{IndexQueue}
+use Rattle.model.specs.declared.turn.Refusal.TheVariants.{Idle}
+use Rattle.model.specs.declared.turn.Turn.{Turn}
+use Rattle.model.specs.declared.turn.Turn.TheVariants.{Begin, Next}
+use Rattle.model.specs.Coding.{one_word}
+use Rattle.model.specs.Loads.{begun}
+use Rattle.model.specs.LockFree.{IsBelow}
+use Rattle.model.specs.Refusals.{call_refusal}
+use Rattle.model.specs.Turns.{run_on}
+use Rattle.model.specs.World.{Trace, flight_in, opening}
+use Rattle.model.proofs.Runs.{begins}
+use Rattle.headline.specs.Going.{IsFairOn, IsStepOf, moment_on}
+
+-- party 0 has a push under way, and party 1 asks for the length
+abbrev started : Trace ℕ
+started =
+    run_on (begins 0 (Queues AcquireProducer) 1 ++ (Begin 0 (Queues (PushIndex 7)) ∷ Begin 1 (Queues Len) ∷ []))
+    (opening one_word IndexQueue 1 2)
+
+-- Party 1 takes a step. From then on only party 0 is scheduled, also when its push has ended.
+abbrev turns : ℕ → Turn ℕ
+turns zero = Next 1
+turns (suc k) = Next 0
+
+-- so every later turn is refused, and changes nothing
+refused_then : call_refusal (moment_on started turns 5).world (turns 5) ≡ Some Idle
+refused_then = refl
+
+stays : (n : ℕ) → moment_on started turns (suc (suc (suc (suc (suc n))))) ≡ moment_on started turns 5
+stays zero = refl
+stays (suc n) = let so_far = stays n in rw so_far refl
+
+-- ---- to party 0 it is fair
+
+abbrev at : ℕ → ℕ
+at zero = 1
+at (suc k) = suc k
+
+later : (k : ℕ) → k ≤ at k
+later zero = omega arith
+later (suc k) = omega arith
+
+goes : (k : ℕ) → (flight_in (moment_on started turns (at k)).world 0 ≡ None) ⊎ IsStepOf 0 (moment_on started turns (at k)).world (turns (at k))
+goes zero = inr (refl, refl)
+goes (suc zero) = inr (refl, refl)
+goes (suc (suc zero)) = inr (refl, refl)
+goes (suc (suc (suc zero))) = inr (refl, refl)
+goes (suc (suc (suc (suc zero)))) = inr (refl, refl)
+goes (suc (suc (suc (suc (suc n))))) = let so = stays n in inl (rw so refl)
+
+fair : IsFairOn started turns 0
+fair = record { at = at; later = later; goes = goes }
+
+-- ---- to party 1, which takes one step and never another, it is not
+
+same_call : (p n : ℕ) → flight_in (moment_on started turns (suc (suc (suc (suc (suc n)))))).world p
+    ≡ flight_in (moment_on started turns 5).world p
+same_call p n = ap (λ (t : Trace ℕ). flight_in t.world p) (stays n)
+
+waits_there : flight_in (moment_on started turns 5).world 1 ≢ None
+waits_there e = cc
+
+waits : (n : ℕ) → flight_in (moment_on started turns (suc (suc (suc (suc (suc n)))))).world 1 ≢ None
+waits n none = waits_there (sym (same_call 1 n) ∙ none)
+
+none_more : (k : ℕ) → 1 ≤ k → (flight_in (moment_on started turns k).world 1 ≡ None) ⊎ IsStepOf 1 (moment_on started turns k).world (turns k) → ⊥
+none_more zero past h = absurd (omega arith)
+none_more (suc zero) past h = ⊎_elim (λ e. cc) (λ s. let e = s.1 in cc) h
+none_more (suc (suc zero)) past h = ⊎_elim (λ e. cc) (λ s. let e = s.1 in cc) h
+none_more (suc (suc (suc zero))) past h = ⊎_elim (λ e. cc) (λ s. let e = s.1 in cc) h
+none_more (suc (suc (suc (suc zero)))) past h = ⊎_elim (λ e. cc) (λ s. let e = s.1 in cc) h
+none_more (suc (suc (suc (suc (suc n))))) past h = ⊎_elim (waits n) (λ s. let e = s.1 in cc) h
+
+starves : IsFairOn started turns 1 → ⊥
+starves h = none_more (h.at 1) (h.later 1) (h.goes 1)
+
+-- ---- it is one of those of which `EndsIfFairOn` speaks: all turns are of two parties, and no call begins
+
+below : (k : ℕ) → IsBelow 2 (turns k)
+below zero = omega arith
+below (suc k) = omega arith
+
+none_begin : (k : ℕ) → begun (moment_on started turns k).events ≤ begun started.events + 0
+none_begin zero = omega arith
+none_begin (suc zero) = omega arith
+none_begin (suc (suc zero)) = omega arith
+none_begin (suc (suc (suc zero))) = omega arith
+none_begin (suc (suc (suc (suc zero)))) = omega arith
+none_begin (suc (suc (suc (suc (suc n))))) = let so = stays n in rw so (omega arith)
