@@ -51,8 +51,8 @@ pub fn container_updates_meet_changes<T>()
         → Each MeetsChanges events }
 {}
 
-/// Up to the end of a call what a pass of a container has seen is a history too, of the first of the turns that it knows.
-/// So the view with which a call began is that of a run, also where the end of a find that rested came first.
+/// Up to the end of a call, what a pass of a container has seen is a history too. It is that of the first of the turns that
+/// the pass knows. So the view with which a call began is that of a run, also where the end of a find that rested came first.
 pub fn container_calls_end_histories<T>()
     ensures { (code : Coding T) (capacity : ℕ) (v : View T) → Knows code kinds.Container capacity v
         → (p : ℕ) (start : Start T) (answer : Answer T) (before rest : List (Event T))

@@ -69,7 +69,8 @@ impl<X: Drop, K: Keeps<X>> Drop for Channel<X, K> {
 }
 
 impl<X: Drop, K: Keeps<X>> Channel<X, K> {
-    ghost use Rattle.uses_loans.specs.Channels.{completion_in, layout_of, next_in, places_of, sending_view, set_in, shape_of, steps_in, steps_of, submission_in};
+    ghost use Rattle.uses_loans.specs.Channels.{completion_in, layout_of, next_in, places_of, sending_view, set_in};
+    ghost use Rattle.uses_loans.specs.Channels.{shape_of, steps_in, steps_of, submission_in};
     ghost use Rattle.uses_loans.specs.Channels.{HasOpened, HasPassedOn, HasRejoined, IsReceiverOf, IsSameChannel, IsSenderOf};
 
     /// Makes `places` places, from 1 to 2^24 - 2, of which at most `queue` wait, up to 2^32 - 1. Refused as

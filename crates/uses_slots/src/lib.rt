@@ -127,8 +127,8 @@ impl<'a, X, K: Keeps<X>> Drop for Reading<'a, X, K> {
 impl<'a, X, K: Keeps<X>> Writing<'a, X, K> {
     ghost use Rattle.uses_slots.specs.Slots.{laid_number, laid_slot, slot_of};
 
-    /// Lays a value there with its number, which may be read from now on, and hands out those that lay there, if any did. One
-    /// atomic step.
+    /// Lays a value there with its number, which may be read from now on, and hands out those that lay there, if any did. X need not
+    /// be `Drop`, so neither can be lost; that what comes out is what was laid there last is only tested. One atomic step.
     pub fn put(self, number: u64, value: X) -> (Laid, Option<(u64, X)>)
         requires fits { K.holds number value }
         ensures laid { (laid_slot result.0 ≡ slot_of self.entry) × (laid_number result.0 ≡ number) }
@@ -219,8 +219,8 @@ impl<X, K: Keeps<X>> Slots<X, K> {
         self.number
     }
 
-    /// Reads the value of this slot. Refused where there is no such slot (`NoSlot`), where the word says that it is empty or
-    /// written (`NotThere`) or that 2^30 - 1 read it already (`TooMany`), and where it changed between the two steps of each of
+    /// Reads the value of this slot. Refused where there is no such slot (`NoSlot`), where the word that it saw there says that it is
+    /// empty or written (`NotThere`) or that 2^30 - 1 read it already (`TooMany`), and where it changed between the two steps of each of
     /// 2^64 - 1 tries (`Busy`). Then nothing changes.
     ///
     /// A load and a compare-exchange where nobody comes to the slot or leaves it in between, and two more for each time that
@@ -256,8 +256,8 @@ impl<X, K: Keeps<X>> Slots<X, K> {
         Err(ReadFailure::Busy(u64::MAX))
     }
 
-    /// The right to write this slot. Refused where there is no such slot (`NoSlot`), where the word says that somebody reads or
-    /// writes it (`InUse`), and where it changed between the two steps (`Changed`). Then nothing changes.
+    /// The right to write this slot. Refused where there is no such slot (`NoSlot`), where the word that it saw there says that
+    /// somebody reads or writes it (`InUse`), and where it changed between the two steps (`Changed`). Then nothing changes.
     ///
     /// A load and at most one compare-exchange.
     pub fn take(&self, slot: u32) -> Result<Writing<'_, X, K>, TakeFailure>

@@ -18,8 +18,8 @@ pub fn frees_are_counted()
         → (i : ℕ) → sum_by (claims i) new.made ≡ sum_by (claims i) old.made }
 {}
 
-/// What a pass knew as it had freed one index of several in turn is a run too: a beginning of the run that it knows in the
-/// end. The lemma is `known_in_turn` of `proofs/Loan/Known.antt`.
+/// What a pass knew after each of several frees in turn is a run too. It is a beginning of the run that the pass knows in
+/// the end. The lemma is `known_in_turn` of `proofs/Loan/Known.antt`.
 pub fn frees_are_known()
     ensures { (is : List ℕ) (capacity : ℕ) (old new : View ℕ) → InTurn HasFreed is old new
         → Knows one_word kinds.Indices capacity old → Knows one_word kinds.Indices capacity new

@@ -49,8 +49,8 @@ impl<'a, T: Words> Handle<'a, T> {
         pass
     }
 
-    /// What the handle's pass has seen is a history, and its last call has ended or rests, as `history` of the pass says.
-    /// It does nothing.
+    /// What the handle's pass has seen is a history. Its last call has ended or rests, as `history` of the pass says. It does
+    /// nothing.
     pub fn history(&self)
         ensures run { Knows (code_of (pass_in self.now)) kinds.Container (container_of (pass_in self.now)).capacity (knows self.now) }
         ensures history { HasHistory (pass_in self.now) }
