@@ -4,10 +4,7 @@
 #![tactic(auto)]
 
 ghost use Rattle.std.specs.Prelude.{◌≡◌, ◌++◌, IfSome, replicate};
-ghost use Rattle.lock_free.specs.Unique.Held.{HoldsNothing};
-ghost use Rattle.lock_free.specs.UniqueIndexSet.{made};
-ghost use Rattle.uses_loans.specs.Channels.{HasReceivedThrough, HasSentThrough, IsReceiverOf, IsSenderOf};
-ghost use Rattle.uses_loans.specs.Ends.{number_of, numbers_back, HasReceivedAllAs, HasSentAll};
+ghost use Rattle.uses_loans.specs.Ends.{number_of, numbers_back, HasReceivedAs, HasSent};
 ghost use Rattle.uses_loans.specs.Numbers.{ArePassedOn};
 ghost use Rattle.uses_values.specs.Marks.{mark};
 
@@ -17,8 +14,8 @@ use std::sync::Wait;
 use std::thread::Threads;
 use std::{io, thread};
 use uses_loans::channel::Channel;
-use uses_loans::receiver::{Receiver, ReceiverParts, Sample};
-use uses_loans::sender::{Back, Sender, SenderParts};
+use uses_loans::receiver::{Receiver, Sample};
+use uses_loans::sender::{Back, Sender};
 use uses_slots::Keeps;
 
 /// How many words of 8 bytes a block has: 64 KiB.
@@ -72,41 +69,23 @@ fn note(back: &mut Vec<u64>, came: Option<Back>) -> Option<()>
 fn send_all(
     rt: &impl Wait,
     alloc: Global,
-    mut sender: Sender<'_, Vec<u64>, Marked>,
+    sender: &mut Sender<'_, Vec<u64>, Marked>,
     count: u32,
-) -> Option<(SenderParts, Vec<u64>)>
-    ensures { IfSome result (λ r. HasSentAll count r.1.items sender.entry r.0) }
+) -> Option<Vec<u64>>
+    ensures { IfSome result (λ b. HasSent count b.items sender.old sender.new) }
 {
     let mut back = Vec::new(alloc);
     for _ in 0..count {
         let mut loan = sender.loan_within(rt, TRIES)?;
-        fill(&mut loan.value, sender.next_number())?;
+        let number = sender.next_number();
+        fill(&mut loan.value, number)?;
         if !sender.has_number(&loan) {
             return None;
         }
         let came = sender.send(loan);
         note(&mut back, came)?;
     }
-    let (parts, _) = sender.finish_all();
-    Some((parts, back))
-}
-
-/// The same by a sender of its own.
-fn send_through(
-    rt: &impl Wait,
-    alloc: Global,
-    channel: &Channel<Vec<u64>, Marked>,
-    spares: Vec<Vec<u64>>,
-    sends: SenderParts,
-    count: u32,
-) -> Option<(SenderParts, Vec<u64>)>
-    requires sends { IsSenderOf channel.now sends }
-    requires nothing { HoldsNothing (made sends.pass) }
-    ensures { IfSome result (λ r. HasSentThrough channel.now sends count r.1.items r.0) }
-{
-    let sender = channel.sender_with(alloc, spares, sends)?;
-    let (left, back) = send_all(rt, alloc, sender, count)?;
-    Some((left, back))
+    Some(back)
 }
 
 /// The mark of what was received.
@@ -121,37 +100,40 @@ fn mark_of(receiver: &Receiver<'_, Vec<u64>, Marked>, sample: &Sample) -> Option
 fn receive_all(
     rt: &impl Wait,
     alloc: Global,
-    mut receiver: Receiver<'_, Vec<u64>, Marked>,
+    receiver: &mut Receiver<'_, Vec<u64>, Marked>,
     count: usize,
-) -> Option<(ReceiverParts, Vec<u64>)>
-    ensures { IfSome result (λ r. HasReceivedAllAs mark r.1.items receiver.entry r.0) }
+) -> Option<Vec<u64>>
+    ensures { IfSome result (λ m. HasReceivedAs mark m.items receiver.old receiver.new) }
 {
     let mut marks = Vec::new(alloc);
     for _ in 0..count {
         let sample = receiver.receive_within(rt, TRIES)?;
-        let mark = mark_of(&receiver, &sample)?;
+        let mark = mark_of(receiver, &sample)?;
         let Ok(()) = marks.push(mark) else {
             return None;
         };
         receiver.give_back(sample);
     }
-    Some((receiver.finish(), marks))
+    Some(marks)
 }
 
-/// The same by a receiver of its own.
-fn receive_through(
-    rt: &impl Wait,
+/// Both ends at work side by side: the numbers of what came back, and the marks of what was read.
+fn run<R: Threads + Wait + Sync>(
+    rt: &R,
     alloc: Global,
-    channel: &Channel<Vec<u64>, Marked>,
-    receives: ReceiverParts,
+    sender: &mut Sender<'_, Vec<u64>, Marked>,
+    sent: u32,
+    receiver: &mut Receiver<'_, Vec<u64>, Marked>,
     count: usize,
-) -> Option<(ReceiverParts, Vec<u64>)>
-    requires { IsReceiverOf channel.now receives }
-    ensures { IfSome result (λ r. HasReceivedThrough channel.now receives mark r.1.items r.0) }
+) -> (Option<Vec<u64>>, Option<Vec<u64>>)
+    ensures sent { IfSome result.0 (λ b. HasSent sent b.items sender.old sender.new) }
+    ensures read { IfSome result.1 (λ m. HasReceivedAs mark m.items receiver.old receiver.new) }
 {
-    let receiver = channel.receiver_with(receives)?;
-    let (left, marks) = receive_all(rt, alloc, receiver, count)?;
-    Some((left, marks))
+    thread::join_mut(
+        rt,
+        &mut || send_all(rt, alloc, sender, sent),
+        &mut || receive_all(rt, alloc, receiver, count),
+    )
 }
 
 /// Sends the blocks of the first numbers from one thread to another, which reads so many of them: their marks, and the numbers of
@@ -169,15 +151,13 @@ fn relay<R: Threads + Wait + Sync>(
     };
     let spares = blocks(alloc, 5)?;
     let (sends, receives) = channel.open()?;
-    let shared = &channel;
-    let (sent_all, received) = thread::join(
-        rt,
-        move || send_through(rt, alloc, shared, spares, sends, sent),
-        move || receive_through(rt, alloc, shared, receives, count),
-    );
-    let (sent_all, back) = sent_all?;
-    let (received, marks) = received?;
-    channel.relayed(sent_all, received);
+    let (mut sender, mut receiver) = channel.ends_with(alloc, spares, sends, receives)?;
+    let (back, marks) = run(rt, alloc, &mut sender, sent, &mut receiver, count);
+    let back = back?;
+    let marks = marks?;
+    let (left, _) = sender.finish_all();
+    let other = receiver.finish();
+    channel.relayed(left, other);
     Some((marks, back))
 }
 

@@ -1,4 +1,4 @@
-use Rattle.uses_loans.proofs.Ends.{none_received, received_in_all, received_next}
+use Rattle.uses_loans.proofs.Ends.{none_received, received_next}
 use Rattle.uses_values.specs.Marks.{mark}
 use Rattle.uses_values.proofs.receive_all.Goals as goal
 
@@ -9,6 +9,3 @@ pub loop-preserved : goal.loop-preserved
 loop-preserved g c =
     received_next mark _ _ _ _ _ _ _ _ c.in-Ok.ensures.items c.in_ok-mark.ensures c.loop.invariant c.in_ok-sample.ensures.receives
     c.give_back.ensures.receives
-
-pub returns : goal.returns
-returns g c = received_in_all mark _ _ _ _ c.loop.invariant c.finish.ensures.receives
