@@ -3,6 +3,8 @@
 //! when it subscribed, and of those that are published, though nobody copies a block.
 #![tactic(auto)]
 
+pub mod twins;
+
 ghost use Rattle.std.specs.Prelude.{◌≡◌, ◌<◌, IfSome, IsTrue, replicate};
 ghost use Rattle.uses_bus.specs.Ends.{expected_at, next_of, number_of};
 ghost use Rattle.uses_news.specs.Marks.{mark, AreNewsFrom, HasRead};

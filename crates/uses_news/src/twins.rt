@@ -1,0 +1,57 @@
+//! Calls of the bus once more, each with a clause that the program has no use for, so that the clause cannot go out of the call
+//! unnoticed. What a wrong body would leave, and the clause refuses, stands in `proofs/WrongBodies.antt` of the bus.
+ghost use Rattle.std.specs.Prelude.{◌≡◌, true, Some, slice_get, IfErr, IfOk, IfSome};
+ghost use Rattle.lock_free.specs.Robust.Contracts.{WasFreed};
+ghost use Rattle.uses_bus.specs.Ends.{lanes_of, members_left, members_view, place_at, received, record_of, spares_in, table_of, IsTakenFor};
+ghost use Rattle.uses_bus.specs.Outlets.{open_in};
+ghost use Rattle.uses_slots.specs.Slots.{slot_in};
+
+use lock_free::mpmc::container::{ContainerRemoveError, OwnerId};
+use std::sync::Wait;
+use uses_bus::error::{LoanFailure, SubscribeFailure};
+use uses_bus::publisher::{Loan, Publisher};
+use uses_bus::subscriber::{Left, Sample, Subscriber};
+use uses_slots::{Keeps, Reading};
+
+/// Who has subscribed takes part.
+pub fn subscribe<'a, X: Drop, K: Keeps<X>>(
+    publisher: &mut Publisher<'a, X, K>,
+    rt: &impl Wait,
+    owner: OwnerId,
+) -> Result<Subscriber<'a, X, K>, SubscribeFailure>
+    ensures part { IfOk result (λ s. slice_get (open_in (lanes_of publisher.new)) (place_at s) ≡ Some true) }
+{
+    publisher.subscribe(rt, owner)
+}
+
+/// Where a loan is refused since there is no record, there is none.
+pub fn loan<'a, X: Drop, K: Keeps<X>>(
+    publisher: &mut Publisher<'a, X, K>,
+    rt: &impl Wait,
+) -> Result<Loan<'a, X, K>, LoanFailure>
+    ensures refused { IfErr result (IsTakenFor (spares_in publisher.old) (table_of publisher.old) (table_of publisher.new)) }
+{
+    publisher.loan(rt)
+}
+
+/// What is read lies in the slot of the sample.
+pub fn read<'b, X: Drop, K: Keeps<X>>(
+    subscriber: &'b Subscriber<'_, X, K>,
+    sample: &Sample,
+) -> Option<Reading<'b, X, K>>
+    ensures slot { IfSome result (λ r. slot_in r ≡ received sample.now) }
+{
+    subscriber.read(sample).ok()
+}
+
+/// Who leaves is no more in the registry.
+pub fn leave<'a, X: Drop, K: Keeps<X>>(
+    subscriber: Subscriber<'a, X, K>,
+    rt: &impl Wait,
+) -> Result<Left<'a>, ContainerRemoveError>
+    ensures removed { IfOk result
+        (λ l. WasFreed (record_of subscriber.entry).index (record_of subscriber.entry).owner
+        (members_view subscriber.entry) (members_left l)) }
+{
+    subscriber.leave(rt)
+}
