@@ -9,3 +9,5 @@ pub mod Full
 pub mod Whole
 pub mod WrongBodies
 pub mod WrongHistories
+pub mod Moments
+pub mod WrongAnswers
