@@ -117,8 +117,9 @@ impl<'a, X: Drop, K: Keeps<X>> Publisher<'a, X, K> {
     }
 
     /// A subscriber who takes part at once: by its clause the lane of its place does, and `publish` serves the lanes that do. That the
-    /// words of this lane come to this subscriber is only tested. It is a `seat`, a `join` as this owner and an `update` in one. Refused where no seat is to be had (`NoSeat`) and where the registry does not let the owner in (`NotLetIn`);
-    /// and where the look does not show it (`NotSeen`, which no clause rules out), and then it leaves again (by no clause).
+    /// words of this lane come to this subscriber is only tested. It is a `seat`, a `join` as this owner and an `update` in one.
+    /// Refused where no seat is to be had (`NoSeat`) and where the registry does not let the owner in (`NotLetIn`); and where the
+    /// look does not show it (`NotSeen`, which no clause rules out), and then it leaves again (by no clause).
     pub fn subscribe(
         &mut self,
         rt: &impl Wait,
