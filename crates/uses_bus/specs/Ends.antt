@@ -164,7 +164,7 @@ module _ {X K : Type 0} {rule : Ghosts K X} where
   abbrev pub record_of : Subscriber X K rule → ContainerHandle
   record_of s = s.record
 
-  -- why a sample is not read: its slot is not, or another number lies there
+  -- why a sample is not read: its slot is not, or the failure has another number (that it lies there, no clause says)
   abbrev pub IsUnread : Subscriber X K rule → Sample → ReadFailure → Type 0
   IsUnread s sample (Slot failure) = IsUnreadable s.records.now (received sample) failure
   IsUnread s sample (Other number) = number ≢ number_of sample

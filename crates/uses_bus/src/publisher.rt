@@ -116,9 +116,10 @@ impl<'a, X: Drop, K: Keeps<X>> Publisher<'a, X, K> {
         ))
     }
 
-    /// A subscriber who takes part at once: what is published from now on goes to it. It is a `seat`, a `join` as this owner and an
-    /// `update` in one. Refused where no seat is to be had (`NoSeat`) and where the registry does not let the owner in (`NotLetIn`);
-    /// and where the look does not show it (`NotSeen`, which no clause rules out), and then it leaves again.
+    /// A subscriber who takes part at once: by its clause the lane of its place does, and `publish` serves the lanes that do. That the
+    /// words of this lane come to this subscriber is only tested. It is a `seat`, a `join` as this owner and an `update` in one.
+    /// Refused where no seat is to be had (`NoSeat`) and where the registry does not let the owner in (`NotLetIn`); and where the
+    /// look does not show it (`NotSeen`, which no clause rules out), and then it leaves again (by no clause).
     pub fn subscribe(
         &mut self,
         rt: &impl Wait,
@@ -191,7 +192,7 @@ impl<'a, X: Drop, K: Keeps<X>> Publisher<'a, X, K> {
     /// - where no record is left to write (`NoRecord`), and then nothing changes. One record more than there are slots is enough
     ///   for one loan at a time, and one more for each further loan in hand, as long as no loan is dropped: a dropped loan drops
     ///   its record and what lay in its slot (by no clause);
-    /// - where each slot is out, or the pool is locked (`NoSlot`), and then nothing changes;
+    /// - where each slot is out, or the pool is locked (`NoSlot`; by no clause, which says only that nothing changes);
     /// - where somebody still reads the slot, who has it not: a reading that was forgotten, or a sample that another than its
     ///   subscriber reads (`StillRead`). The slot stays out, so that the next loan gets another; `reclaim` tries it again.
     ///
@@ -266,7 +267,7 @@ impl<'a, X: Drop, K: Keeps<X>> Publisher<'a, X, K> {
         gained
     }
 
-    /// Gives a loan up: nobody gets its record, which is kept to be written again. One step on the slot, and a release.
+    /// Gives a loan up: nobody gets its record, which is kept to be written again (by no clause). One step on the slot, and a release.
     pub fn give_up(&mut self, loan: Loan<'a, X, K>)
         ensures gone { ¬ IsLoaned (table_of self.new) (loaned loan.entry) }
         ensures changes { ChangesAt (loaned loan.entry) publisher (table_of self.old) (table_of self.new) }

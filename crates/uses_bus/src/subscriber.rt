@@ -227,8 +227,8 @@ impl<'a, X: Drop, K: Keeps<X>> Subscriber<'a, X, K> {
     /// Reads a record that was received, where it lies: the value that was laid there with the number of the sample, which keeps
     /// its rule. As long as it is read, this subscriber receives and gives back nothing and is not dropped, since the reading
     /// borrows it. Refused where the slot is (`Slot`): there is none, or its word says that it is empty or written, or that
-    /// 2^30 - 1 read it already; and where a value of another number lies there (`Other`). Of a sample in hand here the first is
-    /// ruled out by clauses (`within` of `receive`), and the others by tests alone.
+    /// 2^30 - 1 read it already; and where a value of another number lies there (`Other`: by its clause that number is another; that
+    /// it lies there, by no clause). Of a sample in hand here the first is ruled out by clauses (`within` of `receive`), and the others by tests alone.
     ///
     /// A load and a compare-exchange, again for each time that another subscriber comes to the slot or leaves it in between; and
     /// a subtraction as the reading is dropped. A reading that is forgotten keeps its slot for good (`StillRead`).

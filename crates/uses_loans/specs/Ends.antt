@@ -252,7 +252,7 @@ module _ {X K : Type 0} {rule : Ghosts K X} where
   abbrev pub HasReceivedAllAs : {A : Type 0} → (ℕ → A) → List A → Receiver X K rule → ReceiverParts → Type 0
   HasReceivedAllAs f made r parts = (numbers : List ℕ) × (made ≡ map f numbers) × HasReceivedAll numbers r parts
 
-  -- why a sample is not read: its slot is not, or another number lies there
+  -- why a sample is not read: its slot is not, or the failure has another number (that it lies there, no clause says)
   abbrev pub IsUnread : Receiver X K rule → Sample → ReadFailure → Type 0
   IsUnread r sample (Slot failure) = IsUnreadable r.slots.now (received sample) failure
   IsUnread r sample (Other number) = number ≢ number_of sample

@@ -136,7 +136,7 @@ impl<'a, X: Drop, K: Keeps<X>> Receiver<'a, X, K> {
         }
     }
 
-    /// What comes next, by at most so many tries, between which another thread may run. None where nothing came. The steps of
+    /// What comes next, by at most so many tries (by no clause), between which another thread may run. None where nothing came. The steps of
     /// `receive` for each try.
     pub fn receive_within(&mut self, rt: &impl Wait, tries: u64) -> Option<Sample>
         ensures within { IfSome result (λ s. received s < places_in self.old) }
@@ -154,7 +154,8 @@ impl<'a, X: Drop, K: Keeps<X>> Receiver<'a, X, K> {
     /// Reads a value that was received, where it lies: the one that was laid in its place with its number, which keeps its rule. As
     /// long as it is read, this receiver receives and gives back nothing and is not dropped, since the reading borrows it. Refused
     /// where the slot is (`Slot`): there is no such place, or its word says that it is empty or written, or that 2^30 - 1 read it;
-    /// and where a value of another number lies there (`Other`). Of a sample in hand here the first is ruled out by clauses
+    /// and where a value of another number lies there (`Other`: by its clause that number is another; that it lies there, by no
+    /// clause). Of a sample in hand here the first is ruled out by clauses
     /// (`within` of `receive`), and the others by tests alone.
     ///
     /// A load and a compare-exchange, again for each time that another reader comes or leaves, and a subtraction as the reading is

@@ -199,7 +199,7 @@ impl<'a, X: Drop, K: Keeps<X>> Sender<'a, X, K> {
         self.loans.is_loaned(loan.place)
     }
 
-    /// A loan as soon as there is one, by at most so many tries. After one that is refused it takes back a place, or lets another
+    /// A loan as soon as there is one, by at most so many tries (by no clause). After one that is refused it takes back a place, or lets another
     /// thread run where none came. None where each try was refused. A place that is `StillRead` stays Loaned.
     ///
     /// For each try, the steps of `loan` and those of `take_back`.
@@ -284,8 +284,9 @@ impl<'a, X: Drop, K: Keeps<X>> Sender<'a, X, K> {
     }
 
     /// Tries a place again that is Loaned without a loan, since it was `StillRead` or its loan was dropped: true, and it is Free,
-    /// where nobody reads it any more. False where it is not Loaned, where somebody reads it still, or (by no clause) where its
-    /// loan is in hand; then nothing changes. A load, at most one compare-exchange and one further step on the slot, and those of
+    /// where nobody reads it any more. False where it is not Loaned, where somebody reads it still, or where its loan is in hand;
+    /// then no place changes. By no clause: which of these it was, and that the slot that is tried and left empty is that of this
+    /// place. A load, at most one compare-exchange and one further step on the slot, and those of
     /// `LoanSender::give_up`.
     pub fn regain(&mut self, place: u32) -> bool
         ensures had { IsTrue result → IsLoaned place (sender_of self.old) }

@@ -153,7 +153,8 @@ fn receive_all(
     Some(marks)
 }
 
-/// The marks that two subscribers read, each in a thread of its own, by the contract of `receive_all`.
+/// The marks that two subscribers read, each in a thread of its own. The clause of what they are is that of `receive_all`, which
+/// each of the two closures calls; this function and those that call it have none about them.
 fn read_both<R: Threads + Wait + Sync>(
     rt: &R,
     alloc: Global,

@@ -42,14 +42,15 @@ abbrev pub laid_number : Laid → ℕ
 laid_number laid = lies_with laid.lies
 
 -- Why a slot is not read: there is none; or its word, which was seen there, says that no value lies there or that 2^30 - 1 read it;
--- or it changed in each of 2^64 - 1 tries.
+-- or it changed in each of 2^64 - 1 tries. No clause says that it was seen in these slots, and in this call.
 abbrev pub IsUnreadable : {X K : Type 0} {rule : Ghosts K X} → Slots X K rule → ℕ → ReadFailure → Type 0
 IsUnreadable slots slot reads.NoSlot = slots_in slots ≤ slot
 IsUnreadable slots slot (reads.NotThere seen) = (seen_in seen ≡ slot) × (seen_word seen % 4 ≢ 1)
 IsUnreadable slots slot (reads.TooMany seen) = (seen_in seen ≡ slot) × (readers (seen_word seen) ≡ 2 ^ 30 - 1)
 IsUnreadable slots slot (reads.Busy tries) = tries ≡ 2 ^ 64 - 1
 
--- why a slot is not to be written: there is none, or its word, which was seen there, says that it is written or read, or it changed
+-- why a slot is not to be written: there is none, or its word, which was seen there, says that it is written or read, or it
+-- changed (in whose slots, and in which call, no clause says)
 abbrev pub IsUntaken : {X K : Type 0} {rule : Ghosts K X} → Slots X K rule → ℕ → TakeFailure → Type 0
 IsUntaken slots slot takes.NoSlot = slots_in slots ≤ slot
 IsUntaken slots slot (takes.InUse seen) =

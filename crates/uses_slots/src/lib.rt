@@ -221,7 +221,8 @@ impl<X, K: Keeps<X>> Slots<X, K> {
 
     /// Reads the value of this slot. Refused where there is no such slot (`NoSlot`), where the word that it saw there says that it is
     /// empty or written (`NotThere`) or that 2^30 - 1 read it already (`TooMany`), and where it changed between the two steps of each of
-    /// 2^64 - 1 tries (`Busy`). Then nothing changes.
+    /// 2^64 - 1 tries (`Busy`). Then nothing changes. That the word was seen in these slots by this call, and that it changed in each
+    /// try, no clause says.
     ///
     /// A load and a compare-exchange where nobody comes to the slot or leaves it in between, and two more for each time that
     /// somebody does.
@@ -257,7 +258,8 @@ impl<X, K: Keeps<X>> Slots<X, K> {
     }
 
     /// The right to write this slot. Refused where there is no such slot (`NoSlot`), where the word that it saw there says that
-    /// somebody reads or writes it (`InUse`), and where it changed between the two steps (`Changed`). Then nothing changes.
+    /// somebody reads or writes it (`InUse`), and where it changed between the two steps (`Changed`). Then nothing changes. That the
+    /// words were seen in these slots by this call, no clause says.
     ///
     /// A load and at most one compare-exchange.
     pub fn take(&self, slot: u32) -> Result<Writing<'_, X, K>, TakeFailure>

@@ -1,5 +1,6 @@
-//! The steps on a slot, each one call of the kit's `counted_slot`. Only a step makes a `Seen` or a `Lies`, so what names a word has
-//! seen it in that slot, and what says that a value was laid has laid it there.
+//! The steps on a slot, each one call of the kit's `counted_slot`. Only a step makes a `Seen` or a `Lies`, so a `Seen` is of a
+//! word that was seen in a slot of this number, and a `Lies` of a value that was laid into one. No clause says in whose slots, or when:
+//! an older one, or one of other slots, has the same type.
 ghost use Rattle.std.specs.Prelude.{◌≡◌, ◌≢◌, IfSome};
 ghost use Rattle.counted_slot.specs.Counting.{Gains, IsTurn};
 ghost use Rattle.uses_slots.specs.Words.{lies_in, lies_with, seen_in, seen_word};
