@@ -11,3 +11,4 @@ pub mod WrongBodies
 pub mod WrongHistories
 pub mod Moments
 pub mod WrongAnswers
+pub mod WrongContainerAnswers
