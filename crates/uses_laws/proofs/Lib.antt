@@ -12,3 +12,5 @@ pub mod WrongHistories
 pub mod Moments
 pub mod WrongAnswers
 pub mod WrongContainerAnswers
+pub mod WrongRests
+pub mod WrongStretches

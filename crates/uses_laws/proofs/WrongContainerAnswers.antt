@@ -1,11 +1,10 @@
 -- A wrong answer of a call on a container, and that what the call's contract says of answers refuses it. Where it takes no
 -- small history, it is said of every history.
-use Rattle.std.proofs.Common.{◌≡◌, ◌≤◌, ◌<◌, ⊎_elim, ℕ, suc, ◌-◌, ◌^◌, ◌==◌, Bool, true, false, Some, None, Ok, Err, List, [], ◌∷◌, ◌++◌}
+use Rattle.std.proofs.Common.{◌≡◌, ◌≤◌, ◌<◌, ⊎_elim, ℕ, suc, ◌-◌, ◌^◌, ◌==◌, Bool, true, false, Some, Ok, Err, List, [], ◌∷◌, ◌++◌}
 use Rattle.std.proofs.Common.{if◌then◌else◌, refl, sym, ap, subst, ◌∙◌, inl, arith}
 use Rattle.std.proofs.lemmas.List.{same_from_push}
 use Rattle.steps.specs.declared.container.enums.ContainerAddFailure.TheVariants as failures
 use Rattle.steps.specs.declared.container.enums.ContainerRemoveError.{ContainerRemoveError}
-use Rattle.steps.specs.declared.container.find.FindStage as finds
 use Rattle.steps.specs.declared.container.recover.DeadOwner.{DeadOwner}
 use Rattle.steps.specs.declared.container.replace.Replacement.{Replacement}
 use Rattle.steps.specs.declared.indices.robust.release.GiveBack.{GiveBack}
@@ -20,8 +19,8 @@ use Rattle.model.specs.declared.families.container.ContainerStart.TheVariants.{A
 use Rattle.model.specs.Families.Container.Reading.{Sees}
 use Rattle.model.specs.Families.Indices.Reading.{is_locked}
 use Rattle.model.specs.Families.Indices.Robust.Promises.{IsFilled, IsFilledWith, IsUnlocked, StillToFree}
-use Rattle.model.specs.Families.Indices.Robust.Reading.{filled_of, Asks, Frees, set_acts, set_acts_of, IsOneOf}
-use Rattle.model.specs.Reading.{Span, Never}
+use Rattle.model.specs.Families.Indices.Robust.Reading.{filled_of, Asks, Frees, set_acts_of, IsOneOf}
+use Rattle.model.specs.Reading.{Never}
 use Rattle.model.proofs.Readings.{Each-append, Each-nil, no_more}
 use Rattle.lock_free.specs.HistoryView.View.{View}
 use Rattle.lock_free.specs.ReleaseMode.{ReleaseMode}
