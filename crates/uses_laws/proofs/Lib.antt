@@ -11,3 +11,6 @@ pub mod WrongBodies
 pub mod WrongHistories
 pub mod Moments
 pub mod WrongAnswers
+pub mod WrongContainerAnswers
+pub mod WrongRests
+pub mod WrongStretches

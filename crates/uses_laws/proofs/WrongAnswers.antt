@@ -1,6 +1,6 @@
 -- A wrong answer of a call on a robust set, and that what the call's contract says of answers refuses it. Where it takes no
 -- small history, it is said of every history.
-use Rattle.std.proofs.Common.{◌≡◌, ◌≤◌, ⊎_elim, ℕ, suc, ◌-◌, ◌^◌, ◌==◌, Bool, true, false, Some, None, Ok, Err, List, [], ◌∷◌, ◌++◌}
+use Rattle.std.proofs.Common.{◌≡◌, ◌≤◌, ⊎_elim, ℕ, suc, ◌-◌, ◌^◌, ◌==◌, Bool, true, false, Some, Ok, Err, List, [], ◌∷◌, ◌++◌}
 use Rattle.std.proofs.Common.{if◌then◌else◌, refl, sym, subst, ◌∙◌, inl, arith}
 use Rattle.std.proofs.lemmas.List.{same_from_push}
 use Rattle.steps.specs.declared.indices.enums.RobustUniqueIndexSetReleaseError.{RobustUniqueIndexSetReleaseError}
@@ -14,7 +14,7 @@ use Rattle.model.specs.declared.families.indices.robust.RobustStart.TheVariants.
 use Rattle.model.specs.Families.Indices.Reading.{is_locked}
 use Rattle.model.specs.Families.Indices.Robust.Promises.{IsFilled, StillToFree}
 use Rattle.model.specs.Families.Indices.Robust.Reading.{filled_of, Asks, Frees, set_acts_of, IsOneOf}
-use Rattle.model.specs.Reading.{Span, Never}
+use Rattle.model.specs.Reading.{Never}
 use Rattle.model.proofs.Readings.{Each-append, Each-nil, no_more}
 use Rattle.lock_free.specs.HistoryView.View.{View}
 use Rattle.lock_free.specs.ReleaseMode.{ReleaseMode}
