@@ -11,7 +11,6 @@ use Rattle.model.specs.LockFree.{Bound, BeginsSuch, IsDefault, default_bound, de
 use Rattle.model.specs.Refusals.{call_refusal, refusal_of}
 use Rattle.model.specs.Turns.{IsReached, IsReachedOn, after_turn, attempt, attempt_on, run, run_on, unless_refused}
 use Rattle.model.specs.World.{Trace, opened, opening}
-use Rattle.model.proofs.LockFree.Fairly.{own_in_all}
 use Rattle.model.proofs.LockFree.Machines.{all_allowed, loads_in_runs}
 use Rattle.model.proofs.Names.{is_loan}
 use Rattle.model.proofs.Openings.{opened_others}
@@ -21,7 +20,7 @@ use Rattle.laws_container.specs.LockFree.{room_container_bound}
 use Rattle.machine.proofs.Loads.{robust_load_ends, container_load_ends, room_load_ends, room_container_load_ends}
 use Rattle.headline.specs.Going.{EndsByTurnsOf}
 use Rattle.headline.specs.Nexts.{EndsByTurns}
-use Rattle.headline.proofs.Nexts.{turns_end, turns_pay}
+use Rattle.headline.proofs.Nexts.{ends_within, turns_end}
 
 module _ {T : Type 0} (Such : Start T → Type 0) where
   -- some turns that begin no call but such ones lead there
@@ -74,14 +73,12 @@ module _ {T : Type 0} (Such : Start T → Type 0) where
       (record { reached = record { coded = r.coded; admitted = r.admitted; turns = []; is = refl }; such = tt })))
 
   turns_end_of : (kind : Kind) → is_loan kind ≡ false → (bound : Bound) → EndsLoadOf T kind Such bound → EndsByTurnsOf T kind Such bound
-  turns_end_of kind no_loan bound loads t is r before p turns allowed such many =
+  turns_end_of kind no_loan bound loads t is r before p under_way turns allowed such many =
       let none : is_loan t.world.kind ≡ false = subst (λ k. is_loan k ≡ false) (sym is) no_loan in
       let there = reached_by_such t none r before in
       let on = all_allowed t turns t.world.parties refl allowed in
-      let paid = turns_pay t r p turns allowed in
-      let own = own_in_all p t turns in
-      let most = loads t is there.reached there.such t.world.parties turns on.0 on.1 such in
-      omega arith
+      ends_within (bound t.world.parties t.world.capacity t.world.coding.size) t r p under_way turns allowed
+      (loads t is there.reached there.such t.world.parties turns on.0 on.1 such) many
 
 pub robust_by_turns : (T : Type 0) → EndsByTurnsOf T Robust IsDefault default_bound
 robust_by_turns T = turns_end_of IsDefault Robust refl default_bound (robust_load_ends T)

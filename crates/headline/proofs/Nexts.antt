@@ -1,7 +1,10 @@
--- A turn in which a call goes on takes a step or ends the call; so who takes more turns than the load ends one.
-use Rattle.std.specs.Prelude.{IfSome}
+-- A turn in which a call goes on takes a step or ends the call, and a party that has a call under way begins none; so who takes
+-- more turns than the load of the others and its call ends it.
+use Rattle.std.specs.Prelude.{IfSome, if◌then◌else◌}
 use Rattle.std.proofs.Common.{Bool, true, false}
 use Rattle.model.proofs.Names.{After, AreAllowed, Ask, Bound, GoOn, IsReached, List, None, Option, Some, Trace, World, []}
+use Rattle.model.proofs.Names.{after_begin, after_decision, cases_lt, events_of_decision, first_of, is_none, is_some, nat_tests, number_of, one_if}
+use Rattle.model.proofs.Names.{steps_in, world_after, ⊎_elim, ◌<◌, ◌≢◌}
 use Rattle.model.proofs.Names.{after_answer, after_next, after_step, after_turn, after_turns, answer_in, ap, arith}
 use Rattle.model.proofs.Names.{ask_of_doing, change_of, doing_after, doing_of, ending_of}
 use Rattle.model.proofs.Names.{events_of, events_of_answer, events_of_next, events_of_step, flight_in, flight_of, old_of, party_of, refl, refusal_of, step_in}
@@ -9,6 +12,7 @@ use Rattle.model.proofs.Names.{step_count, subst, sum_by-append, sym, ℕ, ◌++
 use Rattle.steps.specs.declared.ask.After.TheVariants.{Done}
 use Rattle.model.specs.declared.event.Answer.{Answer}
 use Rattle.model.specs.declared.event.Event.{Event}
+use Rattle.model.specs.declared.event.Start.{Start}
 use Rattle.model.specs.declared.families.Flight.{Flight}
 use Rattle.model.specs.declared.families.Registry.{Registry}
 use Rattle.model.specs.declared.party.Doing.{Doing}
@@ -24,16 +28,20 @@ use Rattle.model.specs.Step.{Step}
 use Rattle.model.proofs.LockFree.Falls.{same_is}
 use Rattle.model.proofs.Parties.{party_put_same}
 use Rattle.model.proofs.Reached.{reached_more}
-use Rattle.model.proofs.Rows.{may_next, passes}
+use Rattle.model.proofs.LockFree.Stays.{begun, answered}
+use Rattle.model.proofs.Rows.{IsPossible, may_next, passes, possible}
 use Rattle.laws_loan.specs.LockFree.{channel_bound}
-use Rattle.model.specs.Loads.{EndsLoadRuns}
+use Rattle.model.specs.Loads.{EndsLoadRuns, begin_in, begins_in, load, pending}
 use Rattle.model.specs.Fair.{own_step, own_steps}
-use Rattle.headline.specs.Nexts.{next_of, nexts_in, own_end, own_ends, EndsByTurns}
+use Rattle.headline.specs.Nexts.{begin_of_other, begins_of_others, next_of, nexts_in, own_end, own_ends, EndsByTurns}
 use Rattle.headline.proofs.Ends as ends
 use Rattle.model.proofs.LockFree.Fairly.{own_in_all}
 use Rattle.machine.proofs.LockFree.{if_some}
 use Rattle.machine.proofs.Loads.{loads_as_run, channel_load_ends}
 use Rattle.headline.proofs.Holding.{is_it}
+
+not_it : (q p : ℕ) → (q == p) ≡ false → p ≢ q
+not_it q p e = grind (arith, nat_tests)
 
 module _ {T : Type 0} where
   own_more : (p : ℕ) (xs ys : List (Event T)) → own_ends p (xs ++ ys) ≡ own_ends p xs + own_ends p ys
@@ -114,12 +122,145 @@ module _ {T : Type 0} where
       ≤ own_steps p (after_turn t turn) turns + own_ends p (after_turns (after_turn t turn) turns).events = rw more at rest in
       omega arith
 
-  pub turns_end : (kind : Kind) (bound : Bound) → EndsLoadRuns T kind bound → EndsByTurns T kind bound
-  turns_end kind bound loads t is r p turns allowed many =
-      let paid = turns_pay t r p turns allowed in
-      let own = own_in_all p t turns in
-      let most = loads t is r turns allowed in
+  -- ---- a party that has a call under way begins none before the end of that
+
+  abbrev under : World T → ℕ → ℕ
+  under w p = one_if (is_some (flight_in w p))
+
+  abbrev own_begin : ℕ → Turn T → ℕ
+  own_begin p (Begin q start) = if q == p then 1 else 0
+  own_begin p turn = 0
+
+  abbrev own_begins : ℕ → List (Turn T) → ℕ
+  own_begins p [] = 0
+  own_begins p (turn ∷ turns) = own_begin p turn + own_begins p turns
+
+  -- each call that begins is its own or another's
+  whose : (p : ℕ) (turn : Turn T) → begin_in turn ≡ own_begin p turn + begin_of_other p turn
+  whose p (Begin q start) = go (q == p)
+    where
+      go : (b : Bool) → 1 ≡ (if b then 1 else 0) + (if b then 0 else 1)
+      go true = refl
+      go false = refl
+  whose p (Next q) = refl
+  whose p (Decide q said) = refl
+  whose p (Die owner) = refl
+
+  all_whose : (p : ℕ) (turns : List (Turn T)) → begins_in turns ≡ own_begins p turns + begins_of_others p turns
+  all_whose p [] = refl
+  all_whose p (turn ∷ turns) = let here = whose p turn in let rest = all_whose p turns in omega arith
+
+  under_small : (w : World T) (p : ℕ) → under w p ≤ 1
+  under_small w p = go (is_some (flight_in w p))
+    where
+      go : (b : Bool) → one_if b ≤ 1
+      go true = omega arith
+      go false = omega arith
+
+  -- with a turn the party's call stays under way, or ends
+  abbrev Pays : World T → Turn T → ℕ → Type 0
+  Pays w turn p = own_begin p turn + under w p ≤ own_ends p (events_of w turn) + under (world_after w turn) p
+
+  ended_or : (few : ℕ) (o : Option (Flight T)) → (o ≡ None → 1 ≤ few) → 1 ≤ few + one_if (is_some o)
+  ended_or few None ended = let one = ended refl in omega arith
+  ended_or few (Some flight) ended = omega arith
+
+  begun_under : (w : World T) (p : ℕ) (start : Start T) (o : Option (Flight T)) → is_none o ≡ false → under (after_begin w p start o) p ≡ 1
+  begun_under w p start None e = absurd (cc)
+  begun_under w p start (Some flight) e =
+      let here : flight_in (after_begin w p start (Some flight)) p ≡ Some flight = ap (λ o. flight_of (doing_of o)) (party_put_same p _ w.latest) in
+      rw here refl
+
+  decided_ended : (w : World T) (p : ℕ) (said : Bool) (flight : Flight T) → flight_in w p ≡ Some flight → (o : Option (Party T)) → party_of p w.latest ≡ o
+      → flight_in (after_decision w p said o) p ≡ None → 1 ≤ own_ends p (events_of_decision w p said o)
+  decided_ended w p said flight is None found done = let none : flight_in w p ≡ None = ap (λ o. flight_of (doing_of o)) found in absurd (cc)
+  decided_ended w p said flight is (Some x) found done = ended_there w p x None (number_of said) x.doing flight is found refl done
+
+  next_stays : (w : World T) (q : ℕ) (o : Option (Party T)) (p : ℕ) → p ≢ q → flight_in (after_next w q o) p ≡ flight_in w p
+  next_stays w q None p ne = refl
+  next_stays w q (Some x) p ne = answered w q x (ask_of_doing w.coding x.doing) (old_of w.words (ask_of_doing w.coding x.doing)) x.doing p ne
+
+  decision_stays : (w : World T) (q : ℕ) (said : Bool) (o : Option (Party T)) (p : ℕ) → p ≢ q → flight_in (after_decision w q said o) p ≡ flight_in w p
+  decision_stays w q said None p ne = refl
+  decision_stays w q said (Some x) p ne = answered w q x None (number_of said) x.doing p ne
+
+  -- a turn of another party, or of none
+  stays : (w : World T) (turn : Turn T) (p : ℕ) → own_begin p turn ≡ 0 → flight_in (world_after w turn) p ≡ flight_in w p → Pays w turn p
+  stays w turn p none same = let as_was : under (world_after w turn) p ≡ under w p = ap (λ o. one_if (is_some o)) same in omega arith
+
+  -- a turn in which its own goes on
+  own_pays : (w : World T) (turn : Turn T) (q p : ℕ) → q ≡ p → own_begin p turn ≡ 0
+      → (flight_in (world_after w turn) q ≡ None → 1 ≤ own_ends q (events_of w turn)) → Pays w turn p
+  own_pays w turn q p same none ended =
+      let one : 1 ≤ own_ends q (events_of w turn) + under (world_after w turn) q
+      = ended_or (own_ends q (events_of w turn)) (flight_in (world_after w turn) q) ended in
+      let there = subst (λ m. 1 ≤ own_ends m (events_of w turn) + under (world_after w turn) m) same one in
+      let small = under_small w p in
       omega arith
+
+  own_turn : (w : World T) (p : ℕ) (turn : Turn T) → IsPossible w turn → Pays w turn p
+  own_turn w p (Begin q start) may = go (q == p) refl
+    where
+      go : (b : Bool) → (q == p) ≡ b → Pays w (Begin q start) p
+      go true b =
+          let same = is_it q p b in
+          let one = begun_under w q start (first_of w.kind w.capacity start w.kept) may.call in
+          let there : under (world_after w (Begin q start)) p ≡ 1 = subst (λ m. under (world_after w (Begin q start)) m ≡ 1) same one in
+          let free : flight_in w p ≡ None = subst (λ m. flight_in w m ≡ None) same may.free in
+          let none : under w p ≡ 0 = ap (λ (o : Option (Flight T)). one_if (is_some o)) free in
+          let begins : own_begin p (Begin q start) ≡ 1 = rw b refl in
+          omega arith
+      go false b =
+          stays w (Begin q start) p (rw b refl)
+          (begun w q start (first_of w.kind w.capacity start w.kept) p (not_it q p b))
+  own_turn w p (Next q) may = go (q == p) refl
+    where
+      go : (b : Bool) → (q == p) ≡ b → Pays w (Next q) p
+      go true b = own_pays w (Next q) q p (is_it q p b) refl (next_ended w q may.flight may.is (party_of q w.latest) refl)
+      go false b = stays w (Next q) p refl (next_stays w q (party_of q w.latest) p (not_it q p b))
+  own_turn w p (Decide q said) may = go (q == p) refl
+    where
+      go : (b : Bool) → (q == p) ≡ b → Pays w (Decide q said) p
+      go true b = own_pays w (Decide q said) q p (is_it q p b) refl (decided_ended w q said may.0.flight may.0.is (party_of q w.latest) refl)
+      go false b = stays w (Decide q said) p refl (decision_stays w q said (party_of q w.latest) p (not_it q p b))
+  own_turn w p (Die owner) may = stays w (Die owner) p refl refl
+
+  own_turns : (t : Trace T) (p : ℕ) (turns : List (Turn T)) → AreAllowed t turns
+      → own_begins p turns + under t.world p + own_ends p t.events
+      ≤ own_ends p (after_turns t turns).events + under (after_turns t turns).world p
+  own_turns t p [] allowed = omega arith
+  own_turns t p (turn ∷ turns) allowed =
+      let here = own_turn t.world p turn (possible t.world turn allowed.0) in
+      let more = own_more p t.events (events_of t.world turn) in
+      let rest = own_turns (after_turn t turn) p turns allowed.1 in
+      let all : own_begins p turns + under (world_after t.world turn) p + (own_ends p t.events + own_ends p (events_of t.world turn))
+      ≤ own_ends p (after_turns (after_turn t turn) turns).events + under (after_turns (after_turn t turn) turns).world p = rw more at rest in
+      omega arith
+
+  -- where all steps are within the load of all calls
+  pub ends_within : (bound : ℕ) (t : Trace T) → IsReached t → (p : ℕ) → is_some (flight_in t.world p) ≡ true
+      → (turns : List (Turn T)) → AreAllowed t turns
+      → steps_in t turns ≤ load bound (pending t.world.parties t.world + begins_in turns)
+      → load bound (pending t.world.parties t.world + begins_of_others p turns) < nexts_in p turns
+      → own_ends p t.events < own_ends p (after_turns t turns).events
+  ends_within bound t r p under_way turns allowed most many =
+      ⊎_elim (λ less. less) none (cases_lt (own_ends p t.events) (own_ends p (after_turns t turns).events))
+    where
+      none : own_ends p (after_turns t turns).events ≤ own_ends p t.events → own_ends p t.events < own_ends p (after_turns t turns).events
+      none few =
+          let has : under t.world p ≡ 1 = rw under_way refl in
+          let small = under_small (after_turns t turns).world p in
+          let counted = own_turns t p turns allowed in
+          let split = all_whose p turns in
+          let same : begins_in turns ≡ begins_of_others p turns = omega arith in
+          let within = subst (λ k. steps_in t turns ≤ load bound (pending t.world.parties t.world + k)) same most in
+          let paid = turns_pay t r p turns allowed in
+          let own = own_in_all p t turns in
+          absurd (omega arith)
+
+  pub turns_end : (kind : Kind) (bound : Bound) → EndsLoadRuns T kind bound → EndsByTurns T kind bound
+  turns_end kind bound loads t is r p under_way turns allowed many =
+      ends_within (bound t.world.parties t.world.capacity t.world.coding.size) t r p under_way turns allowed (loads t is r turns allowed) many
 
 pub ends_by_turns : (T : Type 0) (kind : Kind) → IfSome (lock_free_bound kind) (EndsByTurns T kind)
 ends_by_turns T kind = if_some (EndsLoadRuns T kind) (EndsByTurns T kind) (lock_free_bound kind) (turns_end kind) (loads_as_run T kind)

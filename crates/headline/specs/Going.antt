@@ -1,25 +1,26 @@
 -- A call ends whose party goes on: where no call begins but such ones, and on a schedule on which turns may be refused.
-use Rattle.std.specs.Prelude.{◌≡◌, ◌⊎◌, ◌<◌, ◌≤◌, ℕ, zero, suc, ◌+◌, None, List}
+use Rattle.std.specs.Prelude.{◌≡◌, ◌⊎◌, ◌<◌, ◌≤◌, ℕ, zero, suc, ◌+◌, true, is_some, None, List}
 use Rattle.std.specs.List.{AllByRecursion}
 use Rattle.model.specs.declared.event.Start.{Start}
 use Rattle.model.specs.declared.turn.Kind.{Kind}
 use Rattle.model.specs.declared.turn.Turn.{Turn}
 use Rattle.model.specs.Fair.{own_step}
-use Rattle.model.specs.Loads.{begins_in, begun, load, pending}
+use Rattle.model.specs.Loads.{begun, load, pending}
 use Rattle.model.specs.LockFree.{Bound, BeginsSuch, IsBelow}
 use Rattle.model.specs.Refusals.{call_refusal}
 use Rattle.model.specs.Turns.{AreAllowed, IsReached, IsReachedOn, after_turns, attempt_on}
 use Rattle.model.specs.World.{Trace, World, flight_in}
-use Rattle.headline.specs.Nexts.{nexts_in, own_ends}
+use Rattle.headline.specs.Nexts.{begins_of_others, nexts_in, own_ends}
 
--- In runs in which no call begins but such ones: a party whose calls go on in more turns than the load of the calls that were
--- under way and of those that begin ends one.
+-- In runs in which no call begins but such ones: a party with a call under way, that goes on in more turns than the load of the
+-- calls that were under way and of those that others begin, ends it.
 abbrev pub EndsByTurnsOf : (T : Type 0) → Kind → (Start T → Type 0) → Bound → Type 0
 EndsByTurnsOf T kind Such bound =
     (t : Trace T) → t.world.kind ≡ kind → (r : IsReached t) → AllByRecursion (BeginsSuch Such) r.turns
-    → (p : ℕ) (turns : List (Turn T)) → AreAllowed t turns → AllByRecursion (BeginsSuch Such) turns
+    → (p : ℕ) → is_some (flight_in t.world p) ≡ true
+    → (turns : List (Turn T)) → AreAllowed t turns → AllByRecursion (BeginsSuch Such) turns
     → load (bound t.world.parties t.world.capacity t.world.coding.size)
-    (pending t.world.parties t.world + begins_in turns) < nexts_in p turns
+    (pending t.world.parties t.world + begins_of_others p turns) < nexts_in p turns
     → own_ends p t.events < own_ends p (after_turns t turns).events
 
 module _ {T : Type 0} where

@@ -9,7 +9,8 @@ ghost use Rattle.headline.specs.Going.{EndsByTurnsOf, EndsIfFairOn};
 ghost use Rattle.headline.specs.Nexts.{EndsByTurns};
 
 /// What `by_turns` of `calls_end` says of the other kinds, of a robust index set and a container: with the small bounds in runs in
-/// which no call may lock, and in every run with the bounds of `owners_are_lock_free`.
+/// which no call may lock, and in every run with the bounds of `owners_are_lock_free`. A party with a call under way, that goes
+/// on in more turns than the load of the calls that were under way and of those that others begin, ends it.
 pub fn owners_end_by_turns<T>()
     ensures robust_by_default { EndsByTurnsOf T Robust IsDefault default_bound }
     ensures container_by_default { EndsByTurnsOf T Container IsDefault default_container_bound }

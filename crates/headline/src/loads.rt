@@ -24,9 +24,10 @@ pub fn finite_loads<T>()
 {}
 
 /// A call ends whose party goes on. In more rounds than the load of all, a party that takes a step in each has no call under
-/// way as one of them begins (`in_rounds`). A party that goes on in more turns than that has ended a call (`by_turns`, of
-/// machines as they run). On an endless schedule on which finitely many calls begin, each party to which the schedule is
-/// fair comes to a moment at which it has no call under way (`if_fair`).
+/// way as one of them begins (`in_rounds`). A party with a call under way, that goes on in more turns than the load of the
+/// calls that were under way and of those that others begin, ends it (`by_turns`, of machines as they run). On an endless
+/// schedule on which finitely many calls begin, each party to which the schedule is fair comes to a moment at which it has
+/// no call under way (`if_fair`).
 ///
 /// The first holds of all kinds, of a robust set and a container in runs in which no call may lock. The second holds of the
 /// seven kinds and of the loan channel, the third of the seven kinds (of a robust set and a container by

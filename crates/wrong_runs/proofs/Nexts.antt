@@ -1,16 +1,22 @@
--- In how many turns a party's call goes on, and how many of its calls have ended, at a small run.
-use Rattle.std.proofs.Common.{◌≡◌, ◌<◌, ℕ, true, List, [], ◌∷◌, ◌++◌, refl, arith}
+-- In how many turns a party's call goes on, and how many of its calls have ended, at small runs: one that meets the premise of the
+-- law that it ends, one in which the call does not end, and one of a party with no call under way.
+use Rattle.std.proofs.Common.{◌≡◌, ◌<◌, ◌+◌, ◌&&◌, ℕ, Bool, true, false, Option, Some, None, is_some, List, [], ◌∷◌, ◌++◌, refl, arith}
 use Rattle.model.specs.declared.event.Start.TheVariants.{Queues}
 use Rattle.model.specs.declared.families.queues.QueueStart.TheVariants.{AcquireProducer, PushIndex, Len}
 use Rattle.model.specs.declared.turn.Kind.TheVariants.{IndexQueue}
+use Rattle.model.specs.declared.turn.Refusal.{Refusal}
 use Rattle.model.specs.declared.turn.Turn.{Turn}
 use Rattle.model.specs.declared.turn.Turn.TheVariants.{Begin, Next, Decide, Die}
 use Rattle.model.specs.Coding.{one_word}
-use Rattle.model.specs.LockFree.{ends, steps_in}
-use Rattle.model.specs.Turns.{after_turns, run_on}
-use Rattle.model.specs.World.{Trace, opening}
+use Rattle.model.specs.Loads.{begins_in, load, pending}
+use Rattle.model.specs.LockFree.{ends, steps_in, stretch}
+use Rattle.model.specs.Refusals.{refusal_of}
+use Rattle.model.specs.Turns.{AreAllowed, IsReached, after_turn, after_turns, run}
+use Rattle.model.specs.World.{Trace, flight_in, opened}
 use Rattle.model.proofs.Runs.{begins, nexts}
-use Rattle.headline.specs.Nexts.{nexts_in, own_ends}
+use Rattle.model.proofs.WorkedLockFree.{one_word_codes}
+use Rattle.headline.specs.Nexts.{begins_of_others, nexts_in, own_ends}
+use Rattle.headline.proofs.Nexts.{ends_by_turns}
 
 -- one turn of each sort: only those in which the party's own call goes on count, and no decision
 abbrev each : List (Turn ℕ)
@@ -19,11 +25,16 @@ each = Begin 0 (Queues Len) ∷ Next 0 ∷ Next 1 ∷ Next 0 ∷ Decide 0 true �
 of_each : (nexts_in 0 each ≡ 2) × ((nexts_in 1 each ≡ 1) × (nexts_in 2 each ≡ 0))
 of_each = (refl, (refl, refl))
 
+-- only the calls count that others begin
+others_of_each : (begins_of_others 0 each ≡ 0) × ((begins_of_others 1 each ≡ 1) × (begins_in each ≡ 1))
+others_of_each = (refl, (refl, refl))
+
 -- Party 0 has acquired the role, and has a push under way. Party 1 asks for the length.
+abbrev first_turns : List (Turn ℕ)
+first_turns = begins 0 (Queues AcquireProducer) 1 ++ (Begin 0 (Queues (PushIndex 7)) ∷ Begin 1 (Queues Len) ∷ [])
+
 abbrev started : Trace ℕ
-started =
-    run_on (begins 0 (Queues AcquireProducer) 1 ++ (Begin 0 (Queues (PushIndex 7)) ∷ Begin 1 (Queues Len) ∷ []))
-    (opening one_word IndexQueue 1 2)
+started = run first_turns (opened one_word IndexQueue 1 1 2)
 
 -- the push goes on to its end, and the length does not
 abbrev pushed : List (Turn ℕ)
@@ -48,3 +59,79 @@ some_call = omega arith
 
 none_more : own_ends 1 started.events < own_ends 1 (after_turns started pushed).events → ⊥
 none_more less = absurd (omega (less, arith))
+
+-- Both have a call under way, so the load is of two calls: in 2 turns party 1 need not have ended its own.
+not_many : (is_some (flight_in started.world 1) ≡ true)
+    × ((load (stretch 2 0 5) (pending 2 started.world + begins_of_others 1 pushed) ≡ 22) × (nexts_in 1 pushed ≡ 2))
+not_many = (refl, (refl, refl))
+
+few_turns : load (stretch 2 0 5) (pending 2 started.world + begins_of_others 1 pushed) < nexts_in 1 pushed → ⊥
+few_turns less = absurd (omega (less, arith))
+
+-- ---- the premise is met: the push goes on to its end, and then party 0 asks for five lengths, while party 1 does nothing
+
+abbrev length_asked : List (Turn ℕ)
+length_asked = begins 0 (Queues Len) 4
+
+abbrev alone : List (Turn ℕ)
+alone = nexts 0 4 ++ (length_asked ++ (length_asked ++ (length_asked ++ (length_asked ++ length_asked))))
+
+-- the five count in no load but the one of all calls
+of_alone : (begins_of_others 0 alone ≡ 0) × ((begins_in alone ≡ 5) × (nexts_in 0 alone ≡ 24))
+of_alone = (refl, (refl, refl))
+
+loads_of_alone : (load (stretch 2 0 5) (pending 2 started.world + begins_of_others 0 alone) ≡ 22)
+    × (load (stretch 2 0 5) (pending 2 started.world + begins_in alone) ≡ 77)
+loads_of_alone = (refl, refl)
+
+many_turns : load (stretch 2 0 5) (pending 2 started.world + begins_of_others 0 alone) < nexts_in 0 alone
+many_turns = omega arith
+
+reached : IsReached started
+reached = record { coded = one_word_codes; admitted = refl; queue = 1; queued = refl; turns = first_turns; is = refl }
+
+abbrev may : Option Refusal → Bool
+may None = true
+may (Some refusal) = false
+
+abbrev are_taken : Trace ℕ → List (Turn ℕ) → Bool
+are_taken t [] = true
+are_taken t (turn ∷ turns) = may (refusal_of t.world turn) && are_taken (after_turn t turn) turns
+
+may_is : (o : Option Refusal) → may o ≡ true → o ≡ None
+may_is None e = refl
+may_is (Some refusal) e = absurd (cc)
+
+both : (a b : Bool) → (a && b) ≡ true → (a ≡ true) × (b ≡ true)
+both true b e = (refl, e)
+both false b e = absurd (cc)
+
+all_allowed : (t : Trace ℕ) (turns : List (Turn ℕ)) → are_taken t turns ≡ true → AreAllowed t turns
+all_allowed t [] e = tt
+all_allowed t (turn ∷ turns) e =
+    let here = both (may (refusal_of t.world turn)) (are_taken (after_turn t turn) turns) e in
+    (may_is (refusal_of t.world turn) here.0, all_allowed (after_turn t turn) turns here.1)
+
+-- so the law says that party 0 has ended a call, and it has ended six
+by_law : own_ends 0 started.events < own_ends 0 (after_turns started alone).events
+by_law = ends_by_turns ℕ IndexQueue started refl reached 0 refl alone (all_allowed started alone refl) many_turns
+
+six_more : own_ends 0 (after_turns started alone).events ≡ 7
+six_more = refl
+
+-- ---- a party with no call under way: in more turns than the load of no call it has ended none
+
+abbrev idle : Trace ℕ
+idle = opened one_word IndexQueue 1 1 2
+
+abbrev first_turn : List (Turn ℕ)
+first_turn = begins 0 (Queues Len) 1
+
+none_under_way : (is_some (flight_in idle.world 0) ≡ false) × (are_taken idle first_turn ≡ true)
+none_under_way = (refl, refl)
+
+more_than_none : load (stretch 2 0 5) (pending 2 idle.world + begins_of_others 0 first_turn) < nexts_in 0 first_turn
+more_than_none = omega arith
+
+not_ended : own_ends 0 idle.events < own_ends 0 (after_turns idle first_turn).events → ⊥
+not_ended less = absurd (omega (less, arith))
