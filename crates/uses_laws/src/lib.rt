@@ -7,6 +7,7 @@ pub mod copies;
 pub mod counted;
 pub mod drain;
 pub mod ending;
+pub mod known;
 pub mod leases;
 pub mod order;
 pub mod page;
