@@ -1,4 +1,5 @@
-use Rattle.std.proofs.Common.{rules, arith, ◌≡◌, ◌<◌, ◌-◌, ◌^◌, subst, sym, length}
+use Rattle.std.proofs.Common.{rules, arith, ◌≡◌, ◌<◌, ◌-◌, ◌^◌, subst, sym, length, Result, Ok, Err, Option, Some, None}
+use Rattle.std.specs.Result.{result_ok, IfOk}
 use Rattle.uses_programs.proofs.Names.{common_steps, first_view}
 use Rattle.lock_free.specs.Queues.Overflowing.{view, queue_of, consumer_view, consumer_queue}
 use Rattle.lock_free.specs.Queues.Role.TheVariants as roles
@@ -7,12 +8,17 @@ use Rattle.lock_free_queues.specs.Queues.Merges.{HasPushedUpTo, HasTaken, HasDra
 use Rattle.lock_free_queues.proofs.Queues.Merging.{overflowed}
 use Rattle.uses_programs.proofs.relay_overflow.overflow.Goals as goal
 
+-- what holds of each good result holds of the one that was taken out
+taken_out : {A E : Type 0} (P : A → Type 0) (r : Result A E) (x : A) → Some x ≡ result_ok r → IfOk r P → P x
+taken_out P (Ok y) x e h = let same : y ≡ x = cc in subst P same h
+taken_out P (Err failure) x e h = let none : Some x ≡ None = e in absurd (cc)
+
 pub returns : goal.returns
 returns g c =
     let all = c.args.numbers.now in
     let back = c.in_ok-pass.handed_back.items in
     let came = c.in_ok-further.popped.items in
-    let first : view c.in_ok-queue.mine ≡ first_view 4 = first_of (search rules, grind (arith, common_steps)) in
+    let first : view c.in_ok-queue.mine ≡ first_view 4 = (taken_out _ c.new.result _ c.in_ok-queue.ensures.value c.new.ensures.pass).1 in
     let room : (queue_of c.in_ok-queue.mine).capacity ≡ 4 = first_of (search rules, grind (arith, common_steps)) in
     let wide : 0 < (queue_of c.in_ok-queue.mine).capacity = subst (λ n. 0 < n) (sym room) (omega arith) in
     let cut : HasSplit (view c.in_ok-queue.mine) (view c.split.new.self) (view c.in_ok-other.other) = search rules in
