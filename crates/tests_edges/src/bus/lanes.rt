@@ -74,13 +74,14 @@ fn goes_round(
     all: &mut Vec<Subscribes<'_>>,
 ) -> Option<usize> {
     let first = publisher.next_number();
+    let second = first.checked_add(1)?;
     for _ in 0..2 {
         if publishes(rt, publisher)? != all.len() {
             return None;
         }
     }
     for subscriber in all.iter_mut() {
-        if !reads(rt, subscriber, first)? || !reads(rt, subscriber, first + 1)? {
+        if !reads(rt, subscriber, first)? || !reads(rt, subscriber, second)? {
             return None;
         }
         if subscriber.receive(rt).is_some() {
@@ -125,7 +126,9 @@ fn passes(rt: &impl Wait, alloc: Global, lanes: usize) -> Option<bool> {
         subscribers: lanes,
         queue: 2,
     };
-    let (mut bus, pass) = Bus::new(alloc, sizes).ok()?;
+    let Ok((mut bus, pass)) = Bus::new(alloc, sizes) else {
+        return None;
+    };
     let records = spares(alloc, ROOM + 1, WORDS).ok()?;
     let mut publisher = bus.publisher(rt, alloc, pass, records).ok()?;
     let mut all = all_join(rt, alloc, &mut publisher, lanes)?;
@@ -149,7 +152,10 @@ fn loans_all(rt: &impl Wait, alloc: Global, slots: usize) -> Option<bool> {
         subscribers: 1,
         queue: 1,
     };
-    let (mut bus, pass): (Bus<Words>, _) = Bus::new(alloc, sizes).ok()?;
+    let made: Result<(Bus<Words>, _), BusError> = Bus::new(alloc, sizes);
+    let Ok((mut bus, pass)) = made else {
+        return None;
+    };
     let records = spares(alloc, slots - 1, WORDS).ok()?;
     let mut publisher = bus.publisher(rt, alloc, pass, records).ok()?;
     let mut loans = Vec::new(alloc);
