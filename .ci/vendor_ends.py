@@ -38,11 +38,11 @@ def an_end_at_any_moment(room, command):
             check({it: earlier[it] for it in ("crates/own/src/lib.rt", "crates/steps/out/kept")}.items() <= files(folder).items(), f"{count}: lost")
             if count % 4 == 3:
                 # a run that is refused because of a crate of the user's repairs as well
-                write(f"{folder}/crates/uses_slots/src/lib.rt", "mine")
+                write(f"{folder}/crates/zero_copy_slots/src/lib.rt", "mine")
                 status, _, errors = run(command, folder, "slots")
                 undone += errors.startswith("bin/vendor: an earlier run was killed while it moved files; what it had moved was put back\n")
-                check(status == 1 and "  crates/uses_slots\n" in errors, f"{names[0]} {count}: {status} {errors}")
-                shutil.rmtree(f"{folder}/crates/uses_slots")
+                check(status == 1 and "  crates/zero_copy_slots\n" in errors, f"{names[0]} {count}: {status} {errors}")
+                shutil.rmtree(f"{folder}/crates/zero_copy_slots")
                 check(files(folder) in (earlier, later), f"{names[0]} {count}: neither the earlier copy nor the new one is whole")
             status, _, errors = run(command, folder, "mpmc")
             check(status == 0 and files(folder) == later, f"{names[0]} {count}: the next run ends with {status} {errors}")

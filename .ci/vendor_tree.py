@@ -18,9 +18,9 @@ model: steps
 history: model steps
 lock_free_sp: model steps
 lock_free: history lock_free_sp model steps
-uses_slots: counted_slot
-uses_loans: uses_slots lock_free
-uses_bus: uses_slots lock_free thiserror
+zero_copy_slots: counted_slot
+zero_copy_loans: zero_copy_slots lock_free
+zero_copy_bus: zero_copy_slots lock_free thiserror
 tests_calls: steps
 """
 FILES = {
@@ -36,14 +36,14 @@ FILES = {
     "crates/lock_free/src/lib.rt": "pub use history::most;\n",
     "crates/lock_free/CALLING.md": "# Calling `lock_free`\n\n[CALLS](CALLS.md), [FIELD](../../docs/FIELD.md#steps) and the [README](../../README.md); `use lock_free::most`.\n",
     "crates/lock_free/CALLS.md": "# Calls\n\n[CALLING](CALLING.md).\n",
-    "crates/uses_slots/src/lib.rt": "pub const SLOTS: u64 = 1;\n",
-    "crates/uses_loans/src/lib.rt": "use uses_slots::SLOTS;\n",
-    "crates/uses_bus/src/lib.rt": "use uses_slots::SLOTS;\n",
+    "crates/zero_copy_slots/src/lib.rt": "pub const SLOTS: u64 = 1;\n",
+    "crates/zero_copy_loans/src/lib.rt": "use zero_copy_slots::SLOTS;\n",
+    "crates/zero_copy_bus/src/lib.rt": "use zero_copy_slots::SLOTS;\n",
     "crates/tests_calls/src/lib.rt": "//! Tests.\n",
     "docs/FIELD.md": "# Field\n\n[PROVED](PROVED.md), [SPEED](keeping/SPEED.md), ![a run](run.svg) and [rust](https://rust-lang.org).\n",
     "docs/PROVED.md": "# Proved\n\n[CALLING](../crates/lock_free/CALLING.md) and [SCHEDULE](SCHEDULE.md).\n",
-    "docs/BUS.md": "# Bus\n\n[FIELD](FIELD.md) and [calls](../crates/uses_bus/CALLS.md).\n",
-    "crates/uses_bus/CALLS.md": "# Calls of the bus\n\n[BUS](../../docs/BUS.md).\n",
+    "docs/BUS.md": "# Bus\n\n[FIELD](FIELD.md) and [calls](../crates/zero_copy_bus/CALLS.md).\n",
+    "crates/zero_copy_bus/CALLS.md": "# Calls of the bus\n\n[BUS](../../docs/BUS.md).\n",
     "docs/SCHEDULE.md": "# Schedules\n",
     "README.md": "# Paglunet\n",
     "LICENSE": "licence\n",

@@ -9,7 +9,7 @@ PARTS = ("src", "specs", "proofs")
 LICENCES = ("LICENSE", "LICENSE-APACHE", "LICENSE-MIT")
 CALLING = ("crates/lock_free/CALLING.md", "crates/lock_free/CALLS.md")
 # of the bus, the loan channel, the pool and the slots, with their places in a copy
-USES = {"docs/BUS.md": "docs/BUS.md", "crates/uses_bus/CALLS.md": "docs/BUS_CALLS.md"}
+USES = {"docs/BUS.md": "docs/BUS.md", "crates/zero_copy_bus/CALLS.md": "docs/BUS_CALLS.md"}
 # texts of schedules are read by commands, which are not copied
 NOT_FOR_CALLERS = ("docs/SCHEDULE.md",)
 MARK = "PAGLUNET"
@@ -89,7 +89,7 @@ def renamed(text, kind, names, prefix):
 def pages(goals, at):
     """Returns the pages for callers, by their paths in this tree, with their places in the folder of the crate `at`."""
     found = [*CALLING] if at.startswith("lock_free") else []
-    found += [*USES] if [it for it in goals if it.startswith("uses_")] else []
+    found += [*USES] if [it for it in goals if it.startswith("zero_copy_")] else []
     found = [it for it in found if os.path.isfile(f"{TREE}/{it}")]
     for page in found if at.startswith("lock_free") else []:
         for link in re.findall(r"\]\(([^)\s#]+)", text_of(f"{TREE}/{page}")):

@@ -1,5 +1,6 @@
 -- Which kinds end so between threads.
 use Rattle.std.specs.Prelude.{IfSome}
+use Rattle.std.proofs.Common.{arith}
 use Rattle.model.specs.declared.event.Start.{Start}
 use Rattle.model.specs.declared.turn.Kind.{Kind}
 use Rattle.model.specs.declared.turn.Kind.TheVariants.{IndexQueue, Overflow, Queue, Atomic, Bits, Counts, Indices, Robust, Container, Loan}
@@ -15,8 +16,8 @@ use Rattle.laws_robust.proofs.LockFree.{default_keeps_ending_by}
 use Rattle.laws_robust.proofs.OpenRuns.{possible_open}
 use Rattle.laws_robust.proofs.RoomCalls.{room_keeps_ending}
 use Rattle.machine.proofs.LockFree.{if_some, keep_ending}
-use Rattle.headline_threads.specs.Ends.{PassesEnd, PassesKeepEnding, KnownKeepsEnding, PassesEndLoad, KnownEndsLoad, PassesRest}
-use Rattle.headline_threads.specs.Ends.{PassesEndOf, PassesKeepEndingOf, KnownKeepsEndingOf, PassesEndLoadOf, KnownEndsLoadOf, PassesRestOf}
+use Rattle.headline_threads.specs.Ends.{PassesEnd, PassesKeepEnding, KnownKeepsEnding, PassesEndLoad, KnownEndsLoad, KnownAsksLoad, PassesRest}
+use Rattle.headline_threads.specs.Ends.{PassesEndOf, PassesKeepEndingOf, KnownKeepsEndingOf, PassesEndLoadOf, KnownEndsLoadOf, KnownAsksLoadOf, PassesRestOf}
 use Rattle.headline_threads.proofs.Knowing.{Runs, between, one_more, load_between, rests_between, known, load_known}
 use Rattle.headline_threads.proofs.Passing.{any_such}
 
@@ -74,6 +75,12 @@ module _ {T : Type 0} (kind : Kind) (bound : Bound) (R : Any T kind bound) where
   all_load : KnownEndsLoad T kind bound
   all_load code capacity v knows n below = load_known kind (λ start. Unit {0}) bound R code capacity v knows n below (any_such v.seen)
 
+  asks : KnownAsksLoad T kind bound
+  asks code capacity v knows n below =
+      let most = knows.asked.most in
+      let all = all_load code capacity v knows n below in
+      omega arith
+
   rests : PassesRest T kind bound
   rests code capacity old new knows later n below = rests_between kind (λ start. Unit {0}) bound R code capacity old new knows later n below (any_such new.seen)
 
@@ -91,6 +98,9 @@ passes_end_load T kind = if_some (Any T kind) (PassesEndLoad T kind) (lock_free_
 
 pub known_ends_load : (T : Type 0) (kind : Kind) → IfSome (lock_free_bound kind) (KnownEndsLoad T kind)
 known_ends_load T kind = if_some (Any T kind) (KnownEndsLoad T kind) (lock_free_bound kind) (all_load kind) (runs_of T kind)
+
+pub known_asks_load : (T : Type 0) (kind : Kind) → IfSome (lock_free_bound kind) (KnownAsksLoad T kind)
+known_asks_load T kind = if_some (Any T kind) (KnownAsksLoad T kind) (lock_free_bound kind) (asks kind) (runs_of T kind)
 
 pub passes_rest : (T : Type 0) (kind : Kind) → IfSome (lock_free_bound kind) (PassesRest T kind)
 passes_rest T kind = if_some (Any T kind) (PassesRest T kind) (lock_free_bound kind) (rests kind) (runs_of T kind)
@@ -113,6 +123,12 @@ module _ {T : Type 0} (kind : Kind) (Such : Start T → Type 0) (bound : Bound) 
   all_load_of : KnownEndsLoadOf T kind Such bound
   all_load_of code capacity v knows n below such = load_known kind Such bound R code capacity v knows n below such
 
+  asks_of : KnownAsksLoadOf T kind Such bound
+  asks_of code capacity v knows n below such =
+      let most = knows.asked.most in
+      let all = all_load_of code capacity v knows n below such in
+      omega arith
+
   rests_of : PassesRestOf T kind Such bound
   rests_of code capacity old new knows later n below such = rests_between kind Such bound R code capacity old new knows later n below such
 
@@ -125,6 +141,7 @@ pub record EndsAll (T : Type 0) (kind : Kind) (bound : Bound) : Type 0 where
   pub known : KnownKeepsEnding T kind bound
   pub between : PassesEndLoad T kind bound
   pub load : KnownEndsLoad T kind bound
+  pub asks : KnownAsksLoad T kind bound
   pub rest : PassesRest T kind bound
 
 -- and where none may lock
@@ -134,6 +151,7 @@ pub record EndsDefault (T : Type 0) (kind : Kind) (bound : Bound) : Type 0 where
   pub known : KnownKeepsEndingOf T kind IsDefault bound
   pub between : PassesEndLoadOf T kind IsDefault bound
   pub load : KnownEndsLoadOf T kind IsDefault bound
+  pub asks : KnownAsksLoadOf T kind IsDefault bound
   pub rest : PassesRestOf T kind IsDefault bound
 
 all_end : (T : Type 0) (kind : Kind) (bound : Bound) → Any T kind bound → EndsAll T kind bound
@@ -144,6 +162,7 @@ all_end T kind bound R =
       known = all_known kind bound R;
       between = load_passes kind bound R;
       load = all_load kind bound R;
+      asks = asks kind bound R;
       rest = rests kind bound R;
     }
 
@@ -155,6 +174,7 @@ default_end T kind bound R =
       known = known_of kind IsDefault bound R;
       between = load_of kind IsDefault bound R;
       load = all_load_of kind IsDefault bound R;
+      asks = asks_of kind IsDefault bound R;
       rest = rests_of kind IsDefault bound R;
     }
 

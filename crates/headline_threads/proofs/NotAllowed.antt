@@ -46,7 +46,16 @@ busy h = let e = h.allowed.1.0 in cc
 
 -- the first of both it may know
 one_begun : IsKnown kinds.Indices 1 (Begin 0 acquire ∷ [])
-one_begun = record { coded = one_word_codes; admitted = refl; allowed = (refl, tt); fresh = (tt, tt); is = refl; others = refl }
+one_begun =
+    record {
+      coded = one_word_codes;
+      admitted = refl;
+      allowed = (refl, tt);
+      fresh = (tt, tt);
+      is = refl;
+      others = refl;
+      asked = record { share = (omega arith, omega arith); most = omega arith; all = λ whole. refl };
+    }
 
 -- ---- a party without a call goes on, a party without the role pushes, a set of indices is told of a death
 

@@ -1,13 +1,13 @@
 -- The definitions of one run at worked runs, and what passes they refuse.
 use Rattle.std.proofs.Common.{◌≡◌, ℕ, List, [], ◌∷◌, ◌++◌, length, refl, sym, ap, ◌∙◌, arith, Option, Some, None}
-use Rattle.std.proofs.Common.{◌+◌, ◌-◌, length-append, subst}
+use Rattle.std.proofs.Common.{◌+◌, ◌-◌, ◌≤◌, length-append, subst}
 use Rattle.std.specs.Prelude.{IfSome}
 use Rattle.model.specs.declared.event.Event.{Event}
 use Rattle.model.specs.declared.event.Start.{Start}
 use Rattle.model.specs.declared.event.Start.TheVariants.{Indices}
 use Rattle.model.specs.declared.families.Flight.{Flight}
 use Rattle.model.specs.declared.families.indices.IndexStart.TheVariants.{Acquire}
-use Rattle.model.specs.declared.turn.Kind as kinds
+use Rattle.model.specs.declared.turn.Kind.TheVariants as kinds
 use Rattle.model.specs.declared.turn.Turn.{Turn}
 use Rattle.model.specs.declared.turn.Turn.TheVariants.{Begin, Next}
 use Rattle.model.specs.Coding.{IsCoding, one_word}
@@ -19,9 +19,9 @@ use Rattle.model.specs.World.{Trace, opening, flight_in}
 use Rattle.model.proofs.Reached.{after_turns_more}
 use Rattle.model.proofs.Runs.{begins}
 use Rattle.laws_queues.specs.Fresh.{IsFreshCall, IsFreshTurn}
-use Rattle.threaded.specs.Shares.{all_shares}
+use Rattle.threaded.specs.Shares.{all_shares, half_of}
 use Rattle.history.specs.declared.view.View.{View}
-use Rattle.history.specs.History.{Continues, IsBeginning, Knows, run_of}
+use Rattle.history.specs.History.{Continues, IsBeginning, HasAsked, Knows, nexts, run_of}
 use Rattle.history.specs.Passes.{Goes, MissesNothing}
 use Rattle.headline_threads.specs.Ends.{AreBelow, steps_between}
 
@@ -31,7 +31,7 @@ abbrev acquire : Start ℕ
 acquire = Indices Acquire
 
 abbrev after : List (Turn ℕ) → Trace ℕ
-after turns = run_of one_word kinds.TheVariants.Indices 1 turns
+after turns = run_of one_word kinds.Indices 1 turns
 
 abbrev told : List (Turn ℕ) → List (Event ℕ) → View ℕ
 told turns events =
@@ -46,7 +46,8 @@ told turns events =
       made = events;
       going = None;
       state = None;
-      asked = 0;
+      asked = nexts turns;
+      aside = 0;
       taken = 0;
       others = 0;
     }
@@ -78,7 +79,7 @@ IsPlain t o = IfSome o (λ f. IsFreshCall (old_of t.world.words (ask_of (want_of
 no_push : (t : Trace ℕ) (p : ℕ) → IsPlain t (flight_in t.world p) → IsFreshTurn t (Next p)
 no_push t p plain flight is = subst (IsPlain t) is plain
 
-known : Knows one_word kinds.TheVariants.Indices 1 knows
+known : Knows one_word kinds.Indices 1 knows
 known =
     record {
       coded = one_word_codes;
@@ -99,16 +100,17 @@ known =
       );
       is = refl;
       others = refl;
+      asked = record { share = (omega arith, omega arith); most = omega arith; all = λ whole. refl };
     }
 
-abbrev later : Continues one_word kinds.TheVariants.Indices 1 knew knows
+abbrev later : Continues one_word kinds.Indices 1 knew knows
 later = record { first = record { rest = second; is = refl }; knows = known }
 
 -- its one step is a load, which finds that no index is left
-takes_a_step : steps_between one_word kinds.TheVariants.Indices 1 knew knows later ≡ 1
+takes_a_step : steps_between one_word kinds.Indices 1 knew knows later ≡ 1
 takes_a_step = refl
 
-took_four : steps_in (opening one_word kinds.TheVariants.Indices 1 0) knew.turns ≡ 4
+took_four : steps_in (opening one_word kinds.Indices 1 0) knew.turns ≡ 4
 took_four = refl
 
 -- Two calls have begun, and for two parties the bound is 20: so all five steps are at most 42, and the one since the first call
@@ -116,13 +118,13 @@ took_four = refl
 two_begun : (begun knows.seen ≡ 2) × (begun knows.seen - ends knew.seen ≡ 1)
 two_begun = (refl, refl)
 
-bounded : lock_free_bound kinds.TheVariants.Indices ≡ Some (λ n capacity size. stretch n 1 (capacity + 4))
+bounded : lock_free_bound kinds.Indices ≡ Some (λ n capacity size. stretch n 1 (capacity + 4))
 bounded = refl
 
 loads : (load (stretch 2 1 5) 2 ≡ 42) × (load (stretch 2 1 5) 1 ≡ 21)
 loads = (refl, refl)
 
-took_five : steps_in (opening one_word kinds.TheVariants.Indices 1 0) knows.turns ≡ 5
+took_five : steps_in (opening one_word kinds.Indices 1 0) knows.turns ≡ 5
 took_five = refl
 
 -- its events are of two parties
@@ -145,7 +147,7 @@ others = Begin 0 acquire ∷ Begin 1 acquire ∷ Next 1 ∷ Next 1 ∷ []
 same_events : (after mine).events ≡ (after others).events
 same_events = refl
 
-another_run : Continues one_word kinds.TheVariants.Indices 1 (knowing mine) (knowing others) → ⊥
+another_run : Continues one_word kinds.Indices 1 (knowing mine) (knowing others) → ⊥
 another_run h = let e = h.first.is in cc
 
 -- all that a call says of its pass but that its run went on
@@ -160,9 +162,9 @@ not_gone_on h = let e = h.first.is in cc
 -- a pass that has seen the events of a turn that is not among its turns
 module _ (turns : List (Turn ℕ)) (turn : Turn ℕ) (e : Event ℕ) (wrote : List (Event ℕ))
     (writes : events_of (after turns).world turn ≡ e ∷ wrote) where
-  one_too_few : Knows one_word kinds.TheVariants.Indices 1 (told turns (after (turns ++ turn ∷ [])).events) → ⊥
+  one_too_few : Knows one_word kinds.Indices 1 (told turns (after (turns ++ turn ∷ [])).events) → ⊥
   one_too_few h =
-      let start : Trace ℕ = opening one_word kinds.TheVariants.Indices 1 0 in
+      let start : Trace ℕ = opening one_word kinds.Indices 1 0 in
       let more : (after turns).events ++ e ∷ wrote ≡ (after turns).events =
       ap (λ ws. (after turns).events ++ ws) (sym writes) ∙ (sym (ap (λ (t : Trace ℕ). t.events) (after_turns_more start turns turn)) ∙ h.is) in
       let long = ap length more in
@@ -170,9 +172,24 @@ module _ (turns : List (Turn ℕ)) (turn : Turn ℕ) (e : Event ℕ) (wrote : Li
       absurd (omega arith)
 
 -- so the pass of a call that has ended knows its last turn
-last_left_out : Knows one_word kinds.TheVariants.Indices 1 (told (begins 0 acquire 3) (after first).events) → ⊥
+last_left_out : Knows one_word kinds.Indices 1 (told (begins 0 acquire 3) (after first).events) → ⊥
 last_left_out h = one_too_few (begins 0 acquire 3) (Next 0) _ _ refl h
 
 -- nor does it count a change by another that its run does not have
-one_change_too_many : Knows one_word kinds.TheVariants.Indices 1 (record knows { others = 1 }) → ⊥
+one_change_too_many : Knows one_word kinds.Indices 1 (record knows { others = 1 }) → ⊥
 one_change_too_many h = let e = h.others in cc
+
+-- nor has it asked for less than the run took, where it has the whole share, or for more
+one_asked_too_few : Knows one_word kinds.Indices 1 (record knows { asked = 4 }) → ⊥
+one_asked_too_few h = let e : 4 ≡ 0 + 5 = h.asked.all refl in absurd (omega (e, arith))
+
+one_asked_too_many : Knows one_word kinds.Indices 1 (record knows { asked = 6 }) → ⊥
+one_asked_too_many h = let e : 6 ≤ 0 + 5 = h.asked.most in absurd (omega (e, arith))
+
+-- a split is aside, and half the share may have asked for less
+split_off : HasAsked (record knows { asked = 3; aside = 1; share = half_of all_shares }) 5
+split_off = record { share = (omega arith, omega arith); most = omega arith; all = λ whole. absurd (omega (whole, arith)) }
+
+-- what the run took is what was asked for: 4 steps of the one call and 1 of the other
+all_five : (knows.asked ≡ 5) × (knows.aside ≡ 0)
+all_five = (refl, refl)

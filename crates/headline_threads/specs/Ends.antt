@@ -1,5 +1,5 @@
 -- Where calls end between threads, and loads.
-use Rattle.std.specs.Prelude.{◌≡◌, ◌<◌, ◌≤◌, ℕ, ◌-◌, Option, Some, None, IfSome, List, length}
+use Rattle.std.specs.Prelude.{◌≡◌, ◌<◌, ◌≤◌, ℕ, ◌+◌, ◌-◌, Option, Some, None, IfSome, List, length}
 use Rattle.std.specs.List.{AllByRecursion}
 use Rattle.model.specs.declared.event.Event.{Event}
 use Rattle.model.specs.declared.event.Event.TheVariants.{Begun}
@@ -100,6 +100,13 @@ KnownEndsLoad T kind bound =
     → (n : ℕ) → AreBelow n v.seen
     → steps_in (opening code kind capacity 0) v.turns ≤ load (bound n capacity code.size) (begun v.seen)
 
+-- And so are all operations that a pass has asked for, but those that were aside: splits, joins, looks.
+abbrev pub KnownAsksLoad : Type 0 → Kind → Bound → Type 0
+KnownAsksLoad T kind bound =
+    (code : Coding T) (capacity : ℕ) (v : View T) → Knows code kind capacity v
+    → (n : ℕ) → AreBelow n v.seen
+    → v.asked ≤ v.aside + load (bound n capacity code.size) (begun v.seen)
+
 -- The same of passes that have seen no call begin but such ones.
 abbrev pub PassesEndLoadOf : (T : Type 0) → Kind → (Start T → Type 0) → Bound → Type 0
 PassesEndLoadOf T kind Such bound =
@@ -113,6 +120,12 @@ KnownEndsLoadOf T kind Such bound =
     (code : Coding T) (capacity : ℕ) (v : View T) → Knows code kind capacity v
     → (n : ℕ) → AreBelow n v.seen → BeginSuch Such v.seen
     → steps_in (opening code kind capacity 0) v.turns ≤ load (bound n capacity code.size) (begun v.seen)
+
+abbrev pub KnownAsksLoadOf : (T : Type 0) → Kind → (Start T → Type 0) → Bound → Type 0
+KnownAsksLoadOf T kind Such bound =
+    (code : Coding T) (capacity : ℕ) (v : View T) → Knows code kind capacity v
+    → (n : ℕ) → AreBelow n v.seen → BeginSuch Such v.seen
+    → v.asked ≤ v.aside + load (bound n capacity code.size) (begun v.seen)
 
 -- Cut what the table has done in between into more rounds than that load: a party that takes a step in each, unless it has no
 -- call under way as the round begins, has none as one of them begins.

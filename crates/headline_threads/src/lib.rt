@@ -9,8 +9,8 @@ ghost use Rattle.model.specs.LockFree.{IsDefault, lock_free_bound, default_bound
 ghost use Rattle.laws_container.specs.LockFree.{room_container_bound};
 ghost use Rattle.headline_threads.specs.Ends.{PassesEnd, PassesKeepEnding, KnownKeepsEnding};
 ghost use Rattle.headline_threads.specs.Ends.{PassesEndOf, PassesKeepEndingOf, KnownKeepsEndingOf};
-ghost use Rattle.headline_threads.specs.Ends.{PassesEndLoad, KnownEndsLoad, PassesRest};
-ghost use Rattle.headline_threads.specs.Ends.{PassesEndLoadOf, KnownEndsLoadOf, PassesRestOf};
+ghost use Rattle.headline_threads.specs.Ends.{PassesEndLoad, KnownEndsLoad, KnownAsksLoad, PassesRest};
+ghost use Rattle.headline_threads.specs.Ends.{PassesEndLoadOf, KnownEndsLoadOf, KnownAsksLoadOf, PassesRestOf};
 
 /// Of the kinds that have a bound in `lock_free_bound`, where the calls that a pass has seen are of parties with numbers below
 /// n. What a pass knew and what it knows later are one run of the table (`Continues`: each call, split and join says that the
@@ -30,13 +30,15 @@ pub fn passes_keep_ending<T>()
 /// A finite load ends between threads, of the same kinds and parties. All steps that the table took, as far as a pass knows, are at most the bound and one for
 /// each call that it has seen begin (`known`), so a pass with the whole share knows a bound of all steps that threads have
 /// taken there. Since an earlier time they are at most so many for each call that had begun then and not ended, and for each
-/// that has begun since (`between`).
+/// that has begun since (`between`). All operations on words that a pass has asked for, but its splits, joins and looks, are at
+/// most so many too (`asks`).
 ///
 /// So a thread's call ends if the thread goes on: cut what the table did since then into more rounds than that, and a party
 /// that took a step in each had no call under way as one of them began (`rest`).
 pub fn passes_end_loads<T>()
     ensures between { (kind : Kind) → IfSome (lock_free_bound kind) (PassesEndLoad T kind) }
     ensures known { (kind : Kind) → IfSome (lock_free_bound kind) (KnownEndsLoad T kind) }
+    ensures asks { (kind : Kind) → IfSome (lock_free_bound kind) (KnownAsksLoad T kind) }
     ensures rest { (kind : Kind) → IfSome (lock_free_bound kind) (PassesRest T kind) }
 {}
 
@@ -62,14 +64,18 @@ pub fn owners_keep_ending<T>()
 pub fn owners_end_loads<T>()
     ensures robust_between { PassesEndLoad T Robust room_bound }
     ensures robust_load { KnownEndsLoad T Robust room_bound }
+    ensures robust_asks { KnownAsksLoad T Robust room_bound }
     ensures robust_rest { PassesRest T Robust room_bound }
     ensures container_between { PassesEndLoad T Container room_container_bound }
     ensures container_load { KnownEndsLoad T Container room_container_bound }
+    ensures container_asks { KnownAsksLoad T Container room_container_bound }
     ensures container_rest { PassesRest T Container room_container_bound }
     ensures robust_between_by_default { PassesEndLoadOf T Robust IsDefault default_bound }
     ensures robust_load_by_default { KnownEndsLoadOf T Robust IsDefault default_bound }
+    ensures robust_asks_by_default { KnownAsksLoadOf T Robust IsDefault default_bound }
     ensures robust_rest_by_default { PassesRestOf T Robust IsDefault default_bound }
     ensures container_between_by_default { PassesEndLoadOf T Container IsDefault default_container_bound }
     ensures container_load_by_default { KnownEndsLoadOf T Container IsDefault default_container_bound }
+    ensures container_asks_by_default { KnownAsksLoadOf T Container IsDefault default_container_bound }
     ensures container_rest_by_default { PassesRestOf T Container IsDefault default_container_bound }
 {}

@@ -9,7 +9,7 @@ use Rattle.steps.specs.declared.ask.After.TheVariants.{GoOn, Done}
 use Rattle.steps.specs.declared.ask.Op.{Op}
 use Rattle.steps.specs.declared.ask.Op.TheVariants.{Load, Exchange}
 use Rattle.steps.specs.declared.ask.Want.{Want}
-use Rattle.steps.specs.declared.ask.Want as wants
+use Rattle.steps.specs.declared.ask.Want.TheVariants as wants
 use Rattle.steps.specs.declared.routine.Running.{Running}
 use Rattle.model.specs.declared.event.Answer.{Answer}
 use Rattle.model.specs.declared.families.Flight.{Flight}
@@ -37,14 +37,14 @@ same_word words at (Exchange from to) = exchanged words at to (slice_index words
 same_word words at op = refl
 
 pub same_words : (words : List ℕ) (w : Want (Unit {0})) → words_then words w ≡ words_after words (ask_of w)
-same_words words (wants.TheVariants.Ask ask) = same_word words ask.word ask.op
-same_words words (wants.TheVariants.Question question) = refl
-same_words words wants.TheVariants.Nothing = refl
+same_words words (wants.Ask ask) = same_word words ask.word ask.op
+same_words words (wants.Question question) = refl
+same_words words wants.Nothing = refl
 
 pub same_old : (words : List ℕ) (w : Want (Unit {0})) → answer_in words w ≡ old_of words (ask_of w)
-same_old words (wants.TheVariants.Ask ask) = refl
-same_old words (wants.TheVariants.Question question) = refl
-same_old words wants.TheVariants.Nothing = refl
+same_old words (wants.Ask ask) = refl
+same_old words (wants.Question question) = refl
+same_old words wants.Nothing = refl
 
 -- ---- a call alone stops in one way
 
@@ -90,14 +90,14 @@ module _ {C G M E : Type 0} (want : C → G → Want (Unit {0})) (after : C → 
       → StopsFrom want after kept given (StopsIn want after kept given n (Ended end) r last) (stepped w call a) (room_then w room next)
       (words_then words w) (Ended end) r last
       → RunsOn a next (words_then words w)
-  run_moved n end r last call (wants.TheVariants.Ask ask) (GoOn d) room next words few holds calm t =
+  run_moved n end r last call (wants.Ask ask) (GoOn d) room next words few holds calm t =
       record { steps = n; few = few; end = end; last_room = r; last_words = last; ends = t; holds = holds }
-  run_moved n end r last call (wants.TheVariants.Ask ask) (Done x) room next words few holds calm t =
+  run_moved n end r last call (wants.Ask ask) (Done x) room next words few holds calm t =
       let is = ended_is end x t.0 in subst (λ (z : E × M × List ℕ). P z.0 z.1 z.2) (λ i. (is i, t.1 i, t.2 i)) holds
-  run_moved n end r last call (wants.TheVariants.Question question) a room next words few holds calm t = absurd (cc)
-  run_moved n end r last call wants.TheVariants.Nothing (GoOn d) room next words few holds calm t =
+  run_moved n end r last call (wants.Question question) a room next words few holds calm t = absurd (cc)
+  run_moved n end r last call wants.Nothing (GoOn d) room next words few holds calm t =
       record { steps = n; few = few; end = end; last_room = r; last_words = last; ends = t; holds = holds }
-  run_moved n end r last call wants.TheVariants.Nothing (Done x) room next words few holds calm t =
+  run_moved n end r last call wants.Nothing (Done x) room next words few holds calm t =
       let is = ended_is end x t.0 in subst (λ (z : E × M × List ℕ). P z.0 z.1 z.2) (λ i. (is i, t.1 i, t.2 i)) holds
 
   pub run_goes : (call : C) (room : M) (words : List ℕ) → Runs want after kept given P call room words → is_question (want call given) ≡ false
@@ -163,24 +163,24 @@ module _ {T : Type 0} (code : Coding T) where
           (a : After (Flight T) (Answer T)) (words : List ℕ) → n ≤ 2 ^ 64 - 1 → AtStop rest told stop last → is_question w ≡ false
           → HaltsFrom n stop room last (stepped w flight a) (room_then w tt tt) (words_then words w)
           → Turns (Halting rest) told a (words_then words w)
-      moved n stop room last flight (wants.TheVariants.Ask ask) (GoOn d) words few holds calm t =
+      moved n stop room last flight (wants.Ask ask) (GoOn d) words few holds calm t =
           record { steps = n; few = few; stop = stop; last_room = room; last_words = last; stops = t; holds = holds }
-      moved n stop room last flight (wants.TheVariants.Ask ask) (Done x) words few holds calm t =
-          subst (λ s. AtStop rest told s (words_then words (wants.TheVariants.Ask ask))) t.0 (subst (AtStop rest told stop) t.2 holds)
-      moved n stop room last flight (wants.TheVariants.Question question) a words few holds calm t = absurd (cc)
-      moved n stop room last flight wants.TheVariants.Nothing (GoOn d) words few holds calm t =
+      moved n stop room last flight (wants.Ask ask) (Done x) words few holds calm t =
+          subst (λ s. AtStop rest told s (words_then words (wants.Ask ask))) t.0 (subst (AtStop rest told stop) t.2 holds)
+      moved n stop room last flight (wants.Question question) a words few holds calm t = absurd (cc)
+      moved n stop room last flight wants.Nothing (GoOn d) words few holds calm t =
           record { steps = n; few = few; stop = stop; last_room = room; last_words = last; stops = t; holds = holds }
-      moved n stop room last flight wants.TheVariants.Nothing (Done x) words few holds calm t =
+      moved n stop room last flight wants.Nothing (Done x) words few holds calm t =
           subst (λ s. AtStop rest told s words) t.0 (subst (AtStop rest told stop) t.2 holds)
 
       heard : (n : ℕ) (stop : Stop (Flight T) (Answer T)) (room : Unit {0}) (last : List ℕ) (flight : Flight T) (w : Want (Unit {0}))
           (a : After (Flight T) (Answer T)) (words : List ℕ) → AtStop rest told stop last → is_question w ≡ true
           → HaltsFrom n stop room last (stepped w flight a) (room_then w tt tt) (words_then words w)
           → (said : Bool) → Turns rest (told ++ decided code (Some flight) said) (after_of code flight (number_of said)) words
-      heard n stop room last flight (wants.TheVariants.Ask ask) a words holds is t = absurd (cc)
-      heard n stop room last flight (wants.TheVariants.Question question) a words holds is t =
+      heard n stop room last flight (wants.Ask ask) a words holds is t = absurd (cc)
+      heard n stop room last flight (wants.Question question) a words holds is t =
           subst (λ s. AtStop rest told s words) t.0 (subst (AtStop rest told stop) t.2 holds)
-      heard n stop room last flight wants.TheVariants.Nothing a words holds is t = absurd (cc)
+      heard n stop room last flight wants.Nothing a words holds is t = absurd (cc)
 
       -- after a step of a machine that needs no decision, the call still halts, or has ended with P
       pub talk_goes : (flight : Flight T) (words : List ℕ) → Halting rest told flight words → is_question (want_of code flight) ≡ false
@@ -264,11 +264,11 @@ module _ {T : Type 0} (code : Coding T) where
         → StopsFrom want after kept given (StopsIn want after kept given n s r last) (stepped w c a) (room_then w room next)
         (words_then words w) s r last
         → StopsOn n (lift_stop s r) last (stepped w (flight c room) (came next a)) (room_then w tt tt) (words_then words w)
-    lifted n s r last (wants.TheVariants.Ask ask) c (GoOn d) room next words low on t = on d next (words_then words (wants.TheVariants.Ask ask)) low t
-    lifted n s r last (wants.TheVariants.Ask ask) c (Done x) room next words low on t = ((λ i. lift_stop (t.0 i) (t.1 i)), refl, t.2)
-    lifted n s r last (wants.TheVariants.Question question) c a room next words low on t = ((λ i. lift_stop (t.0 i) (t.1 i)), refl, t.2)
-    lifted n s r last wants.TheVariants.Nothing c (GoOn d) room next words low on t = on d next words low t
-    lifted n s r last wants.TheVariants.Nothing c (Done x) room next words low on t = ((λ i. lift_stop (t.0 i) (t.1 i)), refl, t.2)
+    lifted n s r last (wants.Ask ask) c (GoOn d) room next words low on t = on d next (words_then words (wants.Ask ask)) low t
+    lifted n s r last (wants.Ask ask) c (Done x) room next words low on t = ((λ i. lift_stop (t.0 i) (t.1 i)), refl, t.2)
+    lifted n s r last (wants.Question question) c a room next words low on t = ((λ i. lift_stop (t.0 i) (t.1 i)), refl, t.2)
+    lifted n s r last wants.Nothing c (GoOn d) room next words low on t = on d next words low t
+    lifted n s r last wants.Nothing c (Done x) room next words low on t = ((λ i. lift_stop (t.0 i) (t.1 i)), refl, t.2)
 
     lifts : IsFlight → (n : ℕ) (s : Stop C E) (r : M) (last : List ℕ) (c : C) (room : M) (words : List ℕ) → Low c
         → StopsIn want after kept given n s r last c room words

@@ -24,7 +24,7 @@ use Rattle.model.specs.declared.families.Registry.TheVariants as registries
 use Rattle.model.specs.declared.families.indices.IndexStart.{IndexStart}
 use Rattle.model.specs.declared.families.indices.IndexStart.TheVariants as calls
 use Rattle.model.specs.declared.families.indices.calls.IndexFlight.TheVariants as under_way
-use Rattle.model.specs.declared.turn.Kind as kinds
+use Rattle.model.specs.declared.turn.Kind.TheVariants as kinds
 use Rattle.model.specs.declared.turn.Refusal.TheVariants.{NotHeld, BadIndex}
 use Rattle.model.specs.declared.turn.Turn.TheVariants.{Begin}
 use Rattle.model.specs.Coding.{Coding}
@@ -84,7 +84,7 @@ past_indices : (c j : ℕ) → c < j → slice_index (opening_words c) j ≡ 0
 past_indices c zero below = absurd (omega arith)
 past_indices c (suc j) below = behind_at 1 c j (flag_words c) (omega arith)
 
-pub admitted : (c : ℕ) → capacity_error kinds.TheVariants.Indices c ≡ None → (1 ≤ c) × (c ≤ 2 ^ 24 - 2)
+pub admitted : (c : ℕ) → capacity_error kinds.Indices c ≡ None → (1 ≤ c) × (c ≤ 2 ^ 24 - 2)
 admitted x0 x1 = grind arith
 
 linked : (c : ℕ) → Linked c c (opening_words c)
@@ -133,7 +133,7 @@ module _ {T : Type 0} where
       }
   may_release capacity kept p index mode e = absurd (cc)
 
-  is_out : (t : Trace T) (p index : ℕ) (mode : ReleaseMode) → IsReached t → t.world.kind ≡ kinds.TheVariants.Indices
+  is_out : (t : Trace T) (p index : ℕ) (mode : ReleaseMode) → IsReached t → t.world.kind ≡ kinds.Indices
       → refusal_of t.world (Begin p (starts.Indices (calls.Release index mode))) ≡ None → Represents t.world.capacity t.world.words
       → IsOut (stack_in t.world.capacity t.world.words) index
   is_out t p index mode r is free fits =
@@ -229,9 +229,9 @@ module _ {T : Type 0} where
   has_registry capacity p start flight kept is e = absurd (cc)
 
   module _ (code : Coding T) (capacity : ℕ) where
-    begins : (t : Trace T) (p : ℕ) (start : Start T) (flight : Flight T) → IsReached t → IsMadeSo code kinds.TheVariants.Indices capacity t
+    begins : (t : Trace T) (p : ℕ) (start : Start T) (flight : Flight T) → IsReached t → IsMadeSo code kinds.Indices capacity t
         → refusal_of t.world (Begin p start) ≡ None → Represents capacity t.world.words
-        → first_of kinds.TheVariants.Indices capacity start t.world.kept ≡ Some flight → BeginsSo (reading capacity) code t p start flight
+        → first_of kinds.Indices capacity start t.world.kept ≡ Some flight → BeginsSo (reading capacity) code t p start flight
     begins t p (starts.Indices start) flight r made free fits named =
         let is = same_flight (flights.Indices (first capacity start)) flight named in
         let rows = (may_begin t.world p (starts.Indices start) (passes t.world (Begin p (starts.Indices start)) free).on).rows in
@@ -257,7 +257,7 @@ module _ {T : Type 0} where
         runs calls.IsLocked allowed = looks code capacity t.world.turns t.world.words fits
     begins t p start flight r made free fits named = absurd (cc)
 
-    pub law : capacity_error kinds.TheVariants.Indices capacity ≡ None → Law (reading capacity) code kinds.TheVariants.Indices capacity
+    pub law : capacity_error kinds.Indices capacity ≡ None → Law (reading capacity) code kinds.Indices capacity
     law may =
         let some = (admitted capacity may).0 in
         let few = (admitted capacity may).1 in

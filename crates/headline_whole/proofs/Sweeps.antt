@@ -7,7 +7,7 @@ use Rattle.steps.specs.declared.ask.After.{After}
 use Rattle.steps.specs.declared.ask.After.TheVariants.{GoOn, Done}
 use Rattle.steps.specs.declared.ask.Op.TheVariants.{Swap}
 use Rattle.steps.specs.declared.ask.Want.{Want}
-use Rattle.steps.specs.declared.ask.Want as wants
+use Rattle.steps.specs.declared.ask.Want.TheVariants as wants
 use Rattle.steps.specs.declared.bits.reset_all.ResetAll.{ResetAll}
 use Rattle.steps.specs.declared.copied.OneWord.{OneWord}
 use Rattle.plain.specs.declared.drive.Stop.TheVariants.{Ended}
@@ -45,15 +45,15 @@ module _ (k e : ℕ) where
   abbrev at : ResetAll
   at = record { word = k; end = e }
 
-  asks : k < e → reset_all_want at ≡ wants.TheVariants.Ask (record { word = k; op = Swap 0 })
+  asks : k < e → reset_all_want at ≡ wants.Ask (record { word = k; op = Swap 0 })
   asks low =
       let t : nat_lt k e ≡ true = grind (arith, nat_tests, low) in
-      ap (λ b. if b then wants.TheVariants.Ask (record { word = k; op = Swap 0 }) else wants.TheVariants.Nothing) t
+      ap (λ b. if b then wants.Ask (record { word = k; op = Swap 0 }) else wants.Nothing) t
 
-  asks_none : e ≤ k → reset_all_want at ≡ wants.TheVariants.Nothing
+  asks_none : e ≤ k → reset_all_want at ≡ wants.Nothing
   asks_none high =
       let t : nat_lt k e ≡ false = grind (arith, nat_tests, high) in
-      ap (λ b. if b then wants.TheVariants.Ask (record { word = k; op = Swap 0 }) else wants.TheVariants.Nothing) t
+      ap (λ b. if b then wants.Ask (record { word = k; op = Swap 0 }) else wants.Nothing) t
 
   goes_on : k + 1 < e → (old : ℕ) → reset_all_after at old ≡ GoOn (record { word = k + 1; end = e })
   goes_on low old =
@@ -71,7 +71,7 @@ sweeps zero k e is room words =
     let last : OneWord = record { 0 = slice_index words k } in (
       last,
       subst (λ w. From 0 last (slice_set words k 0) (at k e) w (reset_all_after (at k e) (answer_in words w)) room words) (sym (asks k e (omega arith)))
-          (subst (λ a. From 0 last (slice_set words k 0) (at k e) (wants.TheVariants.Ask (record { word = k; op = Swap 0 })) a room words)
+          (subst (λ a. From 0 last (slice_set words k 0) (at k e) (wants.Ask (record { word = k; op = Swap 0 })) a room words)
           (sym (ends k e (omega arith) (slice_index words k))) (refl, refl, refl)),
     )
 sweeps (suc n) k e is room words =
@@ -85,7 +85,7 @@ sweeps (suc n) k e is room words =
           (subst (λ w. From (suc n) rest.0 (cleared (slice_set words k 0) (k + 1) (suc n)) (at k e) w (reset_all_after (at k e) (answer_in words w)) room words)
           (sym (asks k e (omega arith)))
           (subst (λ a. From (suc n) rest.0 (cleared (slice_set words k 0) (k + 1) (suc n)) (at k e)
-          (wants.TheVariants.Ask (record { word = k; op = Swap 0 })) a room words)
+          (wants.Ask (record { word = k; op = Swap 0 })) a room words)
           (sym (goes_on k e (omega arith) (slice_index words k))) rest.1)),
     )
 
@@ -94,7 +94,7 @@ pub sweeps_none : (k : ℕ) (room : OneWord) (words : List ℕ) → (last_room :
 sweeps_none k room words = (
   record { 0 = 0 },
   subst (λ w. From 0 (record { 0 = 0 }) words (at k k) w (reset_all_after (at k k) (answer_in words w)) room words) (sym (asks_none k k (omega arith)))
-      (subst (λ a. From 0 (record { 0 = 0 }) words (at k k) wants.TheVariants.Nothing a room words) (sym (ends k k (omega arith) 0)) (refl, refl, refl)),
+      (subst (λ a. From 0 (record { 0 = 0 }) words (at k k) wants.Nothing a room words) (sym (ends k k (omega arith) 0)) (refl, refl, refl)),
 )
 
 -- ---- from the first word to the last

@@ -12,7 +12,9 @@ use Rattle.steps.specs.declared.ask.After.TheVariants.{Done}
 use Rattle.steps.specs.declared.ask.Want.TheVariants as wants
 use Rattle.model.specs.World as worlds
 use Rattle.history.specs.declared.view.View.{View}
-use Rattle.history.specs.History.{IsMachine, OneRun, Knew, Knows, call_in, others_in}
+use Rattle.history.specs.History.{IsMachine, OneRun, Knew, Knows, call_in, others_in, HasAsked, nexts, steps_of_run}
+use Rattle.history.proofs.Asked.{Gains, first_asked, nexts_begin, nexts_next}
+use Rattle.model.specs.Turns.{step_count}
 use Rattle.steps.specs.declared.container.state.ContainerState.{ContainerState}
 use Rattle.history.specs.Known.{owned, events_by}
 use Rattle.history.specs.Stages.{Calling, Starts, rows_as}
@@ -24,7 +26,7 @@ use Rattle.history.proofs.Known.{by_mine, AreOf}
 use Rattle.history.proofs.AllSeen.{known_alone}
 use Rattle.history.proofs.Steps.{settle_with}
 use Rattle.history.proofs.Turns.{KeptLaws, MachineLaws, kept_laws, Between, begun, begun_at, begun_others, begins_free}
-use Rattle.history.proofs.Turns.{goes_free, gone, gone_others, goes_to, fresh_now, told, own_told}
+use Rattle.history.proofs.Turns.{more_steps, asked, goes_free, gone, gone_others, goes_to, fresh_now, told, own_told}
 
 -- each party is its own seat
 abbrev pub same_seat : ℕ → ℕ
@@ -47,6 +49,7 @@ module _ {T : Type 0} (code : Coding T) (kind : Kind) (capacity size : ℕ)
     pub events : u.events ≡ es
     pub there : call_in u.world 0 ≡ going
     pub others : others_in u.world 0 ≡ 0
+    pub steps : steps_of_run code kind capacity one.turns ≡ nexts ts
 
   pub opens_here : IsCoding code → capacity_error kind capacity ≡ None → Here ((opening_of kind).words code.size capacity ++ 0 ∷ []) [] [] None
   opens_here coded admitted =
@@ -84,6 +87,7 @@ module _ {T : Type 0} (code : Coding T) (kind : Kind) (capacity size : ℕ)
         events = refl;
         there = refl;
         others = refl;
+        steps = refl;
       }
     where
       knew : (j : ℕ) (v : View T) → get_elem? (first_view capacity ∷ []) j ≡ some v → Knew [] v
@@ -116,7 +120,8 @@ module _ {T : Type 0} (code : Coding T) (kind : Kind) (capacity size : ℕ)
         made = es;
         going = None;
         state = None;
-        asked = 0;
+        asked = nexts ts;
+        aside = 0;
         taken = 0;
         others = 0;
       }
@@ -150,6 +155,8 @@ module _ {T : Type 0} (code : Coding T) (kind : Kind) (capacity size : ℕ)
         others =
             begun_others code kind capacity size effects there_laws same_seat (alone words) 0 0 es h.u h.between call.start
             (call.flight c m) h.there s.first may;
+        steps = more_steps code kind capacity h.one.turns h.u (Begin 0 call.start) 0 h.one.is refl
+            ∙ (ap (λ n. n + 0) h.steps ∙ sym (nexts_begin ts 0 call.start));
       }
 
   -- ---- it takes a step
@@ -208,6 +215,11 @@ module _ {T : Type 0} (code : Coding T) (kind : Kind) (capacity size : ℕ)
             others =
                 gone_others code kind capacity size effects there_laws same_seat (alone words) 0 0 es h.u h.between start flight (Some a) low h.there asks finds
                 ∙ h.others;
+            steps =
+                more_steps code kind capacity h.one.turns h.u (Next 0) 1 h.one.is
+                (ap step_count (asked code kind capacity size effects there_laws same_seat (alone words) 0 0 es h.u h.between start flight (Some a) low
+                h.there asks finds))
+                ∙ (ap (λ n. n + 1) h.steps ∙ sym (nexts_next ts 0));
           }
 
     -- it goes on, and tells nothing
@@ -231,10 +243,27 @@ module _ {T : Type 0} (code : Coding T) (kind : Kind) (capacity size : ℕ)
         (subst (λ zs. Here words' (ts ++ Next 0 ∷ []) (es ++ zs) (call_then start comes)) all
         (subst (λ ws. Here ws (ts ++ Next 0 ∷ []) (es ++ wrote own wrote_own only) (call_then start comes)) same (took own wrote_own only)))
 
+  -- it has asked for each step that has been taken
+  all_of : (ts : List (Turn T)) (es : List (Event T)) → HasAsked (maker ts es) (nexts ts)
+  all_of ts es = record { share = (omega arith, omega arith); most = omega arith; all = λ whole. omega arith }
+
+  gains_so : (words : List ℕ) (ts : List (Turn T)) (es : List (Event T)) → (h : Here words ts es None)
+      → Gains (first_view {T = T} capacity ∷ []) (first_view {T = T} capacity) (nexts ts) 0 (steps_of_run code kind capacity h.one.turns)
+  gains_so words ts es h =
+      record {
+        old = 0;
+        n = nexts ts;
+        have = first_asked capacity;
+        has = record { share = (omega arith, omega arith); most = omega arith; all = λ whole. refl };
+        more = (let is = h.steps in omega arith);
+        own = omega arith;
+      }
+
   -- what the pass knows then is the run of these turns
   pub knows_so : (words : List ℕ) (ts : List (Turn T)) (es : List (Event T)) → Here words ts es None → Knows code kind capacity (maker ts es)
   knows_so words ts es h =
       knows_all code kind capacity (first_view capacity ∷ []) h.u (maker ts es) h.one h.between.run (sym h.turns) (sym h.events) (sym h.others)
+      (subst (λ n. HasAsked (maker ts es) n) (sym h.steps) (all_of ts es))
 
   -- ---- a table opens so
 
@@ -247,8 +276,8 @@ module _ {T : Type 0} (code : Coding T) (kind : Kind) (capacity size : ℕ)
       ∙ (ap (λ o. so h.one.turns es o (state_in h.u.world.kept 0) (others_in h.u.world 0)) h.there
       ∙ (ap (λ z. so h.one.turns es None z (others_in h.u.world 0)) (stateless_none h.u.world.kept 0 (laws.stateless h.u h.between.run))
       ∙ (ap (λ xs. so xs es None None (others_in h.u.world 0)) h.turns ∙ ap (λ n. so ts es None None n) h.others))))
-      (settle_with code kind capacity 0 0 same_seat 0 0 words (alone words) first es h.u refl (omega arith)
-      (λ call is. (let no : ◌≡◌ {A = Option (Start T × Flight T)} None (Some call) = sym h.there ∙ is in absurd (cc))) h.between h.one)
+      (settle_with code kind capacity 0 0 same_seat (nexts ts) 0 0 words (alone words) first es h.u refl (omega arith)
+      (λ call is. (let no : ◌≡◌ {A = Option (Start T × Flight T)} None (Some call) = sym h.there ∙ is in absurd (cc))) h.between h.one (gains_so words ts es h))
     where
       so : List (Turn T) → List (Event T) → Option (Start T × Flight T) → Option (ContainerState T) → ℕ → View T
       so xs zs o z n =
@@ -263,7 +292,8 @@ module _ {T : Type 0} (code : Coding T) (kind : Kind) (capacity size : ℕ)
             made = es;
             going = o;
             state = z;
-            asked = 0;
+            asked = nexts ts;
+            aside = 0;
             taken = 0;
             others = n;
           }

@@ -8,14 +8,23 @@ use lib.ListN.{get_elem?}
 use Rattle.atomic_table.specs.Table.{State}
 use Rattle.history.specs.declared.view.View.{View}
 use Rattle.history.specs.Known.{events_by, by_party, owned}
-use Rattle.history.specs.History.{IsRun, IsMachine, AreFirst, Fits, IsLate, call_in, steps_in}
+use Rattle.history.specs.History.{IsRun, IsMachine, AreFirst, Fits, IsLate, call_in, steps_in, HasAsked, HaveAsked, steps_of_run}
 use Rattle.history.specs.Stages.{Calling, LeavesState, opened, Starts, At, rows_as, taken_by}
 use Rattle.history.proofs.Known.{by_more, nil_right, idle_seat, none_late}
 use Rattle.history.proofs.AllSeen.{known_whole}
 use Rattle.history.proofs.Calls.{begins_no_look}
 use Rattle.history.proofs.OneRun.{first_all}
-use Rattle.history.proofs.Turns.{KeptLaws, Between, at_first, begun, begun_at, begun_kept, begun_steps, begins_free}
+use Rattle.history.proofs.Turns.{KeptLaws, Between, at_first, begun, begun_at, begun_kept, begun_steps, begun_took, begins_free}
+use Rattle.history.proofs.Asked.{asked_at}
 use Rattle.history.proofs.CallsIn.{no_rest, same_rest, none_after, Prior}
+
+moved_in : {A : Type 0} → (xs os ds rest : List A) → (xs ++ (os ++ (ds ++ []))) ++ rest ≡ xs ++ (os ++ (ds ++ rest))
+moved_in xs os ds rest =
+    append_assoc xs (os ++ (ds ++ [])) rest
+    ∙ ap (λ zs. xs ++ zs) (append_assoc os (ds ++ []) rest ∙ ap (λ zs. os ++ zs) (ap (λ zs. zs ++ rest) (append-nil ds)))
+
+none_more : {a b : ℕ} → a ≡ b + 0 → b ≡ a
+none_more e = omega arith
 
 module _ {T C M E : Type 0} (code : Coding T) (kind : Kind) (effects : World T → ℕ → Flight T → ℕ → List (Event T))
     (size_of : ℕ → ℕ) (laws : (capacity : ℕ) → KeptLaws code kind capacity (size_of capacity) effects)
@@ -84,6 +93,9 @@ module _ {T C M E : Type 0} (code : Coding T) (kind : Kind) (effects : World T �
     pub held : v.going ≡ Some (call.start, call.flight c m) → state_in u.world.kept p ≡ v.state
     pub as_party : v.going ≡ Some (call.start, call.flight c m) → v.party ≡ Some p
     pub state : LeavesState call → v.party ≡ Some p → state_in u.world.kept p ≡ v.state
+    -- no step has been taken since
+    pub have : HaveAsked s.views (steps_of_run code kind key between.one.turns)
+    pub has : HasAsked v (steps_of_run code kind key between.one.turns)
 
   module _ (s : State (Unit {0}) (View T)) (v : View T) (key id : ℕ) (c : C) (m : M) (r : IsMachine code kind key s)
       (at : get_elem? s.views id ≡ some v) (known : v.capacity ≡ key) where
@@ -104,6 +116,9 @@ module _ {T C M E : Type 0} (code : Coding T) (kind : Kind) (effects : World T �
     nothing_own : 0 < v.share.part → v.other ≡ [] → here.late ≡ [] → (p : ℕ) → r.owner p ≡ id → events_by p here.seen.rest ≡ []
     nothing_own x0 x1 x2 x3 x4 = grind (arith, not_seen, nil_right, by_more)
 
+    pub has_asked : HasAsked v (steps_of_run code kind key r.one.turns)
+    has_asked = asked_at s.views (steps_of_run code kind key r.one.turns) id v at r.known.shares r.asked
+
     late_here : IsLate kind v.going here.late
     late_here = subst (λ k. IsLate k v.going here.late) r.run.of_kind here.waits
 
@@ -122,7 +137,36 @@ module _ {T C M E : Type 0} (code : Coding T) (kind : Kind) (effects : World T �
     later_prior : (p : ℕ) → r.owner p ≡ id → v.party ≡ Some p → (base : View T)
         → v.going ≡ Some (call.start, call.flight c m) → Stage base v c m
         → Told_by p c m base r.trace.events (v.made ++ here.late)
-    later_prior x0 x1 x2 x3 x4 x5 = grind (arith, late_here, opened, append-nil, append_assoc, by_more, late_own)
+    later_prior p mine party base going (inl first) =
+        let no : ◌≡◌ {A = Option (Start T × Flight T)} None (Some (call.start, call.flight c m)) =
+        sym first.idle ∙ (ap (λ (z : View T). z.going) (sym first.is) ∙ going) in
+        absurd (cc)
+    later_prior p mine party base going (inr k) =
+        let both : ◌≡◌ {A = Option ℕ} (Some k.party) (Some p) = sym k.mine ∙ party in
+        let same : k.party ≡ p = cc in
+        subst (λ q. Told_by q c m base r.trace.events (v.made ++ here.late)) same
+        (record {
+          wrote = k.wrote;
+          tells = k.tells;
+          late = here.late;
+          waits = subst (λ o. IsLate kind o here.late) going late_here;
+          prior = record {
+            others = k.since.others;
+            during = k.since.during ++ here.seen.rest;
+            is =
+                here.seen.is
+                ∙ (ap (λ es. es ++ here.seen.rest) k.since.is
+                ∙ moved_in (base.seen ++ k.since.others) (opened k.party call.start base.going) k.since.during here.seen.rest);
+            alone = k.since.alone;
+            others_own = k.since.others_own;
+            during_own =
+                by_more k.party k.since.during here.seen.rest
+                ∙ (ap (λ es. es ++ events_by k.party here.seen.rest) k.since.during_own
+                ∙ ap (λ es. k.wrote ++ es) (late_own k.party (subst (λ q. r.owner q ≡ id) (sym same) mine) k.mine going k.some));
+            made_is =
+                ap (λ es. es ++ here.late) k.since.made ∙ moved_in base.made (opened k.party call.start base.going) k.wrote here.late;
+          };
+        })
 
     -- as which party the call began
     first_by : (p : ℕ) → call.by v.party p → (base : View T) → v.going ≡ None → Stage base v c m → call.by base.party p
@@ -190,6 +234,12 @@ module _ {T C M E : Type 0} (code : Coding T) (kind : Kind) (effects : World T �
               call.start (call.flight c m) (idle p starts.mine) is_first may)
               p (begins_no_look r.trace.world p call.start leaves.start)
               ∙ here.stated p starts.mine is;
+          have = subst (λ n. HaveAsked s.views n) (none_more
+              (begun_took code kind key (size_of key) effects (laws key) r.owner s id p [] r.trace before call.start
+              (call.flight c m) (idle p starts.mine) is_first may)) r.asked;
+          has = subst (λ n. HasAsked v n) (none_more
+              (begun_took code kind key (size_of key) effects (laws key) r.owner s id p [] r.trace before call.start
+              (call.flight c m) (idle p starts.mine) is_first may)) has_asked;
         }
     ready base (inr under) =
         let p = under.party in
@@ -215,4 +265,6 @@ module _ {T C M E : Type 0} (code : Coding T) (kind : Kind) (effects : World T �
           held = λ has. here.stated p mine under.mine;
           as_party = λ has. under.mine;
           state = λ leaves is. here.stated p mine is;
+          have = r.asked;
+          has = has_asked;
         }

@@ -1,6 +1,6 @@
 -- A step of a call as a turn of the machine: what the view says then.
 use Rattle.std.proofs.Common.{arith}
-use Rattle.history.proofs.Names.{false, ◌≡◌, ◌⊎◌, ℕ, ◌+◌, ◌<◌, ◌≤◌, Option, Some, None, IfSome, List, [], ◌∷◌, ◌++◌, refl}
+use Rattle.history.proofs.Names.{false, ◌≡◌, ◌⊎◌, ℕ, ◌+◌, ◌<◌, ◌≤◌, Option, Some, None, IfSome, List, [], ◌∷◌, ◌++◌, refl, inl, inr}
 use Rattle.history.proofs.Names.{sym, ap, subst, ◌∙◌, append_assoc, sum_by, fold, sum_by-append, Ask, After, GoOn}
 use Rattle.history.proofs.Names.{Answer, Event, Finished, Flight, Kind, Turn, Next, Coding, want_of, goes_of, ask_of}
 use Rattle.history.proofs.Names.{answer_in, span_of, own_after, Open, after_turn, events_of, ending_of, words_after}
@@ -13,16 +13,17 @@ use Rattle.model.specs.Parties.{party_of}
 use Rattle.model.specs.Turns.{step_count}
 use Rattle.history.specs.declared.view.View.{View}
 use Rattle.history.specs.Known.{events_by}
-use Rattle.history.specs.History.{IsRun, Continues, IsLate, IsOfParties, LastStep, call_in, started, steps_in, refusal_as, run_of}
+use Rattle.history.specs.History.{IsRun, Continues, IsLate, IsOfParties, LastStep, call_in, started, steps_in, refusal_as, run_of, HasAsked, steps_of_run}
 use Rattle.history.specs.Stages.{Calling, LeavesState, Since, opened, IsUnderWay, At, Ends, StepsOnly, taken_by}
 use Rattle.history.proofs.Known.{by_more}
 use Rattle.history.proofs.Calls.{stands, call_then, next_no_look}
 use Rattle.history.proofs.Reached.{next_as}
-use Rattle.history.proofs.Turns.{KeptLaws, Between, want_for, at_ask, goes_free, gone, gone_named, gone_steps, kept_then, goes_to}
+use Rattle.history.proofs.Turns.{KeptLaws, Between, want_for, at_ask, goes_free, gone, gone_named, gone_steps, gone_took, kept_then, goes_to}
 use Rattle.history.proofs.Turns.{told as turn_told, own_told, found_old, made_between}
 use Rattle.history.proofs.Steps.{view_after}
 use Rattle.history.proofs.CallsIn.{regroup, Prior, span_since, Met}
 use Rattle.history.proofs.OneRun.{continues_all, continues_further}
+use Rattle.history.proofs.Asked.{Gains, gains_has, none_count, one_or_none, none_or_one}
 use Rattle.history.proofs.CallReady.{same_capacity, came_first, same_share, some_share, asked_so, Ready}
 
 module _ {T C M E : Type 0} (code : Coding T) (kind : Kind) (effects : World T → ℕ → Flight T → ℕ → List (Event T))
@@ -32,12 +33,12 @@ module _ {T C M E : Type 0} (code : Coding T) (kind : Kind) (effects : World T �
   Stage base v c m = At code kind call base v c m
 
   -- the call is later by what a turn of its party wrote, and by its end
-  pub since_turn : (turns : List (Turn T)) (asked p id : ℕ) (turn : Turn T) (u : Trace T) (v base : View T) (gained wrote effs last : List (Event T))
+  pub since_turn : (turns : List (Turn T)) (asked aside p id : ℕ) (turn : Turn T) (u : Trace T) (v base : View T) (gained wrote effs last : List (Event T))
       → Prior p call.start wrote base u.events (v.made ++ gained) → events_of u.world turn ≡ effs ++ last
       → events_by p (events_of u.world turn) ≡ events_by p effs ++ last
       → Since p call.start (wrote ++ events_by p effs) last base
-      (view_after code kind base.capacity id p turns asked v (gained ++ events_by p (events_of u.world turn)) (after_turn u turn))
-  since_turn turns asked p id turn u v base gained wrote effs last prior told_now own_now =
+      (view_after code kind base.capacity id p turns asked aside v (gained ++ events_by p (events_of u.world turn)) (after_turn u turn))
+  since_turn turns asked aside p id turn u v base gained wrote effs last prior told_now own_now =
       record {
         others = prior.others;
         during = prior.during ++ effs;
@@ -95,7 +96,25 @@ module _ {T C M E : Type 0} (code : Coding T) (kind : Kind) (effects : World T �
     run_then x0 x1 = grind (arith, same_capacity, next_between)
 
     abbrev pub view_then : View T
-    view_then = view_after code kind key id y.p next_between.one.turns (v.asked + 1) v then_gained then_trace
+    view_then = view_after code kind key id y.p next_between.one.turns (v.asked + 1) (v.aside + none_count ask) v then_gained then_trace
+
+    -- it is one operation, and one step where the call asks for a word
+    pub gains_then : Gains s.views v (v.asked + 1) (v.aside + none_count ask) (steps_of_run code kind key next_between.one.turns)
+    unfolding next_between
+    gains_then =
+        record {
+          old = steps_of_run code kind key y.between.one.turns;
+          n = step_count ask;
+          have = y.have;
+          has = y.has;
+          more =
+              gone_took code kind key (size_of key) effects (laws key) y.owner s id y.p y.gained y.u y.between call.start
+              flight_now ask low y.there asks_it finds;
+          own = one_or_none v.asked v.aside ask;
+        }
+
+    has_then : HasAsked view_then (steps_of_run code kind key next_between.one.turns)
+    has_then = gains_has s.views v view_then (steps_of_run code kind key next_between.one.turns) gains_then refl
 
     one_then : (base : View T) → Stage base v c m → then_trace ≡ run_of code kind base.capacity next_between.one.turns
     one_then base stage =
@@ -107,7 +126,7 @@ module _ {T C M E : Type 0} (code : Coding T) (kind : Kind) (effects : World T �
     ran_then base stage =
         subst (λ n. Continues code kind n base view_then) (sym known ∙ same_capacity code kind effects size_of laws call base v c m stage)
         (continues_further code kind key base v view_then (came_first code kind effects size_of laws call base v c m stage)
-        (continues_all code kind key s.views then_trace id v view_then next_between.one at next_between.run refl refl refl))
+        (continues_all code kind key s.views then_trace id v view_then next_between.one at next_between.run refl refl refl has_then))
 
     -- what it writes now, and of its own
     abbrev effs : List (Event T)
@@ -151,7 +170,7 @@ module _ {T C M E : Type 0} (code : Coding T) (kind : Kind) (effects : World T �
         flight_now ask low y.there asks_it finds
         ∙ ap (λ zs. mine_now ++ zs) ends
         in
-        since_turn next_between.one.turns (v.asked + 1) y.p id (Next y.p) y.u v base y.gained wrote effs last prior told_now own_now
+        since_turn next_between.one.turns (v.asked + 1) (v.aside + none_count ask) y.p id (Next y.p) y.u v base y.gained wrote effs last prior told_now own_now
 
     steps_then : steps_in then_trace.world y.p ≡ steps_in y.u.world y.p + step_count ask
     steps_then =
@@ -212,6 +231,11 @@ module _ {T C M E : Type 0} (code : Coding T) (kind : Kind) (effects : World T �
           is = refl;
         }
 
+    -- nothing was aside that was not before
+    aside_then : (base : View T) → Stage base v c m → v.aside ≡ base.aside
+    aside_then base (inl first) = ap (λ (z : View T). z.aside) first.is
+    aside_then base (inr under) = under.aside
+
     -- the call goes on
     pub goes_then : (base : View T) (stage : Stage base v c m) (d : C) (m' : M)
         → comes_now ≡ GoOn (call.flight d m') → call.stands base.capacity d → ((n : ℕ) → call.skips d n ≡ false)
@@ -219,8 +243,8 @@ module _ {T C M E : Type 0} (code : Coding T) (kind : Kind) (effects : World T �
         → IsLate kind (Some (call.start, flight_now)) late
         → Met code kind base.capacity call.start flight_now y.p base.going (es ++ late) found y.u
         → call.wrote base.capacity y.p base.going d m' ((es ++ late) ++ mine_now))
-        → StepsOnly base view_then → IsUnderWay code kind call base view_then d m'
-    goes_then base stage d m' afters standing past tells steps =
+        → StepsOnly base view_then → none_count ask ≡ 0 → IsUnderWay code kind call base view_then d m'
+    goes_then base stage d m' afters standing past tells steps word =
         let before = y.prior base stage in
         record {
           capacity = same_capacity code kind effects size_of laws call base v c m stage;
@@ -234,6 +258,7 @@ module _ {T C M E : Type 0} (code : Coding T) (kind : Kind) (effects : World T �
           state = state_then base stage;
           past = past;
           asked = steps;
+          aside = (let is = aside_then base stage in omega arith);
           alone = refl;
           wrote = (before.wrote ++ before.late) ++ mine_now;
           tells = tells before.wrote before.late before.tells before.waits (met base stage);
@@ -280,6 +305,7 @@ module _ {T C M E : Type 0} (code : Coding T) (kind : Kind) (effects : World T �
               flight_now ask low y.there asks_it finds);
           counted = ap (λ (t : Trace T). steps_in t.world y.p) (sym (one_then base stage));
           took = took;
+          aside = none_or_one ask (aside_then base stage);
           all = all_then base stage;
           parties = parties_then;
         }

@@ -47,6 +47,7 @@ module _ {T C M E : Type 0} (code : Coding T) (kind : Kind) (call : Calling T C 
         asked =
             subst (λ (o : Option (Start T × Flight T)). v.asked + taken_by o v.taken ≤ v.asked + v.taken) (sym under.going)
             (as_much (v.asked + v.taken));
+        aside = refl;
         alone = under.alone;
         wrote = [];
         tells = subst (λ (o : Option (Start T × Flight T)). call.wrote v.capacity under.party o c m []) (sym under.going) (none v.capacity under.party);

@@ -10,7 +10,7 @@ use Rattle.history.proofs.Names.{number_of, step_in, events_of_next, events_of_d
 use Rattle.history.proofs.Names.{ending_of, old_of, ask_of_doing, World, flight_in, party_put_same}
 use Rattle.history.proofs.Names.{party_put_other}
 use Rattle.steps.specs.declared.ask.After.TheVariants.{Done}
-use Rattle.model.specs.declared.families.Registry as registries
+use Rattle.model.specs.declared.families.Registry.TheVariants as registries
 use Rattle.model.specs.Turns.{step_count, change_of, doing_after}
 use Rattle.model.specs.Parties.{others_of}
 use Rattle.history.specs.History.{call_at, call_of, call_in, started, steps_of, steps_in, others_in, others_so}
@@ -131,8 +131,8 @@ module _ {T : Type 0} where
 
   -- no call goes on by it
   abbrev pub IsStateless : Registry T → Type 0
-  IsStateless (registries.TheVariants.Container dead states) = ⊥
-  IsStateless (registries.TheVariants.Loan book) = ⊥
+  IsStateless (registries.Container dead states) = ⊥
+  IsStateless (registries.Loan book) = ⊥
   IsStateless kept = Unit {0}
 
   pub goes_alike : (code : Coding T) (p : ℕ) (flight : Flight T) (n : ℕ) (kept : Registry T) → IsStateless kept

@@ -14,7 +14,7 @@ use Rattle.steps.specs.declared.container.find.Find.{Find as Finding}
 use Rattle.steps.specs.declared.container.find.FindStage.TheVariants as finds
 use Rattle.steps.specs.declared.copied.Buffer as buffers
 use Rattle.model.specs.declared.event.Answer.TheVariants as answers
-use Rattle.model.specs.declared.event.Event as events
+use Rattle.model.specs.declared.event.Event.TheVariants as events
 use Rattle.model.specs.declared.families.Flight.TheVariants as flights
 use Rattle.model.specs.declared.families.container.calls.ContainerFlight.TheVariants as calls
 use Rattle.model.specs.declared.turn.Kind.TheVariants as kinds
@@ -139,9 +139,9 @@ module _ {T R : Type 0} (code : Coding T) (law : IsCoding code) (words_in : R �
           ≡ copies_of p (copies_after (finds.ChecksCount index found count) n (value_of_room code words_in m.0) m.1)
       go true t =
           let value : read_in code (room m.0) ≡ value_of_room code words_in m.0 = room_read code (words_in m.0) in
-          rw t (ap (λ x. es ++ events.TheVariants.Copied p index x ∷ []) value
-          ∙ (ap (λ zs. zs ++ events.TheVariants.Copied p index (value_of_room code words_in m.0) ∷ []) h
-          ∙ sym (map-append (λ (c : ℕ × T). events.TheVariants.Copied p c.0 c.1) m.1 ((index, value_of_room code words_in m.0) ∷ []))))
+          rw t (ap (λ x. es ++ events.Copied p index x ∷ []) value
+          ∙ (ap (λ zs. zs ++ events.Copied p index (value_of_room code words_in m.0) ∷ []) h
+          ∙ sym (map-append (λ (c : ℕ × T). events.Copied p c.0 c.1) m.1 ((index, value_of_room code words_in m.0) ∷ []))))
       go false t = rw t (append-nil es ∙ h)
 
   -- ---- it is a call of the model
@@ -282,7 +282,7 @@ module _ {T R : Type 0} (code : Coding T) (law : IsCoding code) (words_in : R �
       → fold own_after (Open start ws) (copies_of p xs) ≡ Open start (ws ++ copies_of p xs)
   copies_span p start ws [] = ap (Open start) (sym (append-nil ws))
   copies_span p start ws (x ∷ xs) =
-      let e : Event T = events.TheVariants.Copied p x.0 x.1 in
+      let e : Event T = events.Copied p x.0 x.1 in
       copies_span p start (ws ++ e ∷ []) xs ∙ ap (Open start) (append_assoc ws (e ∷ []) (copies_of p xs))
 
   one_list : (p : ℕ) (xs ys : List (ℕ × T)) → copies_of p xs ≡ copies_of p ys → xs ≡ ys
@@ -290,7 +290,7 @@ module _ {T R : Type 0} (code : Coding T) (law : IsCoding code) (words_in : R �
   one_list p [] (y ∷ ys) e = absurd (cc)
   one_list p (x ∷ xs) [] e = absurd (cc)
   one_list p (x ∷ xs) (y ∷ ys) e =
-      let first : ◌≡◌ {A = Event T} (events.TheVariants.Copied p x.0 x.1) (events.TheVariants.Copied p y.0 y.1) = cc in
+      let first : ◌≡◌ {A = Event T} (events.Copied p x.0 x.1) (events.Copied p y.0 y.1) = cc in
       let index : x.0 ≡ y.0 = cc in
       let value : x.1 ≡ y.1 = cc in
       let rest : copies_of p xs ≡ copies_of p ys = cc in

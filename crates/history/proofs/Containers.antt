@@ -7,8 +7,8 @@ use Rattle.history.proofs.Names.{Party, Turn, Coding, first_of}
 use Rattle.history.proofs.Names.{step_of, beside_of, goes_of, going_rows, first, is_look_of, state_in}
 use Rattle.history.proofs.Names.{names_owner, questions, has_died, SetAct, set_acts_of, first_row, step_in}
 use Rattle.history.proofs.Names.{after_turn, World, Trace, stands_there, Word, open_refusal, AllLive, KeepsRule}
-use Rattle.model.specs.declared.families.Flight as flights
-use Rattle.model.specs.declared.families.Registry as registries
+use Rattle.model.specs.declared.families.Flight.TheVariants as flights
+use Rattle.model.specs.declared.families.Registry.TheVariants as registries
 use Rattle.model.specs.declared.families.container.calls.ContainerFlight.{ContainerFlight}
 use Rattle.model.specs.declared.families.container.calls.ContainerFlight.TheVariants as calls
 use Rattle.model.specs.declared.turn.Kind.TheVariants as kinds
@@ -38,7 +38,7 @@ use Rattle.history.proofs.Turns.{StepsOn, KeptLaws, all_someone}
 module _ {T : Type 0} where
   -- what a step of a container's call writes, where this is kept
   abbrev kept_effects : Coding T → Registry T → ℕ → Flight T → ℕ → List (Event T)
-  kept_effects code kept p (flights.TheVariants.Container flight) old = effects code p (state_in kept p) flight old ++ questions p flight old
+  kept_effects code kept p (flights.Container flight) old = effects code p (state_in kept p) flight old ++ questions p flight old
   kept_effects code kept p flight old = []
 
   abbrev pub container_effects : World T → ℕ → Flight T → ℕ → List (Event T)
@@ -46,7 +46,7 @@ module _ {T : Type 0} where
 
   -- what a step writes of a call that is no look of a state
   abbrev pub plain_effects : Coding T → ℕ → Flight T → ℕ → List (Event T)
-  plain_effects code p (flights.TheVariants.Container flight) old = effects code p None flight old ++ questions p flight old
+  plain_effects code p (flights.Container flight) old = effects code p None flight old ++ questions p flight old
   plain_effects code p flight old = []
 
   pub effects_of_party : (code : Coding T) (kept : Registry T) (p : ℕ) (flight : Flight T) (n : ℕ) → AreOf p (kept_effects code kept p flight n)
@@ -55,8 +55,8 @@ module _ {T : Type 0} where
   -- ---- a call that is no look of a state
 
   abbrev pub IsPlain : Flight T → Type 0
-  IsPlain (flights.TheVariants.Container (calls.Look which call)) = ⊥
-  IsPlain (flights.TheVariants.Container flight) = Unit {0}
+  IsPlain (flights.Container (calls.Look which call)) = ⊥
+  IsPlain (flights.Container flight) = Unit {0}
   IsPlain flight = ⊥
 
 -- the words of the set, how often an element has changed, and for each index a number and its element
@@ -89,7 +89,7 @@ module _ {T : Type 0} (code : Coding T) (capacity : ℕ) where
 
   -- nobody has died
   pub kept_there : (t : Trace T) → IsOn t → (dead : List ℕ) × (states : List (ℕ × ContainerState T))
-      × (t.world.kept ≡ registries.TheVariants.Container dead states) × ((owner : ℕ) → has_died owner dead ≡ false)
+      × (t.world.kept ≡ registries.Container dead states) × ((owner : ℕ) → has_died owner dead ≡ false)
   kept_there t r =
       let s = container_sound t r in (
         s.state.dead,
@@ -105,17 +105,17 @@ module _ {T : Type 0} (code : Coding T) (capacity : ℕ) where
       → (c z : ℕ) (all : List SetAct) (done : List (Act T)) (start : Start T) (flight : Flight T)
       → FlightAt c z all done start flight
       → first_row (going_rows t.world.coding t.world.kept (Some flight) None) ≡ None
-  no_rows t r c z all done (Container start) (flights.TheVariants.Container flight) at =
+  no_rows t r c z all done (Container start) (flights.Container flight) at =
       step_is_free by_word t.world.coding t.world.capacity t (container_sound t r) (all_live t r) flight
   no_rows t r c z all done start flight at = absurd at
 
   writes_there : (y : Coding T) (words : List ℕ) (beside : Option (ℕ × ℕ)) (c z p old : ℕ) (all : List SetAct) (done : List (Act T)) (kept : Registry T)
-      (s : ContainerNow T) (start : Start T) (flight : Flight T) → kept ≡ registries.TheVariants.Container s.dead s.states → FlightAt c z all done start flight
+      (s : ContainerNow T) (start : Start T) (flight : Flight T) → kept ≡ registries.Container s.dead s.states → FlightAt c z all done start flight
       → (step_of y words beside p start flight old kept).wrote ≡ kept_effects y kept p flight old
   writes_there x0 x1 x2 x3 x4 x5 x6 x7 x8 x9 x10 x11 x12 x13 x14 = grind arith
 
   goes_there : (y : Coding T) (words : List ℕ) (beside : Option (ℕ × ℕ)) (c z p old : ℕ) (all : List SetAct) (done : List (Act T)) (kept : Registry T)
-      (s : ContainerNow T) (start : Start T) (flight : Flight T) → kept ≡ registries.TheVariants.Container s.dead s.states → FlightAt c z all done start flight
+      (s : ContainerNow T) (start : Start T) (flight : Flight T) → kept ≡ registries.Container s.dead s.states → FlightAt c z all done start flight
       → (step_of y words beside p start flight old kept).after ≡ goes_of y p flight old kept
   goes_there x0 x1 x2 x3 x4 x5 x6 x7 x8 x9 x10 x11 x12 x13 x14 = grind arith
 
@@ -158,7 +158,7 @@ module _ {T : Type 0} (code : Coding T) (capacity : ℕ) where
     where
       paid : (s : ContainerNow T) (p : ℕ) (events : List (Event T)) (since changes backs : ℕ) (flight : Flight T)
           → (family_by by_word z c).Knows s p events since changes backs flight → backs ≤ changes - since
-      paid s p events since changes backs (flights.TheVariants.Container flight) h = turns_paid z c _ flight h
+      paid s p events since changes backs (flights.Container flight) h = turns_paid z c _ flight h
       paid s p events since changes backs flight h = absurd h
 
   -- how many steps its calls take
@@ -174,7 +174,7 @@ module _ {T : Type 0} (code : Coding T) (capacity : ℕ) where
 -- what is tested of a begin, where nobody has died
 module _ {T : Type 0} (capacity p : ℕ) (dead : List ℕ) (states : List (ℕ × ContainerState T)) (lives : (owner : ℕ) → has_died owner dead ≡ false) where
   abbrev FreeTo : ContainerStart T → Type 0
-  FreeTo start = first_row (rows_as kinds.Container capacity (registries.TheVariants.Container dead states) p (Container start)) ≡ None
+  FreeTo start = first_row (rows_as kinds.Container capacity (registries.Container dead states) p (Container start)) ≡ None
 
   may_begin : (start : ContainerStart T) → names_owner start ≡ true → FreeTo start
   may_begin x0 x1 = grind arith
@@ -182,7 +182,7 @@ module _ {T : Type 0} (capacity p : ℕ) (dead : List ℕ) (states : List (ℕ �
 -- each call that the container has may, as the party that the pass was last
 module _ {T C M E : Type 0} (code : Coding T) (base : View T) (call : Calling T C M E) (start : ContainerStart T) (c : C) (m : M)
     (is_named : call.start ≡ Container start) (by_last : (o : Option ℕ) (p : ℕ) → IfSome o (λ q. q ≡ p) → call.by o p)
-    (named : names_owner start ≡ true) (flies : flights.TheVariants.Container (first base.capacity start) ≡ call.flight c m) where
+    (named : names_owner start ≡ true) (flies : flights.Container (first base.capacity start) ≡ call.flight c m) where
   pub container_first : (kept : Registry T) → first_of kinds.Container base.capacity call.start kept ≡ Some (call.flight c m)
   container_first kept = rw is_named (rw named (ap Some flies))
 
@@ -194,7 +194,7 @@ module _ {T C M E : Type 0} (code : Coding T) (base : View T) (call : Calling T 
       (λ p. rw is_named (subst (λ k. first_row (rows_as kinds.Container base.capacity k p (Container start)) ≡ None) (sym kept.2)
       (may_begin base.capacity p kept.0 kept.1 kept.3 start named)))
     where
-      kept : (dead : List ℕ) × (states : List (ℕ × ContainerState T)) × (t.world.kept ≡ registries.TheVariants.Container dead states)
+      kept : (dead : List ℕ) × (states : List (ℕ × ContainerState T)) × (t.world.kept ≡ registries.Container dead states)
           × ((owner : ℕ) → has_died owner dead ≡ false)
       kept = kept_there code base.capacity t run
 

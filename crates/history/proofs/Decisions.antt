@@ -13,12 +13,13 @@ use Rattle.steps.specs.declared.ask.Want.TheVariants as wants
 use Rattle.threaded.specs.Driver.{Told}
 use Rattle.history.specs.declared.view.View.{View}
 use Rattle.history.specs.Known.{events_by}
-use Rattle.history.specs.History.{IsRun, IsMachine, Continues, call_in, steps_in, refusal_as}
+use Rattle.history.specs.History.{IsRun, IsMachine, Continues, call_in, steps_in, refusal_as, HasAsked, steps_of_run}
+use Rattle.history.proofs.Asked.{Gains, gains_has}
 use Rattle.history.specs.Stages.{Calling, LeavesState, Since, IsUnderWay, At, Ends, HasHeard, AtAsked, StepsOnly, taken_by}
 use Rattle.history.proofs.Known.{by_more, within}
 use Rattle.history.proofs.Reached.{MayDecide, decide_as}
 use Rattle.history.proofs.Calls.{stands, flight_is}
-use Rattle.history.proofs.Turns.{KeptLaws, Between, heard, decided, decided_at, decided_steps, made_between}
+use Rattle.history.proofs.Turns.{KeptLaws, Between, heard, decided, decided_at, decided_steps, decided_took, made_between}
 use Rattle.history.proofs.OneRun.{continues_all, continues_further}
 use Rattle.history.proofs.Steps.{view_after, settle}
 use Rattle.history.proofs.CallsIn.{by_bool, goes, AsksFor, StepsOf, StepsThere, ActsAlone, written_alone, steps_alone}
@@ -88,13 +89,31 @@ module _ {T C M E : Type 0} (code : Coding T) (kind : Kind) (decides : MayDecide
 
     -- what the seat would know then
     abbrev view_heard : View T
-    view_heard = view_after code kind key id y.p between_heard.one.turns v.asked v gained_then u_then
+    view_heard = view_after code kind key id y.p between_heard.one.turns v.asked v.aside v gained_then u_then
 
     abbrev table_heard : State (Unit {0}) (View T)
     table_heard = record { words = s.words; homes = s.homes; views = slice_set s.views id view_heard }
 
+    -- an answer is no operation
+    gains_heard : Gains s.views v v.asked v.aside (steps_of_run code kind key between_heard.one.turns)
+    unfolding between_heard
+    gains_heard =
+        record {
+          old = steps_of_run code kind key y.between.one.turns;
+          n = 0;
+          have = y.have;
+          has = y.has;
+          more =
+              decided_took code kind key (size_of key) effects (laws key) y.owner s id y.p y.gained y.u y.between call.start from
+              (GoOn (call.flight c m)) h.said y.there free comes;
+          own = omega arith;
+        }
+
+    has_heard : HasAsked view_heard (steps_of_run code kind key between_heard.one.turns)
+    has_heard = gains_has s.views v view_heard (steps_of_run code kind key between_heard.one.turns) gains_heard refl
+
     machine_heard : IsMachine code kind key table_heard
-    machine_heard = settle code kind key id y.p y.owner v.asked s.words s v gained_then u_then at h.before.some between_heard
+    machine_heard = settle code kind key id y.p y.owner v.asked v.aside s.words s v gained_then u_then at h.before.some between_heard gains_heard
 
     there_heard : call_in u_then.world y.p ≡ Some (call.start, call.flight c m)
     there_heard = decided_at code kind key (size_of key) effects (laws key) y.owner s id y.p y.gained y.u y.between call.start from
@@ -133,7 +152,7 @@ module _ {T C M E : Type 0} (code : Coding T) (kind : Kind) (decides : MayDecide
 
       since_then : Since y.p call.start ((told_by.wrote ++ told_by.late) ++ events_by y.p effs) [] base view_heard
       since_then =
-          since_turn code kind effects size_of laws call between_heard.one.turns v.asked y.p id (Decide y.p h.said) y.u v base y.gained
+          since_turn code kind effects size_of laws call between_heard.one.turns v.asked v.aside y.p id (Decide y.p h.said) y.u v base y.gained
           (told_by.wrote ++ told_by.late) effs [] told_by.prior told_heard
           (ap (events_by y.p) told_heard ∙ by_more y.p effs [])
 
@@ -163,7 +182,7 @@ module _ {T C M E : Type 0} (code : Coding T) (kind : Kind) (decides : MayDecide
       ran_then =
           subst (λ n. Continues code kind n base view_heard) (sym known ∙ k.before.capacity)
           (continues_further code kind key base v view_heard k.before.ran.first
-          (continues_all code kind key s.views u_then id v view_heard between_heard.one at between_heard.run refl refl refl))
+          (continues_all code kind key s.views u_then id v view_heard between_heard.one at between_heard.run refl refl refl has_heard))
 
       lifted : IsUnderWay code kind call base view_heard c m
       lifted =
@@ -179,6 +198,7 @@ module _ {T C M E : Type 0} (code : Coding T) (kind : Kind) (decides : MayDecide
             state = state_heard;
             past = λ i. steps.past base.capacity h.asking c n i standing_then h.goes;
             asked = asked_heard;
+            aside = k.before.aside;
             alone = refl;
             wrote = (told_by.wrote ++ told_by.late) ++ events_by y.p effs;
             tells = subst (λ zs. call.wrote base.capacity y.p base.going c m zs) (sym all_its_own) tells_then;

@@ -12,7 +12,7 @@ use Rattle.steps.specs.declared.ask.After.TheVariants.{Done}
 use Rattle.steps.specs.declared.ask.Want.TheVariants as wants
 use Rattle.threaded.specs.Driver.{Told}
 use Rattle.history.specs.declared.view.View.{View}
-use Rattle.history.specs.History.{IsRun, IsMachine, IsLate}
+use Rattle.history.specs.History.{IsRun, IsMachine, IsLate, steps_of_run}
 use Rattle.history.specs.Stages.{Calling, At, Ends, LeftOut, Over, StepsOnly}
 use Rattle.history.specs.Views.{Looks}
 use Rattle.history.proofs.Calls.{get_left}
@@ -20,7 +20,8 @@ use Rattle.history.proofs.Turns.{KindLaws, KeptLaws, MachineLaws, kept_laws, goe
 use Rattle.history.proofs.Steps.{settle}
 use Rattle.history.proofs.PassLooks.{looks_at}
 use Rattle.history.proofs.CallsIn.{by_bool, AsksFor, StepsIn, StepsThere, IsCallThere, ActsAlone, steps_alone, with_goes}
-use Rattle.history.proofs.CallTurns.{then_gained, next_between, view_then, asked_then, goes_then, ends_then}
+use Rattle.history.proofs.CallTurns.{then_gained, next_between, view_then, gains_then, asked_then, goes_then, ends_then}
+use Rattle.history.proofs.Asked.{Gains}
 use Rattle.history.proofs.CallReady.{same_capacity, some_share, still_stands, Ready, ready}
 pub use Rattle.history.proofs.CallsIn.{goes, IsCallOf, Met, IsCallIn, in_machine, NeverPushes}
 pub use Rattle.history.proofs.Called.{called, at_itself}
@@ -66,7 +67,7 @@ module _ {T C M E Asks : Type 0} (code : Coding T) (kind : Kind) (effects : Worl
         (λ k. is_call.past base.capacity c d n k (still_stands code kind effects size_of laws call base v c m stage) e)
         (λ es late h waits met. is_call.tells base.capacity y.p base.going c d m n es late y.u
         (still_stands code kind effects size_of laws call base v c m stage) h waits met e)
-        (steps_so base stage))
+        (steps_so base stage) refl)
     known_then base stage (Done end) e =
         inl (ends_then code kind effects size_of laws call s v key id c m at known y (Some ask) low asks_it finds_it
         base stage end (kept c m n) (comes_there base stage ∙ ap (λ r. goes call r (kept c m n)) e)
@@ -83,6 +84,10 @@ module _ {T C M E Asks : Type 0} (code : Coding T) (kind : Kind) (effects : Worl
         (then_gained code kind effects size_of laws call s v key id c m at known y (Some ask) low asks_it finds_it)
         (after_turn y.u (Next y.p))
     between_then = next_between code kind effects size_of laws call s v key id c m at known y (Some ask) low asks_it finds_it
+
+    pub gains_now : Gains s.views v (v.asked + 1) (v.aside + 0)
+        (steps_of_run code kind key (next_between code kind effects size_of laws call s v key id c m at known y (Some ask) low asks_it finds_it).one.turns)
+    gains_now = gains_then code kind effects size_of laws call s v key id c m at known y (Some ask) low asks_it finds_it
 
     abbrev pub gained_now : List (Event T)
     gained_now = then_gained code kind effects size_of laws call s v key id c m at known y (Some ask) low asks_it finds_it
@@ -160,10 +165,11 @@ module _ {T C M E Asks : Type 0} (code : Coding T) (kind : Kind) (effects : Worl
               view_now s v key id c m at known y ask low asked.2 small skip,
               table.keeps,
               tt,
-              settle code kind key id y.p y.owner (v.asked + 1)
+              settle code kind key id y.p y.owner (v.asked + 1) (v.aside + 0)
                   (slice_set s.words ask.word (written ask.op (slice_index s.words ask.word))) s v
                   (gained_now s v key id c m at known y ask low asked.2 small skip) (after_turn y.u (Next y.p)) at
-                  (some_share code kind effects size_of laws call base₀ v c m at₀) (between_then s v key id c m at known y ask low asked.2 small skip),
+                  (some_share code kind effects size_of laws call base₀ v c m at₀) (between_then s v key id c m at known y ask low asked.2 small skip)
+                  (gains_now s v key id c m at known y ask low asked.2 small skip),
               (told s v key id c m at known y ask low asked.2 small skip, refl, refl),
             ))),
       )

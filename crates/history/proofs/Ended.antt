@@ -1,6 +1,6 @@
 -- A history that ends where a call ended is that of the first turns of a run: with each turn at most one call ends, and its
 -- end is written last.
-use Rattle.history.proofs.Names.{◌≡◌, ⊎_elim, inl, inr, ◌⊎◌, ℕ, ◌<◌, ◌≤◌, Bool, Option, Some, None, List, [], ◌∷◌, ◌++◌, length, refl}
+use Rattle.history.proofs.Names.{◌≡◌, ⊎_elim, inl, inr, ◌⊎◌, ℕ, ◌+◌, ◌<◌, ◌≤◌, Bool, Option, Some, None, List, [], ◌∷◌, ◌++◌, length, refl}
 use Rattle.history.proofs.Names.{sym, ap, subst, ◌∙◌, arith, append_assoc, append-nil, Answer, Event, Begun, Finished, Start, Kind, Trace}
 use Rattle.history.proofs.Names.{Doing, Going, Over, Party, Turn, Begin, Next, Decide, Coding, party_of, answer_in, after_turn, ask_of_doing}
 use Rattle.history.proofs.Names.{ending_of, events_of, events_of_next, events_of_decision, number_of, old_of, step_in, World, Refusal}
@@ -13,7 +13,7 @@ use Rattle.model.specs.Turns.{AreAllowedBy, after_turns, events_of_answer}
 use Rattle.model.specs.World.{opening}
 use Rattle.model.proofs.LockFree.Writes.{writes_no_end}
 use Rattle.history.specs.declared.view.View.{View}
-use Rattle.history.specs.History.{AreFirst, AreFresh, IsBeginning, Knows, others_by, refusal_as, run_of}
+use Rattle.history.specs.History.{AreFirst, AreFresh, IsBeginning, Knows, others_by, refusal_as, run_of, IsPart, steps_of_run}
 
 -- ---- lists
 
@@ -179,12 +179,17 @@ module _ {T : Type 0} where
   module _ (code : Coding T) (kind : Kind) (capacity : ℕ) where
     -- the view in the run until then
     abbrev pub then_view : View T → List (Turn T) → View T
-    then_view v turns = record v { turns = turns; others = others_by (run_of code kind capacity turns).world v.party }
+    then_view v turns =
+        record v {
+          turns = turns;
+          others = others_by (run_of code kind capacity turns).world v.party;
+          asked = v.aside + steps_of_run code kind capacity turns;
+        }
 
     pub known_then : (v now : View T) (xs : List (Event T)) (p : ℕ) (start : Start T) (answer : Answer T)
-        → Knows code kind capacity now → v.seen ≡ xs ++ Finished p start answer ∷ [] → IsBeginning v.seen now.seen
+        → Knows code kind capacity now → IsPart v.share → v.seen ≡ xs ++ Finished p start answer ∷ [] → IsBeginning v.seen now.seen
         → (first : List (Turn T)) × AreFirst first now.turns × Knows code kind capacity (then_view v first)
-    known_then v now xs p start answer knows ends since =
+    known_then v now xs p start answer knows share ends since =
         let begin : Trace T = opening code kind capacity 0 in
         let u = up_to begin now.turns xs p start answer since.rest (sym knows.is ∙ (since.is ∙ ap (λ es. es ++ since.rest) ends)) in (
           u.first,
@@ -196,6 +201,7 @@ module _ {T : Type 0} where
             fresh = fresh_first begin u.first u.rest (subst (λ ts. AreFresh begin ts) u.is knows.fresh);
             is = ends ∙ sym u.told;
             others = refl;
+            asked = record { share = share; most = omega arith; all = λ whole. omega arith };
           },
         )
 

@@ -17,13 +17,15 @@ use Rattle.std.proofs.Common.{length-append}
 use Rattle.std.proofs.lemmas.Grind.{flat_map-append}
 use Rattle.steps.specs.declared.queues.roles.Role.{Role as Side}
 use Rattle.steps.specs.declared.queues.roles.Role.TheVariants.{Producer, Consumer}
-use Rattle.steps.specs.declared.queues.ring.PushStage as pushes
-use Rattle.steps.specs.declared.queues.ring.PopStage as pops
-use Rattle.model.specs.declared.families.Flight as flights
-use Rattle.model.specs.declared.families.Registry as registries
+use Rattle.steps.specs.declared.queues.ring.PushStage.{PushStage}
+use Rattle.steps.specs.declared.queues.ring.PushStage.TheVariants as pushes
+use Rattle.steps.specs.declared.queues.ring.PopStage.{PopStage}
+use Rattle.steps.specs.declared.queues.ring.PopStage.TheVariants as pops
+use Rattle.model.specs.declared.families.Flight.TheVariants as flights
+use Rattle.model.specs.declared.families.Registry.TheVariants as registries
 use Rattle.model.specs.declared.families.queues.QueueKind.TheVariants.{IndexQueue, Queue}
 use Rattle.model.specs.declared.families.queues.QueueStart.TheVariants.{Push}
-use Rattle.model.specs.declared.families.queues.calls.RingCall as rings
+use Rattle.model.specs.declared.families.queues.calls.RingCall.TheVariants as rings
 use Rattle.model.specs.declared.families.queues.calls.QueueFlight.TheVariants.{Role, Indices, Overflow}
 use Rattle.model.specs.Families.Queues.Roles.{GrantsRight}
 use Rattle.model.specs.Families.Queues.Steps.{effects_of}
@@ -51,12 +53,12 @@ module _ {T : Type 0} (c : ℕ) where
   abbrev Rightly : List (Event T) → Event T → Type 0
   Rightly before e = ByHolder before e × KeepsList before e
 
-  abbrev RoomAt : List (Event T) → pushes.PushStage → Type 0
-  RoomAt before (pushes.TheVariants.StoresWrite write) = length (waiting before) < c
+  abbrev RoomAt : List (Event T) → PushStage → Type 0
+  RoomAt before (pushes.StoresWrite write) = length (waiting before) < c
   RoomAt before stage = Unit {0}
 
-  abbrev FirstAt : List (Event T) → Item T → pops.PopStage → Type 0
-  FirstAt before item (pops.TheVariants.StoresRead read) = (rest : List (Item T)) × (waiting before ≡ item ∷ rest)
+  abbrev FirstAt : List (Event T) → Item T → PopStage → Type 0
+  FirstAt before item (pops.StoresRead read) = (rest : List (Item T)) × (waiting before ≡ item ∷ rest)
   FirstAt before item stage = Unit {0}
 
   abbrev Right : List (Event T) → List (Event T) → Type 0
@@ -82,23 +84,23 @@ module _ {T : Type 0} (c : ℕ) where
   ending_right : (p : ℕ) (start : Start T) (o : Option (Answer T)) (before : List (Event T)) → Right before (ending_of p start o)
   ending_right x0 x1 x2 x3 = grind arith
 
-  push_right : (r : Ring) (p : ℕ) (v : Val T (kind_of r)) (item : Item T) (stage : pushes.PushStage)
+  push_right : (r : Ring) (p : ℕ) (v : Val T (kind_of r)) (item : Item T) (stage : PushStage)
       (o : Option (Answer T)) (before : List (Event T))
       → producer_of before ≡ Some p → RoomAt before stage
       → Right before (effects_of p (push_of r v) (push_effect item stage) o)
   push_right x0 x1 x2 x3 x4 x5 x6 x7 x8 = grind (arith, push_acts, fold-append)
 
-  pop_right : (p : ℕ) (item : Item T) (stage : pops.PopStage) (o : Option (Answer T)) (before : List (Event T))
+  pop_right : (p : ℕ) (item : Item T) (stage : PopStage) (o : Option (Answer T)) (before : List (Event T))
       → consumer_of before ≡ Some p → FirstAt before item stage
       → Right before (effects_of p Pop (pop_effect item stage) o)
   pop_right x0 x1 x2 x3 x4 x5 x6 = grind (arith, pop_acts, fold-append)
 
   -- what a push and a pop know of the list, where these values wait
   module _ {V : Type 0} (code : Coding V) (named : V → Item T) (k : Core V) (before : List (Event T)) (same : waiting before ≡ map named k.waiting) where
-    room_at : (v : V) (stage : pushes.PushStage) → KnowsPush code c k v stage → RoomAt before stage
+    room_at : (v : V) (stage : PushStage) → KnowsPush code c k v stage → RoomAt before stage
     room_at x0 x1 x2 = grind (arith, length, waiting, length-map)
 
-    first_at : (words : List ℕ) (stage : pops.PopStage) → KnowsPop code c k words stage → FirstAt before (named (value_in code.value_of code.size words)) stage
+    first_at : (words : List ℕ) (stage : PopStage) → KnowsPop code c k words stage → FirstAt before (named (value_in code.value_of code.size words)) stage
     first_at x0 x1 x2 = grind arith
 
   module _ (en : Coding T) (words : List ℕ) (waits : Option (ℕ × ℕ)) (p n : ℕ) (ro : Roles)
@@ -107,18 +109,18 @@ module _ {T : Type 0} (c : ℕ) where
     flight_right : (r : Ring) (k : Core (Val T (kind_of r)))
         → waiting before ≡ map (values.item (kind_of r)) k.waiting → (start : QueueStart T) (flight : QueueFlight T)
         → At {T = T} en (kind_of r) c ro k p start flight
-        → Right before (step_of en words waits p (Queues start) (flights.TheVariants.Queues flight) n (registries.TheVariants.Queues ro)).wrote
-    flight_right of_indices k same (PushIndex v) (Indices (rings.TheVariants.Push run)) at =
+        → Right before (step_of en words waits p (Queues start) (flights.Queues flight) n (registries.Queues ro)).wrote
+    flight_right of_indices k same (PushIndex v) (Indices (rings.Push run)) at =
         push_right of_indices p v _ run.call.stage _ before (producers ∙ at.0)
         (room_at one_word (values.item IndexQueue) k before same v run.call.stage at.3)
-    flight_right of_indices k same Pop (Indices (rings.TheVariants.Pop run)) at = grind (arith, pop_right, first_at, one_word)
+    flight_right of_indices k same Pop (Indices (rings.Pop run)) at = grind (arith, pop_right, first_at, one_word)
     flight_right of_indices k same start (Indices call) at = absurd at
     flight_right of_indices k same start (Values call) at = absurd at
     flight_right of_indices k same start (Overflow call) at = absurd at
-    flight_right of_values k same (Push v) (Values (rings.TheVariants.Push run)) at =
+    flight_right of_values k same (Push v) (Values (rings.Push run)) at =
         push_right of_values p v _ run.call.stage _ before (producers ∙ at.0)
         (room_at en (values.item Queue) k before same v run.call.stage at.3)
-    flight_right of_values k same Pop (Values (rings.TheVariants.Pop run)) at = grind (arith, pop_right, first_at)
+    flight_right of_values k same Pop (Values (rings.Pop run)) at = grind (arith, pop_right, first_at)
     flight_right of_values k same start (Indices call) at = absurd at
     flight_right of_values k same start (Values call) at = absurd at
     flight_right of_values k same start (Overflow call) at = absurd at
@@ -131,17 +133,17 @@ module _ {T : Type 0} (c : ℕ) where
 
     module _ (t : Trace T) (s : SoundAt t) where
       any_right : (p n : ℕ) (waits : Option (ℕ × ℕ)) (start : Start T) (flight : Flight T) (kept : Registry T)
-          → kept ≡ registries.TheVariants.Queues s.state.roles → (family en (kind_of r) c).At s.state p start flight
+          → kept ≡ registries.Queues s.state.roles → (family en (kind_of r) c).At s.state p start flight
           → Right t.events (step_of t.world.coding t.world.words waits p start flight n kept).wrote
-      any_right p n waits (Queues start) (flights.TheVariants.Queues flight) kept e at =
-          subst (λ z. Right t.events (step_of z t.world.words waits p (Queues start) (flights.TheVariants.Queues flight) n kept).wrote) (sym s.coding)
-          (subst (λ k. Right t.events (step_of en t.world.words waits p (Queues start) (flights.TheVariants.Queues flight) n k).wrote) (sym e)
+      any_right p n waits (Queues start) (flights.Queues flight) kept e at =
+          subst (λ z. Right t.events (step_of z t.world.words waits p (Queues start) (flights.Queues flight) n kept).wrote) (sym s.coding)
+          (subst (λ k. Right t.events (step_of en t.world.words waits p (Queues start) (flights.Queues flight) n k).wrote) (sym e)
           (flight_right en t.world.words waits p n s.state.roles t.events s.holds.producers s.holds.consumers r
           s.state.core (waiting_is t.events (map (values.item (kind_of r)) s.state.core.waiting) s.holds.book) start
           flight at))
       any_right p n waits start flight kept e at = absurd at
 
-      same_kept : t.world.kept ≡ registries.TheVariants.Queues s.state.roles
+      same_kept : t.world.kept ≡ registries.Queues s.state.roles
       same_kept = s.fit.kept
 
       answer_right : (p n : ℕ) (x : Party T) → party_of p t.world.latest ≡ Some x → (doing : Doing T)

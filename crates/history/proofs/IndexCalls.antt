@@ -11,16 +11,18 @@ use Rattle.steps.specs.Indices.Unique.{release_want, release_takes, release_afte
 use Rattle.steps.specs.declared.ask.After.TheVariants.{Done}
 use Rattle.steps.specs.declared.ask.Want.TheVariants as wants
 use Rattle.steps.specs.declared.indices.unique.Acquire.{Acquire as Acquiring}
-use Rattle.steps.specs.declared.indices.unique.AcquireStage as acquires
+use Rattle.steps.specs.declared.indices.unique.AcquireStage.{AcquireStage}
+use Rattle.steps.specs.declared.indices.unique.AcquireStage.TheVariants as acquires
 use Rattle.steps.specs.declared.indices.unique.Release.{Release as Releasing}
-use Rattle.steps.specs.declared.indices.unique.ReleaseStage as releases
+use Rattle.steps.specs.declared.indices.unique.ReleaseStage.{ReleaseStage}
+use Rattle.steps.specs.declared.indices.unique.ReleaseStage.TheVariants as releases
 use Rattle.steps.specs.declared.indices.unique.DefaultMode.{DefaultMode}
 use Rattle.steps.specs.declared.indices.unique.LockMode.{LockMode}
 use Rattle.steps.specs.declared.indices.looks.BorrowedIndices.{BorrowedIndices as Counting}
 use Rattle.steps.specs.declared.indices.looks.IsLocked.{IsLocked as Looking}
 use Rattle.steps.specs.declared.indices.enums.ReleaseMode.TheVariants as modes
-use Rattle.model.specs.declared.families.Flight as flights
-use Rattle.model.specs.declared.families.indices.calls.IndexFlight as calls
+use Rattle.model.specs.declared.families.Flight.TheVariants as flights
+use Rattle.model.specs.declared.families.indices.calls.IndexFlight.TheVariants as calls
 use Rattle.model.specs.declared.turn.Kind.TheVariants as kinds
 use Rattle.model.specs.Families.Indices.Calls.{acquire_answer}
 use Rattle.model.specs.Families.Indices.Steps.{ended}
@@ -40,23 +42,23 @@ Standing n (GoOn d) = (takes_index {T = ℕ}).stands n d
 Standing n (Done e) = Unit {0}
 
 module _ (n : ℕ) (c : Acquiring) (same : c.capacity ≡ n) (some : 0 < n) where
-  takes_on : (stage : acquires.AcquireStage) (k : ℕ) → StandsIn n stage → Standing n (acquire_takes c stage k)
+  takes_on : (stage : AcquireStage) (k : ℕ) → StandsIn n stage → Standing n (acquire_takes c stage k)
   takes_on x0 x1 x2 = grind arith
 
-  asks_one : (stage : acquires.AcquireStage) → StandsIn n stage → (a : Ask) × (a.word < core.size n) × (acquire_asks c.capacity stage ≡ wants.Ask a)
-  asks_one acquires.TheVariants.LoadsHead h = (_, omega arith, refl)
-  asks_one (acquires.TheVariants.LoadsNext head) h = (_, (let low : 1 + proposed head < core.size n = omega arith in low), refl)
-  asks_one (acquires.TheVariants.ExchangesHead head next) h = (_, omega arith, refl)
-  asks_one (acquires.TheVariants.Claims index) h = (_, (let low : flag_word c.capacity index < core.size n = omega arith in low), refl)
-  asks_one (acquires.TheVariants.Scans index) h = (_, (let low : flag_word c.capacity index < core.size n = omega arith in low), refl)
+  asks_one : (stage : AcquireStage) → StandsIn n stage → (a : Ask) × (a.word < core.size n) × (acquire_asks c.capacity stage ≡ wants.Ask a)
+  asks_one acquires.LoadsHead h = (_, omega arith, refl)
+  asks_one (acquires.LoadsNext head) h = (_, (let low : 1 + proposed head < core.size n = omega arith in low), refl)
+  asks_one (acquires.ExchangesHead head next) h = (_, omega arith, refl)
+  asks_one (acquires.Claims index) h = (_, (let low : flag_word c.capacity index < core.size n = omega arith in low), refl)
+  asks_one (acquires.Scans index) h = (_, (let low : flag_word c.capacity index < core.size n = omega arith in low), refl)
 
-hears_at : (c : Acquiring) (stage : acquires.AcquireStage) (a : Ask) (n : ℕ)
+hears_at : (c : Acquiring) (stage : AcquireStage) (a : Ask) (n : ℕ)
     → acquire_asks c.capacity stage ≡ wants.Ask a → acquire_after c (answered a.op n) ≡ acquire_after c n
 hears_at x0 x1 x2 x3 x4 = grind arith
 
 module _ {T : Type 0} (code : Coding T) where
   abbrev told_as : After Acquiring Acquired → After (Flight T) (Answer T)
-  told_as r = as_call flights.TheVariants.Indices (λ answer. answer) (as_call calls.TheVariants.Acquire acquire_answer (went_on as_it_is tt tt r))
+  told_as r = as_call flights.Indices (λ answer. answer) (as_call calls.Acquire acquire_answer (went_on as_it_is tt tt r))
 
   as_told : (r : After Acquiring Acquired) → told_as r ≡ goes takes_index r tt
   as_told (GoOn d) = refl
@@ -68,7 +70,7 @@ module _ {T : Type 0} (code : Coding T) where
   claimed_in p (Done e) = claimed_by p e
 
   writes_so : (p : ℕ) (r : After Acquiring Acquired)
-      → ended p (answer_in (as_call calls.TheVariants.Acquire acquire_answer (went_on as_it_is tt tt r))) ≡ claimed_in p r
+      → ended p (answer_in (as_call calls.Acquire acquire_answer (went_on as_it_is tt tt r))) ≡ claimed_in p r
   writes_so x0 x1 = grind arith
 
   pub acquire_call : IsCallOf code index_effects core.size acquire_want acquire_after (λ c m n. m) takes_index
@@ -93,18 +95,18 @@ StandsBelow n index (Done e) = Unit {0}
 
 -- whether or not it may lock
 module _ {M : Type 0} (may : Bool) (c : Releasing M) (index : ℕ) where
-  gives_on : (n : ℕ) → c.capacity ≡ n → index < n → (stage : releases.ReleaseStage) (k : ℕ) → StandsBelow n index (release_takes may c stage k)
+  gives_on : (n : ℕ) → c.capacity ≡ n → index < n → (stage : ReleaseStage) (k : ℕ) → StandsBelow n index (release_takes may c stage k)
   gives_on x0 x1 x2 x3 x4 = grind arith
 
-  asks_for : (n : ℕ) → c.capacity ≡ n → index < n → (stage : releases.ReleaseStage)
+  asks_for : (n : ℕ) → c.capacity ≡ n → index < n → (stage : ReleaseStage)
       → (a : Ask) × (a.word < core.size n) × (release_asks may c.capacity index stage ≡ wants.Ask a)
-  asks_for n same low releases.TheVariants.ClearsFlag = (_, (let l : flag_word c.capacity index < core.size n = omega arith in l), refl)
-  asks_for n same low releases.TheVariants.LoadsHead = (_, omega arith, refl)
-  asks_for n same low (releases.TheVariants.StoresNext head) = (_, (let l : 1 + index < core.size n = omega arith in l), refl)
-  asks_for n same low (releases.TheVariants.ExchangesHead head) = (_, omega arith, refl)
-  asks_for n same low releases.TheVariants.Subtracts = (_, omega arith, refl)
+  asks_for n same low releases.ClearsFlag = (_, (let l : flag_word c.capacity index < core.size n = omega arith in l), refl)
+  asks_for n same low releases.LoadsHead = (_, omega arith, refl)
+  asks_for n same low (releases.StoresNext head) = (_, (let l : 1 + index < core.size n = omega arith in l), refl)
+  asks_for n same low (releases.ExchangesHead head) = (_, omega arith, refl)
+  asks_for n same low releases.Subtracts = (_, omega arith, refl)
 
-  gives_heard : (stage : releases.ReleaseStage) (a : Ask) (n : ℕ) → release_asks may c.capacity index stage ≡ wants.Ask a
+  gives_heard : (stage : ReleaseStage) (a : Ask) (n : ℕ) → release_asks may c.capacity index stage ≡ wants.Ask a
       → release_takes may c stage (answered a.op n) ≡ release_takes may c stage n
   gives_heard x0 x1 x2 x3 = grind arith
 
@@ -114,8 +116,8 @@ Giving = Releasing DefaultMode
 module _ {T : Type 0} (code : Coding T) (index : ℕ) where
   abbrev given_as : After Giving ReleaseState → After (Flight T) (Answer T)
   given_as r =
-      as_call flights.TheVariants.Indices (λ answer. answer)
-      (as_call calls.TheVariants.ReleaseDefault Rattle.model.specs.declared.event.Answer.TheVariants.State (went_on as_it_is index tt r))
+      as_call flights.Indices (λ answer. answer)
+      (as_call calls.ReleaseDefault Rattle.model.specs.declared.event.Answer.TheVariants.State (went_on as_it_is index tt r))
 
   as_given : (r : After Giving ReleaseState) → given_as r ≡ goes (gives_index index) r tt
   as_given (GoOn d) = refl
@@ -126,10 +128,10 @@ module _ {T : Type 0} (code : Coding T) (index : ℕ) where
   freed_in p (GoOn d) = freed_at p index d.stage
   freed_in p (Done e) = Freed p index ∷ []
 
-  abbrev at_stage : Giving → releases.ReleaseStage → Flight T
+  abbrev at_stage : Giving → ReleaseStage → Flight T
   at_stage c stage = (gives_index {T = T} index).flight (at_release c stage) tt
 
-  writes_at : (p : ℕ) (c : Giving) (stage : releases.ReleaseStage) (n : ℕ)
+  writes_at : (p : ℕ) (c : Giving) (stage : ReleaseStage) (n : ℕ)
       → freed_at p index stage ++ index_effects p (at_stage c stage) n ≡ freed_in p (release_takes false c stage n)
   writes_at x0 x1 x2 x3 = grind arith
 
@@ -168,8 +170,8 @@ Locking = Releasing LockMode
 module _ {T : Type 0} (code : Coding T) (index : ℕ) where
   abbrev locked_as : After Locking ReleaseState → After (Flight T) (Answer T)
   locked_as r =
-      as_call flights.TheVariants.Indices (λ answer. answer)
-      (as_call calls.TheVariants.ReleaseLock Rattle.model.specs.declared.event.Answer.TheVariants.State (went_on as_it_is index tt r))
+      as_call flights.Indices (λ answer. answer)
+      (as_call calls.ReleaseLock Rattle.model.specs.declared.event.Answer.TheVariants.State (went_on as_it_is index tt r))
 
   as_locked : (r : After Locking ReleaseState) → locked_as r ≡ goes (gives_or_locks index) r tt
   as_locked (GoOn d) = refl
@@ -179,10 +181,10 @@ module _ {T : Type 0} (code : Coding T) (index : ℕ) where
   locked_in p (GoOn d) = freed_at p index d.stage
   locked_in p (Done e) = given_by p index e
 
-  abbrev lock_stage : Locking → releases.ReleaseStage → Flight T
+  abbrev lock_stage : Locking → ReleaseStage → Flight T
   lock_stage c stage = (gives_or_locks {T = T} index).flight (at_release c stage) tt
 
-  locks_at : (p : ℕ) (c : Locking) (stage : releases.ReleaseStage) (n : ℕ)
+  locks_at : (p : ℕ) (c : Locking) (stage : ReleaseStage) (n : ℕ)
       → freed_at p index stage ++ index_effects p (lock_stage c stage) n ≡ locked_in p (release_takes true c stage n)
   locks_at x0 x1 x2 x3 = grind arith
 

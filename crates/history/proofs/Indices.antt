@@ -5,11 +5,11 @@ use Rattle.history.proofs.Names.{ReleaseMode, Event, Start, Flight, Registry, Pa
 use Rattle.history.proofs.Names.{begin_rows, step_of, beside_of, after_of, going_rows, IsIndexSet, IsKeptBy}
 use Rattle.history.proofs.Names.{promise_of, first_row, step_in, Trace, stands_there}
 use Rattle.model.specs.declared.event.Start.TheVariants.{Indices}
-use Rattle.model.specs.declared.families.Flight as flights
-use Rattle.model.specs.declared.families.Registry as registries
+use Rattle.model.specs.declared.families.Flight.TheVariants as flights
+use Rattle.model.specs.declared.families.Registry.TheVariants as registries
 use Rattle.model.specs.declared.families.indices.IndexStart.{IndexStart}
 use Rattle.model.specs.declared.families.indices.IndexStart.TheVariants.{Release}
-use Rattle.model.specs.declared.turn.Kind as kinds
+use Rattle.model.specs.declared.turn.Kind.TheVariants as kinds
 use Rattle.model.specs.Families.Indices.Opening.{call_rows, kept_rows}
 use Rattle.model.specs.Families.Indices.Promises.{KeepsHolders}
 use Rattle.model.specs.Families.Indices.Steps.{wrote}
@@ -32,16 +32,16 @@ use Rattle.history.proofs.Turns.{CallGoesOn, KindLaws}
 module _ {T : Type 0} where
   -- what a step of a set's call writes
   abbrev pub index_effects : ℕ → Flight T → ℕ → List (Event T)
-  index_effects p (flights.TheVariants.Indices flight) old = wrote p flight old
+  index_effects p (flights.Indices flight) old = wrote p flight old
   index_effects p flight old = []
 
   -- the promise of the machine, whatever the number of turns
-  pub is_index_set : (t : Trace T) → t.world.kind ≡ kinds.TheVariants.Indices → Rattle.model.specs.Turns.IsReachedOn t → IsIndexSet t
+  pub is_index_set : (t : Trace T) → t.world.kind ≡ kinds.Indices → Rattle.model.specs.Turns.IsReachedOn t → IsIndexSet t
   is_index_set t is r = (subst (λ P. IsKeptBy P t) (ap (promise_of {T = T}) is) (kept_on t is r)).promised
 
 module _ {T : Type 0} (code : Coding T) (capacity : ℕ) where
   abbrev IsIndices : Trace T → Type 0
-  IsIndices t = IsRun code kinds.TheVariants.Indices capacity t
+  IsIndices t = IsRun code kinds.Indices capacity t
 
   sound : (t : Trace T) → IsIndices t → frame.Sound (family t.world.coding t.world.capacity) t
   sound t r = reached_on_sound t r.of_kind r.reached
@@ -57,13 +57,13 @@ module _ {T : Type 0} (code : Coding T) (capacity : ℕ) where
 
   writes_there : (z : Coding T) (words : List ℕ) (beside : Option (ℕ × ℕ)) (c p old : ℕ) (kept : Registry T)
       (s : IndexSet) (start : Start T) (flight : Flight T)
-      → kept ≡ registries.TheVariants.Indices s.holders → FlightAt c s.holders p start flight
+      → kept ≡ registries.Indices s.holders → FlightAt c s.holders p start flight
       → (step_of z words beside p start flight old kept).wrote ≡ index_effects p flight old
   writes_there x0 x1 x2 x3 x4 x5 x6 x7 x8 x9 x10 x11 = grind arith
 
   goes_there : (z : Coding T) (words : List ℕ) (beside : Option (ℕ × ℕ)) (c p old : ℕ) (kept : Registry T)
       (s : IndexSet) (start : Start T) (flight : Flight T)
-      → kept ≡ registries.TheVariants.Indices s.holders → FlightAt c s.holders p start flight
+      → kept ≡ registries.Indices s.holders → FlightAt c s.holders p start flight
       → (step_of z words beside p start flight old kept).after ≡ after_of z flight old
   goes_there x0 x1 x2 x3 x4 x5 x6 x7 x8 x9 x10 x11 = grind arith
 
@@ -73,7 +73,7 @@ module _ {T : Type 0} (code : Coding T) (capacity : ℕ) where
 
   goes_on : (t : Trace T) → IsIndices t → (p : ℕ) (start : Start T) (flight : Flight T)
       → call_in t.world p ≡ Some (start, flight)
-      → CallGoesOn code kinds.TheVariants.Indices capacity (core.size capacity) index_effects t p flight
+      → CallGoesOn code kinds.Indices capacity (core.size capacity) index_effects t p flight
   goes_on t r p start flight at =
       let w = t.world in
       let s = sound t r in
@@ -95,7 +95,7 @@ module _ {T : Type 0} (code : Coding T) (capacity : ℕ) where
             here.x.start flight s.fit.kept mine));
       }
 
-  pub indices_owe : KindLaws code kinds.TheVariants.Indices capacity (core.size capacity) index_effects
+  pub indices_owe : KindLaws code kinds.Indices capacity (core.size capacity) index_effects
   indices_owe = record {
     size = size;
     goes_on = goes_on;
@@ -104,65 +104,65 @@ module _ {T : Type 0} (code : Coding T) (capacity : ℕ) where
   }
 
   -- how many steps its calls take
-  pub index_pays : Pays code kinds.TheVariants.Indices capacity
+  pub index_pays : Pays code kinds.Indices capacity
   index_pays t r =
       (let s = sound t r in
       let F = family t.world.coding t.world.capacity in
-      pays_run code kinds.TheVariants.Indices capacity t r F refl s
-      (progress_kept code kinds.TheVariants.Indices capacity t r F refl s (kept_on t r.of_kind r.reached)))
+      pays_run code kinds.Indices capacity t r F refl s
+      (progress_kept code kinds.Indices capacity t r F refl s (kept_on t r.of_kind r.reached)))
 
 -- ---- which party may begin a call
 
 module _ {T : Type 0} (code : Coding T) (base : View T) where
   abbrev IsOn : Trace T → Type 0
-  IsOn t = IsRun code kinds.TheVariants.Indices base.capacity t
+  IsOn t = IsRun code kinds.Indices base.capacity t
 
-  kept_there : (t : Trace T) → IsOn t → (holders : List (Option ℕ)) × (t.world.kept ≡ registries.TheVariants.Indices holders)
+  kept_there : (t : Trace T) → IsOn t → (holders : List (Option ℕ)) × (t.world.kept ≡ registries.Indices holders)
   kept_there t r = let s = sound code base.capacity t r in (s.state.holders, s.fit.kept)
 
   -- a call that names no index always may, as the party that the pass was last
   module _ {C M E : Type 0} (call : Calling T C M E) (start : IndexStart) (c : C) (m : M)
       (named : call.start ≡ Indices start) (by_last : (o : Option ℕ) (p : ℕ) → IfSome o (λ q. q ≡ p) → call.by o p)
-      (first_is : (kept : Registry T) → first_of kinds.TheVariants.Indices base.capacity (Indices start) kept ≡ Some (call.flight c m))
+      (first_is : (kept : Registry T) → first_of kinds.Indices base.capacity (Indices start) kept ≡ Some (call.flight c m))
       (free : (holders : List (Option ℕ)) (p : ℕ) → first_row (call_rows base.capacity holders p start) ≡ None) where
     pub plain_starts : (t : Trace T) (owner : ℕ → ℕ) (j : ℕ) → IsOn t → owner j ≡ j
         → IfSome base.party (λ p. owner p ≡ j)
         → ((f : Event T → ℕ) → sum_by f base.made ≡ sum_by (owned owner j f) t.events)
-        → Starts code kinds.TheVariants.Indices call base c m t owner j
+        → Starts code kinds.Indices call base c m t owner j
     plain_starts t owner j run self party sums =
-        starts_by_last code kinds.TheVariants.Indices call base c m t owner j by_last self party first_here may
+        starts_by_last code kinds.Indices call base c m t owner j by_last self party first_here may
       where
-        kept : (holders : List (Option ℕ)) × (t.world.kept ≡ registries.TheVariants.Indices holders)
+        kept : (holders : List (Option ℕ)) × (t.world.kept ≡ registries.Indices holders)
         kept = kept_there t run
 
-        is_some : is_none (first_of kinds.TheVariants.Indices base.capacity (Indices start) t.world.kept) ≡ false
+        is_some : is_none (first_of kinds.Indices base.capacity (Indices start) t.world.kept) ≡ false
         is_some = ap is_none (first_is t.world.kept)
 
-        may : (p : ℕ) → first_row (begin_rows kinds.TheVariants.Indices base.capacity t.world.kept p call.start) ≡ None
+        may : (p : ℕ) → first_row (begin_rows kinds.Indices base.capacity t.world.kept p call.start) ≡ None
         may p = rw (named, is_some) (subst (λ k. first_row (kept_rows base.capacity start k p) ≡ None) (sym kept.1) (free kept.0 p))
 
-        first_here : first_of kinds.TheVariants.Indices base.capacity call.start t.world.kept ≡ Some (call.flight c m)
+        first_here : first_of kinds.Indices base.capacity call.start t.world.kept ≡ Some (call.flight c m)
         first_here = rw named (first_is t.world.kept)
 
   -- a release may, as that of the pass's parties which holds the index
   module _ {C M E : Type 0} (call : Calling T C M E) (index : ℕ) (mode : ReleaseMode) (c : C) (m : M)
       (named : call.start ≡ Indices (Release index mode)) (by_any : (o : Option ℕ) (p : ℕ) → call.by o p)
       (first_is : (kept : Registry T)
-      → first_of kinds.TheVariants.Indices base.capacity (Indices (Release index mode)) kept ≡ Some (call.flight c m))
+      → first_of kinds.Indices base.capacity (Indices (Release index mode)) kept ≡ Some (call.flight c m))
       (below : index < base.capacity) (held : Holds index base.made) where
     pub release_starts : (t : Trace T) (owner : ℕ → ℕ) (j : ℕ) → IsOn t → owner j ≡ j
         → IfSome base.party (λ p. owner p ≡ j)
         → ((f : Event T → ℕ) → sum_by f base.made ≡ sum_by (owned owner j f) t.events)
-        → Starts code kinds.TheVariants.Indices call base c m t owner j
+        → Starts code kinds.Indices call base c m t owner j
     release_starts t owner j run self party sums =
         let set = is_index_set t run.of_kind run.reached in
         let kept = kept_there t run in
         let by = held_by owner j t.world.capacity index t.events base.made set.holds sums held in
-        let keeps : KeepsHolders (registries.TheVariants.Indices kept.0) t.events = subst (λ k. KeepsHolders k t.events) kept.1 set.holders in
+        let keeps : KeepsHolders (registries.Indices kept.0) t.events = subst (λ k. KeepsHolders k t.events) kept.1 set.holders in
         let mine : slice_index_or kept.0 index None ≡ Some by.0 = keeps index ∙ by.2 in
         let past : nat_le base.capacity index ≡ false = grind (arith, nat_tests) in
         let it : (by.0 == by.0) ≡ true = grind (arith, nat_tests) in
-        let is_some : is_none (first_of kinds.TheVariants.Indices base.capacity (Indices (Release index mode)) t.world.kept) ≡ false =
+        let is_some : is_none (first_of kinds.Indices base.capacity (Indices (Release index mode)) t.world.kept) ≡ false =
         ap is_none (first_is t.world.kept) in
         let free : first_row (call_rows base.capacity kept.0 by.0 (Release index mode)) ≡ None = rw (past, mine, it) refl in
         record {

@@ -7,7 +7,7 @@ use Rattle.history.proofs.Names.{Start, Flight, Kind}
 use mathlib.Core.Option.{some, some-ne-none}
 use lib.ListN.{get_elem?}
 use Rattle.history.specs.declared.view.View.{View}
-use Rattle.model.specs.declared.turn.Kind as kinds
+use Rattle.model.specs.declared.turn.Kind.TheVariants as kinds
 use Rattle.history.specs.History.{IsBeginning, Fits, call_in, IsLate, IsLateFor, MayBeLate}
 use Rattle.history.specs.Known.{own_of, events_by, by_party, owned, if_owned}
 
@@ -170,7 +170,7 @@ module _ {T : Type 0} where
   -- ---- what another may write for a call
 
   pub late_none : (k : Kind) (late : List (Event T)) → IsLate k None late → late ≡ []
-  late_none kinds.TheVariants.Overflow late h = h
+  late_none kinds.Overflow late h = h
   late_none k late h = h
 
   none_may : (c : Start T × Flight T) → MayBeLate c []
@@ -182,7 +182,7 @@ module _ {T : Type 0} where
 
   -- nothing may always be
   pub none_late : (k : Kind) (o : Option (Start T × Flight T)) → IsLate k o []
-  none_late kinds.TheVariants.Overflow o = none_for o
+  none_late kinds.Overflow o = none_for o
   none_late k o = refl
 
   both_none : (a b : List (Event T)) → a ≡ [] → b ≡ [] → a ++ b ≡ []
@@ -200,7 +200,7 @@ module _ {T : Type 0} where
   more_for (Some c) a b x y = may_more c a b x y
 
   pub late_more : (k : Kind) (o : Option (Start T × Flight T)) (a b : List (Event T)) → IsLate k o a → IsLate k o b → IsLate k o (a ++ b)
-  late_more kinds.TheVariants.Overflow o a b x y = more_for o a b x y
+  late_more kinds.Overflow o a b x y = more_for o a b x y
   late_more k o a b x y = both_none a b x y
 
   pub by_nothing : (o : Option ℕ) → by_party {T = T} o [] ≡ []

@@ -7,19 +7,21 @@ use native.Mathlib.Nat.{ℕ_set}
 use native.Mathlib.Bridge.{le_prop}
 use Rattle.std.specs.Coded.{×_prop, Unit-prop}
 use Rattle.steps.specs.declared.enums.UniqueIndexCreationError.{UniqueIndexCreationError}
-use Rattle.steps.specs.declared.atomic.StoreStage as stores
+use Rattle.steps.specs.declared.atomic.StoreStage.{StoreStage}
+use Rattle.steps.specs.declared.atomic.StoreStage.TheVariants as stores
 use Rattle.steps.specs.declared.queues.ring.PushStage as pushes
-use Rattle.steps.specs.declared.queues.overflow.PushStage as overflow_pushes
+use Rattle.steps.specs.declared.queues.overflow.PushStage.{PushStage}
+use Rattle.steps.specs.declared.queues.overflow.PushStage.TheVariants as overflow_pushes
 use Rattle.model.specs.declared.event.Answer.{Answer}
 use Rattle.model.specs.declared.event.Event.{Event}
 use Rattle.model.specs.declared.event.Start.{Start}
 use Rattle.model.specs.declared.families.Flight.{Flight}
-use Rattle.model.specs.declared.families.Flight as flights
-use Rattle.model.specs.declared.families.atomic.calls.AtomicFlight as values
-use Rattle.model.specs.declared.families.queues.calls.OverflowCall as overflows
+use Rattle.model.specs.declared.families.Flight.TheVariants as flights
+use Rattle.model.specs.declared.families.atomic.calls.AtomicFlight.TheVariants as values
+use Rattle.model.specs.declared.families.queues.calls.OverflowCall.TheVariants as overflows
 use Rattle.model.specs.declared.families.queues.calls.QueueFlight.{QueueFlight}
 use Rattle.model.specs.declared.families.queues.calls.QueueFlight.TheVariants.{Indices, Values, Overflow}
-use Rattle.model.specs.declared.families.queues.calls.RingCall as rings
+use Rattle.model.specs.declared.families.queues.calls.RingCall.TheVariants as rings
 use Rattle.model.specs.declared.turn.Kind.{Kind}
 use Rattle.model.specs.declared.turn.Refusal.{Refusal}
 use Rattle.model.specs.declared.turn.Turn.{Turn}
@@ -29,7 +31,7 @@ use Rattle.model.specs.Turns.{AreAllowedBy, after_turn, after_turns}
 use Rattle.model.specs.World.{World, Trace, opening}
 use Rattle.laws_queues.specs.Fresh.{IsFreshTurn, IsFreshCall, IsFreshAt, IsFresh, IsFreshOver, IsFreshStore}
 use Rattle.history.specs.declared.view.View.{View}
-use Rattle.history.specs.History.{AreFresh, IsHistory, IsRun, Knows, others_by, refusal_as, run_of}
+use Rattle.history.specs.History.{AreFresh, IsHistory, IsRun, Knows, HasAsked, others_by, refusal_as, run_of}
 use Rattle.history.proofs.Reached.{reached_as_opening, fresh_as_opening}
 use Rattle.history.proofs.Turns.{run_more}
 
@@ -68,12 +70,12 @@ fresh_prop : (found : ℕ) (stage : pushes.PushStage) → IsProp (IsFresh found 
 fresh_prop found pushes.TheVariants.LoadsWrite = le_prop
 fresh_prop found stage = Unit-prop
 
-fresh_over_prop : (found : ℕ) (stage : overflow_pushes.PushStage) → IsProp (IsFreshOver found stage)
-fresh_over_prop found overflow_pushes.TheVariants.LoadsWrite = le_prop
+fresh_over_prop : (found : ℕ) (stage : PushStage) → IsProp (IsFreshOver found stage)
+fresh_over_prop found overflow_pushes.LoadsWrite = le_prop
 fresh_over_prop found stage = Unit-prop
 
-fresh_store_prop : (found : ℕ) (stage : stores.StoreStage) → IsProp (IsFreshStore found stage)
-fresh_store_prop found stores.TheVariants.LoadsVersion = le_prop
+fresh_store_prop : (found : ℕ) (stage : StoreStage) → IsProp (IsFreshStore found stage)
+fresh_store_prop found stores.LoadsVersion = le_prop
 fresh_store_prop found stage = Unit-prop
 
 module _ {T : Type 0} (set : IsSet T) where
@@ -95,14 +97,14 @@ module _ {T : Type 0} where
   allowed_prop refuses t (turn ∷ turns) = ×_prop (refusal_set _ _) (allowed_prop refuses (after_turn t turn) turns)
 
   fresh_at_prop : (found : ℕ) (flight : QueueFlight T) → IsProp (IsFreshAt found flight)
-  fresh_at_prop found (Indices (rings.TheVariants.Push run)) = fresh_prop found run.call.stage
-  fresh_at_prop found (Values (rings.TheVariants.Push run)) = fresh_prop found run.call.stage
-  fresh_at_prop found (Overflow (overflows.TheVariants.Push run)) = fresh_over_prop found run.call.stage
+  fresh_at_prop found (Indices (rings.Push run)) = fresh_prop found run.call.stage
+  fresh_at_prop found (Values (rings.Push run)) = fresh_prop found run.call.stage
+  fresh_at_prop found (Overflow (overflows.Push run)) = fresh_over_prop found run.call.stage
   fresh_at_prop found flight = Unit-prop
 
   fresh_call_prop : (found : ℕ) (flight : Flight T) → IsProp (IsFreshCall found flight)
-  fresh_call_prop found (flights.TheVariants.Queues flight) = fresh_at_prop found flight
-  fresh_call_prop found (flights.TheVariants.Atomic (values.TheVariants.Store run)) = fresh_store_prop found run.call.stage
+  fresh_call_prop found (flights.Queues flight) = fresh_at_prop found flight
+  fresh_call_prop found (flights.Atomic (values.Store run)) = fresh_store_prop found run.call.stage
   fresh_call_prop found flight = Unit-prop
 
   fresh_turn_prop : (t : Trace T) (turn : Turn T) → IsProp (IsFreshTurn t turn)
@@ -116,7 +118,10 @@ module _ {T : Type 0} where
   others_prop : (code : Coding T) (kind : Kind) (capacity : ℕ) (v : View T) → IsProp (v.others ≡ others_by (run_of code kind capacity v.turns).world v.party)
   others_prop code kind capacity v = ℕ_set _ _
 
+  asked_prop : (v : View T) (steps : ℕ) → IsProp (HasAsked v steps)
+  asked_prop v steps = Prim.hlevel (le_prop, ℕ_set)
+
 -- where there is one at most that two values are the same
 pub knows_prop : {T : Type 0} → IsSet T → (code : Coding T) (kind : Kind) (capacity : ℕ) (v : View T) → IsProp (Knows code kind capacity v)
 knows_prop set code kind capacity v =
-    Prim.hlevel (coding_prop set, error_set, allowed_prop, fresh_turns_prop, is_set, event_set set, others_prop)
+    Prim.hlevel (coding_prop set, error_set, allowed_prop, fresh_turns_prop, is_set, event_set set, others_prop, asked_prop)

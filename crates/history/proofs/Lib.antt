@@ -6,6 +6,7 @@ mod Names
 pub mod Reached
 pub mod Calls
 pub mod StillFits
+pub mod Asked
 pub mod OneRun
 pub mod Turns
 pub mod KnownRuns

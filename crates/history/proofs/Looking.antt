@@ -77,6 +77,7 @@ module _ {T : Type 0} (code : Coding T) (kind : Kind) (size : ℕ) (u v w : View
         share = b.share ∙ a.share;
         other = b.other;
         made = b.made ∙ a.made;
+        aside = (let one = a.aside in let two = b.aside in omega arith);
         mine = record { rest = a.mine.rest ++ b.mine.rest; is = mine_both };
         theirs = begins_further u.other v.seen w.seen a.theirs b.mine;
         whole = λ all. ⊎_elim (λ (e : w.seen ≡ v.seen). ⊎_elim (λ f. inl (e ∙ f)) (λ f. inr (e ∙ f)) (a.whole all))

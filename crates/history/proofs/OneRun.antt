@@ -1,7 +1,7 @@
 -- The one run of a table: what a turn more leaves of it, and what a seat knows of it that is put in another's place.
 use Rattle.history.proofs.Names.{◌≡◌, ◌≢◌, ⊎_elim, ℕ, Option, None, List, [], ◌∷◌, ◌++◌, set, refl, sym, ap, subst, ◌∙◌}
 use Rattle.history.proofs.Names.{append-nil, append_assoc, at_set, Kind, Turn, Coding, IsCoding, Refusal, after_turn, World, Trace}
-use Rattle.history.proofs.Names.{inl, inr, ◌⊎◌, capacity_error}
+use Rattle.history.proofs.Names.{inl, inr, ◌⊎◌, capacity_error, arith}
 use Rattle.atomic_table.specs.Table.{State}
 use mathlib.Core.Option.{some}
 use lib.ListN.{get_elem?}
@@ -11,8 +11,10 @@ use Rattle.model.proofs.Reached.{after_turns_more}
 use Rattle.history.specs.declared.view.View.{View}
 use Rattle.history.specs.Passes.{HasSplit, HasJoined}
 use Rattle.history.specs.Views.{first_view}
-use Rattle.history.specs.History.{IsMachine, IsRun, IsReachedAs, AreFirst, AreFresh, Knew, OneRun, Knows, Continues, refusal_as, run_of, others_by}
+use Rattle.history.specs.History.{IsMachine, IsRun, IsReachedAs, HasAsked, steps_of_run, AreFirst, AreFresh, Knew}
+use Rattle.history.specs.History.{OneRun, Knows, Continues, refusal_as, run_of, others_by}
 use Rattle.history.specs.OneRun.{KnowOneRun, SeatsKnowOneRun}
+use Rattle.history.proofs.Asked.{left_asked, right_asked}
 use Rattle.laws_queues.specs.Fresh.{IsFreshTurn}
 use Rattle.model.specs.declared.turn.Kind.TheVariants as kinds
 
@@ -110,8 +112,9 @@ module _ {T : Type 0} where
         }
 
     pub knows_all : (views : List (View T)) (u : Trace T) (w : View T) (one : OneRun code kind capacity views u)
-        → IsRun code kind capacity u → w.turns ≡ one.turns → w.seen ≡ u.events → w.others ≡ others_by u.world w.party → Knows code kind capacity w
-    knows_all views u w one run is seen others =
+        → IsRun code kind capacity u → w.turns ≡ one.turns → w.seen ≡ u.events → w.others ≡ others_by u.world w.party
+        → HasAsked w (steps_of_run code kind capacity one.turns) → Knows code kind capacity w
+    knows_all views u w one run is seen others asked =
         let may = admits kind u run.reached in
         record {
           coded = subst IsCoding run.coded may.0;
@@ -122,16 +125,17 @@ module _ {T : Type 0} where
           fresh = subst (λ ts. AreFresh start ts) (sym is) one.fresh;
           is = seen ∙ ap (λ (t : Trace T). t.events) (one.is ∙ ap (run_of code kind capacity) (sym is));
           others = others ∙ ap (λ (t : Trace T). others_by t.world w.party) (one.is ∙ ap (run_of code kind capacity) (sym is));
+          asked = subst (λ ts. HasAsked w (steps_of_run code kind capacity ts)) (sym is) asked;
         }
 
     -- the run that it knew goes on to it
     pub continues_all : (views : List (View T)) (u : Trace T) (id : ℕ) (v w : View T) (one : OneRun code kind capacity views u)
         → get_elem? views id ≡ some v → IsRun code kind capacity u → w.turns ≡ one.turns → w.seen ≡ u.events → w.others ≡ others_by u.world w.party
-        → Continues code kind capacity v w
-    continues_all views u id v w one at run is seen others =
+        → HasAsked w (steps_of_run code kind capacity one.turns) → Continues code kind capacity v w
+    continues_all views u id v w one at run is seen others asked =
         record {
           first = subst (λ ts. AreFirst v.turns ts) (sym is) (one.knew id v at).mine;
-          knows = knows_all views u w one run is seen others;
+          knows = knows_all views u w one run is seen others asked;
         }
 
     pub continues_further : (x y z : View T) → AreFirst x.turns y.turns → Continues code kind capacity y z → Continues code kind capacity x z
@@ -139,9 +143,10 @@ module _ {T : Type 0} where
 
     -- a pass that has the turns and the events of another knows its run
     same_run : (old new : View T) → new.turns ≡ old.turns → new.seen ≡ old.seen
-        → new.others ≡ others_by (run_of code kind capacity old.turns).world new.party → Knows code kind capacity old
+        → new.others ≡ others_by (run_of code kind capacity old.turns).world new.party
+        → HasAsked new (steps_of_run code kind capacity old.turns) → Knows code kind capacity old
         → Continues code kind capacity old new
-    same_run old new turns seen others knows =
+    same_run old new turns seen others asked knows =
         record {
           first = subst (λ ts. AreFirst old.turns ts) (sym turns) (first_all old.turns);
           knows =
@@ -152,15 +157,18 @@ module _ {T : Type 0} where
                 fresh = subst (λ ts. AreFresh start ts) (sym turns) knows.fresh;
                 is = seen ∙ (knows.is ∙ ap (λ ts. (run_of code kind capacity ts).events) (sym turns));
                 others = others ∙ ap (λ ts. others_by (run_of code kind capacity ts).world new.party) (sym turns);
+                asked = subst (λ ts. HasAsked new (steps_of_run code kind capacity ts)) (sym turns) asked;
               };
         }
 
     pub continues_split : (old left right : View T) → HasSplit old left right → Knows code kind capacity old
         → Continues code kind capacity old left × Continues code kind capacity old right
     continues_split old left right cut knows = (
-      same_run old left cut.turns cut.seen (cut.others ∙ (knows.others ∙ ap (others_by (run_of code kind capacity old.turns).world) (sym cut.party))) knows,
+      same_run old left cut.turns cut.seen (cut.others ∙ (knows.others ∙ ap (others_by (run_of code kind capacity old.turns).world) (sym cut.party)))
+          (left_asked old left (steps_of_run code kind capacity old.turns) knows.asked cut.share cut.asked cut.aside) knows,
       same_run old right cut.right_turns cut.right_seen
-          (cut.right_others ∙ ap (others_by (run_of code kind capacity old.turns).world) (sym cut.right_party)) knows,
+          (cut.right_others ∙ ap (others_by (run_of code kind capacity old.turns).world) (sym cut.right_party))
+          (right_asked old right (steps_of_run code kind capacity old.turns) knows.asked cut.right_share cut.right_asked cut.right_aside) knows,
     )
 
     pub continues_join : (mine theirs new : View T) → HasJoined mine theirs new → Knows code kind capacity new
@@ -173,7 +181,15 @@ module _ {T : Type 0} where
     -- the first pass knows that nothing has happened
     pub knows_first : IsCoding code → capacity_error kind capacity ≡ None → Knows code kind capacity (first_view capacity)
     knows_first coded admitted =
-        record { coded = coded; admitted = admitted; allowed = tt; fresh = tt; is = refl; others = refl }
+        record {
+          coded = coded;
+          admitted = admitted;
+          allowed = tt;
+          fresh = tt;
+          is = refl;
+          others = refl;
+          asked = record { share = (omega arith, omega arith); most = omega arith; all = λ whole. refl };
+        }
 
     pub seats_know_one : (s : State (Unit {0}) (View T)) → IsMachine code kind capacity s → SeatsKnowOneRun s
     seats_know_one s m i j v w at there = know_one m.one.turns v w (m.one.knew i v at) (m.one.knew j w there)

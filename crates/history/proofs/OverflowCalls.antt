@@ -15,12 +15,13 @@ use Rattle.steps.specs.declared.ask.Want.TheVariants as wants
 use Rattle.steps.specs.declared.queues.overflow.Push.{Push as Pushing}
 use Rattle.steps.specs.declared.queues.overflow.PushEnd.{PushEnd}
 use Rattle.steps.specs.declared.queues.overflow.PushEnd.TheVariants.{Added, Own, Oldest}
-use Rattle.steps.specs.declared.queues.overflow.PushStage as pushes
+use Rattle.steps.specs.declared.queues.overflow.PushStage.{PushStage}
+use Rattle.steps.specs.declared.queues.overflow.PushStage.TheVariants as pushes
 use Rattle.steps.specs.Queues.Ring.{distance}
 use Rattle.steps.specs.Queues.Overflow.{at_push, cell_word, first_push, push_asks, push_want, push_takes, push_after}
 use Rattle.steps.specs.Queues.Overflow.{push_keeps, push_kept, push_answer}
 use Rattle.model.specs.declared.event.Item.TheVariants.{Index}
-use Rattle.model.specs.declared.families.queues.QueueKind as queues
+use Rattle.model.specs.declared.families.queues.QueueKind.TheVariants as queues
 use Rattle.model.specs.declared.turn.Kind.TheVariants as kinds
 use Rattle.model.specs.Families.Queues.Steps.{effects_of}
 use Rattle.laws_queues.proofs.Queues.Core.{Core, word_at}
@@ -70,23 +71,23 @@ module _ {T : Type 0} where
 -- ---- pushes
 
 -- a push that is not left out ends as a call
-acts : (c : Pushing) (e : PushEnd) (n : ℕ) (stage : pushes.PushStage) → HasPushWord stage
+acts : (c : Pushing) (e : PushEnd) (n : ℕ) (stage : PushStage) → HasPushWord stage
     → over_push_skips stage n ≡ false → push_takes c stage n ≡ Done e → HasActed e
-acts c e n pushes.TheVariants.HandsBack h skip ends = absurd h
-acts c e n pushes.TheVariants.LoadsWrite h skip ends = (let no : GoOn (at_push c (pushes.TheVariants.LoadsRead n)) ≡ Done e = rw skip at ends in absurd (cc))
-acts c e n (pushes.TheVariants.LoadsRead write) h skip ends = absurd (cc)
-acts c e n (pushes.TheVariants.StoresCell write at) h skip ends = absurd (cc)
-acts c e n (pushes.TheVariants.StoresWrite write at) h skip ends = go (distance write at == c.capacity) ends
+acts c e n pushes.HandsBack h skip ends = absurd h
+acts c e n pushes.LoadsWrite h skip ends = (let no : GoOn (at_push c (pushes.LoadsRead n)) ≡ Done e = rw skip at ends in absurd (cc))
+acts c e n (pushes.LoadsRead write) h skip ends = absurd (cc)
+acts c e n (pushes.StoresCell write at) h skip ends = absurd (cc)
+acts c e n (pushes.StoresWrite write at) h skip ends = go (distance write at == c.capacity) ends
   where
-    go : (b : Bool) → cond b (GoOn (at_push c (pushes.TheVariants.MovesRead at))) (Done Added) ≡ Done e → HasActed e
+    go : (b : Bool) → cond b (GoOn (at_push c (pushes.MovesRead at))) (Done Added) ≡ Done e → HasActed e
     go true d = absurd (cc)
     go false d = (let same : Added ≡ e = cc in subst HasActed same tt)
-acts c e n (pushes.TheVariants.MovesRead at) h skip ends = go (n == at) ends
+acts c e n (pushes.MovesRead at) h skip ends = go (n == at) ends
   where
-    go : (b : Bool) → cond b (GoOn (at_push c (pushes.TheVariants.LoadsCell at))) (Done Added) ≡ Done e → HasActed e
+    go : (b : Bool) → cond b (GoOn (at_push c (pushes.LoadsCell at))) (Done Added) ≡ Done e → HasActed e
     go true d = absurd (cc)
     go false d = (let same : Added ≡ e = cc in subst HasActed same tt)
-acts c e n (pushes.TheVariants.LoadsCell at) h skip ends = (let same : Oldest ≡ e = cc in subst HasActed same tt)
+acts c e n (pushes.LoadsCell at) h skip ends = (let same : Oldest ≡ e = cc in subst HasActed same tt)
 
 module _ {T : Type 0} (code : Coding T) (v : ℕ) where
   abbrev pushing : Calling T Pushing OneWord PushEnd
@@ -98,32 +99,32 @@ module _ {T : Type 0} (code : Coding T) (v : ℕ) where
   abbrev Next : ℕ → Pushing → Type 0
   Next capacity d = (d.capacity ≡ capacity) × HasPushWord d.stage × ((k : ℕ) → over_push_skips d.stage k ≡ false)
 
-  stays : (capacity : ℕ) (c d : Pushing) (n : ℕ) (stage : pushes.PushStage) → c.capacity ≡ capacity
+  stays : (capacity : ℕ) (c d : Pushing) (n : ℕ) (stage : PushStage) → c.capacity ≡ capacity
       → HasPushWord stage → push_takes c stage n ≡ GoOn d → Next capacity d
   stays x0 x1 x2 x3 x4 x5 x6 x7 = grind arith
 
-  asks : (capacity own : ℕ) (stage : pushes.PushStage) → own ≡ capacity → HasPushWord stage
+  asks : (capacity own : ℕ) (stage : PushStage) → own ≡ capacity → HasPushWord stage
       → (a : Ask) × (a.word < 4 + (capacity + 1)) × (push_asks own stage v ≡ wants.Ask a)
-  asks capacity own pushes.TheVariants.HandsBack same h = absurd h
-  asks capacity own pushes.TheVariants.LoadsWrite same h = (record { word = 0; op = Load }, omega arith, refl)
-  asks capacity own (pushes.TheVariants.LoadsRead write) same h = (record { word = 1; op = Load }, omega arith, refl)
-  asks capacity own (pushes.TheVariants.StoresCell write read) same h =
+  asks capacity own pushes.HandsBack same h = absurd h
+  asks capacity own pushes.LoadsWrite same h = (record { word = 0; op = Load }, omega arith, refl)
+  asks capacity own (pushes.LoadsRead write) same h = (record { word = 1; op = Load }, omega arith, refl)
+  asks capacity own (pushes.StoresCell write read) same h =
       (record { word = cell_word own write; op = Store v }, (let low : write % (own + 1) < own + 1 = omega arith in omega arith), refl)
-  asks capacity own (pushes.TheVariants.StoresWrite write read) same h = (record { word = 0; op = Store (after_position write) }, omega arith, refl)
-  asks capacity own (pushes.TheVariants.MovesRead read) same h = (record { word = 1; op = Exchange read (after_position read) }, omega arith, refl)
-  asks capacity own (pushes.TheVariants.LoadsCell read) same h =
+  asks capacity own (pushes.StoresWrite write read) same h = (record { word = 0; op = Store (after_position write) }, omega arith, refl)
+  asks capacity own (pushes.MovesRead read) same h = (record { word = 1; op = Exchange read (after_position read) }, omega arith, refl)
+  asks capacity own (pushes.LoadsCell read) same h =
       (record { word = cell_word own read; op = Load }, (let low : read % (own + 1) < own + 1 = omega arith in omega arith), refl)
 
-  abbrev Hears : Pushing → OneWord → Ask → ℕ → pushes.PushStage → Type 0
+  abbrev Hears : Pushing → OneWord → Ask → ℕ → PushStage → Type 0
   Hears c m a n stage = (push_takes c stage (answered a.op n) ≡ push_takes c stage n) × (push_keeps m stage (answered a.op n) ≡ push_keeps m stage n)
 
-  hears : (c : Pushing) (m : OneWord) (a : Ask) (n : ℕ) (stage : pushes.PushStage) → push_asks c.capacity stage v ≡ wants.Ask a → Hears c m a n stage
+  hears : (c : Pushing) (m : OneWord) (a : Ask) (n : ℕ) (stage : PushStage) → push_asks c.capacity stage v ≡ wants.Ask a → Hears c m a n stage
   hears x0 x1 x2 x3 x4 x5 = grind arith
 
-  finds : (n : ℕ) (stage : pushes.PushStage) → n < 2 ^ 64 → over_push_skips stage n ≡ false → IsFreshOver n stage
+  finds : (n : ℕ) (stage : PushStage) → n < 2 ^ 64 → over_push_skips stage n ≡ false → IsFreshOver n stage
   finds x0 x1 x2 x3 = grind arith
 
-  leaves : (c : Pushing) (a : Ask) (n : ℕ) (stage : pushes.PushStage) → over_push_skips stage n ≡ true
+  leaves : (c : Pushing) (a : Ask) (n : ℕ) (stage : PushStage) → over_push_skips stage n ≡ true
       → push_asks c.capacity stage v ≡ wants.Ask a
       → (written a.op n ≡ n) × (e : PushEnd) × (e ≡ Own) × (push_takes c stage n ≡ Done e)
   leaves x0 x1 x2 x3 x4 x5 = grind arith
@@ -142,9 +143,9 @@ module _ {T : Type 0} (code : Coding T) (v : ℕ) where
       → c.capacity ≡ capacity → from ≡ None → AllByRecursion IsWithin es
       → Met code kinds.Overflow capacity pushing.start (pushing.flight c m) p from es n t → There capacity p c es n t
   there capacity p from c m n es t same none are met =
-      let s = sound_of code capacity queues.TheVariants.Overflow t met.run in
+      let s = sound_of code capacity queues.Overflow t met.run in
       let at = stands t.world p pushing.start (pushing.flight c m) met.there in
-      let now = stands_there (family t.world.coding queues.TheVariants.Overflow t.world.capacity) t s p at.x at.since (pushing.flight c m) at.found at.doing in
+      let now = stands_there (family t.world.coding queues.Overflow t.world.capacity) t s p at.x at.since (pushing.flight c m) at.found at.doing in
       let k = s.state.core in
       let words : t.world.words ≡ layout s.state.roles k = s.fit.words in
       let span : Open at.x.start (overflow_wrote t.world.capacity k p v c.stage) ≡ Open pushing.start es =
@@ -169,14 +170,14 @@ module _ {T : Type 0} (code : Coding T) (v : ℕ) where
       (Some (popped (push_answer v (push_kept c m n).0 e)))
   effects_end w p c e m n is = rw is refl
 
-  abbrev Tells : ℕ → ℕ → Pushing → PushEnd → OneWord → ℕ → List (Event T) → World T → pushes.PushStage → Type 0
+  abbrev Tells : ℕ → ℕ → Pushing → PushEnd → OneWord → ℕ → List (Event T) → World T → PushStage → Type 0
   Tells capacity p c e m n es w stage =
       es ++ effects_of p (PushIndex v) (overflow_push_effect w.words c.capacity (Index v) stage n)
       (Some (popped (push_answer v (push_keeps m stage n).0 e)))
       ≡ over_push_wrote p v (push_keeps m stage n).0 e
 
   tells_end : (capacity p : ℕ) (c : Pushing) (e : PushEnd) (m : OneWord) (n : ℕ) (es : List (Event T)) (t : Trace T)
-      (k : Core ℕ) (stage : pushes.PushStage)
+      (k : Core ℕ) (stage : PushStage)
       → es ≡ overflow_wrote capacity k p v stage → slice_index t.world.words 1 ≡ k.read
       → ((position : ℕ) → slice_index t.world.words (cell_word capacity position) ≡ get_or k.cells (position % (capacity + 1)) 0)
       → old_of t.world.words (ask_of (push_asks capacity stage v)) ≡ n → HasPushWord stage
@@ -234,7 +235,7 @@ module _ {T : Type 0} (code : Coding T) (v : ℕ) where
         some = any;
         first = refl;
         starts =
-            role_starts code queues.TheVariants.Overflow x pushing (PushIndex v) (first_push x.capacity)
+            role_starts code queues.Overflow x pushing (PushIndex v) (first_push x.capacity)
             (record { 0 = 0 }) refl (λ kept. refl) Producer (λ o p. tt) (λ roles p is. holds_it roles.producer p is)
             has;
         wrote = λ p. (refl, tt);

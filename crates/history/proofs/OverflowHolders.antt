@@ -12,14 +12,16 @@ use Rattle.history.proofs.Names.{overflow_pop_effect, takes_effect, acts_if_done
 use Rattle.history.proofs.Names.{Trace, capacity_error, AreRight, Each-nil, stands_there, oldest, KnowsOverflowPush}
 use Rattle.history.proofs.Names.{KnowsOverflowPop, waiting_is, layout, admitted_fits}
 use Rattle.steps.specs.declared.queues.overflow.Pop.{Pop as Popping}
-use Rattle.steps.specs.declared.queues.overflow.PushStage as pushes
+use Rattle.steps.specs.declared.queues.overflow.PushStage.{PushStage}
+use Rattle.steps.specs.declared.queues.overflow.PushStage.TheVariants as pushes
 use Rattle.steps.specs.declared.routine.Running.{Running}
 use Rattle.steps.specs.Queues.Overflow.{cell_word, push_asks, pop_asks}
-use Rattle.steps.specs.declared.queues.overflow.PopStage as pops
+use Rattle.steps.specs.declared.queues.overflow.PopStage.{PopStage}
+use Rattle.steps.specs.declared.queues.overflow.PopStage.TheVariants as pops
 use Rattle.model.specs.declared.event.Item.TheVariants.{Index}
-use Rattle.model.specs.declared.families.Flight as flights
-use Rattle.model.specs.declared.families.queues.QueueKind as queues
-use Rattle.model.specs.declared.families.queues.calls.OverflowCall as overflows
+use Rattle.model.specs.declared.families.Flight.TheVariants as flights
+use Rattle.model.specs.declared.families.queues.QueueKind.TheVariants as queues
+use Rattle.model.specs.declared.families.queues.calls.OverflowCall.TheVariants as overflows
 use Rattle.model.specs.declared.families.queues.calls.QueueFlight.TheVariants.{Indices, Overflow}
 use Rattle.model.specs.declared.turn.Kind.TheVariants as kinds
 use Rattle.model.specs.Families.Queues.Calls.{after}
@@ -97,21 +99,21 @@ module _ {T : Type 0} (c : ℕ) where
       ((still p item o before ∙ known push.0 push.1 refl, tt), tt)
 
   -- what a pop takes out, where it does
-  abbrev PopFits : List (Event T) → List ℕ → ℕ → ℕ → pops.PopStage → Type 0
-  PopFits before words capacity n (pops.TheVariants.MovesRead read) =
+  abbrev PopFits : List (Event T) → List ℕ → ℕ → ℕ → PopStage → Type 0
+  PopFits before words capacity n (pops.MovesRead read) =
       n ≡ read → FitsList before (HandsOut (Index (slice_index words (cell_word capacity read))))
   PopFits before words capacity n stage = Unit {0}
 
-  pop_right : (words : List ℕ) (capacity p n : ℕ) (waits : Option (ℕ × ℕ)) (stage : pops.PopStage)
+  pop_right : (words : List ℕ) (capacity p n : ℕ) (waits : Option (ℕ × ℕ)) (stage : PopStage)
       (o : Option (Answer T)) (before : List (Event T))
       → ((q v : ℕ) → waits ≡ Some (q, v) → producer_of before ≡ Some q) → PopFits before words capacity n stage
       → consumer_of before ≡ Some p
       → Right before (effects_of p Pop (overflow_pop_effect words waits capacity stage n) o)
-  pop_right words capacity p n waits pops.TheVariants.FindsNone o before known fits holds = pop_acts p o before holds
-  pop_right words capacity p n waits pops.TheVariants.LoadsRead o before known fits holds = tt
-  pop_right words capacity p n waits (pops.TheVariants.LoadsWrite read) o before known fits holds = pop_acts p o before holds
-  pop_right words capacity p n waits (pops.TheVariants.LoadsCell read) o before known fits holds = tt
-  pop_right words capacity p n waits (pops.TheVariants.MovesRead read) o before known fits holds = go (n == read) refl
+  pop_right words capacity p n waits pops.FindsNone o before known fits holds = pop_acts p o before holds
+  pop_right words capacity p n waits pops.LoadsRead o before known fits holds = tt
+  pop_right words capacity p n waits (pops.LoadsWrite read) o before known fits holds = pop_acts p o before holds
+  pop_right words capacity p n waits (pops.LoadsCell read) o before known fits holds = tt
+  pop_right words capacity p n waits (pops.MovesRead read) o before known fits holds = go (n == read) refl
     where
       go : (b : Bool) → (n == read) ≡ b
           → Right before (effects_of p Pop (cond b (takes_effect (Index (slice_index words (cell_word capacity read))) waits) Quiet) o)
@@ -136,14 +138,14 @@ module _ {T : Type 0} (c : ℕ) where
     long : length (waiting before) ≡ length k.waiting
     long = ap length same ∙ length-map k.waiting Index
 
-    push_fits : (v capacity n : ℕ) (stage : pushes.PushStage) → capacity ≡ c → KnowsOverflowPush c k v stage
+    push_fits : (v capacity n : ℕ) (stage : PushStage) → capacity ≡ c → KnowsOverflowPush c k v stage
         → (stage_found : old_of words (ask_of (push_asks capacity stage v)) ≡ n)
         → FitsList before (overflow_push_effect words capacity (Index v) stage n)
-    push_fits v capacity n pushes.TheVariants.HandsBack size knows found = tt
-    push_fits v capacity n pushes.TheVariants.LoadsWrite size knows found = tt
-    push_fits v capacity n (pushes.TheVariants.LoadsRead write) size knows found = tt
-    push_fits v capacity n (pushes.TheVariants.StoresCell write read) size knows found = tt
-    push_fits v capacity n (pushes.TheVariants.StoresWrite write read) size knows found = go _
+    push_fits v capacity n pushes.HandsBack size knows found = tt
+    push_fits v capacity n pushes.LoadsWrite size knows found = tt
+    push_fits v capacity n (pushes.LoadsRead write) size knows found = tt
+    push_fits v capacity n (pushes.StoresCell write read) size knows found = tt
+    push_fits v capacity n (pushes.StoresWrite write read) size knows found = go _
       where
         room : length (waiting before) < c + 1
         room = (let is = good.write in let low = knows.2 in let fits = knows.3 in let same_length = long in omega arith)
@@ -151,7 +153,7 @@ module _ {T : Type 0} (c : ℕ) where
         go : (b : Bool) → FitsList before (cond b (PublishesAndActs (Index v)) (Publishes (Index v)))
         go true = room
         go false = room
-    push_fits v capacity n (pushes.TheVariants.MovesRead read) size knows found = go (n == read) refl
+    push_fits v capacity n (pushes.MovesRead read) size knows found = go (n == read) refl
       where
         go : (b : Bool) → (n == read) ≡ b → FitsList before (cond b (TakesOut (slice_index words (cell_word capacity read))) Quiet)
         go true d =
@@ -160,22 +162,22 @@ module _ {T : Type 0} (c : ℕ) where
             let some : 0 < length k.waiting = (let is_write = good.write in let far = knows.2 in omega arith) in
             subst (λ z. FitsList before (TakesOut (slice_index words (cell_word z read)))) (sym size) (front read here some)
         go false d = tt
-    push_fits v capacity n (pushes.TheVariants.LoadsCell read) size knows found = tt
+    push_fits v capacity n (pushes.LoadsCell read) size knows found = tt
 
-    pop_fits : (room : OneWord) (capacity n : ℕ) (stage : pops.PopStage) → capacity ≡ c
+    pop_fits : (room : OneWord) (capacity n : ℕ) (stage : PopStage) → capacity ≡ c
         → KnowsOverflowPop c k room stage → old_of words (ask_of (pop_asks capacity stage)) ≡ n
         → PopFits before words capacity n stage
-    pop_fits room capacity n pops.TheVariants.FindsNone size knows found = tt
-    pop_fits room capacity n pops.TheVariants.LoadsRead size knows found = tt
-    pop_fits room capacity n (pops.TheVariants.LoadsWrite read) size knows found = tt
-    pop_fits room capacity n (pops.TheVariants.LoadsCell read) size knows found = tt
-    pop_fits room capacity n (pops.TheVariants.MovesRead read) size knows found =
+    pop_fits room capacity n pops.FindsNone size knows found = tt
+    pop_fits room capacity n pops.LoadsRead size knows found = tt
+    pop_fits room capacity n (pops.LoadsWrite read) size knows found = tt
+    pop_fits room capacity n (pops.LoadsCell read) size knows found = tt
+    pop_fits room capacity n (pops.MovesRead read) size knows found =
         λ is.
         let here : read ≡ k.read = sym is ∙ (sym found ∙ is_read) in
         let some : 0 < length k.waiting = (let is_write = good.write in let below = knows.2 in omega arith) in
         subst (λ z. FitsList before (HandsOut (Index (slice_index words (cell_word z read))))) (sym size) (front read here some)
 
-  module _ (en : Coding T) (t : Trace T) (s : frame.Sound (family en queues.TheVariants.Overflow c) t) where
+  module _ (en : Coding T) (t : Trace T) (s : frame.Sound (family en queues.Overflow c) t) where
     its_words : t.world.words ≡ layout s.state.roles s.state.core
     its_words = s.fit.words
 
@@ -190,38 +192,38 @@ module _ {T : Type 0} (c : ℕ) where
 
     -- a push and a pop are handed what stands in their word
     push_handed : (run : Pushing) (n : ℕ)
-        → IsHanded t (flights.TheVariants.Queues (Overflow (overflows.TheVariants.Push run))) n
+        → IsHanded t (flights.Queues (Overflow (overflows.Push run))) n
         → old_of t.world.words (ask_of (push_asks run.call.capacity run.call.stage run.given)) ≡ n
     push_handed x0 x1 x2 = grind arith
 
     pop_handed : (run : Running Popping (Unit {0}) OneWord) (n : ℕ)
-        → IsHanded t (flights.TheVariants.Queues (Overflow (overflows.TheVariants.Pop run))) n
+        → IsHanded t (flights.Queues (Overflow (overflows.Pop run))) n
         → old_of t.world.words (ask_of (pop_asks run.call.capacity run.call.stage)) ≡ n
     pop_handed x0 x1 x2 = grind arith
 
     over_right : (p n : ℕ) (start : Start T) (flight : Flight T)
-        → (family en queues.TheVariants.Overflow c).At s.state p start flight → IsHanded t flight n
+        → (family en queues.Overflow c).At s.state p start flight → IsHanded t flight n
         → Right t.events (over_effects t.world p flight n)
-    over_right p n (Queues (PushIndex v)) (flights.TheVariants.Queues (Overflow (overflows.TheVariants.Push run))) at handed =
+    over_right p n (Queues (PushIndex v)) (flights.Queues (Overflow (overflows.Push run))) at handed =
         grind (arith, push_right, after, push_effect_own, push_fits, its_waiting, its_read, its_cell, push_handed)
-    over_right p n (Queues Pop) (flights.TheVariants.Queues (Overflow (overflows.TheVariants.Pop run))) at handed =
+    over_right p n (Queues Pop) (flights.Queues (Overflow (overflows.Pop run))) at handed =
         pop_right t.world.words run.call.capacity p n (beside_of t.world.words t.world.kept t.world.latest p)
-        run.call.stage (answer_in (after t.world.coding (Overflow (overflows.TheVariants.Pop run)) n)) t.events
+        run.call.stage (answer_in (after t.world.coding (Overflow (overflows.Pop run)) n)) t.events
         (λ q v e. (beside_waits en c t en c s t.world.kept p q v e s.fit.kept).producer)
         (pop_fits s.state.core t.world.words t.events s.holds.good its_waiting its_read its_cell run.room
         run.call.capacity n run.call.stage at.1 at.2 (pop_handed run n handed))
         (s.holds.consumers ∙ at.0)
-    over_right p n (Queues start) (flights.TheVariants.Queues (OnRole call)) at handed = tt
-    over_right p n (Queues start) (flights.TheVariants.Queues (Length which run)) at handed = tt
-    over_right p n (Queues start) (flights.TheVariants.Queues (Indices call)) at handed = absurd at
-    over_right p n (Queues start) (flights.TheVariants.Queues (Values call)) at handed = absurd at
-    over_right p n (Queues start) (flights.TheVariants.Queues (Overflow call)) at handed = absurd at
+    over_right p n (Queues start) (flights.Queues (OnRole call)) at handed = tt
+    over_right p n (Queues start) (flights.Queues (Length which run)) at handed = tt
+    over_right p n (Queues start) (flights.Queues (Indices call)) at handed = absurd at
+    over_right p n (Queues start) (flights.Queues (Values call)) at handed = absurd at
+    over_right p n (Queues start) (flights.Queues (Overflow call)) at handed = absurd at
     over_right p n start flight at handed = absurd at
 
     step_right : (p n : ℕ) (x : Party T) (flight : Flight T) (since : ℕ) → party_of p t.world.latest ≡ Some x
         → x.doing ≡ Going flight since → IsHanded t flight n → Right t.events (step_in t.world p x flight n).wrote
     step_right p n x flight since found doing handed =
-        let there = stands_there (family en queues.TheVariants.Overflow c) t s p x since flight found doing in
+        let there = stands_there (family en queues.Overflow c) t s p x since flight found doing in
         let fact =
         facts en c t.world en c p n s.state.roles s.state.core x.start flight t.world.kept
         s.fit.kept there.at in
@@ -233,15 +235,15 @@ module _ {T : Type 0} (code : Coding T) (capacity : ℕ) where
       let w = t.world in
       let first : Trace T = opening w.coding w.kind w.capacity w.parties in
       let admitted : capacity_error kinds.Overflow w.capacity ≡ None = subst (λ kind. capacity_error kind w.capacity ≡ None) run.of_kind run.reached.admitted in
-      let sound : frame.Sound (family w.coding queues.TheVariants.Overflow w.capacity) first =
-      subst (λ kind. frame.Sound (family w.coding queues.TheVariants.Overflow w.capacity) (opening w.coding kind w.capacity w.parties))
+      let sound : frame.Sound (family w.coding queues.Overflow w.capacity) first =
+      subst (λ kind. frame.Sound (family w.coding queues.Overflow w.capacity) (opening w.coding kind w.capacity w.parties))
       (sym run.of_kind)
-      (opening_sound w.coding run.reached.coded queues.TheVariants.Overflow w.capacity w.parties
-      (admitted_fits queues.TheVariants.Overflow w.capacity admitted))
+      (opening_sound w.coding run.reached.coded queues.Overflow w.capacity w.parties
+      (admitted_fits queues.Overflow w.capacity admitted))
       in
       subst (λ z. Each (Rightly w.capacity) z.events) (sym run.fresh.is)
-      (each_event (family w.coding queues.TheVariants.Overflow w.capacity) IsFreshTurn
-      (fresh_laws w.coding run.reached.coded queues.TheVariants.Overflow w.capacity) (Rightly w.capacity)
+      (each_event (family w.coding queues.Overflow w.capacity) IsFreshTurn
+      (fresh_laws w.coding run.reached.coded queues.Overflow w.capacity) (Rightly w.capacity)
       (λ before p start. (tt, tt)) (λ before p start answer. (tt, tt)) (λ before owner. (tt, tt))
       (λ t s. step_right w.capacity w.coding t s) run.fresh.turns first run.fresh.fresh sound
       (Each-nil (Rightly w.capacity)))

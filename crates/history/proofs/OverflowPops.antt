@@ -11,11 +11,12 @@ use Rattle.steps.specs.declared.ask.Op.TheVariants.{Load}
 use Rattle.steps.specs.declared.ask.After.TheVariants.{Done}
 use Rattle.steps.specs.declared.ask.Want.TheVariants as wants
 use Rattle.steps.specs.declared.queues.overflow.Pop.{Pop as Popping}
-use Rattle.steps.specs.declared.queues.overflow.PopStage as pops
+use Rattle.steps.specs.declared.queues.overflow.PopStage.{PopStage}
+use Rattle.steps.specs.declared.queues.overflow.PopStage.TheVariants as pops
 use Rattle.steps.specs.Queues.Overflow.{cell_word, first_pop, pop_asks, pop_want, pop_takes, pop_after}
 use Rattle.steps.specs.Queues.Overflow.{pop_keeps, pop_kept, pop_answer}
-use Rattle.model.specs.declared.families.Registry as registries
-use Rattle.model.specs.declared.families.queues.QueueKind as queues
+use Rattle.model.specs.declared.families.Registry.TheVariants as registries
+use Rattle.model.specs.declared.families.queues.QueueKind.TheVariants as queues
 use Rattle.model.specs.declared.turn.Kind.TheVariants as kinds
 use Rattle.model.specs.Families.Queues.Steps.{effects_of}
 use Rattle.laws_queues.proofs.Queues.Core.{word_at}
@@ -44,23 +45,23 @@ module _ {T : Type 0} (code : Coding T) where
   abbrev Next : ℕ → Popping → Type 0
   Next capacity d = (d.capacity ≡ capacity) × HasPopWord d.stage
 
-  stays : (capacity : ℕ) (c d : Popping) (n : ℕ) (stage : pops.PopStage) → c.capacity ≡ capacity → HasPopWord stage
+  stays : (capacity : ℕ) (c d : Popping) (n : ℕ) (stage : PopStage) → c.capacity ≡ capacity → HasPopWord stage
       → pop_takes c stage n ≡ GoOn d → Next capacity d
   stays x0 x1 x2 x3 x4 x5 x6 x7 = grind arith
 
-  asks : (capacity own : ℕ) (stage : pops.PopStage) → own ≡ capacity → HasPopWord stage
+  asks : (capacity own : ℕ) (stage : PopStage) → own ≡ capacity → HasPopWord stage
       → (a : Ask) × (a.word < 4 + (capacity + 1)) × (pop_asks own stage ≡ wants.Ask a)
-  asks capacity own pops.TheVariants.FindsNone same h = absurd h
-  asks capacity own pops.TheVariants.LoadsRead same h = (record { word = 1; op = Load }, omega arith, refl)
-  asks capacity own (pops.TheVariants.LoadsWrite read) same h = (record { word = 0; op = Load }, omega arith, refl)
-  asks capacity own (pops.TheVariants.LoadsCell read) same h =
+  asks capacity own pops.FindsNone same h = absurd h
+  asks capacity own pops.LoadsRead same h = (record { word = 1; op = Load }, omega arith, refl)
+  asks capacity own (pops.LoadsWrite read) same h = (record { word = 0; op = Load }, omega arith, refl)
+  asks capacity own (pops.LoadsCell read) same h =
       (record { word = cell_word own read; op = Load }, (let low : read % (own + 1) < own + 1 = omega arith in omega arith), refl)
-  asks capacity own (pops.TheVariants.MovesRead read) same h = (record { word = 1; op = Exchange read (after_position read) }, omega arith, refl)
+  asks capacity own (pops.MovesRead read) same h = (record { word = 1; op = Exchange read (after_position read) }, omega arith, refl)
 
-  abbrev Hears : Popping → OneWord → Ask → ℕ → pops.PopStage → Type 0
+  abbrev Hears : Popping → OneWord → Ask → ℕ → PopStage → Type 0
   Hears c m a n stage = (pop_takes c stage (answered a.op n) ≡ pop_takes c stage n) × (pop_keeps m stage (answered a.op n) ≡ pop_keeps m stage n)
 
-  hears : (c : Popping) (m : OneWord) (a : Ask) (n : ℕ) (stage : pops.PopStage) → pop_asks c.capacity stage ≡ wants.Ask a → Hears c m a n stage
+  hears : (c : Popping) (m : OneWord) (a : Ask) (n : ℕ) (stage : PopStage) → pop_asks c.capacity stage ≡ wants.Ask a → Hears c m a n stage
   hears x0 x1 x2 x3 x4 x5 = grind arith
 
   -- ---- what it writes
@@ -77,7 +78,7 @@ module _ {T : Type 0} (code : Coding T) where
   effects_end w p c b m n is = rw is refl
 
   -- nothing, where it goes on
-  quiet : (words : List ℕ) (waits : Option (ℕ × ℕ)) (p n : ℕ) (c d : Popping) (stage : pops.PopStage)
+  quiet : (words : List ℕ) (waits : Option (ℕ × ℕ)) (p n : ℕ) (c d : Popping) (stage : PopStage)
       → pop_takes c stage n ≡ GoOn d
       → effects_of {T = T} p Pop (overflow_pop_effect words waits c.capacity stage n) None ≡ []
   quiet x0 x1 x2 x3 x4 x5 x6 x7 = grind arith
@@ -93,7 +94,7 @@ module _ {T : Type 0} (code : Coding T) where
   pop_is_no_push v e = absurd (cc)
 
   record TakesAt (capacity p : ℕ) (c : Popping) (m : OneWord) (n : ℕ) (t : Trace T) : Type 0 where
-    pub front : (read : ℕ) → c.stage ≡ pops.TheVariants.MovesRead read → n ≡ read → slice_index t.world.words (cell_word c.capacity read) ≡ m.0
+    pub front : (read : ℕ) → c.stage ≡ pops.MovesRead read → n ≡ read → slice_index t.world.words (cell_word c.capacity read) ≡ m.0
     pub apart : (q v : ℕ) → beside_of t.world.words t.world.kept t.world.latest p ≡ Some (q, v) → p ≢ q
 
   takes_at : (capacity p : ℕ) (from : Option (Start T × Flight T)) (c : Popping) (m : OneWord) (n : ℕ)
@@ -102,17 +103,17 @@ module _ {T : Type 0} (code : Coding T) where
       → TakesAt capacity p c m n t
   takes_at capacity p from c m n es t same met = record { front = front; apart = apart }
     where
-      s : Rattle.model.proofs.Frame.Sound (family t.world.coding queues.TheVariants.Overflow t.world.capacity) t
-      s = sound_of code capacity queues.TheVariants.Overflow t met.run
+      s : Rattle.model.proofs.Frame.Sound (family t.world.coding queues.Overflow t.world.capacity) t
+      s = sound_of code capacity queues.Overflow t met.run
 
       knows : KnowsOverflowPop t.world.capacity s.state.core m c.stage
       knows = grind (arith, stands, stands_there, family, s)
 
-      front : (read : ℕ) → c.stage ≡ pops.TheVariants.MovesRead read → n ≡ read → slice_index t.world.words (cell_word c.capacity read) ≡ m.0
+      front : (read : ℕ) → c.stage ≡ pops.MovesRead read → n ≡ read → slice_index t.world.words (cell_word c.capacity read) ≡ m.0
       front read stage e =
           let k = s.state.core in
           let words = s.fit.words in
-          let mine : KnowsOverflowPop t.world.capacity k m (pops.TheVariants.MovesRead read) = subst (KnowsOverflowPop t.world.capacity k m) stage knows in
+          let mine : KnowsOverflowPop t.world.capacity k m (pops.MovesRead read) = subst (KnowsOverflowPop t.world.capacity k m) stage knows in
           let found : slice_index t.world.words 1 ≡ n = subst (λ z. old_of t.world.words (ask_of (pop_asks c.capacity z)) ≡ n) stage met.found in
           let here : read ≡ k.read = sym e ∙ (sym found ∙ ap (λ ws. slice_index ws 1) words) in
           let first = mine.3 here in
@@ -127,22 +128,22 @@ module _ {T : Type 0} (code : Coding T) where
           (cell_word c.capacity read) (read % (c.capacity + 1)) refl
           ∙ (ap (λ z. get_or k.cells (read % (z + 1)) 0) size ∙ (ap (λ z. get_or k.cells (z % (t.world.capacity + 1)) 0) here ∙ value)))
 
-      same_kept : t.world.kept ≡ registries.TheVariants.Queues s.state.roles
+      same_kept : t.world.kept ≡ registries.Queues s.state.roles
       same_kept = s.fit.kept
 
       apart : (q v : ℕ) → beside_of t.world.words t.world.kept t.world.latest p ≡ Some (q, v) → p ≢ q
       apart x0 x1 x2 x3 = grind (arith, same_kept, beside_waits, s, pop_is_no_push)
 
   -- what it writes of its own as it ends
-  abbrev Tells : ℕ → ℕ → Popping → OneWord → Trace T → pops.PopStage → Bool → Type 0
+  abbrev Tells : ℕ → ℕ → Popping → OneWord → Trace T → PopStage → Bool → Type 0
   Tells p n c m t stage b =
       events_by {T = T} p
       (effects_of p Pop (overflow_pop_effect t.world.words (beside_of t.world.words t.world.kept t.world.latest p) c.capacity stage n)
       (Some (popped (pop_answer (pop_keeps m stage n).0 b))))
       ≡ pop_wrote p (pop_keeps m stage n).0 b
 
-  loud : (p n : ℕ) (c : Popping) (m : OneWord) (b : Bool) (t : Trace T) (stage : pops.PopStage) → HasPopWord stage
-      → ((read : ℕ) → stage ≡ pops.TheVariants.MovesRead read → n ≡ read → slice_index t.world.words (cell_word c.capacity read) ≡ m.0)
+  loud : (p n : ℕ) (c : Popping) (m : OneWord) (b : Bool) (t : Trace T) (stage : PopStage) → HasPopWord stage
+      → ((read : ℕ) → stage ≡ pops.MovesRead read → n ≡ read → slice_index t.world.words (cell_word c.capacity read) ≡ m.0)
       → ((q v : ℕ) → beside_of t.world.words t.world.kept t.world.latest p ≡ Some (q, v) → p ≢ q) → pop_takes c stage n ≡ Done b → Tells p n c m t stage b
   loud x0 x1 x2 x3 x4 x5 x6 x7 x8 x9 x10 = grind arith
 
@@ -189,7 +190,7 @@ module _ {T : Type 0} (code : Coding T) where
         some = any;
         first = refl;
         starts =
-            role_starts code queues.TheVariants.Overflow x popping Pop (first_pop x.capacity) (record { 0 = 0 }) refl
+            role_starts code queues.Overflow x popping Pop (first_pop x.capacity) (record { 0 = 0 }) refl
             (λ kept. refl) Consumer (λ o p. tt) (λ roles p is. holds_it roles.consumer p is) has;
         wrote = λ p. refl;
       })

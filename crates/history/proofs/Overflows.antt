@@ -8,11 +8,12 @@ use Rattle.history.proofs.Names.{Party, Coding, step_of, beside_of, after_of, go
 use Rattle.history.proofs.Names.{pending, overflow_push_effect, overflow_pop_effect, takes_effect}
 use Rattle.history.proofs.Names.{party_of, producer_of, whose, first_row, answer_in, World, Trace, stands_there}
 use Rattle.steps.specs.declared.queues.overflow.PushStage as pushes
-use Rattle.steps.specs.declared.queues.overflow.PopStage as pops
-use Rattle.model.specs.declared.families.Flight as flights
-use Rattle.model.specs.declared.families.Registry as registries
-use Rattle.model.specs.declared.families.queues.QueueKind as queues
-use Rattle.model.specs.declared.families.queues.calls.OverflowCall as overflows
+use Rattle.steps.specs.declared.queues.overflow.PopStage.{PopStage}
+use Rattle.steps.specs.declared.queues.overflow.PopStage.TheVariants as pops
+use Rattle.model.specs.declared.families.Flight.TheVariants as flights
+use Rattle.model.specs.declared.families.Registry.TheVariants as registries
+use Rattle.model.specs.declared.families.queues.QueueKind.TheVariants as queues
+use Rattle.model.specs.declared.families.queues.calls.OverflowCall.TheVariants as overflows
 use Rattle.model.specs.declared.families.queues.calls.QueueFlight.TheVariants.{Indices, Overflow}
 use Rattle.model.specs.declared.turn.Kind.TheVariants as kinds
 use Rattle.model.specs.Families.Queues.Calls.{after}
@@ -51,17 +52,17 @@ module _ {T : Type 0} where
   -- ---- what a step of a call writes
 
   abbrev pub over_flight_effects : World T → ℕ → QueueFlight T → ℕ → List (Event T)
-  over_flight_effects w p (Overflow (overflows.TheVariants.Push run)) n =
+  over_flight_effects w p (Overflow (overflows.Push run)) n =
       effects_of p (PushIndex run.given)
-      (effect_of w.coding w.words (beside_of w.words w.kept w.latest p) (Overflow (overflows.TheVariants.Push run)) n)
-      (answer_in (after w.coding (Overflow (overflows.TheVariants.Push run)) n))
-  over_flight_effects w p (Overflow (overflows.TheVariants.Pop run)) n =
-      effects_of p Pop (effect_of w.coding w.words (beside_of w.words w.kept w.latest p) (Overflow (overflows.TheVariants.Pop run)) n)
-      (answer_in (after w.coding (Overflow (overflows.TheVariants.Pop run)) n))
+      (effect_of w.coding w.words (beside_of w.words w.kept w.latest p) (Overflow (overflows.Push run)) n)
+      (answer_in (after w.coding (Overflow (overflows.Push run)) n))
+  over_flight_effects w p (Overflow (overflows.Pop run)) n =
+      effects_of p Pop (effect_of w.coding w.words (beside_of w.words w.kept w.latest p) (Overflow (overflows.Pop run)) n)
+      (answer_in (after w.coding (Overflow (overflows.Pop run)) n))
   over_flight_effects w p flight n = []
 
   abbrev pub over_effects : World T → ℕ → Flight T → ℕ → List (Event T)
-  over_effects w p (flights.TheVariants.Queues flight) n = over_flight_effects w p flight n
+  over_effects w p (flights.Queues flight) n = over_flight_effects w p flight n
   over_effects w p flight n = []
 
   someone : (w : World T) (p : ℕ) (flight : Flight T) (n : ℕ) → sum_by (λ e. of_none (whose e)) (over_effects w p flight n) ≡ 0
@@ -72,17 +73,17 @@ module _ {T : Type 0} where
       → IsOwn (overflow_push_effect words capacity item stage n)
   push_effect_own x0 x1 x2 x3 x4 = grind arith
 
-  pub push_own : (w : World T) (p : ℕ) (run : Pushing) (n : ℕ) → AreOf p (over_flight_effects w p (Overflow (overflows.TheVariants.Push run)) n)
+  pub push_own : (w : World T) (p : ℕ) (run : Pushing) (n : ℕ) → AreOf p (over_flight_effects w p (Overflow (overflows.Push run)) n)
   push_own x0 x1 x2 x3 = grind arith
 
 -- ---- what it owes
 
 module _ {T : Type 0} (code : Coding T) (capacity : ℕ) where
   abbrev IsOver : Trace T → Type 0
-  IsOver t = IsOf code capacity queues.TheVariants.Overflow t
+  IsOver t = IsOf code capacity queues.Overflow t
 
   size : (t : Trace T) → IsOver t → length t.world.words ≡ 4 + (capacity + 1)
-  size t run = sized_so code capacity queues.TheVariants.Overflow t run ∙ omega arith
+  size t run = sized_so code capacity queues.Overflow t run ∙ omega arith
 
   -- the step of a call that stands so
   pub record Facts (w : World T) (p n : ℕ) (start : Start T) (flight : Flight T) (kept : Registry T) : Type 0 where
@@ -91,8 +92,8 @@ module _ {T : Type 0} (code : Coding T) (capacity : ℕ) where
     pub goes : (step_of w.coding w.words (beside_of w.words w.kept w.latest p) p start flight n kept).after ≡ after_of w.coding flight n
 
   module _ (w : World T) (en : Coding T) (c p n : ℕ) (ro : Roles) (k : Core ℕ) where
-    pub facts : (start : Start T) (flight : Flight T) (kept : Registry T) → kept ≡ registries.TheVariants.Queues ro
-        → (family en queues.TheVariants.Overflow c).At (record { roles = ro; core = k }) p start flight
+    pub facts : (start : Start T) (flight : Flight T) (kept : Registry T) → kept ≡ registries.Queues ro
+        → (family en queues.Overflow c).At (record { roles = ro; core = k }) p start flight
         → Facts w p n start flight kept
     facts x0 x1 x2 x3 x4 = grind arith
 
@@ -101,20 +102,20 @@ module _ {T : Type 0} (code : Coding T) (capacity : ℕ) where
   pub record Waits (t : Trace T) (q v : ℕ) : Type 0 where
     pub run : Pushing
     pub producer : producer_of t.events ≡ Some q
-    pub there : call_in t.world q ≡ Some (Queues (PushIndex v), flights.TheVariants.Queues (Overflow (overflows.TheVariants.Push run)))
+    pub there : call_in t.world q ≡ Some (Queues (PushIndex v), flights.Queues (Overflow (overflows.Push run)))
 
-  module _ (t : Trace T) (en : Coding T) (c : ℕ) (s : frame.Sound (family en queues.TheVariants.Overflow c) t) where
+  module _ (t : Trace T) (en : Coding T) (c : ℕ) (s : frame.Sound (family en queues.Overflow c) t) where
     start_is : (ro : Roles) (k : Core ℕ) (q v : ℕ) (start : Start T) (run : Pushing)
-        → (family en queues.TheVariants.Overflow c).At (record { roles = ro; core = k }) q start
-        (flights.TheVariants.Queues (Overflow (overflows.TheVariants.Push run)))
+        → (family en queues.Overflow c).At (record { roles = ro; core = k }) q start
+        (flights.Queues (Overflow (overflows.Push run)))
         → run.given ≡ v → start ≡ Queues (PushIndex v)
     start_is x0 x1 x2 x3 x4 x5 x6 x7 = grind arith
 
     waiting_push : (position q v : ℕ) (x : Party T) (run : Pushing) (since : ℕ)
         → IsPending position t.world.latest q v x run since → s.state.roles.producer ≡ Some q → Waits t q v
     waiting_push position q v x run since is holder =
-        let flight : Flight T = flights.TheVariants.Queues (Overflow (overflows.TheVariants.Push run)) in
-        let there = stands_there (family en queues.TheVariants.Overflow c) t s q x since flight is.found is.doing in
+        let flight : Flight T = flights.Queues (Overflow (overflows.Push run)) in
+        let there = stands_there (family en queues.Overflow c) t s q x since flight is.found is.doing in
         let named = start_is s.state.roles s.state.core q v x.start run there.at is.value in
         record {
           run = run;
@@ -124,7 +125,7 @@ module _ {T : Type 0} (code : Coding T) (capacity : ℕ) where
 
     -- whom `beside` names waits
     pub beside_waits : (kept : Registry T) (p q v : ℕ) → beside_of t.world.words kept t.world.latest p ≡ Some (q, v)
-        → kept ≡ registries.TheVariants.Queues s.state.roles → Waits t q v
+        → kept ≡ registries.Queues s.state.roles → Waits t q v
     beside_waits kept p q v e is = go (holds s.state.roles.consumer p) (subst (λ z. beside_of t.world.words z t.world.latest p ≡ Some (q, v)) is e)
       where
         go : (b : Bool) → cond b (pending (slice_index t.world.words read_word) s.state.roles.producer t.world.latest) None ≡ Some (q, v) → Waits t q v
@@ -147,14 +148,14 @@ module _ {T : Type 0} (code : Coding T) (capacity : ℕ) where
       takes_late x0 x1 x2 = grind (arith, own_late, own_of_effect, room_by_other, late_act)
 
       pop_late : (capacity : ℕ) (waits : Option (ℕ × ℕ)) → ((q v : ℕ) → waits ≡ Some (q, v) → Waits t q v)
-          → (stage : pops.PopStage)
+          → (stage : PopStage)
           → IsLate kinds.Overflow (call_in t.world r)
           (events_by r (effects_of p Pop (overflow_pop_effect t.world.words waits capacity stage n) o))
-      pop_late c waits known pops.TheVariants.FindsNone = own_late p r (effects_of p Pop Acts o) ne (own_of_effect p Pop Acts o tt)
-      pop_late c waits known pops.TheVariants.LoadsRead = own_late p r [] ne tt
-      pop_late c waits known (pops.TheVariants.LoadsWrite read) = own_late p r (effects_of p Pop Acts o) ne (own_of_effect p Pop Acts o tt)
-      pop_late c waits known (pops.TheVariants.LoadsCell read) = own_late p r [] ne tt
-      pop_late c waits known (pops.TheVariants.MovesRead read) = go (n == read)
+      pop_late c waits known pops.FindsNone = own_late p r (effects_of p Pop Acts o) ne (own_of_effect p Pop Acts o tt)
+      pop_late c waits known pops.LoadsRead = own_late p r [] ne tt
+      pop_late c waits known (pops.LoadsWrite read) = own_late p r (effects_of p Pop Acts o) ne (own_of_effect p Pop Acts o tt)
+      pop_late c waits known (pops.LoadsCell read) = own_late p r [] ne tt
+      pop_late c waits known (pops.MovesRead read) = go (n == read)
         where
           go : (b : Bool) → IsLate kinds.Overflow (call_in t.world r)
               (events_by r (effects_of p Pop (cond b (takes_effect (Rattle.model.specs.declared.event.Item.TheVariants.Index
@@ -167,29 +168,29 @@ module _ {T : Type 0} (code : Coding T) (capacity : ℕ) where
 
     beside_late : (is_over : IsOver t) (p n r : ℕ) → r ≢ p → (flight : Flight T)
         → IsLate kinds.Overflow (call_in t.world r) (events_by r (over_effects t.world p flight n))
-    beside_late is_over p n r ne (flights.TheVariants.Queues (Overflow (overflows.TheVariants.Push run))) = own_late p r _ ne (push_own t.world p run n)
-    beside_late is_over p n r ne (flights.TheVariants.Queues (Overflow (overflows.TheVariants.Pop run))) =
-        let s = sound_of code capacity queues.TheVariants.Overflow t is_over in
+    beside_late is_over p n r ne (flights.Queues (Overflow (overflows.Push run))) = own_late p r _ ne (push_own t.world p run n)
+    beside_late is_over p n r ne (flights.Queues (Overflow (overflows.Pop run))) =
+        let s = sound_of code capacity queues.Overflow t is_over in
         let kept = s.fit.kept in
         pop_late p r n ne _ run.call.capacity (beside_of t.world.words t.world.kept t.world.latest p)
         (λ q v e. beside_waits t t.world.coding t.world.capacity s t.world.kept p q v e kept) run.call.stage
-    beside_late is_over p n r ne (flights.TheVariants.Queues (OnRole call)) = none_late kinds.Overflow (call_in t.world r)
-    beside_late is_over p n r ne (flights.TheVariants.Queues (Indices call)) = none_late kinds.Overflow (call_in t.world r)
-    beside_late is_over p n r ne (flights.TheVariants.Queues (Values call)) = none_late kinds.Overflow (call_in t.world r)
-    beside_late is_over p n r ne (flights.TheVariants.Queues (Length which run)) = none_late kinds.Overflow (call_in t.world r)
+    beside_late is_over p n r ne (flights.Queues (OnRole call)) = none_late kinds.Overflow (call_in t.world r)
+    beside_late is_over p n r ne (flights.Queues (Indices call)) = none_late kinds.Overflow (call_in t.world r)
+    beside_late is_over p n r ne (flights.Queues (Values call)) = none_late kinds.Overflow (call_in t.world r)
+    beside_late is_over p n r ne (flights.Queues (Length which run)) = none_late kinds.Overflow (call_in t.world r)
     beside_late is_over p n r ne flight = none_late kinds.Overflow (call_in t.world r)
 
   stateless : (t : Trace T) → IsOver t → IsStateless t.world.kept
   stateless t run =
-      (let s = sound_of code capacity queues.TheVariants.Overflow t run in subst IsStateless (sym s.fit.kept) tt)
+      (let s = sound_of code capacity queues.Overflow t run in subst IsStateless (sym s.fit.kept) tt)
 
   steps_on : (t : Trace T) → IsOver t → (p : ℕ) (start : Start T) (flight : Flight T)
       → call_in t.world p ≡ Some (start, flight)
       → StepsOn code kinds.Overflow capacity (4 + (capacity + 1)) over_effects t p flight
   steps_on t run p start flight at =
-      let s = sound_of code capacity queues.TheVariants.Overflow t run in
+      let s = sound_of code capacity queues.Overflow t run in
       let here = stands t.world p start flight at in
-      let there = stands_there (family t.world.coding queues.TheVariants.Overflow t.world.capacity) t s p here.x here.since flight here.found here.doing in
+      let there = stands_there (family t.world.coding queues.Overflow t.world.capacity) t s p here.x here.since flight here.found here.doing in
       let kept = s.fit.kept in
       let fact = λ (x : Party T) (n : ℕ) (found : party_of p t.world.latest ≡ Some x).
       (let same : here.x ≡ x = (let both : Some here.x ≡ Some x = sym here.found ∙ found in cc) in

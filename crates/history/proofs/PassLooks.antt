@@ -11,7 +11,8 @@ use Rattle.steps.specs.declared.ask.Op.TheVariants.{Load}
 use Rattle.history.proofs.Names.{OwesAsk}
 use Rattle.model.specs.declared.turn.Kind.TheVariants as kinds
 use Rattle.history.specs.declared.view.View.{View}
-use Rattle.history.specs.History.{IsBeginning, IsMachine, Knew, Fits, HasSeenOf, IsLate, others_by}
+use Rattle.history.specs.History.{IsBeginning, IsMachine, Knew, Fits, HasSeenOf, IsLate, others_by, HaveAsked, steps_of_run}
+use Rattle.history.proofs.Asked.{Gains, gains_has, gains_have, asked_at}
 use Rattle.history.specs.Views.{Looks, LooksOnce, LooksAt, WhenIdle}
 use Rattle.history.specs.Known.{Known, owned, events_by}
 use Rattle.history.proofs.Calls.{get_left}
@@ -59,9 +60,9 @@ module _ {T : Type 0} (code : Coding T) (kind : Kind) (capacity : ℕ) where
   -- a seat may know otherwise what fits
   pub reseat : (words : List ℕ) (s : State (Unit {0}) (View T)) (m : Holds s) (id : ℕ) (v w : View T)
       → words ≡ s.words → get_elem? s.views id ≡ some v → Fits m.owner m.trace id w
-      → Known (set s.views id w) m.trace.events → Knew m.one.turns w
+      → Known (set s.views id w) m.trace.events → Knew m.one.turns w → HaveAsked (set s.views id w) (steps_of_run code kind capacity m.one.turns)
       → Holds (record { words = words; homes = s.homes; views = set s.views id w })
-  reseat words s m id v w same at fits known knew =
+  reseat words s m id v w same at fits known knew asked =
       record {
         trace = m.trace;
         run = m.run;
@@ -77,6 +78,7 @@ module _ {T : Type 0} (code : Coding T) (kind : Kind) (capacity : ℕ) where
         made_none = λ j past. (let long = length-set s.views id w in m.made_none j (omega arith));
         known = known;
         one = one_set code kind capacity s.views m.trace id w m.one knew;
+        asked = asked;
       }
 
   -- a look at this table, where nothing is late for the seat
@@ -106,8 +108,18 @@ module _ {T : Type 0} (code : Coding T) (kind : Kind) (capacity : ℕ) where
         going = v.going;
         state = v.state;
         asked = v.asked + 1;
+        aside = v.aside + 1;
         taken = v.taken;
         others = others_by t.world v.party;
+      } in
+      let gains : Gains s.views v w.asked w.aside (steps_of_run code kind capacity m.one.turns) =
+      record {
+        old = steps_of_run code kind capacity m.one.turns;
+        n = 0;
+        have = m.asked;
+        has = asked_at s.views (steps_of_run code kind capacity m.one.turns) id v at m.known.shares m.asked;
+        more = omega arith;
+        own = omega arith;
       } in (
         w,
         table.keeps,
@@ -129,7 +141,8 @@ module _ {T : Type 0} (code : Coding T) (kind : Kind) (capacity : ℕ) where
               made = λ g. (let is = made g in omega arith);
             })
             (known_step s.views t.events id v w (within s.views id v at) at refl some_share refl m.known.someone m.known.spent m.known.shares)
-            (knew_all code kind capacity s.views t w m.one refl refl),
+            (knew_all code kind capacity s.views t w m.one refl refl)
+            (gains_have s.views id v w (steps_of_run code kind capacity m.one.turns) at gains some_share),
         (
           record {
             capacity = refl;
@@ -139,6 +152,7 @@ module _ {T : Type 0} (code : Coding T) (kind : Kind) (capacity : ℕ) where
             share = refl;
             other = refl;
             made = refl;
+            aside = omega arith;
             mine = f.seen;
             theirs = f.other;
             whole =
@@ -149,7 +163,8 @@ module _ {T : Type 0} (code : Coding T) (kind : Kind) (capacity : ℕ) where
                 (λ j u ne there. m.seats j u there) m.inside (λ q ne past. m.made_none q past) m.known.someone g
                 ∙ sym (made g);
             history = record { trace = t; run = m.run; is = refl };
-            ran = continues_all code kind capacity s.views t id v w m.one at m.run refl refl refl;
+            ran = continues_all code kind capacity s.views t id v w m.one at m.run refl refl refl
+                (gains_has s.views v w (steps_of_run code kind capacity m.one.turns) gains refl);
             theirs_ran = (m.one.knew id v at).theirs;
             parties = record { owner = m.owner; seat = id; sums = made };
             apart = λ alone any p of_id. rest_apart v t f.late f.seen p alone none (f.own any p of_id);
@@ -203,7 +218,8 @@ module _ {T : Type 0} (code : Coding T) (kind : Kind) (capacity : ℕ) where
         table.keeps,
         tt,
         reseat (slice_set s.words word (slice_index s.words word)) s m id v v (set_same s.words word) at
-            (m.seats id v at) (subst (λ views. Known views m.trace.events) (sym (set_again s.views id v at)) m.known) (m.one.knew id v at),
+            (m.seats id v at) (subst (λ views. Known views m.trace.events) (sym (set_again s.views id v at)) m.known) (m.one.knew id v at)
+            (subst (λ views. HaveAsked views (steps_of_run code kind capacity m.one.turns)) (sym (set_again s.views id v at)) m.asked),
         refl,
         told_never kind v.going (Looks code kind capacity v v × (v.seen ≡ m.trace.events)) h,
       )

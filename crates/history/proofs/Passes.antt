@@ -3,13 +3,13 @@ use Rattle.history.proofs.Names.{◌≡◌, ◌≢◌, ◌⊎◌, inl, inr, ⊎_
 use Rattle.history.proofs.Names.{Option, Some, None, IfSome, List, [], ◌∷◌, ◌++◌, length, replicate, get_or, set}
 use Rattle.history.proofs.Names.{refl, sym, ap, subst, ◌∙◌, append-nil, arith, length-set, sum_by}
 use Rattle.history.proofs.Names.{Splits, Joins, at_set, Event, Kind, Coding, IsCoding, cases_eq, nat_tests}
-use Rattle.history.proofs.Names.{sum_by-append, opening_of, Trace, capacity_error}
+use Rattle.history.proofs.Names.{sum_by-append, sum_by-cons, opening_of, Trace, capacity_error}
 use mathlib.Core.Option.{some, some-injective, some-ne-none}
 use lib.ListN.{get_elem?}
 use Rattle.atomic_table.specs.Table.{State, opening}
 use Rattle.model.specs.World as worlds
 use Rattle.history.specs.declared.view.View.{View}
-use Rattle.history.specs.History.{IsBeginning, IsMachine, OneRun, Knew, Fits, HasSeenOf, call_in}
+use Rattle.history.specs.History.{IsBeginning, IsMachine, OneRun, Knew, Fits, HasSeenOf, call_in, HaveAsked, steps_of_run}
 use Rattle.history.specs.Views.{first_view, left_view, right_view, joined_view, spent_view}
 use Rattle.history.specs.Known.{events_by}
 use Rattle.history.proofs.Reached.{reached_as_opening, fresh_as_opening}
@@ -18,6 +18,7 @@ use Rattle.history.proofs.Known.{within, handed_on, owned_none, owned_both, owne
 use Rattle.history.proofs.Known.{none_before, late_none, none_late, quiet_late}
 use Rattle.history.proofs.AllSeen.{known_alone, known_split, known_join}
 use Rattle.history.proofs.OneRun.{first_none, one_set, one_opens}
+use Rattle.history.proofs.Asked.{have_more, have_both, first_asked}
 
 pub set_same : (xs : List ℕ) (i : ℕ) → set xs i (get_or xs i 0) ≡ xs
 set_same [] i = refl
@@ -41,6 +42,26 @@ at_end (z ∷ zs) x y (suc j) e = ⊎_elim (λ h. inl h) (λ h. inr (ap suc h.0,
 length_end : {A : Type 0} → (xs : List A) (x : A) → length (xs ++ x ∷ []) ≡ length xs + 1
 length_end [] x = refl
 length_end (z ∷ zs) x = let h = length_end zs x in omega arith
+
+no_more : (n : ℕ) → n + 0 ≡ n
+no_more n = omega arith
+
+-- one more has asked for nothing
+have_end : {T : Type 0} → (views : List (View T)) (w : View T) (steps : ℕ) → w.asked ≡ 0 → w.aside ≡ 0 → HaveAsked views steps
+    → HaveAsked (views ++ w ∷ []) steps
+have_end {T} views w steps asked aside h =
+    record {
+      sum = (
+          let sum = h.sum in
+          let a = sum_by-append (λ (v : View T). v.asked) views (w ∷ []) in
+          let b = sum_by-append (λ (v : View T). v.aside) views (w ∷ []) in
+          let c = sum_by-cons (λ (v : View T). v.asked) w [] in
+          let d = sum_by-cons (λ (v : View T). v.aside) w [] in
+          omega arith);
+      each = λ j x found. ⊎_elim (λ e. h.each j x e) (λ e. subst (λ (z : View T). z.aside ≤ z.asked) e.1 (omega arith)) (at_end views w x j found);
+      spent = λ j x found. ⊎_elim (λ e. h.spent j x e) (λ e. subst (λ (z : View T). z.share.part ≡ 0 → z.asked ≡ z.aside) e.1 (λ none. asked ∙ sym aside))
+          (at_end views w x j found);
+    }
 
 module _ {T : Type 0} where
   pub nothing : (es : List (Event T)) → IsBeginning [] es
@@ -69,6 +90,9 @@ module _ {T : Type 0} (code : Coding T) (kind : Kind) (capacity : ℕ) where
         fresh = λ p past. (let l = long in m.fresh p (omega arith));
         further = λ j past. (let l = long in m.further j (omega arith));
         made_none = λ j past. (let l = long in m.made_none j (omega arith));
+        asked = have_end (set s.views id (left_view v)) (right_view v) steps refl refl
+            (subst (λ n. HaveAsked (set s.views id (left_view v)) n) (no_more steps)
+            (have_more s.views id v (left_view v) steps 0 at m.asked (omega arith) (λ none. (let same = m.asked.spent id v at none in omega arith))));
         known = known_split s.views m.trace.events id v (within s.views id v at) at m.known;
         one = one;
       }
@@ -93,6 +117,9 @@ module _ {T : Type 0} (code : Coding T) (kind : Kind) (capacity : ℕ) where
                 (record { mine = knew.mine; theirs = first_none m.one.turns }))
                 (at_end (set s.views id (left_view v)) (right_view v) x j found);
           }
+
+      steps : ℕ
+      steps = steps_of_run code kind capacity m.one.turns
 
       same : length (set s.views id (left_view v)) ≡ length s.views
       same = length-set s.views id (left_view v)
@@ -175,6 +202,7 @@ module _ {T : Type 0} (code : Coding T) (kind : Kind) (capacity : ℕ) where
             stays p (λ e. absurd (omega arith)) ∙ is);
         further = λ j past. (let l = long in m.further j (omega arith));
         made_none = λ j past. (let l = long in m.made_none j (omega arith));
+        asked = have_both s.views (steps_of_run code kind capacity m.one.turns) id other v w at apart theirs some_share m.known.shares m.asked;
         known = known_join s.views m.trace.events id other v w at apart theirs some_share (m.seats id v at).seen alone alone' m.known;
         one =
             one_set code kind capacity (set s.views id (joined_view v w)) m.trace other spent_view
@@ -322,6 +350,7 @@ module _ {T : Type 0} (code : Coding T) (kind : Kind) (capacity : ℕ) where
         fresh = λ p past. refl;
         further = λ j past. refl;
         made_none = λ j past. refl;
+        asked = first_asked capacity;
         known = known_alone (first_view capacity) refl refl;
         one = one_opens code kind capacity (first_view capacity ∷ []) knew;
       }

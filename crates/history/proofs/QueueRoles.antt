@@ -13,12 +13,13 @@ use Rattle.history.specs.History.{IsMachine}
 use Rattle.history.specs.Roles.{role_word, holder, acquire_start, release_start, HasRole}
 use Rattle.steps.specs.Queues.Roles.{acquire_want, acquire_after, release_want, release_after}
 use Rattle.steps.specs.declared.queues.lengths.Len.{Len}
-use Rattle.steps.specs.declared.queues.lengths.LenStage as lengths
+use Rattle.steps.specs.declared.queues.lengths.LenStage.{LenStage}
+use Rattle.steps.specs.declared.queues.lengths.LenStage.TheVariants as lengths
 use Rattle.steps.specs.declared.queues.roles.AcquireRole.{AcquireRole}
 use Rattle.steps.specs.declared.queues.roles.ReleaseRole.{ReleaseRole}
 use Rattle.steps.specs.declared.queues.roles.Role.{Role}
 use Rattle.model.specs.declared.families.queues.QueueKind.TheVariants.{IndexQueue}
-use Rattle.model.specs.declared.families.queues.calls.LengthOf as measures
+use Rattle.model.specs.declared.families.queues.calls.LengthOf.TheVariants as measures
 use Rattle.model.specs.Families.Queues.Opening.{lacks_role}
 use Rattle.history.specs.Queues.{takes_role, gives_role, length_start, counts_waiting}
 use Rattle.history.proofs.Drives.{IsCallOf, goes, keeps_all, keeps_sized}
@@ -115,16 +116,16 @@ module _ {T : Type 0} (code : Coding T) (which : LengthOf) (size : ℕ) where
   len_same_after : (c : Len) (m : Unit {0}) (n : ℕ) → c.capacity ≡ size → after_of code (counting.flight c m) n ≡ goes counting (len_after c n) m
   len_same_after x0 x1 x2 x3 = grind arith
 
-  len_stays : (n : ℕ) (c : Len) (k : ℕ) (d : Len) (stage : lengths.LenStage) → c.capacity ≡ n → len_takes c stage k ≡ GoOn d → d.capacity ≡ n
+  len_stays : (n : ℕ) (c : Len) (k : ℕ) (d : Len) (stage : LenStage) → c.capacity ≡ n → len_takes c stage k ≡ GoOn d → d.capacity ≡ n
   len_stays x0 x1 x2 x3 x4 x5 x6 = grind arith
 
-  len_asks_for : (capacity : ℕ) (stage : lengths.LenStage) → (a : Ask) × (a.word < 4 + capacity) × (len_asks stage ≡ wants.Ask a)
-  len_asks_for capacity lengths.TheVariants.LoadsWrite = (record { word = 0; op = Load }, omega arith, refl)
-  len_asks_for capacity (lengths.TheVariants.LoadsRead write) = (record { word = 1; op = Load }, omega arith, refl)
-  len_asks_for capacity (lengths.TheVariants.LoadsWriteAgain write read) = (record { word = 0; op = Load }, omega arith, refl)
-  len_asks_for capacity (lengths.TheVariants.LoadsReadAgain write read) = (record { word = 1; op = Load }, omega arith, refl)
+  len_asks_for : (capacity : ℕ) (stage : LenStage) → (a : Ask) × (a.word < 4 + capacity) × (len_asks stage ≡ wants.Ask a)
+  len_asks_for capacity lengths.LoadsWrite = (record { word = 0; op = Load }, omega arith, refl)
+  len_asks_for capacity (lengths.LoadsRead write) = (record { word = 1; op = Load }, omega arith, refl)
+  len_asks_for capacity (lengths.LoadsWriteAgain write read) = (record { word = 0; op = Load }, omega arith, refl)
+  len_asks_for capacity (lengths.LoadsReadAgain write read) = (record { word = 1; op = Load }, omega arith, refl)
 
-  len_hears : (c : Len) (a : Ask) (n : ℕ) (stage : lengths.LenStage) → len_asks stage ≡ wants.Ask a → len_takes c stage (answered a.op n) ≡ len_takes c stage n
+  len_hears : (c : Len) (a : Ask) (n : ℕ) (stage : LenStage) → len_asks stage ≡ wants.Ask a → len_takes c stage (answered a.op n) ≡ len_takes c stage n
   len_hears x0 x1 x2 x3 x4 = grind arith
 
   pub len_is_call : IsCallOf code (queue_effects code) (λ capacity. 4 + capacity) len_want len_after (λ c m n. m) counting
@@ -156,14 +157,14 @@ module _ {T : Type 0} (code : Coding T) (which : LengthOf) (size : ℕ) where
       first_is : (kept : Registry T) (k : LengthOf)
           → ◌≡◌ {A = Option (Flight T)} (first_of kinds.IndexQueue x.capacity (Queues (length_start k)) kept)
           (Some ((counts_waiting k size).flight (first_len size) m))
-      first_is kept measures.TheVariants.Len = rw same refl
-      first_is kept measures.TheVariants.IsEmpty = rw same refl
-      first_is kept measures.TheVariants.IsFull = rw same refl
+      first_is kept measures.Len = rw same refl
+      first_is kept measures.IsEmpty = rw same refl
+      first_is kept measures.IsFull = rw same refl
 
       none_lacks : (k : LengthOf) (roles : Roles) (p : ℕ) → lacks_role {T = T} roles p (length_start k) ≡ false
-      none_lacks measures.TheVariants.Len roles p = refl
-      none_lacks measures.TheVariants.IsEmpty roles p = refl
-      none_lacks measures.TheVariants.IsFull roles p = refl
+      none_lacks measures.Len roles p = refl
+      none_lacks measures.IsEmpty roles p = refl
+      none_lacks measures.IsFull roles p = refl
 
 -- for any capacity
 pub lens_keep : {T : Type 0} (code : Coding T) (which : LengthOf)

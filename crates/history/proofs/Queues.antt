@@ -7,14 +7,14 @@ use Rattle.history.proofs.Names.{cells_of, words_of_cell, IsKeptBy, push_effect,
 use Rattle.history.proofs.Names.{party_of, first_row, answer_in, Trace, stands_there}
 use Rattle.history.proofs.Names.{machine_kind, promised_by, free, layout, Val, encoded, Ring, of_indices, of_values, kind_of}
 use Rattle.model.specs.declared.event.Item.TheVariants.{Index, Value}
-use Rattle.model.specs.declared.families.Flight as flights
-use Rattle.model.specs.declared.families.Registry as registries
-use Rattle.model.specs.declared.families.queues.QueueKind as queues
+use Rattle.model.specs.declared.families.Flight.TheVariants as flights
+use Rattle.model.specs.declared.families.Registry.TheVariants as registries
+use Rattle.model.specs.declared.families.queues.QueueKind.TheVariants as queues
 use Rattle.model.specs.declared.families.queues.QueueKind.TheVariants.{IndexQueue}
 use Rattle.model.specs.declared.families.queues.QueueStart.TheVariants.{Push}
-use Rattle.model.specs.declared.families.queues.calls.RingCall as rings
+use Rattle.model.specs.declared.families.queues.calls.RingCall.TheVariants as rings
 use Rattle.model.specs.declared.families.queues.calls.QueueFlight.TheVariants.{Indices}
-use Rattle.model.specs.declared.turn.Kind as kinds
+use Rattle.model.specs.declared.turn.Kind.TheVariants as kinds
 use Rattle.model.specs.Families.Queues.Calls.{after}
 use Rattle.model.specs.Families.Queues.Opening.{lacks_role, kept_rows}
 use Rattle.model.specs.Families.Queues.Promises.{IsQueue, promise}
@@ -38,27 +38,27 @@ use Rattle.history.proofs.Paid.{Pays, progress_kept, pays_run}
 use Rattle.history.proofs.Turns.{CallGoesOn, KindLaws}
 
 held_there : {T : Type 0} (role : Role) (roles : Roles) (events : List (Event T))
-    → KeepsHolders (registries.TheVariants.Queues roles) events → holder role roles ≡ fold (role_after role) None events
+    → KeepsHolders (registries.Queues roles) events → holder role roles ≡ fold (role_after role) None events
 held_there x0 x1 x2 x3 = grind arith
 
 module _ {T : Type 0} (code : Coding T) where
   -- what a step of a call on a bounded queue writes
   abbrev pub ring_effects : ℕ → QueueFlight T → ℕ → List (Event T)
-  ring_effects p (Indices (rings.TheVariants.Push run)) old =
+  ring_effects p (Indices (rings.Push run)) old =
       effects_of p (PushIndex run.given) (push_effect (Index run.given) run.call.stage)
-      (answer_in (after code (Indices (rings.TheVariants.Push run)) old))
-  ring_effects p (Indices (rings.TheVariants.Pop run)) old =
-      effects_of p Pop (pop_effect (Index run.room.0) run.call.stage) (answer_in (after code (Indices (rings.TheVariants.Pop run)) old))
-  ring_effects p (Values (rings.TheVariants.Push run)) old =
+      (answer_in (after code (Indices (rings.Push run)) old))
+  ring_effects p (Indices (rings.Pop run)) old =
+      effects_of p Pop (pop_effect (Index run.room.0) run.call.stage) (answer_in (after code (Indices (rings.Pop run)) old))
+  ring_effects p (Values (rings.Push run)) old =
       effects_of p (Push run.given) (push_effect (Value run.given) run.call.stage)
-      (answer_in (after code (Values (rings.TheVariants.Push run)) old))
-  ring_effects p (Values (rings.TheVariants.Pop run)) old =
+      (answer_in (after code (Values (rings.Push run)) old))
+  ring_effects p (Values (rings.Pop run)) old =
       effects_of p Pop (pop_effect (Value (read_in code run.room)) run.call.stage)
-      (answer_in (after code (Values (rings.TheVariants.Pop run)) old))
+      (answer_in (after code (Values (rings.Pop run)) old))
   ring_effects p flight old = []
 
   abbrev pub queue_effects : ℕ → Flight T → ℕ → List (Event T)
-  queue_effects p (flights.TheVariants.Queues flight) old = ring_effects p flight old
+  queue_effects p (flights.Queues flight) old = ring_effects p flight old
   queue_effects p flight old = []
 
   -- ---- they are events of its party
@@ -77,8 +77,8 @@ module _ {T : Type 0} (code : Coding T) (capacity : ℕ) (kd : QueueKind) where
 
   cell_sizes : (q : QueueKind) (z : Coding T) → (encoded z q).size * cells_of q capacity ≡ words_of_cell z.size q * cells_of q capacity
   cell_sizes IndexQueue z = refl
-  cell_sizes queues.TheVariants.Overflow z = refl
-  cell_sizes queues.TheVariants.Queue z = refl
+  cell_sizes queues.Overflow z = refl
+  cell_sizes queues.Queue z = refl
 
   -- its words
   pub sized_so : (t : Trace T) → IsOf t → length t.world.words ≡ 4 + words_of_cell code.size kd * cells_of kd capacity
@@ -116,7 +116,7 @@ module _ {T : Type 0} (code : Coding T) (capacity : ℕ) (r : Ring) where
 
   facts : (z : Coding T) (words : List ℕ) (waits : Option (ℕ × ℕ)) (c p n : ℕ) (q : Queue (Val T (kind_of r)))
       (start : Start T) (flight : Flight T) (kept : Registry T)
-      → kept ≡ registries.TheVariants.Queues q.roles → (family z (kind_of r) c).At q p start flight
+      → kept ≡ registries.Queues q.roles → (family z (kind_of r) c).At q p start flight
       → Facts z words waits p n start flight kept
   facts x0 x1 x2 x3 x4 x5 x6 x7 x8 x9 x10 x11 = grind arith
 
@@ -153,11 +153,11 @@ module _ {T : Type 0} (code : Coding T) (capacity : ℕ) (r : Ring) where
       alone of_values going late h = h
 
 module _ {T : Type 0} (code : Coding T) (capacity : ℕ) where
-  pub index_owes : KindLaws code kinds.TheVariants.IndexQueue capacity (4 + capacity) (queue_effects code)
+  pub index_owes : KindLaws code kinds.IndexQueue capacity (4 + capacity) (queue_effects code)
   index_owes = let one : 4 + 1 * capacity ≡ 4 + capacity = omega arith in
-      subst (λ n. KindLaws code kinds.TheVariants.IndexQueue capacity n (queue_effects code)) one (ring_owes code capacity of_indices)
+      subst (λ n. KindLaws code kinds.IndexQueue capacity n (queue_effects code)) one (ring_owes code capacity of_indices)
 
-  pub values_owe : KindLaws code kinds.TheVariants.Queue capacity (4 + code.size * capacity) (queue_effects code)
+  pub values_owe : KindLaws code kinds.Queue capacity (4 + code.size * capacity) (queue_effects code)
   values_owe = ring_owes code capacity of_values
 
 -- ---- which party may begin a call on a queue of any kind
@@ -172,8 +172,8 @@ module _ {T : Type 0} (code : Coding T) (kd : QueueKind) (base : View T) where
 
   promise_is : (q : QueueKind) → promise_of {T = T} (machine_kind q) ≡ promise q
   promise_is IndexQueue = refl
-  promise_is queues.TheVariants.Overflow = refl
-  promise_is queues.TheVariants.Queue = refl
+  promise_is queues.Overflow = refl
+  promise_is queues.Queue = refl
 
   -- how many steps its calls take
   pub queue_pays : Pays code (machine_kind kd) base.capacity
@@ -185,7 +185,7 @@ module _ {T : Type 0} (code : Coding T) (kd : QueueKind) (base : View T) where
       (progress_kept code (machine_kind kd) base.capacity t r F (promise_is kd) s
       (kept_on kd t r.of_kind on.reached.coded on.reached.admitted on.fresh)))
 
-  kept_there : (t : Trace T) → IsOn t → (roles : Roles) × (t.world.kept ≡ registries.TheVariants.Queues roles)
+  kept_there : (t : Trace T) → IsOn t → (roles : Roles) × (t.world.kept ≡ registries.Queues roles)
   kept_there t r = let s = sound_of code base.capacity kd t r in (s.state.roles, s.fit.kept)
 
   abbrev AllOf : Trace T → (ℕ → ℕ) → ℕ → Type 0
@@ -195,7 +195,7 @@ module _ {T : Type 0} (code : Coding T) (kd : QueueKind) (base : View T) where
   module _ {C M E : Type 0} (call : Calling T C M E) (start : QueueStart T) (c : C) (m : M) (named : call.start ≡ Queues start)
       (first_is : (kept : Registry T) → first_of (machine_kind kd) base.capacity (Queues start) kept ≡ Some (call.flight c m))
       (t : Trace T) (owner : ℕ → ℕ) (j p : ℕ) (run : IsOn t) (mine : owner p ≡ j) (by : call.by base.party p)
-      (roles : Roles) (is : t.world.kept ≡ registries.TheVariants.Queues roles)
+      (roles : Roles) (is : t.world.kept ≡ registries.Queues roles)
       (lacks : lacks_role roles p start ≡ false) where
     as_party : Starts code (machine_kind kd) call base c m t owner j
     as_party =
@@ -213,8 +213,8 @@ module _ {T : Type 0} (code : Coding T) (kd : QueueKind) (base : View T) where
         rows : (k : QueueKind) → first_of (machine_kind k) base.capacity (Queues start) t.world.kept ≡ Some (call.flight c m)
             → first_row (rows_as (machine_kind k) base.capacity t.world.kept p (Queues start)) ≡ None
         rows IndexQueue e = rw e kept_free
-        rows queues.TheVariants.Overflow e = rw e kept_free
-        rows queues.TheVariants.Queue e = rw e kept_free
+        rows queues.Overflow e = rw e kept_free
+        rows queues.Queue e = rw e kept_free
 
   module _ {C M E : Type 0} (call : Calling T C M E) (start : QueueStart T) (c : C) (m : M) (named : call.start ≡ Queues start)
       (first_is : (kept : Registry T) → first_of (machine_kind kd) base.capacity (Queues start) kept ≡ Some (call.flight c m)) where
@@ -224,7 +224,7 @@ module _ {T : Type 0} (code : Coding T) (kd : QueueKind) (base : View T) where
         → AllOf t owner j → Starts code (machine_kind kd) call base c m t owner j
     plain_starts by_last free t owner j run self party sums = go base.party refl party
       where
-        kept : (roles : Roles) × (t.world.kept ≡ registries.TheVariants.Queues roles)
+        kept : (roles : Roles) × (t.world.kept ≡ registries.Queues roles)
         kept = kept_there t run
 
         go : (o : Option ℕ) → base.party ≡ o → IfSome o (λ p. owner p ≡ j) → Starts code (machine_kind kd) call base c m t owner j
@@ -247,6 +247,6 @@ module _ {T : Type 0} (code : Coding T) (kd : QueueKind) (base : View T) where
         let queue = queue_goes_on t run in
         let kept = kept_there t run in
         let by = role_by owner j role t.events base.made queue.roles sums has in
-        let keeps : KeepsHolders (registries.TheVariants.Queues kept.0) t.events = subst (λ k. KeepsHolders k t.events) kept.1 queue.holders in
+        let keeps : KeepsHolders (registries.Queues kept.0) t.events = subst (λ k. KeepsHolders k t.events) kept.1 queue.holders in
         as_party call start c m named first_is t owner j by.0 run by.1 (by_any base.party by.0) kept.0 kept.1
         (free kept.0 by.0 (held_there role kept.0 t.events keeps ∙ by.2))

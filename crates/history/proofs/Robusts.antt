@@ -5,8 +5,8 @@ use Rattle.history.proofs.Names.{sym, ap, subst, ◌∙◌, Event, Start, Flight
 use Rattle.history.proofs.Names.{begin_rows, step_of, beside_of, after_of, going_rows, has_died, SetAct, set_acts_of}
 use Rattle.history.proofs.Names.{first_row, step_in, Trace, stands_there, Word, IsOpenSet, AllLive}
 use Rattle.model.specs.declared.event.Start.TheVariants.{Robust}
-use Rattle.model.specs.declared.families.Flight as flights
-use Rattle.model.specs.declared.families.Registry as registries
+use Rattle.model.specs.declared.families.Flight.TheVariants as flights
+use Rattle.model.specs.declared.families.Registry.TheVariants as registries
 use Rattle.model.specs.declared.families.indices.robust.RobustStart.{RobustStart}
 use Rattle.model.specs.declared.turn.Kind.TheVariants as kinds
 use Rattle.model.specs.Families.Indices.Robust.Opening.{call_rows, kept_rows}
@@ -30,7 +30,7 @@ use Rattle.history.proofs.Turns.{CallGoesOn, KindLaws}
 module _ {T : Type 0} where
   -- what a step of a set's call writes
   abbrev pub robust_effects : ℕ → Flight T → ℕ → List (Event T)
-  robust_effects p (flights.TheVariants.Robust flight) old = effects p flight old
+  robust_effects p (flights.Robust flight) old = effects p flight old
   robust_effects p flight old = []
 
   effects_own : (p : ℕ) (flight : Flight T) (n : ℕ) → AreOf p (robust_effects p flight n)
@@ -59,17 +59,17 @@ module _ {T : Type 0} (code : Coding T) (capacity : ℕ) where
 
   no_rows : (t : Trace T) → IsRobust t → (c : ℕ) (all : List SetAct) (start : Start T) (flight : Flight T) → FlightAt c all start flight
       → first_row (going_rows t.world.coding t.world.kept (Some flight) None) ≡ None
-  no_rows t r c all (Robust start) (flights.TheVariants.Robust flight) at = step_is_free t.world.coding t.world.capacity t (robust_sound t r)
+  no_rows t r c all (Robust start) (flights.Robust flight) at = step_is_free t.world.coding t.world.capacity t (robust_sound t r)
       (all_live t r) flight
   no_rows t r c all start flight at = absurd at
 
   writes_there : (z : Coding T) (words : List ℕ) (beside : Option (ℕ × ℕ)) (c p old : ℕ) (all : List SetAct) (kept : Registry T) (s : RobustSet T)
-      (start : Start T) (flight : Flight T) → kept ≡ registries.TheVariants.Owners s.dead → FlightAt c all start flight
+      (start : Start T) (flight : Flight T) → kept ≡ registries.Owners s.dead → FlightAt c all start flight
       → (step_of z words beside p start flight old kept).wrote ≡ robust_effects p flight old
   writes_there x0 x1 x2 x3 x4 x5 x6 x7 x8 x9 x10 x11 x12 = grind arith
 
   goes_there : (z : Coding T) (words : List ℕ) (beside : Option (ℕ × ℕ)) (c p old : ℕ) (all : List SetAct) (kept : Registry T) (s : RobustSet T)
-      (start : Start T) (flight : Flight T) → kept ≡ registries.TheVariants.Owners s.dead → FlightAt c all start flight
+      (start : Start T) (flight : Flight T) → kept ≡ registries.Owners s.dead → FlightAt c all start flight
       → (step_of z words beside p start flight old kept).after ≡ after_of z flight old
   goes_there x0 x1 x2 x3 x4 x5 x6 x7 x8 x9 x10 x11 x12 = grind arith
 
@@ -121,7 +121,7 @@ module _ {T : Type 0} (code : Coding T) (base : View T) where
   IsOn t = IsRun code kinds.Robust base.capacity t
 
   -- nobody is kept as dead
-  kept_there : (t : Trace T) → IsOn t → (dead : List ℕ) × (t.world.kept ≡ registries.TheVariants.Owners dead) × ((owner : ℕ) → has_died owner dead ≡ false)
+  kept_there : (t : Trace T) → IsOn t → (dead : List ℕ) × (t.world.kept ≡ registries.Owners dead) × ((owner : ℕ) → has_died owner dead ≡ false)
   kept_there t r =
       let s = robust_sound code base.capacity t r in (
         s.state.dead,
@@ -141,7 +141,7 @@ module _ {T : Type 0} (code : Coding T) (base : View T) where
     robust_starts t owner j run self party sums =
         starts_by_last code kinds.Robust call base c m t owner j by_last self party first_here may
       where
-        kept : (dead : List ℕ) × (t.world.kept ≡ registries.TheVariants.Owners dead) × ((owner : ℕ) → has_died owner dead ≡ false)
+        kept : (dead : List ℕ) × (t.world.kept ≡ registries.Owners dead) × ((owner : ℕ) → has_died owner dead ≡ false)
         kept = kept_there t run
 
         is_some : is_none (first_of kinds.Robust base.capacity (Robust start) t.world.kept) ≡ false

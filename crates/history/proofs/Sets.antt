@@ -8,9 +8,9 @@ use Rattle.history.proofs.Names.{IsReachedOn, Trace, stands_there, wrote_in, cou
 use Rattle.history.proofs.Names.{bits_laws}
 use Rattle.atomic_table.specs.Table.{opening}
 use Rattle.model.specs.declared.event.Start.TheVariants.{Bits}
-use Rattle.model.specs.declared.families.Flight as flights
-use Rattle.model.specs.declared.families.Registry as registries
-use Rattle.model.specs.declared.turn.Kind as kinds
+use Rattle.model.specs.declared.families.Flight.TheVariants as flights
+use Rattle.model.specs.declared.families.Registry.TheVariants as registries
+use Rattle.model.specs.declared.turn.Kind.TheVariants as kinds
 use Rattle.model.specs.Families.Bits.Steps.{effects_of}
 use Rattle.model.proofs.Frame as frame
 use Rattle.laws_bits.proofs.Family.{SetOutline, FlightAt, KnowsFlight, number_by, family}
@@ -32,7 +32,7 @@ use Rattle.history.proofs.Passes.{opens, one_more}
 module _ {T : Type 0} where
   -- what a step of a set's call writes
   abbrev pub set_effects : ℕ → Flight T → ℕ → List (Event T)
-  set_effects p (flights.TheVariants.Bits flight) old = effects_of p flight old
+  set_effects p (flights.Bits flight) old = effects_of p flight old
   set_effects p flight old = []
 
   -- an effect is an event of its party
@@ -68,13 +68,13 @@ module _ {T : Type 0} (K : SetOutline T) (laws : (code : Coding T) (c : ℕ) →
   as_told x0 x1 x2 x3 x4 x5 x6 x7 = grind arith
 
   writes_there : (t : Trace T) (p old : ℕ) (At : BitsStart → BitsFlight → Type 0) (kept : Registry T) (start : Start T) (flight : Flight T)
-      → kept ≡ registries.TheVariants.Nothing → FlightAt At start flight
+      → kept ≡ registries.Nothing → FlightAt At start flight
       → (step_of t.world.coding t.world.words (beside_of t.world.words t.world.kept t.world.latest p) p start flight old kept).wrote ≡ set_effects p flight old
   writes_there x0 x1 x2 x3 x4 x5 x6 x7 x8 = grind arith
 
   own_there : (c p old : ℕ) (wrote : List (Event T)) (start : Start T) (flight : Flight T)
       → FlightAt (K.At c wrote) start flight → AreOf p (set_effects p flight old)
-  own_there c p old wrote (Bits start) (flights.TheVariants.Bits flight) at =
+  own_there c p old wrote (Bits start) (flights.Bits flight) at =
       effects_own p (effects_of p flight old) ((laws code c).effects p old wrote start flight at)
   own_there c p old wrote start flight at = absurd at
 
@@ -111,12 +111,12 @@ module _ {T : Type 0} (K : SetOutline T) (laws : (code : Coding T) (c : ℕ) →
     where
       most : (wrote : List (Event T)) (backs : ℕ) (start : Start T) (flight : Flight T) → FlightAt (K.At c wrote) start flight
           → number_by K.number flight backs ≤ K.promise.most_steps c z.size start backs
-      most wrote backs (Bits start) (flights.TheVariants.Bits flight) at = (laws z c).most wrote backs start flight at
+      most wrote backs (Bits start) (flights.Bits flight) at = (laws z c).most wrote backs start flight at
       most wrote backs start flight at = absurd at
 
       paid : (p : ℕ) (events : List (Event T)) (words : List ℕ) (since changes backs : ℕ) (flight : Flight T)
           → KnowsFlight (K.Knows p events words since changes backs) flight → backs ≤ changes - since
-      paid p events words since changes backs (flights.TheVariants.Bits flight) h = (laws z c).paid p events words since changes backs flight h
+      paid p events words since changes backs (flights.Bits flight) h = (laws z c).paid p events words since changes backs flight h
       paid p events words since changes backs flight h = absurd h
 
   -- how many steps its calls take
@@ -149,17 +149,17 @@ module _ {T : Type 0} (K : SetOutline T) (laws : (code : Coding T) (c : ℕ) →
       may_here x0 = grind (arith, rows_free, first_row, size, kept)
 
 module _ {T : Type 0} (code : Coding T) (capacity : ℕ) where
-  pub counts_owe : KindLaws code kinds.TheVariants.Counts capacity capacity set_effects
+  pub counts_owe : KindLaws code kinds.Counts capacity capacity set_effects
   counts_owe = sets_owe counting_set counts_laws code capacity capacity (λ c ws es turns same holds. holds.sized ∙ same) (λ t h. h) (λ going late h. h)
 
-  pub bits_owe : KindLaws code kinds.TheVariants.Bits capacity (1 + elements capacity) set_effects
+  pub bits_owe : KindLaws code kinds.Bits capacity (1 + elements capacity) set_effects
   bits_owe = sets_owe bit_set bits_laws code capacity (1 + elements capacity) (λ c ws es turns same holds. holds.sized ∙ ap (λ n. 1 + elements n) same)
       (λ t h. h) (λ going late h. h)
 
-  pub counts_pays : Pays code kinds.TheVariants.Counts capacity
+  pub counts_pays : Pays code kinds.Counts capacity
   counts_pays = set_pays counting_set counts_laws code capacity capacity (λ c ws es turns same holds. holds.sized ∙ same) (λ t h. h)
 
-  pub bits_pays : Pays code kinds.TheVariants.Bits capacity
+  pub bits_pays : Pays code kinds.Bits capacity
   bits_pays = set_pays bit_set bits_laws code capacity (1 + elements capacity) (λ c ws es turns same holds. holds.sized ∙ ap (λ n. 1 + elements n) same)
       (λ t h. h)
 
@@ -172,22 +172,22 @@ module _ {T C M E : Type 0} (code : Coding T) (call : Calling T C M E) (base : V
       → ((f : Event T → ℕ) → sum_by f base.made ≡ sum_by (owned owner j f) t.events)
       → Starts code kind call base c m t owner j
 
-  pub counts_starts : first_of kinds.TheVariants.Counts base.capacity call.start
-      ((opening_of kinds.TheVariants.Counts).kept base.capacity)
+  pub counts_starts : first_of kinds.Counts base.capacity call.start
+      ((opening_of kinds.Counts).kept base.capacity)
       ≡ Some (call.flight c m)
       → ((p : ℕ) → first_row
-      (begin_rows kinds.TheVariants.Counts base.capacity ((opening_of kinds.TheVariants.Counts).kept base.capacity) p call.start)
+      (begin_rows kinds.Counts base.capacity ((opening_of kinds.Counts).kept base.capacity) p call.start)
       ≡ None)
-      → StartsOn kinds.TheVariants.Counts
+      → StartsOn kinds.Counts
   counts_starts first may = set_starts counting_set counts_laws code base.capacity base.capacity (λ c ws es turns same holds. holds.sized ∙ same)
       (λ t h. h) call base c m refl by first may
 
-  pub bits_starts : first_of kinds.TheVariants.Bits base.capacity call.start ((opening_of kinds.TheVariants.Bits).kept base.capacity)
+  pub bits_starts : first_of kinds.Bits base.capacity call.start ((opening_of kinds.Bits).kept base.capacity)
       ≡ Some (call.flight c m)
       → ((p : ℕ)
-      → first_row (begin_rows kinds.TheVariants.Bits base.capacity ((opening_of kinds.TheVariants.Bits).kept base.capacity) p call.start)
+      → first_row (begin_rows kinds.Bits base.capacity ((opening_of kinds.Bits).kept base.capacity) p call.start)
       ≡ None)
-      → StartsOn kinds.TheVariants.Bits
+      → StartsOn kinds.Bits
   bits_starts first may = set_starts bit_set bits_laws code base.capacity (1 + elements base.capacity)
       (λ c ws es turns same holds. holds.sized ∙ ap (λ n. 1 + elements n) same) (λ t h. h) call base c m refl by first may
 
@@ -201,9 +201,9 @@ module _ (capacity : ℕ) (small : capacity < 2 ^ 32) where
   least = grind (arith, nat_tests)
 
   pub counts_open : (words : List ℕ) → words ≡ replicate (capacity + 1) 0
-      → IsMachine one_word kinds.TheVariants.Counts capacity (opening words [] (first_view capacity))
+      → IsMachine one_word kinds.Counts capacity (opening words [] (first_view capacity))
   counts_open x0 x1 = grind (arith, opens, one_word, most, least, one_more)
 
   pub bits_open : (words : List ℕ) → words ≡ replicate (1 + elements capacity + 1) 0
-      → IsMachine one_word kinds.TheVariants.Bits capacity (opening words [] (first_view capacity))
+      → IsMachine one_word kinds.Bits capacity (opening words [] (first_view capacity))
   bits_open x0 x1 = grind (arith, opens, one_word, most, least, one_more, elements)

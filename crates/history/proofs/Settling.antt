@@ -13,13 +13,14 @@ use Rattle.steps.specs.declared.ask.After.TheVariants.{Done}
 use Rattle.threaded.specs.Driver.{Told}
 use Rattle.history.specs.declared.view.View.{View}
 use Rattle.history.specs.Known.{events_by}
-use Rattle.history.specs.History.{IsRun, IsMachine, Continues, Fits, IsLate, call_in, refusal_as}
+use Rattle.history.specs.History.{IsRun, IsMachine, Continues, Fits, IsLate, call_in, refusal_as, HasAsked, steps_of_run}
 use Rattle.history.specs.Settled.{IsResting, Settles, SettledFrom, AtWaiting, AtRested, EndsSettled, EndsRested}
 use Rattle.history.proofs.Known.{by_more, within}
 use Rattle.history.proofs.AllSeen.{known_whole}
 use Rattle.history.proofs.Reached.{MayDecide, decide_as}
 use Rattle.history.proofs.Calls.{stands, flight_is}
-use Rattle.history.proofs.Turns.{KeptLaws, Between, at_first, heard, own_heard, decided, decided_at, made_between}
+use Rattle.history.proofs.Turns.{KeptLaws, Between, at_first, heard, own_heard, decided, decided_at, decided_took, made_between}
+use Rattle.history.proofs.Asked.{Gains, gains_has, asked_at}
 use Rattle.history.proofs.Passes.{set_same}
 use Rattle.history.proofs.OneRun.{continues_all}
 use Rattle.history.proofs.Steps.{view_after, settle}
@@ -90,13 +91,30 @@ module _ {T : Type 0} (code : Coding T) (kind : Kind) (decides : MayDecide kind)
 
     -- what the seat would know then
     abbrev pub view_settled : View T
-    view_settled = view_after code kind key id h.party between_then.one.turns v.asked v gained_then u_then
+    view_settled = view_after code kind key id h.party between_then.one.turns v.asked v.aside v gained_then u_then
 
     abbrev pub table_settled : State (Unit {0}) (View T)
     table_settled = record { words = s.words; homes = s.homes; views = slice_set s.views id view_settled }
 
+    gains_settled : Gains s.views v v.asked v.aside (steps_of_run code kind key between_then.one.turns)
+    unfolding between_then between
+    gains_settled =
+        record {
+          old = steps_of_run code kind key r.one.turns;
+          n = 0;
+          have = r.asked;
+          has = asked_at s.views (steps_of_run code kind key r.one.turns) id v at r.known.shares r.asked;
+          more =
+              decided_took code kind key (size_of key) effects (laws key) r.owner s id h.party [] r.trace between h.start h.flight
+              (Done h.answer) false there free comes;
+          own = omega arith;
+        }
+
+    has_settled : HasAsked view_settled (steps_of_run code kind key between_then.one.turns)
+    has_settled = gains_has s.views v view_settled (steps_of_run code kind key between_then.one.turns) gains_settled refl
+
     pub machine_settled : IsMachine code kind key table_settled
-    machine_settled = settle code kind key id h.party r.owner v.asked s.words s v gained_then u_then at h.some between_then
+    machine_settled = settle code kind key id h.party r.owner v.asked v.aside s.words s v gained_then u_then at h.some between_then gains_settled
 
     -- an answer is no look
     state_stays : view_settled.state ≡ v.state
@@ -154,6 +172,7 @@ module _ {T : Type 0} (code : Coding T) (kind : Kind) (decides : MayDecide kind)
               decided_at code kind key (size_of key) effects (laws key) r.owner s id h.party [] r.trace between h.start
               h.flight (Done h.answer) false there free comes;
           asked = no_more v.asked;
+          aside = refl;
           fresh = refl;
           others = here.seen.rest;
           seen = ap (λ zs. r.trace.events ++ zs) told_end ∙ ap (λ zs. zs ++ end) here.seen.is;
@@ -163,7 +182,7 @@ module _ {T : Type 0} (code : Coding T) (kind : Kind) (decides : MayDecide kind)
           history = record { trace = u_then; run = run_then; is = refl };
           ran =
               subst (λ n. Continues code kind n v view_settled) (sym known)
-              (continues_all code kind key s.views u_then id v view_settled between_then.one at between_then.run refl refl refl);
+              (continues_all code kind key s.views u_then id v view_settled between_then.one at between_then.run refl refl refl has_settled);
           all = λ all f. made_between code kind key r.owner id h.party gained_then u_then s between_then v at all f;
           parties = record { owner = r.owner; seat = id; sums = λ f. sum_by-append f v.made gained_then ∙ between_then.made_own v at f };
         }

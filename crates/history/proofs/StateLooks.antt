@@ -31,7 +31,7 @@ use Rattle.history.proofs.Calls.{stands, no_flight}
 use Rattle.history.proofs.CallsIn.{AsksFor, goes}
 use Rattle.history.proofs.CallTurns.{then_trace, then_gained}
 use Rattle.history.proofs.CallReady.{same_capacity, some_share, still_stands, Ready, ready}
-use Rattle.history.proofs.CallTurns.{next_between, comes_now, kept_now, view_then, asked_then, goes_then, ends_then}
+use Rattle.history.proofs.CallTurns.{next_between, comes_now, kept_now, view_then, gains_then, asked_then, goes_then, ends_then}
 use Rattle.history.proofs.ContainerLooks.{look_words, look_found, LookGoes, looks_so, look_goes_so, look_keeps_so, look_writes_so}
 use Rattle.history.proofs.Containers.{container_effects, effects_of_party, container_words, containers_owe, kept_there}
 use Rattle.history.proofs.Containers.{container_first, container_starts, is_open_container}
@@ -175,7 +175,7 @@ module _ {T : Type 0} (code : Coding T) (law : IsCoding code) (which : LookOf) (
                 (λ k. refl)
                 (λ es late h waits met new. subst (λ zs. LookedAt y.p d.stage zs) (sym (its_own es late waits))
                 (goes_so base.capacity y.p c m n es (GoOn d) standing (h new) e).1)
-                (steps_so base there),
+                (steps_so base there) refl,
             state_then ∙ ap (λ a. Some (settled_if a (state_of_look cells seen now))) e,
           ),
         )
@@ -217,12 +217,16 @@ module _ {T : Type 0} (code : Coding T) (law : IsCoding code) (which : LookOf) (
               view_now s v key id c m at known y ask low asked.2 has,
               table.keeps,
               tt,
-              settle code kinds.Container key id y.p y.owner (v.asked + 1) (slice_set s.words ask.word (written ask.op (slice_index s.words ask.word))) s v
+              settle code kinds.Container key id y.p y.owner (v.asked + 1) (v.aside + 0)
+                  (slice_set s.words ask.word (written ask.op (slice_index s.words ask.word))) s v
                   (then_gained code kinds.Container container_effects (container_words code) (containers_owe code) call s v key id c m at known y (Some ask) low
                   asked.2 tt)
                   (after_turn y.u (Next y.p)) at
                   (some_share code kinds.Container container_effects (container_words code) (containers_owe code) call base₀ v c m there₀)
                   (next_between code kinds.Container container_effects (container_words code) (containers_owe code)
+                  call s v key id c m at known y (Some ask) low
+                  asked.2 tt)
+                  (gains_then code kinds.Container container_effects (container_words code) (containers_owe code)
                   call s v key id c m at known y (Some ask) low
                   asked.2 tt),
               (told s v key id c m at known y ask low asked.2 has, refl, refl),

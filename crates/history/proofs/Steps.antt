@@ -6,7 +6,8 @@ use mathlib.Core.Option.{some}
 use lib.ListN.{get_elem?}
 use Rattle.atomic_table.specs.Table.{State}
 use Rattle.history.specs.declared.view.View.{View}
-use Rattle.history.specs.History.{IsBeginning, IsMachine, OneRun, Fits, call_in, steps_in, others_in}
+use Rattle.history.specs.History.{IsBeginning, IsMachine, OneRun, Fits, call_in, steps_in, others_in, steps_of_run}
+use Rattle.history.proofs.Asked.{Gains, gains_have}
 use Rattle.history.proofs.Known.{itself, within, none_late}
 use Rattle.history.proofs.AllSeen.{known_step}
 use Rattle.history.proofs.OneRun.{one_set, knew_all}
@@ -14,8 +15,8 @@ use Rattle.history.proofs.Turns.{Between}
 
 module _ {T : Type 0} (code : Coding T) (kind : Kind) (capacity id p : ℕ) where
   -- what the seat knows afterwards, as this party, with these counts
-  abbrev pub view_with : List (Turn T) → ℕ → ℕ → View T → List (Event T) → Trace T → View T
-  view_with turns asked taken v gained u =
+  abbrev pub view_with : List (Turn T) → ℕ → ℕ → ℕ → View T → List (Event T) → Trace T → View T
+  view_with turns asked aside taken v gained u =
       record {
         capacity = v.capacity;
         party = Some p;
@@ -28,25 +29,28 @@ module _ {T : Type 0} (code : Coding T) (kind : Kind) (capacity id p : ℕ) wher
         going = call_in u.world p;
         state = state_in u.world.kept p;
         asked = asked;
+        aside = aside;
         taken = taken;
         others = others_in u.world p;
       }
 
   -- its call has taken the steps that it has in the machine
-  abbrev pub view_after : List (Turn T) → ℕ → View T → List (Event T) → Trace T → View T
-  view_after turns asked v gained u = view_with turns asked (steps_in u.world p) v gained u
+  abbrev pub view_after : List (Turn T) → ℕ → ℕ → View T → List (Event T) → Trace T → View T
+  view_after turns asked aside v gained u = view_with turns asked aside (steps_in u.world p) v gained u
 
   none_seen : (events : List (Event T)) → IsBeginning [] events
   none_seen events = record { rest = events; is = refl }
 
   -- the rule, where the seat stands so in it
-  pub settle_with : (owner : ℕ → ℕ) (asked taken : ℕ) (words : List ℕ) (s : State (Unit {0}) (View T)) (v : View T) (gained : List (Event T)) (u : Trace T)
+  pub settle_with : (owner : ℕ → ℕ) (asked aside taken : ℕ) (words : List ℕ) (s : State (Unit {0}) (View T))
+      (v : View T) (gained : List (Event T)) (u : Trace T)
       → get_elem? s.views id ≡ some v → 0 < v.share.part
       → ((call : Start T × Flight T) → call_in u.world p ≡ Some call → steps_in u.world p ≡ taken)
       → Between code kind capacity owner (record { words = words; homes = s.homes; views = s.views }) id p gained u
-      → (one : OneRun code kind capacity s.views u)
-      → IsMachine code kind capacity (record { words = words; homes = s.homes; views = slice_set s.views id (view_with one.turns asked taken v gained u) })
-  settle_with owner asked taken words s v gained u at some_share counts b one =
+      → (one : OneRun code kind capacity s.views u) → Gains s.views v asked aside (steps_of_run code kind capacity one.turns)
+      → IsMachine code kind capacity
+      (record { words = words; homes = s.homes; views = slice_set s.views id (view_with one.turns asked aside taken v gained u) })
+  settle_with owner asked aside taken words s v gained u at some_share counts b one gains =
       record {
         trace = u;
         run = b.run;
@@ -61,11 +65,12 @@ module _ {T : Type 0} (code : Coding T) (kind : Kind) (capacity id p : ℕ) wher
         further = λ j past. b.further j (λ e. absurd (none j past e)) (beyond j past);
         made_none = λ j past. b.made_none j (λ e. absurd (none j past e)) (beyond j past);
         one = one_set code kind capacity s.views u id now one (knew_all code kind capacity s.views u now one refl refl);
+        asked = gains_have s.views id v now (steps_of_run code kind capacity one.turns) at gains some_share;
         known = known_step s.views u.events id v now (within s.views id v at) at refl some_share refl b.someone b.spent b.shares;
       }
     where
       now : View T
-      now = view_with one.turns asked taken v gained u
+      now = view_with one.turns asked aside taken v gained u
 
       beyond : (j : ℕ) → length (slice_set s.views id now) ≤ j → length s.views ≤ j
       beyond j past = grind (arith, length-set)
@@ -77,9 +82,10 @@ module _ {T : Type 0} (code : Coding T) (kind : Kind) (capacity id p : ℕ) wher
       mine : (j : ℕ) (x : View T) → j ≡ id → now ≡ x → Fits owner u j x
       mine x0 x1 x2 x3 = grind (arith, counts, itself, none_seen, state_in, none_late, inl, append-nil, sum_by-append)
 
-  pub settle : (owner : ℕ → ℕ) (asked : ℕ) (words : List ℕ) (s : State (Unit {0}) (View T)) (v : View T) (gained : List (Event T)) (u : Trace T)
+  pub settle : (owner : ℕ → ℕ) (asked aside : ℕ) (words : List ℕ) (s : State (Unit {0}) (View T)) (v : View T) (gained : List (Event T)) (u : Trace T)
       → get_elem? s.views id ≡ some v → 0 < v.share.part
       → (b : Between code kind capacity owner (record { words = words; homes = s.homes; views = s.views }) id p gained u)
-      → IsMachine code kind capacity (record { words = words; homes = s.homes; views = slice_set s.views id (view_after b.one.turns asked v gained u) })
-  settle owner asked words s v gained u at some_share b =
-      settle_with owner asked (steps_in u.world p) words s v gained u at some_share (λ call is. refl) b b.one
+      → Gains s.views v asked aside (steps_of_run code kind capacity b.one.turns)
+      → IsMachine code kind capacity (record { words = words; homes = s.homes; views = slice_set s.views id (view_after b.one.turns asked aside v gained u) })
+  settle owner asked aside words s v gained u at some_share b gains =
+      settle_with owner asked aside (steps_in u.world p) words s v gained u at some_share (λ call is. refl) b b.one gains

@@ -16,7 +16,10 @@ use Rattle.model.proofs.Turns.{writes_one_word}
 use Rattle.laws_queues.proofs.Queues.Sound.{IsFreshTurn}
 use Rattle.history.specs.declared.view.View.{View}
 use Rattle.history.specs.Known.{events_by, owned, of_none}
-use Rattle.history.specs.History.{IsRun, IsMachine, OneRun, Fits, call_in, started, steps_in, others_in, IsLate, refusal_as}
+use Rattle.history.specs.History.{IsRun, IsMachine, OneRun, Fits, call_in, started, steps_in, others_in, IsLate, refusal_as, run_of, steps_of_run}
+use Rattle.model.specs.LockFree.{steps_of as turn_steps}
+use Rattle.model.specs.World.{opening}
+use Rattle.history.proofs.Asked.{steps_more}
 use Rattle.history.specs.Stages.{rows_as}
 use Rattle.history.proofs.Known.{by_more, by_same, by_other, by_mine, owned_one, late_none, none_late, AreOf, sum_first}
 use Rattle.history.proofs.AllSeen.{owned_whole}
@@ -147,12 +150,35 @@ module _ {T : Type 0} where
       pub one : OneRun code kind capacity s.views u
 
     -- what the seat had still to see is gained
-    pub at_first : (s : State (Unit {0}) (View T)) (id p : ℕ) (m : IsMachine code kind capacity s) (gained : List (Event T))
+    abbrev pub at_first : (s : State (Unit {0}) (View T)) (id p : ℕ) (m : IsMachine code kind capacity s) (gained : List (Event T))
         → m.owner p ≡ id → m.owner id ≡ id → ((q : ℕ) → m.owner q ≡ id → q ≢ p → call_in m.trace.world q ≡ None)
         → ((v : View T) → get_elem? s.views id ≡ some v → (f : Event T → ℕ)
         → sum_by f v.made + sum_by f gained ≡ sum_by (owned m.owner id f) m.trace.events)
         → Between m.owner s id p gained m.trace
-    at_first x0 x1 x2 x3 x4 x5 x6 x7 x8 = grind arith
+    at_first s id p m gained mine self idle made_own =
+        record {
+          run = m.run;
+          words = m.words;
+          others = λ j v ne at. m.seats j v at;
+          mine = mine;
+          self = self;
+          idle = idle;
+          made_own = made_own;
+          inside = m.inside;
+          fresh = m.fresh;
+          further = λ j ne past. m.further j past;
+          made_none = λ j ne past. m.made_none j past;
+          shares = m.known.shares;
+          someone = m.known.someone;
+          spent = m.known.spent;
+          one = m.one;
+        }
+
+    pub more_steps : (turns : List (Turn T)) (u : Trace T) (turn : Turn T) (n : ℕ) → u ≡ run_of code kind capacity turns → turn_steps u.world turn ≡ n
+        → steps_of_run code kind capacity (turns ++ turn ∷ []) ≡ steps_of_run code kind capacity turns + n
+    more_steps turns u turn n is one =
+        steps_more (opening code kind capacity 0) turns turn
+        ∙ ap (λ k. steps_of_run code kind capacity turns + k) (ap (λ (t : Trace T). turn_steps t.world turn) (sym is) ∙ one)
 
     -- who has the whole has made all
     pub made_between : (owner : ℕ → ℕ) (id p : ℕ) (gained : List (Event T)) (u : Trace T) (s : State (Unit {0}) (View T))
@@ -245,7 +271,30 @@ module _ {T : Type 0} where
         begun_others = others_begin_own u.world p start flight (first_of u.world.kind u.world.capacity start u.world.kept) first_here
 
         pub begun : Between owner s id p (gained ++ Begun p start ∷ []) (after_turn u (Begin p start))
-        begun = grind (arith, after_turn, by_mine, begins)
+        begun =
+            let b' : Between owner s id p (gained ++ events_by p (Begun p start ∷ [])) (after_turn u (Begin p start)) = begins in
+            let same : events_by p (Begun p start ∷ []) ≡ Begun p start ∷ [] = by_mine p (Begun p start ∷ []) (refl, tt) in
+            record {
+              run = b'.run;
+              words = b'.words;
+              others = b'.others;
+              mine = b'.mine;
+              self = b'.self;
+              idle = b'.idle;
+              made_own = λ v at f. ap (λ zs. sum_by f v.made + sum_by f (gained ++ zs)) (sym same) ∙ b'.made_own v at f;
+              inside = b'.inside;
+              fresh = b'.fresh;
+              further = b'.further;
+              made_none = b'.made_none;
+              shares = b'.shares;
+              someone = b'.someone;
+              spent = b'.spent;
+              one = b'.one;
+            }
+
+        pub begun_took : steps_of_run code kind capacity begun.one.turns ≡ steps_of_run code kind capacity b.one.turns + 0
+        unfolding begun begins turned
+        begun_took = more_steps b.one.turns u (Begin p start) 0 b.one.is refl
 
         pub begun_at : call_in (after_turn u (Begin p start)).world p ≡ Some (start, flight)
         begun_at = grind (arith, begin_own, first_of, first_here)
@@ -267,7 +316,7 @@ module _ {T : Type 0} where
         pub goes_free : call_refusal u.world (Next p) ≡ None
         goes_free = grind arith
 
-        asked : ask_in u.world (Next p) ≡ ask
+        pub asked : ask_in u.world (Next p) ≡ ask
         asked = grind arith
 
         asked_of : ask_of (want_of u.world.coding flight) ≡ ask
@@ -345,6 +394,10 @@ module _ {T : Type 0} where
             (λ j ne. next_other u.world p j ne (party_of p u.world.latest)) (λ q ne. look_next u.world p q ne)
             (λ q ne. steps_next_other u.world p q ne (party_of p u.world.latest))
 
+        pub gone_took : steps_of_run code kind capacity gone.one.turns ≡ steps_of_run code kind capacity b.one.turns + step_count ask
+        unfolding gone turned
+        gone_took = more_steps b.one.turns u (Next p) (step_count ask) b.one.is (ap step_count asked)
+
         pub gone_named : started (party_of p (after_turn u (Next p)).world.latest) ≡ Some start
         gone_named = started_next_own u.world p start flight (stands u.world p start flight at)
 
@@ -392,6 +445,10 @@ module _ {T : Type 0} where
             turned s.words (Decide p said) free tt (b.words ∙ ap (λ ws. ws ++ 0 ∷ []) (sym (writes_one_word u.world (Decide p said))))
             heard_someone heard_beside (λ j ne. decision_other u.world p j said ne (party_of p u.world.latest)) (λ q ne. refl)
             (λ q ne. steps_decision_other u.world p q said ne (party_of p u.world.latest))
+
+        pub decided_took : steps_of_run code kind capacity decided.one.turns ≡ steps_of_run code kind capacity b.one.turns + 0
+        unfolding decided turned
+        decided_took = more_steps b.one.turns u (Decide p said) 0 b.one.is refl
 
         pub decided_steps : steps_in (after_turn u (Decide p said)).world p ≡ steps_in u.world p + 0
         decided_steps = steps_decision_own u.world p start flight said (stands u.world p start flight at)

@@ -10,19 +10,21 @@ use Rattle.steps.specs.declared.ask.Op.TheVariants as ops
 use Rattle.steps.specs.declared.ask.After.TheVariants.{Done}
 use Rattle.steps.specs.declared.ask.Want.TheVariants as wants
 use Rattle.steps.specs.declared.atomic.Load.{Load as Loading}
-use Rattle.steps.specs.declared.atomic.LoadStage as loads
+use Rattle.steps.specs.declared.atomic.LoadStage.{LoadStage}
+use Rattle.steps.specs.declared.atomic.LoadStage.TheVariants as loads
 use Rattle.steps.specs.declared.atomic.Store.{Store as Storing}
-use Rattle.steps.specs.declared.atomic.StoreStage as stores
+use Rattle.steps.specs.declared.atomic.StoreStage.{StoreStage}
+use Rattle.steps.specs.declared.atomic.StoreStage.TheVariants as stores
 use Rattle.steps.specs.declared.copied.Buffer as buffers
 use Rattle.steps.specs.Atomic.{cell_word}
 use Rattle.steps.specs.Queues.Ring.{word_at}
 use Rattle.steps.specs.Queues.Roles.{acquire_want, acquire_after, release_want, release_after}
 use Rattle.model.specs.declared.event.Answer.TheVariants as answers
 use Rattle.model.specs.declared.event.Start.TheVariants.{Atomic}
-use Rattle.model.specs.declared.families.Flight as flights
+use Rattle.model.specs.declared.families.Flight.TheVariants as flights
 use Rattle.model.specs.declared.families.atomic.AtomicStart.TheVariants.{ReleaseProducer, Store}
 use Rattle.model.specs.declared.families.atomic.AtomicStart.TheVariants.{Load}
-use Rattle.model.specs.declared.families.atomic.calls.AtomicFlight as calls
+use Rattle.model.specs.declared.families.atomic.calls.AtomicFlight.TheVariants as calls
 use Rattle.model.specs.declared.turn.Kind.TheVariants as kinds
 use Rattle.model.specs.Families.Atomic.Calls.{fresh}
 use Rattle.history.specs.declared.view.View.{View}
@@ -106,35 +108,35 @@ module _ {T : Type 0} (code : Coding T) (law : IsCoding code) (value : T) where
   store_acts p c m n e = rw e refl
 
   -- a store that is no look answers true
-  store_true : (c : Storing T) (n : ℕ) (b : Bool) (stage : stores.StoreStage) → store_skips stage n ≡ false
+  store_true : (c : Storing T) (n : ℕ) (b : Bool) (stage : StoreStage) → store_skips stage n ≡ false
       → store_takes code.size c stage n ≡ Done b → b ≡ true
   store_true x0 x1 x2 x3 x4 x5 = grind arith
 
   abbrev StandsNext : Storing T → Type 0
   StandsNext d = StoreStands code.size d.stage × ((k : ℕ) → store_skips d.stage k ≡ false)
 
-  store_stays : (c d : Storing T) (n : ℕ) (stage : stores.StoreStage) → StoreStands code.size stage → store_takes code.size c stage n ≡ GoOn d → StandsNext d
+  store_stays : (c d : Storing T) (n : ℕ) (stage : StoreStage) → StoreStands code.size stage → store_takes code.size c stage n ≡ GoOn d → StandsNext d
   store_stays x0 x1 x2 x3 x4 x5 = grind arith
 
-  store_finds_word : (stage : stores.StoreStage) → StoreStands code.size stage
+  store_finds_word : (stage : StoreStage) → StoreStands code.size stage
       → (a : Ask) × (a.word < 2 + code.size * 2) × (store_asks code.words_of stage value ≡ wants.Ask a)
-  store_finds_word stores.TheVariants.LoadsVersion h = (record { word = 0; op = ops.Load }, omega arith, refl)
-  store_finds_word (stores.TheVariants.StoresCell cell at) h = (
+  store_finds_word stores.LoadsVersion h = (record { word = 0; op = ops.Load }, omega arith, refl)
+  store_finds_word (stores.StoresCell cell at) h = (
     record { word = word_at cell at; op = ops.Store (slice_index (code.words_of value) at) },
     cell_low code h.0.0 cell at h.0.1 h.1,
     refl,
   )
-  store_finds_word stores.TheVariants.AddsVersion h = (record { word = 0; op = ops.Add 1 }, omega arith, refl)
+  store_finds_word stores.AddsVersion h = (record { word = 0; op = ops.Add 1 }, omega arith, refl)
 
-  store_hears : (c : Storing T) (a : Ask) (n : ℕ) (stage : stores.StoreStage)
+  store_hears : (c : Storing T) (a : Ask) (n : ℕ) (stage : StoreStage)
       → store_asks code.words_of stage value ≡ wants.Ask a
       → store_takes code.size c stage (answered a.op n) ≡ store_takes code.size c stage n
   store_hears x0 x1 x2 x3 x4 = grind arith
 
-  store_finds : (n : ℕ) (stage : stores.StoreStage) → n < 2 ^ 64 → store_skips stage n ≡ false → IsFreshStore n stage
+  store_finds : (n : ℕ) (stage : StoreStage) → n < 2 ^ 64 → store_skips stage n ≡ false → IsFreshStore n stage
   store_finds x0 x1 x2 x3 = grind arith
 
-  store_leaves : (c : Storing T) (a : Ask) (n : ℕ) (stage : stores.StoreStage) → store_skips stage n ≡ true
+  store_leaves : (c : Storing T) (a : Ask) (n : ℕ) (stage : StoreStage) → store_skips stage n ≡ true
       → store_asks code.words_of stage value ≡ wants.Ask a
       → (written a.op n ≡ n) × (e : Bool) × (e ≡ false) × (store_takes code.size c stage n ≡ Done e)
   store_leaves x0 x1 x2 x3 x4 x5 = grind arith
@@ -176,30 +178,30 @@ module _ {T R : Type 0} (code : Coding T) (law : IsCoding code) (words_in : R �
   keeps_word = load_kept with_word
 
   -- a load at this stage, with this room
-  abbrev flight_at : loads.LoadStage → buffers.Buffer 128 → Flight T
+  abbrev flight_at : LoadStage → buffers.Buffer 128 → Flight T
   flight_at stage room =
-      flights.TheVariants.Atomic
-      (calls.TheVariants.Load (record { call = record { stage = stage; of = record {} }; given = tt; room = room }))
+      flights.Atomic
+      (calls.Load (record { call = record { stage = stage; of = record {} }; given = tt; room = room }))
 
   put_there : (m : R) (at n : ℕ) → at < code.size → kept_at (room_of code.size (words_in m)) at n ≡ room_of code.size (words_in (with_word m at n))
   put_there m at n below = grind (arith, room_set, room_of)
 
-  load_same_after : (c : Loading T R) (m : R) (n : ℕ) (stage : loads.LoadStage) → LoadStands code.size stage
+  load_same_after : (c : Loading T R) (m : R) (n : ℕ) (stage : LoadStage) → LoadStands code.size stage
       → after_of code (flight_at stage (room_of code.size (words_in m))) n
       ≡ goes loading (load_takes code.size c stage n) (load_keeps with_word m stage n)
-  load_same_after c m n loads.TheVariants.LoadsVersion h = refl
-  load_same_after c m n (loads.TheVariants.LoadsCell version cell at) h = go (nat_lt (at + 1) code.size) refl
+  load_same_after c m n loads.LoadsVersion h = refl
+  load_same_after c m n (loads.LoadsCell version cell at) h = go (nat_lt (at + 1) code.size) refl
     where
       go : (b : Bool) → nat_lt (at + 1) code.size ≡ b
-          → after_of code (flight_at (loads.TheVariants.LoadsCell version cell at) (room_of code.size (words_in m))) n
-          ≡ goes loading (load_takes code.size c (loads.TheVariants.LoadsCell version cell at) n) (with_word m at n)
-      go true t = rw t (ap (λ r. GoOn (flight_at (loads.TheVariants.LoadsCell version cell (at + 1)) r)) (put_there m at n h.1))
-      go false t = rw t (ap (λ r. GoOn (flight_at (loads.TheVariants.ChecksVersion version) r)) (put_there m at n h.1))
-  load_same_after c m n (loads.TheVariants.ChecksVersion version) h = go (n == version) refl
+          → after_of code (flight_at (loads.LoadsCell version cell at) (room_of code.size (words_in m))) n
+          ≡ goes loading (load_takes code.size c (loads.LoadsCell version cell at) n) (with_word m at n)
+      go true t = rw t (ap (λ r. GoOn (flight_at (loads.LoadsCell version cell (at + 1)) r)) (put_there m at n h.1))
+      go false t = rw t (ap (λ r. GoOn (flight_at (loads.ChecksVersion version) r)) (put_there m at n h.1))
+  load_same_after c m n (loads.ChecksVersion version) h = go (n == version) refl
     where
       go : (b : Bool) → (n == version) ≡ b
-          → after_of code (flight_at (loads.TheVariants.ChecksVersion version) (room_of code.size (words_in m))) n
-          ≡ goes loading (load_takes code.size c (loads.TheVariants.ChecksVersion version) n) m
+          → after_of code (flight_at (loads.ChecksVersion version) (room_of code.size (words_in m))) n
+          ≡ goes loading (load_takes code.size c (loads.ChecksVersion version) n) m
       go true t = rw t (ap (λ x. Done (answers.Loaded x)) (room_read code (words_in m)))
       go false t = rw t refl
 
@@ -207,39 +209,39 @@ module _ {T R : Type 0} (code : Coding T) (law : IsCoding code) (words_in : R �
       → LoadStands code.size c.stage → value_effects code p (loading.flight c m) n ≡ []
   load_quiet x0 x1 x2 x3 x4 x5 x6 = grind arith
 
-  load_acts : (p : ℕ) (c : Loading T R) (m : R) (n : ℕ) (stage : loads.LoadStage) → load_takes code.size c stage n ≡ Done tt
+  load_acts : (p : ℕ) (c : Loading T R) (m : R) (n : ℕ) (stage : LoadStage) → load_takes code.size c stage n ≡ Done tt
       → value_effects code p (flight_at stage (room_of code.size (words_in m))) n
       ≡ Acted p (Atomic Load) (answers.Loaded (value_of_room code words_in (load_keeps with_word m stage n))) ∷ []
-  load_acts p c m n loads.TheVariants.LoadsVersion e = absurd (cc)
-  load_acts p c m n (loads.TheVariants.LoadsCell version cell at) e = go (nat_lt (at + 1) code.size) e
+  load_acts p c m n loads.LoadsVersion e = absurd (cc)
+  load_acts p c m n (loads.LoadsCell version cell at) e = go (nat_lt (at + 1) code.size) e
     where
       go : {A : Type 0} → (t : Bool)
           → cond {A = After (Loading T R) (Unit {0})} t
-          (GoOn (at_load c (loads.TheVariants.LoadsCell version cell (at + 1))))
-          (GoOn (at_load c (loads.TheVariants.ChecksVersion version)))
+          (GoOn (at_load c (loads.LoadsCell version cell (at + 1))))
+          (GoOn (at_load c (loads.ChecksVersion version)))
           ≡ Done tt
           → A
       go true e = absurd (cc)
       go false e = absurd (cc)
-  load_acts p c m n (loads.TheVariants.ChecksVersion version) e = go (n == version) refl
+  load_acts p c m n (loads.ChecksVersion version) e = go (n == version) refl
     where
       go : (b : Bool) → (n == version) ≡ b
-          → value_effects code p (flight_at (loads.TheVariants.ChecksVersion version) (room_of code.size (words_in m))) n
+          → value_effects code p (flight_at (loads.ChecksVersion version) (room_of code.size (words_in m))) n
           ≡ Acted p (Atomic Load) (answers.Loaded (value_of_room code words_in m)) ∷ []
       go true t = rw t (ap (λ x. Acted p (Atomic Load) (answers.Loaded x) ∷ []) (room_read code (words_in m)))
       go false t = (let no : GoOn (at_load c (load_begins code.size n)) ≡ Done tt = rw t at e in absurd (cc))
 
-  load_stays : (c d : Loading T R) (n : ℕ) (stage : loads.LoadStage) → LoadStands code.size stage
+  load_stays : (c d : Loading T R) (n : ℕ) (stage : LoadStage) → LoadStands code.size stage
       → load_takes code.size c stage n ≡ GoOn d → LoadStands code.size d.stage
   load_stays x0 x1 x2 x3 x4 x5 = grind arith
 
-  load_finds_word : (stage : loads.LoadStage) → LoadStands code.size stage → (a : Ask) × (a.word < 2 + code.size * 2) × (load_asks stage ≡ wants.Ask a)
-  load_finds_word loads.TheVariants.LoadsVersion h = (record { word = 0; op = ops.Load }, omega arith, refl)
-  load_finds_word (loads.TheVariants.LoadsCell version cell at) h =
+  load_finds_word : (stage : LoadStage) → LoadStands code.size stage → (a : Ask) × (a.word < 2 + code.size * 2) × (load_asks stage ≡ wants.Ask a)
+  load_finds_word loads.LoadsVersion h = (record { word = 0; op = ops.Load }, omega arith, refl)
+  load_finds_word (loads.LoadsCell version cell at) h =
       (record { word = word_at cell at; op = ops.Load }, cell_low code (before_version version) cell at h.0 h.1, refl)
-  load_finds_word (loads.TheVariants.ChecksVersion version) h = (record { word = 0; op = ops.Exchange version version }, omega arith, refl)
+  load_finds_word (loads.ChecksVersion version) h = (record { word = 0; op = ops.Exchange version version }, omega arith, refl)
 
-  load_hears : (c : Loading T R) (m : R) (a : Ask) (n : ℕ) (stage : loads.LoadStage) → load_asks stage ≡ wants.Ask a
+  load_hears : (c : Loading T R) (m : R) (a : Ask) (n : ℕ) (stage : LoadStage) → load_asks stage ≡ wants.Ask a
       → (load_takes code.size c stage (answered a.op n) ≡ load_takes code.size c stage n)
       × (load_keeps with_word m stage (answered a.op n) ≡ load_keeps with_word m stage n)
   load_hears x0 x1 x2 x3 x4 x5 = grind arith
@@ -270,5 +272,5 @@ module _ {T R : Type 0} (code : Coding T) (law : IsCoding code) (words_in : R �
         wrote = λ p. refl;
       })
     where
-      named : ◌≡◌ {A = Option (Flight T)} (Some (flight_at loads.TheVariants.LoadsVersion fresh)) (Some (loading.flight first_load m))
-      named = ap (λ r. Some (flight_at loads.TheVariants.LoadsVersion r)) (sym zeros)
+      named : ◌≡◌ {A = Option (Flight T)} (Some (flight_at loads.LoadsVersion fresh)) (Some (loading.flight first_load m))
+      named = ap (λ r. Some (flight_at loads.LoadsVersion r)) (sym zeros)

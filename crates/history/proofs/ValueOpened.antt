@@ -8,7 +8,8 @@ use Rattle.std.proofs.Common.{take}
 use Rattle.std.proofs.Common.{length-append}
 use Rattle.atomic_table.specs.Table.{opening}
 use Rattle.steps.specs.declared.ask.Op.TheVariants as ops
-use Rattle.steps.specs.declared.atomic.StoreStage as stores
+use Rattle.steps.specs.declared.atomic.StoreStage.{StoreStage}
+use Rattle.steps.specs.declared.atomic.StoreStage.TheVariants as stores
 use Rattle.steps.specs.Atomic.{cell_word}
 use Rattle.steps.specs.Queues.Ring.{word_at}
 use Rattle.model.specs.declared.event.Answer.TheVariants as answers
@@ -109,7 +110,7 @@ module _ {T : Type 0} (code : Coding T) (law : IsCoding code) (value : T) where
   abbrev words_at : ℕ → ℕ → List ℕ → List ℕ
   words_at version role cells = version ∷ role ∷ (cells ++ 0 ∷ [])
 
-  abbrev flight_at : stores.StoreStage → Flight T
+  abbrev flight_at : StoreStage → Flight T
   flight_at stage = (stores_value code value).flight (at_store first_store stage) tt
 
   abbrev name : Start T
@@ -126,7 +127,7 @@ module _ {T : Type 0} (code : Coding T) (law : IsCoding code) (value : T) where
     cell = cell_word code.size v
 
     abbrev storing : ℕ → Flight T
-    storing at = flight_at (stores.TheVariants.StoresCell cell at)
+    storing at = flight_at (stores.StoresCell cell at)
 
     half : v % 2 < 2
     half = omega arith
@@ -155,21 +156,21 @@ module _ {T : Type 0} (code : Coding T) (law : IsCoding code) (value : T) where
         (now (suc at)) (storing (at + 1)) (put at (omega arith)) (rw t refl) (rw t refl)
 
     last : (ts : List (Turn T)) (es : List (Event T)) (at : ℕ) → at + 1 ≡ code.size → Here (now at) ts es (Some (name, storing at))
-        → Here (now (suc at)) (ts ++ Next 0 ∷ []) es (Some (name, flight_at stores.TheVariants.AddsVersion))
+        → Here (now (suc at)) (ts ++ Next 0 ∷ []) es (Some (name, flight_at stores.AddsVersion))
     last ts es at all h =
         let t : nat_lt (at + 1) code.size ≡ false = grind (arith, nat_tests) in
         alone.goes_on code kinds.Atomic 1 (2 + code.size * 2) effects laws (now at) ts es name (storing at) h
         (record { word = word_at cell at; op = ops.Store (get_or ws at 0) }) (word_low at (omega arith)) refl tt
-        (now (suc at)) (flight_at stores.TheVariants.AddsVersion) (put at (omega arith)) (rw t refl) (rw t refl)
+        (now (suc at)) (flight_at stores.AddsVersion) (put at (omega arith)) (rw t refl) (rw t refl)
 
     fills : (ts : List (Turn T)) (es : List (Event T)) (rest at : ℕ) → at + suc rest ≡ code.size
         → Here (now at) ts es (Some (name, storing at))
-        → Here (now code.size) (ts ++ replicate (suc rest) (Next 0)) es (Some (name, flight_at stores.TheVariants.AddsVersion))
+        → Here (now code.size) (ts ++ replicate (suc rest) (Next 0)) es (Some (name, flight_at stores.AddsVersion))
     fills ts es zero at sum h = let same : suc at ≡ code.size = omega arith in
-        subst (λ n. Here (now n) (ts ++ Next 0 ∷ []) es (Some (name, flight_at stores.TheVariants.AddsVersion))) same (last ts es at (omega arith) h)
+        subst (λ n. Here (now n) (ts ++ Next 0 ∷ []) es (Some (name, flight_at stores.AddsVersion))) same (last ts es at (omega arith) h)
     fills ts es (suc rest) at sum h =
         let same : at + 1 ≡ suc at = omega arith in
-        subst (λ zs. Here (now code.size) zs es (Some (name, flight_at stores.TheVariants.AddsVersion)))
+        subst (λ zs. Here (now code.size) zs es (Some (name, flight_at stores.AddsVersion)))
         (append_assoc ts (Next 0 ∷ []) (replicate (suc rest) (Next 0)))
         (fills (ts ++ Next 0 ∷ []) es rest (suc at) (omega arith)
         (subst (λ n. Here (now (suc at)) (ts ++ Next 0 ∷ []) es (Some (name, storing n))) same (next ts es at (omega arith) h)))
@@ -190,13 +191,13 @@ module _ {T : Type 0} (code : Coding T) (law : IsCoding code) (value : T) where
         (sums (now 0) ts es h)) in
         let b =
         alone.goes_on code kinds.Atomic 1 (2 + code.size * 2) effects laws (now 0) ts1 xs name
-        (flight_at stores.TheVariants.LoadsVersion) a (record { word = 0; op = ops.Load }) (omega arith) refl small
+        (flight_at stores.LoadsVersion) a (record { word = 0; op = ops.Load }) (omega arith) refl small
         (now 0) (storing 0) refl (rw not_last refl) (rw not_last refl) in
         let c = fills ts2 xs (code.size - 1) 0 (let some = law.some in omega arith) b in
         let one : (v + 1) % 2 ^ 64 ≡ v + 1 = omega arith in
         let d =
         alone.ends code kinds.Atomic 1 (2 + code.size * 2) effects laws (now code.size) (ts2 ++ filling) xs name
-        (flight_at stores.TheVariants.AddsVersion) c (record { word = 0; op = ops.Add 1 }) (omega arith) refl tt
+        (flight_at stores.AddsVersion) c (record { word = 0; op = ops.Add 1 }) (omega arith) refl tt
         (words_at (v + 1) 0 (cells code.size)) (Truth true) (Acted 0 name (Truth true) ∷ [])
         (ap (λ n. words_at n 0 (cells code.size)) one) refl refl (refl, tt) in
         let whole : mix code.size ws x ≡ ws = mix_all code.size ws x (law.sized value) x_long in

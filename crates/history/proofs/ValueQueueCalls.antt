@@ -10,17 +10,19 @@ use Rattle.steps.specs.declared.ask.After.TheVariants.{Done}
 use Rattle.steps.specs.declared.ask.Want.TheVariants as wants
 use Rattle.steps.specs.declared.copied.Buffer as buffers
 use Rattle.steps.specs.declared.queues.ring.Pop.{Pop as Popping}
-use Rattle.steps.specs.declared.queues.ring.PopStage as pops
+use Rattle.steps.specs.declared.queues.ring.PopStage.{PopStage}
+use Rattle.steps.specs.declared.queues.ring.PopStage.TheVariants as pops
 use Rattle.steps.specs.declared.queues.ring.Push.{Push as Pushing}
-use Rattle.steps.specs.declared.queues.ring.PushStage as pushes
+use Rattle.steps.specs.declared.queues.ring.PushStage.{PushStage}
+use Rattle.steps.specs.declared.queues.ring.PushStage.TheVariants as pushes
 use Rattle.steps.specs.Queues.Ring.{first_push, first_pop, cell_word, word_at, push_asks, push_want}
 use Rattle.steps.specs.Queues.Ring.{push_takes, push_after, at_pop, pop_asks, pop_want}
 use Rattle.steps.specs.Queues.Ring.{pop_takes, pop_after, pop_kept, pop_keeps}
 use Rattle.model.specs.declared.event.Item.TheVariants.{Value}
-use Rattle.model.specs.declared.families.Flight as flights
-use Rattle.model.specs.declared.families.queues.QueueKind as queues
+use Rattle.model.specs.declared.families.Flight.TheVariants as flights
+use Rattle.model.specs.declared.families.queues.QueueKind.TheVariants as queues
 use Rattle.model.specs.declared.families.queues.QueueStart.TheVariants.{Push}
-use Rattle.model.specs.declared.families.queues.calls.RingCall as rings
+use Rattle.model.specs.declared.families.queues.calls.RingCall.TheVariants as rings
 use Rattle.model.specs.declared.turn.Kind.TheVariants as kinds
 use Rattle.model.specs.Families.Queues.Steps.{effects_of}
 use Rattle.history.specs.declared.view.View.{View}
@@ -53,7 +55,7 @@ module _ {T : Type 0} (code : Coding T) (law : IsCoding code) (v : T) where
       → queue_effects code p (pushing.flight c m) n ≡ effects_of p (Push v) (push_effect (Value v) c.stage) None
   effects_on p c d m n e = rw e refl
 
-  quiet : (p n : ℕ) (c d : Pushing T) (stage : pushes.PushStage) → push_takes code.size c stage n ≡ GoOn d
+  quiet : (p n : ℕ) (c d : Pushing T) (stage : PushStage) → push_takes code.size c stage n ≡ GoOn d
       → effects_of {T = T} p (Push v) (push_effect (Value v) stage) None ≡ []
   quiet x0 x1 x2 x3 x4 x5 = grind arith
 
@@ -62,27 +64,27 @@ module _ {T : Type 0} (code : Coding T) (law : IsCoding code) (v : T) where
     abbrev PushesNext : Pushing T → Type 0
     PushesNext d = (d.capacity ≡ capacity) × PushPlace code.size capacity d.stage × ((k : ℕ) → push_skips d.stage k ≡ false)
 
-    push_stays : (c d : Pushing T) (n : ℕ) (stage : pushes.PushStage) → c.capacity ≡ capacity
+    push_stays : (c d : Pushing T) (n : ℕ) (stage : PushStage) → c.capacity ≡ capacity
         → PushPlace code.size capacity stage → push_takes code.size c stage n ≡ GoOn d → PushesNext d
     push_stays x0 x1 x2 x3 x4 x5 x6 = grind arith
 
-  push_finds_word : (capacity : ℕ) (stage : pushes.PushStage) → PushPlace code.size capacity stage
+  push_finds_word : (capacity : ℕ) (stage : PushStage) → PushPlace code.size capacity stage
       → (a : Ask) × (a.word < 4 + code.size * capacity) × (push_asks code.words_of stage v ≡ wants.Ask a)
-  push_finds_word capacity pushes.TheVariants.LoadsWrite h = (record { word = 0; op = Load }, omega arith, refl)
-  push_finds_word capacity (pushes.TheVariants.LoadsRead write) h = (record { word = 1; op = Load }, omega arith, refl)
-  push_finds_word capacity (pushes.TheVariants.StoresCell write cell at) h =
+  push_finds_word capacity pushes.LoadsWrite h = (record { word = 0; op = Load }, omega arith, refl)
+  push_finds_word capacity (pushes.LoadsRead write) h = (record { word = 1; op = Load }, omega arith, refl)
+  push_finds_word capacity (pushes.StoresCell write cell at) h =
       (record { word = word_at cell at; op = Store (slice_index (code.words_of v) at) }, cell_low code.size capacity write cell at h, refl)
-  push_finds_word capacity (pushes.TheVariants.StoresWrite write) h = (record { word = 0; op = Store (after_position write) }, omega arith, refl)
+  push_finds_word capacity (pushes.StoresWrite write) h = (record { word = 0; op = Store (after_position write) }, omega arith, refl)
 
-  push_hears : (c : Pushing T) (a : Ask) (n : ℕ) (stage : pushes.PushStage)
+  push_hears : (c : Pushing T) (a : Ask) (n : ℕ) (stage : PushStage)
       → push_asks code.words_of stage v ≡ wants.Ask a
       → push_takes code.size c stage (answered a.op n) ≡ push_takes code.size c stage n
   push_hears x0 x1 x2 x3 x4 = grind arith
 
-  push_finds : (n : ℕ) (stage : pushes.PushStage) → n < 2 ^ 64 → push_skips stage n ≡ false → IsFresh n stage
+  push_finds : (n : ℕ) (stage : PushStage) → n < 2 ^ 64 → push_skips stage n ≡ false → IsFresh n stage
   push_finds x0 x1 x2 x3 = grind arith
 
-  push_leaves : (c : Pushing T) (a : Ask) (n : ℕ) (stage : pushes.PushStage) → push_skips stage n ≡ true
+  push_leaves : (c : Pushing T) (a : Ask) (n : ℕ) (stage : PushStage) → push_skips stage n ≡ true
       → push_asks code.words_of stage v ≡ wants.Ask a
       → (written a.op n ≡ n) × (e : Bool) × (e ≡ false) × (push_takes code.size c stage n ≡ Done e)
   push_leaves x0 x1 x2 x3 x4 x5 = grind arith
@@ -110,7 +112,7 @@ module _ {T : Type 0} (code : Coding T) (law : IsCoding code) (v : T) where
         some = any;
         first = refl;
         starts =
-            role_starts code queues.TheVariants.Queue x pushing (Push v) (first_push x.capacity) m refl (λ kept. refl)
+            role_starts code queues.Queue x pushing (Push v) (first_push x.capacity) m refl (λ kept. refl)
             Producer (λ o p. tt) (λ roles p is. holds_it roles.producer p is) has;
         wrote = λ p. refl;
       })
@@ -126,11 +128,11 @@ module _ {T R : Type 0} (code : Coding T) (law : IsCoding code) (words_in : R �
   keeps_word = pop_kept with_word
 
   -- a pop at this stage, with this room
-  abbrev flight_at : ℕ → pops.PopStage → buffers.Buffer 128 → Flight T
+  abbrev flight_at : ℕ → PopStage → buffers.Buffer 128 → Flight T
   flight_at capacity stage room =
-      flights.TheVariants.Queues
+      flights.Queues
       (Values
-      (rings.TheVariants.Pop (record { call = record { capacity = capacity; stage = stage; of = record {} }; given = tt; room = room })))
+      (rings.Pop (record { call = record { capacity = capacity; stage = stage; of = record {} }; given = tt; room = room })))
 
   abbrev room_in : R → buffers.Buffer 128
   room_in m = room_of code.size (words_in m)
@@ -138,73 +140,73 @@ module _ {T R : Type 0} (code : Coding T) (law : IsCoding code) (words_in : R �
   put_there : (m : R) (at n : ℕ) → at < code.size → kept_at (room_in m) at n ≡ room_in (with_word m at n)
   put_there m at n below = grind (arith, room_set, room_of)
 
-  pop_same_after : (capacity : ℕ) (c : Popping T R) (m : R) (n : ℕ) (stage : pops.PopStage)
+  pop_same_after : (capacity : ℕ) (c : Popping T R) (m : R) (n : ℕ) (stage : PopStage)
       → PopPlace code.size capacity stage
       → after_of code (flight_at c.capacity stage (room_in m)) n
       ≡ goes popping (pop_takes code.size c stage n) (pop_keeps with_word m stage n)
-  pop_same_after capacity c m n pops.TheVariants.LoadsRead h = refl
-  pop_same_after capacity c m n (pops.TheVariants.LoadsWrite read) h = go (c.capacity == 0 || n == read) refl
+  pop_same_after capacity c m n pops.LoadsRead h = refl
+  pop_same_after capacity c m n (pops.LoadsWrite read) h = go (c.capacity == 0 || n == read) refl
     where
       go : (b : Bool) → (c.capacity == 0 || n == read) ≡ b
-          → after_of code (flight_at c.capacity (pops.TheVariants.LoadsWrite read) (room_in m)) n
-          ≡ goes popping (pop_takes code.size c (pops.TheVariants.LoadsWrite read) n) m
+          → after_of code (flight_at c.capacity (pops.LoadsWrite read) (room_in m)) n
+          ≡ goes popping (pop_takes code.size c (pops.LoadsWrite read) n) m
       go true t = rw t refl
       go false t = rw t refl
-  pop_same_after capacity c m n (pops.TheVariants.LoadsCell read cell at) h = go (nat_lt (at + 1) code.size) refl
+  pop_same_after capacity c m n (pops.LoadsCell read cell at) h = go (nat_lt (at + 1) code.size) refl
     where
       go : (b : Bool) → nat_lt (at + 1) code.size ≡ b
-          → after_of code (flight_at c.capacity (pops.TheVariants.LoadsCell read cell at) (room_in m)) n
-          ≡ goes popping (pop_takes code.size c (pops.TheVariants.LoadsCell read cell at) n) (with_word m at n)
-      go true t = rw t (ap (λ r. GoOn (flight_at c.capacity (pops.TheVariants.LoadsCell read cell (at + 1)) r)) (put_there m at n h.2))
-      go false t = rw t (ap (λ r. GoOn (flight_at c.capacity (pops.TheVariants.StoresRead read) r)) (put_there m at n h.2))
-  pop_same_after capacity c m n (pops.TheVariants.StoresRead read) h = grind (arith, room_read)
+          → after_of code (flight_at c.capacity (pops.LoadsCell read cell at) (room_in m)) n
+          ≡ goes popping (pop_takes code.size c (pops.LoadsCell read cell at) n) (with_word m at n)
+      go true t = rw t (ap (λ r. GoOn (flight_at c.capacity (pops.LoadsCell read cell (at + 1)) r)) (put_there m at n h.2))
+      go false t = rw t (ap (λ r. GoOn (flight_at c.capacity (pops.StoresRead read) r)) (put_there m at n h.2))
+  pop_same_after capacity c m n (pops.StoresRead read) h = grind (arith, room_read)
 
-  pop_quiet : (p n : ℕ) (c d : Popping T R) (m : R) (stage : pops.PopStage) → pop_takes code.size c stage n ≡ GoOn d
+  pop_quiet : (p n : ℕ) (c d : Popping T R) (m : R) (stage : PopStage) → pop_takes code.size c stage n ≡ GoOn d
       → queue_effects code p (flight_at c.capacity stage (room_in m)) n ≡ []
   pop_quiet x0 x1 x2 x3 x4 x5 x6 = grind arith
 
-  pop_loud : (p n : ℕ) (c : Popping T R) (m : R) (b : Bool) (stage : pops.PopStage)
+  pop_loud : (p n : ℕ) (c : Popping T R) (m : R) (b : Bool) (stage : PopStage)
       → pop_takes code.size c stage n ≡ Done b
       → queue_effects code p (flight_at c.capacity stage (room_in m)) n
       ≡ value_pop_wrote p (value_there code words_in (pop_keeps with_word m stage n)) b
-  pop_loud p n c m b pops.TheVariants.LoadsRead e = absurd (cc)
-  pop_loud p n c m b (pops.TheVariants.LoadsWrite read) e = go (c.capacity == 0 || n == read) refl
+  pop_loud p n c m b pops.LoadsRead e = absurd (cc)
+  pop_loud p n c m b (pops.LoadsWrite read) e = go (c.capacity == 0 || n == read) refl
     where
       go : (t : Bool) → (c.capacity == 0 || n == read) ≡ t
-          → queue_effects code p (flight_at c.capacity (pops.TheVariants.LoadsWrite read) (room_in m)) n
+          → queue_effects code p (flight_at c.capacity (pops.LoadsWrite read) (room_in m)) n
           ≡ value_pop_wrote p (value_there code words_in m) b
       go true t =
           let no : ◌≡◌ {A = After (Popping T R) Bool} (Done false) (Done b) = rw t at e in
           let same : false ≡ b = cc in
           rw t (ap (value_pop_wrote p (value_there code words_in m)) same)
-      go false t = (let no : GoOn (at_pop c (pops.TheVariants.LoadsCell read (cell_word c.capacity code.size read) 0)) ≡ Done b = rw t at e in absurd (cc))
-  pop_loud p n c m b (pops.TheVariants.LoadsCell read cell at) e = go (nat_lt (at + 1) code.size) e
+      go false t = (let no : GoOn (at_pop c (pops.LoadsCell read (cell_word c.capacity code.size read) 0)) ≡ Done b = rw t at e in absurd (cc))
+  pop_loud p n c m b (pops.LoadsCell read cell at) e = go (nat_lt (at + 1) code.size) e
     where
-      go : (t : Bool) → cond {A = After (Popping T R) Bool} t (GoOn (at_pop c (pops.TheVariants.LoadsCell read cell (at + 1))))
-          (GoOn (at_pop c (pops.TheVariants.StoresRead read)))
+      go : (t : Bool) → cond {A = After (Popping T R) Bool} t (GoOn (at_pop c (pops.LoadsCell read cell (at + 1))))
+          (GoOn (at_pop c (pops.StoresRead read)))
           ≡ Done b
           → [] ≡ value_pop_wrote {T = T} p (value_there code words_in (with_word m at n)) b
       go true e = absurd (cc)
       go false e = absurd (cc)
-  pop_loud p n c m b (pops.TheVariants.StoresRead read) e = grind (arith, room_read, value_there)
+  pop_loud p n c m b (pops.StoresRead read) e = grind (arith, room_read, value_there)
 
   module _ (capacity : ℕ) where
     abbrev PopsNext : Popping T R → Type 0
     PopsNext d = (d.capacity ≡ capacity) × PopPlace code.size capacity d.stage
 
-    pop_stays : (c d : Popping T R) (n : ℕ) (stage : pops.PopStage) → c.capacity ≡ capacity
+    pop_stays : (c d : Popping T R) (n : ℕ) (stage : PopStage) → c.capacity ≡ capacity
         → PopPlace code.size capacity stage → pop_takes code.size c stage n ≡ GoOn d → PopsNext d
     pop_stays x0 x1 x2 x3 x4 x5 x6 = grind arith
 
-  pop_finds_word : (capacity : ℕ) (stage : pops.PopStage) → PopPlace code.size capacity stage
+  pop_finds_word : (capacity : ℕ) (stage : PopStage) → PopPlace code.size capacity stage
       → (a : Ask) × (a.word < 4 + code.size * capacity) × (pop_asks stage ≡ wants.Ask a)
-  pop_finds_word capacity pops.TheVariants.LoadsRead h = (record { word = 1; op = Load }, omega arith, refl)
-  pop_finds_word capacity (pops.TheVariants.LoadsWrite read) h = (record { word = 0; op = Load }, omega arith, refl)
-  pop_finds_word capacity (pops.TheVariants.LoadsCell read cell at) h =
+  pop_finds_word capacity pops.LoadsRead h = (record { word = 1; op = Load }, omega arith, refl)
+  pop_finds_word capacity (pops.LoadsWrite read) h = (record { word = 0; op = Load }, omega arith, refl)
+  pop_finds_word capacity (pops.LoadsCell read cell at) h =
       (record { word = word_at cell at; op = Load }, cell_low code.size capacity read cell at h, refl)
-  pop_finds_word capacity (pops.TheVariants.StoresRead read) h = (record { word = 1; op = Store (after_position read) }, omega arith, refl)
+  pop_finds_word capacity (pops.StoresRead read) h = (record { word = 1; op = Store (after_position read) }, omega arith, refl)
 
-  pop_hears : (c : Popping T R) (m : R) (a : Ask) (n : ℕ) (stage : pops.PopStage) → pop_asks stage ≡ wants.Ask a
+  pop_hears : (c : Popping T R) (m : R) (a : Ask) (n : ℕ) (stage : PopStage) → pop_asks stage ≡ wants.Ask a
       → (pop_takes code.size c stage (answered a.op n) ≡ pop_takes code.size c stage n)
       × (pop_keeps with_word m stage (answered a.op n) ≡ pop_keeps with_word m stage n)
   pop_hears x0 x1 x2 x3 x4 x5 = grind arith
@@ -248,10 +250,10 @@ module _ {T R : Type 0} (code : Coding T) (law : IsCoding code) (words_in : R �
         some = any;
         first = named;
         starts =
-            role_starts code queues.TheVariants.Queue x popping Pop (first_pop x.capacity) m refl (λ kept. named)
+            role_starts code queues.Queue x popping Pop (first_pop x.capacity) m refl (λ kept. named)
             Consumer (λ o p. tt) (λ roles p is. holds_it roles.consumer p is) has;
         wrote = λ p. refl;
       })
     where
-      named : ◌≡◌ {A = Option (Flight T)} (Some (flight_at x.capacity pops.TheVariants.LoadsRead fresh_cell)) (Some (popping.flight (first_pop x.capacity) m))
-      named = ap (λ r. Some (flight_at x.capacity pops.TheVariants.LoadsRead r)) (sym zeros)
+      named : ◌≡◌ {A = Option (Flight T)} (Some (flight_at x.capacity pops.LoadsRead fresh_cell)) (Some (popping.flight (first_pop x.capacity) m))
+      named = ap (λ r. Some (flight_at x.capacity pops.LoadsRead r)) (sym zeros)

@@ -5,7 +5,7 @@ use Rattle.history.proofs.Names.{len_after, LengthOf, Coding, IsCoding, KeepsRul
 use Rattle.atomic_table.specs.Table.{opening}
 use Rattle.steps.specs.declared.queues.roles.Role.{Role}
 use Rattle.steps.specs.Queues.Roles.{acquire_want, acquire_after, release_want, release_after}
-use Rattle.model.specs.declared.families.queues.QueueKind as queues
+use Rattle.model.specs.declared.families.queues.QueueKind.TheVariants as queues
 use Rattle.model.specs.declared.turn.Kind.TheVariants as kinds
 use Rattle.history.specs.declared.view.View.{View}
 use Rattle.history.specs.History.{IsMachine}
@@ -41,7 +41,7 @@ module _ {T : Type 0} (code : Coding T) (law : IsCoding code) where
 
     pub value_acquire_first : (x : View T) (m : Unit {0}) → x.going ≡ None → x.other ≡ [] → 0 < x.share.part
         → At code kinds.Queue (takes_role role) x x (record { word = role_word role }) m
-    value_acquire_first x m idle alone any = acquire_first_on code queues.TheVariants.Queue x m idle alone any role
+    value_acquire_first x m idle alone any = acquire_first_on code queues.Queue x m idle alone any role
 
     pub value_release_keeps : Keeps (gives_role role) release_want release_after (λ c m n. m)
     value_release_keeps =
@@ -52,7 +52,7 @@ module _ {T : Type 0} (code : Coding T) (law : IsCoding code) where
 
     pub value_release_first : (x : View T) (m : Unit {0}) → x.going ≡ None → x.other ≡ [] → 0 < x.share.part
         → HasRole role x.made → At code kinds.Queue (gives_role role) x x (record { word = role_word role }) m
-    value_release_first x m idle alone any has = release_first_on code queues.TheVariants.Queue x m idle alone any role has
+    value_release_first x m idle alone any has = release_first_on code queues.Queue x m idle alone any role has
 
   module _ (which : LengthOf) where
     len_keeps : (size : ℕ) → Keeps (counts_waiting which size) len_want len_after (λ c m n. m)
@@ -72,7 +72,7 @@ module _ {T : Type 0} (code : Coding T) (law : IsCoding code) where
 
     pub value_len_first : (size : ℕ) (x : View T) (m : Unit {0}) → x.capacity ≡ size → x.going ≡ None → x.other ≡ []
         → 0 < x.share.part → At code kinds.Queue (counts_waiting which size) x x (first_len size) m
-    value_len_first size x m same idle alone any = len_first_on code queues.TheVariants.Queue x m idle alone any which size same
+    value_len_first size x m same idle alone any = len_first_on code queues.Queue x m idle alone any which size same
 
 -- ---- how its table opens: empty
 

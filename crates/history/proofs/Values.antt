@@ -5,11 +5,11 @@ use Rattle.history.proofs.Names.{Flight, Registry, AtomicStart, AtomicFlight, Pa
 use Rattle.history.proofs.Names.{beside_of, after_of, going_rows, IsValue, acted, party_of, IsKeptBy, promise_of}
 use Rattle.history.proofs.Names.{Each, first_row, answer_in, Trace, stands_there}
 use Rattle.model.specs.declared.event.Start.TheVariants.{Atomic}
-use Rattle.model.specs.declared.families.Flight as flights
-use Rattle.model.specs.declared.families.Registry as registries
+use Rattle.model.specs.declared.families.Flight.TheVariants as flights
+use Rattle.model.specs.declared.families.Registry.TheVariants as registries
 use Rattle.model.specs.declared.families.atomic.AtomicStart.TheVariants.{AcquireProducer, ReleaseProducer, Store}
 use Rattle.model.specs.declared.families.atomic.AtomicStart.TheVariants.{Load}
-use Rattle.model.specs.declared.families.atomic.calls.AtomicFlight as calls
+use Rattle.model.specs.declared.families.atomic.calls.AtomicFlight.TheVariants as calls
 use Rattle.model.specs.declared.turn.Kind.TheVariants as kinds
 use Rattle.model.specs.Families.Atomic.Calls.{after}
 use Rattle.model.specs.Families.Atomic.Opening.{lacks_role, kept_rows}
@@ -32,14 +32,14 @@ use Rattle.history.proofs.Turns.{CallGoesOn, KindLaws}
 module _ {T : Type 0} where
   -- the name of a call under way
   abbrev start_of : AtomicFlight T → AtomicStart T
-  start_of (calls.TheVariants.Acquire run) = AcquireProducer
-  start_of (calls.TheVariants.Release run) = ReleaseProducer
-  start_of (calls.TheVariants.Store run) = Store run.given
-  start_of (calls.TheVariants.Load run) = Load
+  start_of (calls.Acquire run) = AcquireProducer
+  start_of (calls.Release run) = ReleaseProducer
+  start_of (calls.Store run) = Store run.given
+  start_of (calls.Load run) = Load
 
   -- what a step of a call on the single value writes
   abbrev pub value_effects : Coding T → ℕ → Flight T → ℕ → List (Event T)
-  value_effects code p (flights.TheVariants.Atomic flight) found = acted p (start_of flight) (answer_in (after code flight found))
+  value_effects code p (flights.Atomic flight) found = acted p (start_of flight) (answer_in (after code flight found))
   value_effects code p flight found = []
 
   effects_own : (code : Coding T) (p : ℕ) (flight : Flight T) (n : ℕ) → AreOf p (value_effects code p flight n)
@@ -53,7 +53,7 @@ module _ {T : Type 0} where
 
   facts : (z : Coding T) (words : List ℕ) (waits : Option (ℕ × ℕ)) (c p n : ℕ) (s : Value) (start : Start T)
       (flight : Flight T) (kept : Registry T)
-      → kept ≡ registries.TheVariants.Atomic s.holder → (family z c).At s p start flight
+      → kept ≡ registries.Atomic s.holder → (family z c).At s p start flight
       → Facts z words waits p n start flight kept
   facts x0 x1 x2 x3 x4 x5 x6 x7 x8 x9 x10 x11 = grind arith
 
@@ -145,12 +145,12 @@ module _ {T C M E : Type 0} (code : Coding T) (base : View T) (call : Calling T 
   abbrev AllOf : Trace T → (ℕ → ℕ) → ℕ → Type 0
   AllOf t owner j = (f : Event T → ℕ) → sum_by f base.made ≡ sum_by (owned owner j f) t.events
 
-  kept_there : (t : Trace T) → IsAt t → (holder : Option ℕ) × (t.world.kept ≡ registries.TheVariants.Atomic holder)
+  kept_there : (t : Trace T) → IsAt t → (holder : Option ℕ) × (t.world.kept ≡ registries.Atomic holder)
   kept_there t r = let s = value_sound code base.capacity t r in (s.state.holder, s.fit.kept)
 
   -- a party that lacks no role for it may begin
   as_party : (t : Trace T) (owner : ℕ → ℕ) (j p : ℕ) → IsAt t → owner p ≡ j → call.by base.party p
-      → (holder : Option ℕ) → t.world.kept ≡ registries.TheVariants.Atomic holder → lacks_role holder p start ≡ false
+      → (holder : Option ℕ) → t.world.kept ≡ registries.Atomic holder → lacks_role holder p start ≡ false
       → Starts code kinds.Atomic call base c m t owner j
   as_party t owner j p run mine by holder is lacks =
       let free : first_row (kept_rows start t.world.kept p) ≡ None = subst (λ k. first_row (kept_rows start k p) ≡ None) (sym is) (rw lacks refl) in
@@ -168,7 +168,7 @@ module _ {T C M E : Type 0} (code : Coding T) (base : View T) (call : Calling T 
       → AllOf t owner j → Starts code kinds.Atomic call base c m t owner j
   plain_starts by_last free t owner j run self party sums = go base.party refl party
     where
-      kept : (holder : Option ℕ) × (t.world.kept ≡ registries.TheVariants.Atomic holder)
+      kept : (holder : Option ℕ) × (t.world.kept ≡ registries.Atomic holder)
       kept = kept_there t run
 
       go : (o : Option ℕ) → base.party ≡ o → IfSome o (λ p. owner p ≡ j) → Starts code kinds.Atomic call base c m t owner j
@@ -190,5 +190,5 @@ module _ {T C M E : Type 0} (code : Coding T) (base : View T) (call : Calling T 
       let value = value_goes_on code base.capacity t run in
       let kept = kept_there t run in
       let by = producer_by owner j t.events base.made value.roles sums has in
-      let keeps : KeepsHolder (registries.TheVariants.Atomic kept.0) t.events = subst (λ k. KeepsHolder k t.events) kept.1 value.holder in
+      let keeps : KeepsHolder (registries.Atomic kept.0) t.events = subst (λ k. KeepsHolder k t.events) kept.1 value.holder in
       as_party t owner j by.0 run by.1 (by_any base.party by.0) kept.0 kept.1 (free kept.0 by.0 (keeps ∙ by.2))

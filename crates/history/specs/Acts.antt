@@ -3,13 +3,13 @@ use Rattle.std.specs.Prelude.{◌≡◌, ◌≢◌, ◌≤◌, ◌<◌, ℕ, ◌
 use Rattle.model.specs.declared.event.Answer.{Answer}
 use Rattle.model.specs.declared.event.Answer.TheVariants.{Done, Truth, Number, ResetNone, Reset}
 use Rattle.model.specs.declared.event.Event.{Event}
-use Rattle.model.specs.declared.event.Event as events
+use Rattle.model.specs.declared.event.Event.TheVariants as events
 use Rattle.model.specs.declared.event.Event.TheVariants.{Begun, Cleared, Counted, TakenOut, Finished}
 use Rattle.model.specs.declared.event.Start.{Start}
 use Rattle.model.specs.declared.event.Start.TheVariants.{Bits}
 use Rattle.model.specs.declared.families.bits.BitsStart.TheVariants.{Set, ResetNext, ResetAll}
 use Rattle.model.specs.declared.turn.Kind.{Kind}
-use Rattle.model.specs.declared.turn.Kind as kinds
+use Rattle.model.specs.declared.turn.Kind.TheVariants as kinds
 use Rattle.model.specs.Families.Bits.Reading.{counts}
 
 -- What stands in a history to which the silent acts are added: an event, or that a call of this party has acted
@@ -22,7 +22,7 @@ pub data Mark (T : Type 0) : Type 0 where
 
 -- what a set makes of the number: 1 where it is a flag, one more where it is a count, which wraps
 abbrev pub after_set : Kind → ℕ → ℕ
-after_set kinds.TheVariants.Counts n = (n + 1) % 2 ^ 64
+after_set kinds.Counts n = (n + 1) % 2 ^ 64
 after_set kind n = 1
 
 -- a party's call under way, and what it found at one place once it has acted there
@@ -50,7 +50,7 @@ module _ {T : Type 0} where
 
   -- the party acts on the place
   abbrev pub does : ℕ → ℕ → Event T → Bool
-  does p b (events.TheVariants.Set q c) = q == p && c == b
+  does p b (events.Set q c) = q == p && c == b
   does p b (Cleared q c) = q == p && c == b
   does p b (Counted q c) = q == p && c == b
   does p b (TakenOut q c m) = q == p && c == b
@@ -58,7 +58,7 @@ module _ {T : Type 0} where
 
   -- the number of the place after an event
   abbrev pub number_after : ℕ → ℕ → Event T → ℕ
-  number_after b n (events.TheVariants.Set q c) = if c == b then 1 else n
+  number_after b n (events.Set q c) = if c == b then 1 else n
   number_after b n (Cleared q c) = if c == b then 0 else n
   number_after b n (Counted q c) = if c == b then (n + 1) % 2 ^ 64 else n
   number_after b n (TakenOut q c m) = if c == b then 0 else n
@@ -67,7 +67,7 @@ module _ {T : Type 0} where
   -- what the event tells of the number that it found: a flag is set where it was clear and cleared where it
   -- stood, and what is taken out of a count is all of it, and something
   abbrev pub Tells : ℕ → Event T → Type 0
-  Tells n (events.TheVariants.Set q c) = n ≡ 0
+  Tells n (events.Set q c) = n ≡ 0
   Tells n (Cleared q c) = n ≡ 1
   Tells n (TakenOut q c m) = (m ≡ n) × (1 ≤ m)
   Tells n e = Unit {0}
@@ -144,6 +144,6 @@ pub record ActsByPlace {T : Type 0} (kind : Kind) (capacity : ℕ) (history : Li
 
 -- the kinds of which this is said
 abbrev pub IsSet : Kind → Type 0
-IsSet kinds.TheVariants.Bits = Unit {0}
-IsSet kinds.TheVariants.Counts = Unit {0}
+IsSet kinds.Bits = Unit {0}
+IsSet kinds.Counts = Unit {0}
 IsSet kind = ⊥

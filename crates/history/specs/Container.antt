@@ -4,13 +4,16 @@ use Rattle.steps.specs.Container.Add.{Added}
 use Rattle.steps.specs.Container.Remove.{Removed}
 use Rattle.steps.specs.Container.Replace.{Replaced}
 use Rattle.steps.specs.declared.container.add.Add.{Add as Adding}
-use Rattle.steps.specs.declared.container.add.AddStage as adds
+use Rattle.steps.specs.declared.container.add.AddStage.{AddStage}
+use Rattle.steps.specs.declared.container.add.AddStage.TheVariants as adds
 use Rattle.steps.specs.declared.container.add.Owned.{Owned}
 use Rattle.steps.specs.declared.container.enums.ContainerAddFailure.TheVariants as failures
 use Rattle.steps.specs.declared.container.remove.Remove.{Remove as Removing}
-use Rattle.steps.specs.declared.container.remove.RemoveStage as removes
+use Rattle.steps.specs.declared.container.remove.RemoveStage.{RemoveStage}
+use Rattle.steps.specs.declared.container.remove.RemoveStage.TheVariants as removes
 use Rattle.steps.specs.declared.container.replace.Replace.{Replace as Replacing}
-use Rattle.steps.specs.declared.container.replace.ReplaceStage as replaces
+use Rattle.steps.specs.declared.container.replace.ReplaceStage.{ReplaceStage}
+use Rattle.steps.specs.declared.container.replace.ReplaceStage.TheVariants as replaces
 use Rattle.steps.specs.declared.container.replace.Replacement.{Replacement}
 use Rattle.steps.specs.declared.indices.enums.ReleaseMode.{ReleaseMode}
 use Rattle.steps.specs.declared.indices.enums.ReleaseState.{ReleaseState}
@@ -21,7 +24,7 @@ use Rattle.model.specs.declared.event.Answer.TheVariants.{Truth}
 use Rattle.model.specs.declared.event.Event.{Event}
 use Rattle.model.specs.declared.event.Event.TheVariants.{Filled, Granted, Placed, Hidden}
 use Rattle.model.specs.declared.event.Start.TheVariants.{Container}
-use Rattle.model.specs.declared.families.Flight as flights
+use Rattle.model.specs.declared.families.Flight.TheVariants as flights
 use Rattle.model.specs.declared.families.container.ContainerStart.{ContainerStart}
 use Rattle.model.specs.declared.families.container.ContainerStart.TheVariants.{Add, Remove, Replace, Len, IsEmpty, IsLocked}
 use Rattle.model.specs.declared.families.container.calls.ContainerFlight.TheVariants as calls
@@ -50,28 +53,28 @@ module _ {T : Type 0} where
 -- ---- add
 
 -- where it stands on a container of this capacity, whose values have so many words
-abbrev pub AddIn : ℕ → ℕ → adds.AddStage → Type 0
-AddIn size capacity (adds.TheVariants.Acquires stage) = AcquireIn capacity stage
-AddIn size capacity (adds.TheVariants.LoadsCount index) = index < capacity
-AddIn size capacity (adds.TheVariants.Hides index count) = index < capacity
-AddIn size capacity (adds.TheVariants.Stores index at) = (index < capacity) × (at < size)
-AddIn size capacity (adds.TheVariants.AddsCount index) = index < capacity
-AddIn size capacity (adds.TheVariants.AddsChange index) = index < capacity
+abbrev pub AddIn : ℕ → ℕ → AddStage → Type 0
+AddIn size capacity (adds.Acquires stage) = AcquireIn capacity stage
+AddIn size capacity (adds.LoadsCount index) = index < capacity
+AddIn size capacity (adds.Hides index count) = index < capacity
+AddIn size capacity (adds.Stores index at) = (index < capacity) × (at < size)
+AddIn size capacity (adds.AddsCount index) = index < capacity
+AddIn size capacity (adds.AddsChange index) = index < capacity
 
 module _ {T : Type 0} where
   abbrev pub taken : ℕ → ℕ → ℕ → List (Event T)
   taken p index owner = Filled p index owner ∷ Granted p index owner ∷ []
 
   -- what it has written at this stage
-  abbrev pub AddedAt : ℕ → Owned T → adds.AddStage → List (Event T) → Type 0
-  AddedAt p given (adds.TheVariants.Acquires stage) es = es ≡ filled_at p given.owner stage
-  AddedAt p given (adds.TheVariants.LoadsCount index) es = es ≡ taken p index given.owner
-  AddedAt p given (adds.TheVariants.Hides index count) es = es ≡ taken p index given.owner
-  AddedAt p given (adds.TheVariants.Stores index at) es =
+  abbrev pub AddedAt : ℕ → Owned T → AddStage → List (Event T) → Type 0
+  AddedAt p given (adds.Acquires stage) es = es ≡ filled_at p given.owner stage
+  AddedAt p given (adds.LoadsCount index) es = es ≡ taken p index given.owner
+  AddedAt p given (adds.Hides index count) es = es ≡ taken p index given.owner
+  AddedAt p given (adds.Stores index at) es =
       HasCleared p index (taken p index given.owner) es
-  AddedAt p given (adds.TheVariants.AddsCount index) es =
+  AddedAt p given (adds.AddsCount index) es =
       HasCleared p index (taken p index given.owner) es
-  AddedAt p given (adds.TheVariants.AddsChange index) es =
+  AddedAt p given (adds.AddsChange index) es =
       HasPut p index given.value (taken p index given.owner) es
 
   -- and in all: one that met the lock may have filled an index, which keeps its owner
@@ -89,7 +92,7 @@ module _ {T : Type 0} where
         by = λ was p. IfSome was (λ q. q ≡ p);
         stands = λ capacity c. (c.capacity ≡ capacity) × AddIn size capacity c.stage;
         flight = λ c m.
-            flights.TheVariants.Container
+            flights.Container
             (calls.Add (record { call = c; given = given; room = m }));
         answer = λ e m. added e;
         skips = λ c n. false;
@@ -101,12 +104,12 @@ module _ {T : Type 0} where
 -- ---- remove
 
 -- of an index of the container
-abbrev pub RemoveIn : ℕ → ReleaseMode → removes.RemoveStage → Type 0
-RemoveIn capacity mode removes.TheVariants.Refuses = ⊥
-RemoveIn capacity mode removes.TheVariants.LoadsCount = Unit {0}
-RemoveIn capacity mode (removes.TheVariants.Releases count stage) = ReleaseIn capacity mode stage
-RemoveIn capacity mode (removes.TheVariants.Hides count state) = Unit {0}
-RemoveIn capacity mode (removes.TheVariants.AddsChange state) = Unit {0}
+abbrev pub RemoveIn : ℕ → ReleaseMode → RemoveStage → Type 0
+RemoveIn capacity mode removes.Refuses = ⊥
+RemoveIn capacity mode removes.LoadsCount = Unit {0}
+RemoveIn capacity mode (removes.Releases count stage) = ReleaseIn capacity mode stage
+RemoveIn capacity mode (removes.Hides count state) = Unit {0}
+RemoveIn capacity mode (removes.AddsChange state) = Unit {0}
 
 module _ {T : Type 0} where
   -- it has released the index, and hidden what stood there, or found nothing to hide
@@ -115,12 +118,12 @@ module _ {T : Type 0} where
       (before : List (Event T)) × ReleaseWrote p given (Ok state) before
       × HasCleared p given.index before es
 
-  abbrev pub RemovedAt : ℕ → GiveBack → removes.RemoveStage → List (Event T) → Type 0
-  RemovedAt p given removes.TheVariants.Refuses es = es ≡ []
-  RemovedAt p given removes.TheVariants.LoadsCount es = es ≡ []
-  RemovedAt p given (removes.TheVariants.Releases count stage) es = es ≡ freed_at p given stage
-  RemovedAt p given (removes.TheVariants.Hides count state) es = ReleaseWrote p given (Ok state) es
-  RemovedAt p given (removes.TheVariants.AddsChange state) es = HasRemovedIt p given state es
+  abbrev pub RemovedAt : ℕ → GiveBack → RemoveStage → List (Event T) → Type 0
+  RemovedAt p given removes.Refuses es = es ≡ []
+  RemovedAt p given removes.LoadsCount es = es ≡ []
+  RemovedAt p given (removes.Releases count stage) es = es ≡ freed_at p given stage
+  RemovedAt p given (removes.Hides count state) es = ReleaseWrote p given (Ok state) es
+  RemovedAt p given (removes.AddsChange state) es = HasRemovedIt p given state es
 
   -- and in all: nothing where another owner had the index, or none
   abbrev pub HasRemoved : ℕ → GiveBack → Removed → List (Event T) → Type 0
@@ -135,7 +138,7 @@ module _ {T : Type 0} where
         stands = λ capacity c.
             (c.capacity ≡ capacity) × (given.index < capacity) × RemoveIn capacity given.mode c.stage;
         flight = λ c m.
-            flights.TheVariants.Container
+            flights.Container
             (calls.Remove (record { call = c; given = given; room = m }));
         answer = λ e m. removed e;
         skips = λ c n. false;
@@ -146,24 +149,24 @@ module _ {T : Type 0} where
 
 -- ---- replace
 
-abbrev pub ReplaceIn : ℕ → replaces.ReplaceStage → Type 0
-ReplaceIn size replaces.TheVariants.Refuses = ⊥
-ReplaceIn size replaces.TheVariants.LoadsCell = Unit {0}
-ReplaceIn size replaces.TheVariants.LoadsCount = Unit {0}
-ReplaceIn size (replaces.TheVariants.Hides count) = Unit {0}
-ReplaceIn size (replaces.TheVariants.Stores at) = at < size
-ReplaceIn size replaces.TheVariants.AddsCount = Unit {0}
-ReplaceIn size replaces.TheVariants.AddsChange = Unit {0}
+abbrev pub ReplaceIn : ℕ → ReplaceStage → Type 0
+ReplaceIn size replaces.Refuses = ⊥
+ReplaceIn size replaces.LoadsCell = Unit {0}
+ReplaceIn size replaces.LoadsCount = Unit {0}
+ReplaceIn size (replaces.Hides count) = Unit {0}
+ReplaceIn size (replaces.Stores at) = at < size
+ReplaceIn size replaces.AddsCount = Unit {0}
+ReplaceIn size replaces.AddsChange = Unit {0}
 
 module _ {T : Type 0} where
-  abbrev pub ReplacedAt : ℕ → Replacement T → replaces.ReplaceStage → List (Event T) → Type 0
-  ReplacedAt p given replaces.TheVariants.Refuses es = es ≡ []
-  ReplacedAt p given replaces.TheVariants.LoadsCell es = es ≡ []
-  ReplacedAt p given replaces.TheVariants.LoadsCount es = es ≡ []
-  ReplacedAt p given (replaces.TheVariants.Hides count) es = es ≡ []
-  ReplacedAt p given (replaces.TheVariants.Stores at) es = HasCleared p given.index [] es
-  ReplacedAt p given replaces.TheVariants.AddsCount es = HasCleared p given.index [] es
-  ReplacedAt p given replaces.TheVariants.AddsChange es = HasPut p given.index given.value [] es
+  abbrev pub ReplacedAt : ℕ → Replacement T → ReplaceStage → List (Event T) → Type 0
+  ReplacedAt p given replaces.Refuses es = es ≡ []
+  ReplacedAt p given replaces.LoadsCell es = es ≡ []
+  ReplacedAt p given replaces.LoadsCount es = es ≡ []
+  ReplacedAt p given (replaces.Hides count) es = es ≡ []
+  ReplacedAt p given (replaces.Stores at) es = HasCleared p given.index [] es
+  ReplacedAt p given replaces.AddsCount es = HasCleared p given.index [] es
+  ReplacedAt p given replaces.AddsChange es = HasPut p given.index given.value [] es
 
   -- and in all: nothing where another owner had the index, or none
   abbrev pub HasReplaced : ℕ → Replacement T → Replaced → List (Event T) → Type 0
@@ -178,7 +181,7 @@ module _ {T : Type 0} where
         stands = λ capacity c.
             (c.capacity ≡ capacity) × (given.index < capacity) × ReplaceIn size c.stage;
         flight = λ c m.
-            flights.TheVariants.Container
+            flights.Container
             (calls.Replace (record { call = c; given = given; room = m }));
         answer = λ e m. replaced e;
         skips = λ c n. false;
@@ -202,7 +205,7 @@ module _ {T : Type 0} where
         by = λ was p. IfSome was (λ q. q ≡ p);
         stands = λ capacity c. (c.capacity ≡ capacity) × CountIn capacity c.count;
         flight = λ c m.
-            flights.TheVariants.Container
+            flights.Container
             (calls.Count which (record { call = c; given = tt; room = m }));
         answer = λ n m. counted which n;
         skips = λ c n. false;
@@ -218,7 +221,7 @@ module _ {T : Type 0} where
         by = λ was p. IfSome was (λ q. q ≡ p);
         stands = λ capacity c. Unit {0};
         flight = λ c m.
-            flights.TheVariants.Container
+            flights.Container
             (calls.IsLocked (record { call = c; given = tt; room = m }));
         answer = λ b m. Truth b;
         skips = λ c n. false;

@@ -2,26 +2,27 @@
 use Rattle.std.specs.Prelude.{◌≡◌, ◌⊎◌, ℕ, zero, suc, ◌+◌, ◌<◌, ◌==◌, if◌then◌else◌, false, None, IfSome, List, [], ◌∷◌, ◌++◌, map}
 use Rattle.steps.specs.Container.Find.{find_kept}
 use Rattle.steps.specs.declared.container.find.Find.{Find as Finding}
-use Rattle.steps.specs.declared.container.find.FindStage as finds
+use Rattle.steps.specs.declared.container.find.FindStage.{FindStage}
+use Rattle.steps.specs.declared.container.find.FindStage.TheVariants as finds
 use Rattle.model.specs.declared.event.Answer.TheVariants.{Number}
 use Rattle.model.specs.declared.event.Event.{Event}
 use Rattle.model.specs.declared.event.Event.TheVariants.{Copied}
 use Rattle.model.specs.declared.event.Start.TheVariants.{Container}
-use Rattle.model.specs.declared.families.Flight as flights
+use Rattle.model.specs.declared.families.Flight.TheVariants as flights
 use Rattle.model.specs.declared.families.container.ContainerStart.TheVariants.{Find}
-use Rattle.model.specs.declared.families.container.calls.ContainerFlight as calls
+use Rattle.model.specs.declared.families.container.calls.ContainerFlight.TheVariants as calls
 use Rattle.model.specs.Coding.{Coding}
 use Rattle.history.specs.Rooms.{room_of}
 use Rattle.history.specs.Stages.{Calling}
 use Rattle.history.specs.Value.{value_of_room}
 
 -- where it stands on a container of this capacity, whose values have so many words
-abbrev pub FindIn : ℕ → ℕ → finds.FindStage → Type 0
-FindIn size capacity (finds.TheVariants.LoadsCell index found) = index < capacity
-FindIn size capacity (finds.TheVariants.LoadsCount index found) = index < capacity
-FindIn size capacity (finds.TheVariants.LoadsWord index found count at) = (index < capacity) × (at < size)
-FindIn size capacity (finds.TheVariants.ChecksCount index found count) = index < capacity
-FindIn size capacity (finds.TheVariants.Asks index found) = index < capacity
+abbrev pub FindIn : ℕ → ℕ → FindStage → Type 0
+FindIn size capacity (finds.LoadsCell index found) = index < capacity
+FindIn size capacity (finds.LoadsCount index found) = index < capacity
+FindIn size capacity (finds.LoadsWord index found count at) = (index < capacity) × (at < size)
+FindIn size capacity (finds.ChecksCount index found count) = index < capacity
+FindIn size capacity (finds.Asks index found) = index < capacity
 
 -- ---- what it has copied: values at indices
 
@@ -38,13 +39,13 @@ module _ {T : Type 0} where
   copies_of p copies = map (λ (c : ℕ × T). Copied p c.0 c.1) copies
 
   -- after a step at this stage, with this value in its room: one more where the number is the same still
-  abbrev pub copies_after : finds.FindStage → ℕ → T → List (ℕ × T) → List (ℕ × T)
-  copies_after (finds.TheVariants.ChecksCount index found count) old value copies =
+  abbrev pub copies_after : FindStage → ℕ → T → List (ℕ × T) → List (ℕ × T)
+  copies_after (finds.ChecksCount index found count) old value copies =
       if old == count then copies ++ (index, value) ∷ [] else copies
-  copies_after (finds.TheVariants.LoadsCell index found) old value copies = copies
-  copies_after (finds.TheVariants.LoadsCount index found) old value copies = copies
-  copies_after (finds.TheVariants.LoadsWord index found count at) old value copies = copies
-  copies_after (finds.TheVariants.Asks index found) old value copies = copies
+  copies_after (finds.LoadsCell index found) old value copies = copies
+  copies_after (finds.LoadsCount index found) old value copies = copies
+  copies_after (finds.LoadsWord index found count at) old value copies = copies
+  copies_after (finds.Asks index found) old value copies = copies
 
 -- beside its room, which the program has, it keeps what it has copied, for the proofs alone
 module _ {T R : Type 0} (code : Coding T) (words_in : R → List ℕ) where
@@ -61,8 +62,8 @@ module _ {T R : Type 0} (code : Coding T) (words_in : R → List ℕ) where
         by = λ was p. IfSome was (λ q. q ≡ p);
         stands = λ capacity c. (c.capacity ≡ capacity) × FindIn code.size capacity c.stage;
         flight = λ c m.
-            flights.TheVariants.Container
-            (calls.TheVariants.Find
+            flights.Container
+            (calls.Find
             (record {
               call = record { capacity = c.capacity; stage = c.stage; of = record {} };
               given = owner;

@@ -5,11 +5,12 @@ use Rattle.steps.specs.Container.Look.{first_look}
 use Rattle.steps.specs.Container.State.{Numbers, Showing, no_numbers, shows_nothing, shown_at}
 use Rattle.steps.specs.declared.ask.After.TheVariants.{Done}
 use Rattle.steps.specs.declared.container.look.Look.{Look as Looking}
-use Rattle.steps.specs.declared.container.look.LookStage as looks
+use Rattle.steps.specs.declared.container.look.LookStage.{LookStage}
+use Rattle.steps.specs.declared.container.look.LookStage.TheVariants as looks
 use Rattle.steps.specs.declared.container.state.ContainerState.{ContainerState}
 use Rattle.model.specs.declared.event.Event.{Event}
 use Rattle.model.specs.declared.event.Start.TheVariants.{Container}
-use Rattle.model.specs.declared.families.Flight as flights
+use Rattle.model.specs.declared.families.Flight.TheVariants as flights
 use Rattle.model.specs.declared.families.Registry.{Registry}
 use Rattle.model.specs.declared.families.container.ContainerStart.{ContainerStart}
 use Rattle.model.specs.declared.families.container.ContainerStart.TheVariants.{GetState, UpdateState}
@@ -26,11 +27,11 @@ use Rattle.history.specs.Settled.{AtWaiting, EndsSettled}
 use Rattle.history.specs.Stages.{Calling, IsFirst, IsUnderWay, Ends}
 
 -- on a container of this capacity, whose values have so many words
-abbrev pub LookIn : ℕ → ℕ → looks.LookStage → Type 0
-LookIn size capacity looks.TheVariants.LoadsChange = Unit {0}
-LookIn size capacity (looks.TheVariants.LoadsCount index) = index < capacity
-LookIn size capacity (looks.TheVariants.LoadsWord index count at) = (index < capacity) × (at < size)
-LookIn size capacity (looks.TheVariants.ChecksCount index count) = index < capacity
+abbrev pub LookIn : ℕ → ℕ → LookStage → Type 0
+LookIn size capacity looks.LoadsChange = Unit {0}
+LookIn size capacity (looks.LoadsCount index) = index < capacity
+LookIn size capacity (looks.LoadsWord index count at) = (index < capacity) × (at < size)
+LookIn size capacity (looks.ChecksCount index count) = index < capacity
 
 module _ {T : Type 0} where
   abbrev pub look_start : LookOf → ContainerStart T
@@ -47,11 +48,11 @@ module _ {T : Type 0} where
   HasState kept p state = state_in kept p ≡ Some state
 
   -- what it has written at this stage
-  abbrev pub LookedAt : ℕ → looks.LookStage → List (Event T) → Type 0
-  LookedAt p looks.TheVariants.LoadsChange es = es ≡ []
-  LookedAt p (looks.TheVariants.LoadsCount index) es = HasCopied p 0 index es
-  LookedAt p (looks.TheVariants.LoadsWord index count at) es = HasCopied p 0 index es
-  LookedAt p (looks.TheVariants.ChecksCount index count) es = HasCopied p 0 index es
+  abbrev pub LookedAt : ℕ → LookStage → List (Event T) → Type 0
+  LookedAt p looks.LoadsChange es = es ≡ []
+  LookedAt p (looks.LoadsCount index) es = HasCopied p 0 index es
+  LookedAt p (looks.LoadsWord index count at) es = HasCopied p 0 index es
+  LookedAt p (looks.ChecksCount index count) es = HasCopied p 0 index es
 
   -- and in all: nothing where nothing had changed
   abbrev pub HasLookedAll : ℕ → ℕ → Bool → List (Event T) → Type 0
@@ -64,7 +65,7 @@ module _ {T : Type 0} where
         start = Container (look_start which);
         by = λ was p. IfSome was (λ q. q ≡ p);
         stands = λ capacity c. (c.capacity ≡ capacity) × LookIn size capacity c.stage;
-        flight = λ c m. flights.TheVariants.Container (calls.Look which c);
+        flight = λ c m. flights.Container (calls.Look which c);
         answer = λ changed m. looked which (state_of_look cells seen m) changed;
         skips = λ c n. false;
         left = λ e. ⊥;

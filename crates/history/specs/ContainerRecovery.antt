@@ -4,17 +4,18 @@ use Rattle.steps.specs.Container.Layout.{is_even}
 use Rattle.steps.specs.Container.Recover.{recover_kept}
 use Rattle.steps.specs.declared.container.recover.DeadOwner.{DeadOwner}
 use Rattle.steps.specs.declared.container.recover.Recover.{Recover as Recovering}
-use Rattle.steps.specs.declared.container.recover.RecoverStage as recovers
+use Rattle.steps.specs.declared.container.recover.RecoverStage.{RecoverStage}
+use Rattle.steps.specs.declared.container.recover.RecoverStage.TheVariants as recovers
 use Rattle.steps.specs.declared.indices.enums.ReleaseMode.{ReleaseMode}
 use Rattle.steps.specs.declared.indices.enums.ReleaseMode.TheVariants.{LockIfLastIndex}
 use Rattle.steps.specs.declared.indices.enums.ReleaseState.{ReleaseState}
-use Rattle.steps.specs.declared.indices.robust.parts.Lock as locks
+use Rattle.steps.specs.declared.indices.robust.parts.Lock.TheVariants as locks
 use Rattle.steps.specs.declared.indices.robust.parts.Lock.{Lock}
 use Rattle.model.specs.declared.event.Answer.TheVariants.{State}
 use Rattle.model.specs.declared.event.Event.{Event}
 use Rattle.model.specs.declared.event.Event.TheVariants.{FreedOf, Asked, Told, Locked, Hidden, Copied, Shown}
 use Rattle.model.specs.declared.event.Start.TheVariants.{Container}
-use Rattle.model.specs.declared.families.Flight as flights
+use Rattle.model.specs.declared.families.Flight.TheVariants as flights
 use Rattle.model.specs.declared.families.container.ContainerStart.TheVariants.{Recover}
 use Rattle.model.specs.declared.families.container.calls.ContainerFlight.TheVariants as calls
 use Rattle.model.specs.Coding.{Coding}
@@ -26,23 +27,23 @@ use Rattle.history.specs.ValueQueue.{value_there}
 
 -- where it stands on a container of this capacity, whose values have so many words: it copies an
 -- element under an odd number
-abbrev pub RecoverIn : ℕ → ℕ → ReleaseMode → recovers.RecoverStage → Type 0
-RecoverIn size capacity mode recovers.TheVariants.LoadsCounter = Unit {0}
-RecoverIn size capacity mode (recovers.TheVariants.LoadsCell index) = index < capacity
-RecoverIn size capacity mode (recovers.TheVariants.LoadsCount index) = index < capacity
-RecoverIn size capacity mode (recovers.TheVariants.LoadsWord index count at) =
+abbrev pub RecoverIn : ℕ → ℕ → ReleaseMode → RecoverStage → Type 0
+RecoverIn size capacity mode recovers.LoadsCounter = Unit {0}
+RecoverIn size capacity mode (recovers.LoadsCell index) = index < capacity
+RecoverIn size capacity mode (recovers.LoadsCount index) = index < capacity
+RecoverIn size capacity mode (recovers.LoadsWord index count at) =
     (index < capacity) × (is_even count ≡ false) × (at < size)
-RecoverIn size capacity mode (recovers.TheVariants.ChecksCount index count) =
+RecoverIn size capacity mode (recovers.ChecksCount index count) =
     (index < capacity) × (is_even count ≡ false)
-RecoverIn size capacity mode (recovers.TheVariants.Asks index count) =
+RecoverIn size capacity mode (recovers.Asks index count) =
     (index < capacity) × (is_even count ≡ false)
-RecoverIn size capacity mode (recovers.TheVariants.EmptiesCell index count) = index < capacity
-RecoverIn size capacity mode (recovers.TheVariants.Hides index count) = index < capacity
-RecoverIn size capacity mode (recovers.TheVariants.Raises index raise) = index < capacity
-RecoverIn size capacity mode (recovers.TheVariants.Locks index lock) =
+RecoverIn size capacity mode (recovers.EmptiesCell index count) = index < capacity
+RecoverIn size capacity mode (recovers.Hides index count) = index < capacity
+RecoverIn size capacity mode (recovers.Raises index raise) = index < capacity
+RecoverIn size capacity mode (recovers.Locks index lock) =
     (mode ≡ LockIfLastIndex) × (index < capacity) × LockIn capacity lock
-RecoverIn size capacity mode recovers.TheVariants.LoadsCounterAgain = Unit {0}
-RecoverIn size capacity mode (recovers.TheVariants.AddsChange state) = Unit {0}
+RecoverIn size capacity mode recovers.LoadsCounterAgain = Unit {0}
+RecoverIn size capacity mode (recovers.AddsChange state) = Unit {0}
 
 -- How far it came with an index of the owner: it asked about the value that it had copied; it found
 -- that nothing stood there, or was told to free it with the value; it freed it, and has hidden the
@@ -108,26 +109,26 @@ module _ {T : Type 0} where
   seen_under index count visits = if is_even count then (index, HasFound None) ∷ visits else visits
 
   abbrev pub locked_with : Lock → ℕ → List (ℕ × Came T) → List (ℕ × Came T)
-  locked_with (locks.TheVariants.Counts count) old visits = visits
-  locked_with (locks.TheVariants.ExchangesCounter counter) old visits =
+  locked_with (locks.Counts count) old visits = visits
+  locked_with (locks.ExchangesCounter counter) old visits =
       if old == counter then with_last came_locked visits else visits
 
   -- with this value in its room
-  abbrev pub visits_after : ℕ → recovers.RecoverStage → ℕ → T → List (ℕ × Came T) → List (ℕ × Came T)
-  visits_after owner recovers.TheVariants.LoadsCounter old value visits = visits
-  visits_after owner (recovers.TheVariants.LoadsCell index) old value visits = visits
-  visits_after owner (recovers.TheVariants.LoadsCount index) old value visits = seen_under index old visits
-  visits_after owner (recovers.TheVariants.LoadsWord index count at) old value visits = visits
-  visits_after owner (recovers.TheVariants.ChecksCount index count) old value visits =
+  abbrev pub visits_after : ℕ → RecoverStage → ℕ → T → List (ℕ × Came T) → List (ℕ × Came T)
+  visits_after owner recovers.LoadsCounter old value visits = visits
+  visits_after owner (recovers.LoadsCell index) old value visits = visits
+  visits_after owner (recovers.LoadsCount index) old value visits = seen_under index old visits
+  visits_after owner (recovers.LoadsWord index count at) old value visits = visits
+  visits_after owner (recovers.ChecksCount index count) old value visits =
       if old == count then (index, HasAsked value) ∷ visits else seen_under index old visits
-  visits_after owner (recovers.TheVariants.Asks index count) old value visits = visits
-  visits_after owner (recovers.TheVariants.EmptiesCell index count) old value visits =
+  visits_after owner (recovers.Asks index count) old value visits = visits
+  visits_after owner (recovers.EmptiesCell index count) old value visits =
       if old == owner then with_last freed visits else with_last told visits
-  visits_after owner (recovers.TheVariants.Hides index count) old value visits = with_last (hides (old == count)) visits
-  visits_after owner (recovers.TheVariants.Raises index raise) old value visits = visits
-  visits_after owner (recovers.TheVariants.Locks index lock) old value visits = locked_with lock old visits
-  visits_after owner recovers.TheVariants.LoadsCounterAgain old value visits = visits
-  visits_after owner (recovers.TheVariants.AddsChange state) old value visits = visits
+  visits_after owner (recovers.Hides index count) old value visits = with_last (hides (old == count)) visits
+  visits_after owner (recovers.Raises index raise) old value visits = visits
+  visits_after owner (recovers.Locks index lock) old value visits = locked_with lock old visits
+  visits_after owner recovers.LoadsCounterAgain old value visits = visits
+  visits_after owner (recovers.AddsChange state) old value visits = visits
 
   -- ---- which they are at a stage
 
@@ -143,38 +144,38 @@ module _ {T : Type 0} where
       (found : Option T) × (hid : Bool) × (before : List (ℕ × Came T))
       × (visits ≡ (index, HasFreed found hid false) ∷ before) × (found ≡ None → hid ≡ false)
 
-  abbrev pub VisitsAt : recovers.RecoverStage → T → List (ℕ × Came T) → Type 0
-  VisitsAt recovers.TheVariants.LoadsCounter value visits = visits ≡ []
-  VisitsAt (recovers.TheVariants.LoadsCell index) value visits = Unit {0}
-  VisitsAt (recovers.TheVariants.LoadsCount index) value visits = Unit {0}
-  VisitsAt (recovers.TheVariants.LoadsWord index count at) value visits = Unit {0}
-  VisitsAt (recovers.TheVariants.ChecksCount index count) value visits = Unit {0}
-  VisitsAt (recovers.TheVariants.Asks index count) value visits =
+  abbrev pub VisitsAt : RecoverStage → T → List (ℕ × Came T) → Type 0
+  VisitsAt recovers.LoadsCounter value visits = visits ≡ []
+  VisitsAt (recovers.LoadsCell index) value visits = Unit {0}
+  VisitsAt (recovers.LoadsCount index) value visits = Unit {0}
+  VisitsAt (recovers.LoadsWord index count at) value visits = Unit {0}
+  VisitsAt (recovers.ChecksCount index count) value visits = Unit {0}
+  VisitsAt (recovers.Asks index count) value visits =
       (before : List (ℕ × Came T)) × (visits ≡ (index, HasAsked value) ∷ before)
-  VisitsAt (recovers.TheVariants.EmptiesCell index count) value visits =
+  VisitsAt (recovers.EmptiesCell index count) value visits =
       (came : Came T) × (before : List (ℕ × Came T)) × (visits ≡ (index, came) ∷ before) × IsToFree count came
-  VisitsAt (recovers.TheVariants.Hides index count) value visits =
+  VisitsAt (recovers.Hides index count) value visits =
       (gone : T) × (before : List (ℕ × Came T)) × (visits ≡ (index, HasFreed (Some gone) false false) ∷ before)
-  VisitsAt (recovers.TheVariants.Raises index raise) value visits = IsFreed index visits
-  VisitsAt (recovers.TheVariants.Locks index lock) value visits = IsFreed index visits
-  VisitsAt recovers.TheVariants.LoadsCounterAgain value visits = Unit {0}
-  VisitsAt (recovers.TheVariants.AddsChange state) value visits = Unit {0}
+  VisitsAt (recovers.Raises index raise) value visits = IsFreed index visits
+  VisitsAt (recovers.Locks index lock) value visits = IsFreed index visits
+  VisitsAt recovers.LoadsCounterAgain value visits = Unit {0}
+  VisitsAt (recovers.AddsChange state) value visits = Unit {0}
 
   -- a yes that it has heard
-  abbrev pub told_yet : ℕ → ℕ → recovers.RecoverStage → List (Event T)
-  told_yet p owner recovers.TheVariants.LoadsCounter = []
-  told_yet p owner (recovers.TheVariants.LoadsCell index) = []
-  told_yet p owner (recovers.TheVariants.LoadsCount index) = []
-  told_yet p owner (recovers.TheVariants.LoadsWord index count at) = []
-  told_yet p owner (recovers.TheVariants.ChecksCount index count) = []
-  told_yet p owner (recovers.TheVariants.Asks index count) = []
-  told_yet p owner (recovers.TheVariants.EmptiesCell index count) =
+  abbrev pub told_yet : ℕ → ℕ → RecoverStage → List (Event T)
+  told_yet p owner recovers.LoadsCounter = []
+  told_yet p owner (recovers.LoadsCell index) = []
+  told_yet p owner (recovers.LoadsCount index) = []
+  told_yet p owner (recovers.LoadsWord index count at) = []
+  told_yet p owner (recovers.ChecksCount index count) = []
+  told_yet p owner (recovers.Asks index count) = []
+  told_yet p owner (recovers.EmptiesCell index count) =
       if is_even count then [] else Told p index owner ∷ []
-  told_yet p owner (recovers.TheVariants.Hides index count) = []
-  told_yet p owner (recovers.TheVariants.Raises index raise) = []
-  told_yet p owner (recovers.TheVariants.Locks index lock) = []
-  told_yet p owner recovers.TheVariants.LoadsCounterAgain = []
-  told_yet p owner (recovers.TheVariants.AddsChange state) = []
+  told_yet p owner (recovers.Hides index count) = []
+  told_yet p owner (recovers.Raises index raise) = []
+  told_yet p owner (recovers.Locks index lock) = []
+  told_yet p owner recovers.LoadsCounterAgain = []
+  told_yet p owner (recovers.AddsChange state) = []
 
 -- it copies by way of a room that has these words, and beside it keeps what it did, for the proofs alone
 module _ {T R : Type 0} (code : Coding T) (words_in : R → List ℕ) where
@@ -192,7 +193,7 @@ module _ {T R : Type 0} (code : Coding T) (words_in : R → List ℕ) where
         by = λ was p. IfSome was (λ q. q ≡ p);
         stands = λ capacity c.
             (c.capacity ≡ capacity) × RecoverIn code.size capacity given.mode c.stage;
-        flight = λ c m. flights.TheVariants.Container
+        flight = λ c m. flights.Container
             (calls.Recover
             (record {
               call = record { capacity = c.capacity; stage = c.stage; of = record {} };

@@ -10,14 +10,14 @@ use Rattle.model.specs.declared.event.Event.{Event}
 use Rattle.model.specs.declared.event.Event.TheVariants.{Begun, Acted, Finished}
 use Rattle.model.specs.declared.event.Start.{Start}
 use Rattle.model.specs.declared.families.Flight.{Flight}
-use Rattle.model.specs.declared.families.Flight as flights
-use Rattle.model.specs.declared.families.queues.calls.OverflowCall as overflows
+use Rattle.model.specs.declared.families.Flight.TheVariants as flights
+use Rattle.model.specs.declared.families.queues.calls.OverflowCall.TheVariants as overflows
 use Rattle.model.specs.declared.families.queues.calls.QueueFlight.TheVariants.{Overflow}
 use Rattle.model.specs.declared.party.Doing.{Doing}
 use Rattle.model.specs.declared.party.Doing.TheVariants.{Going, Over}
 use Rattle.model.specs.declared.party.Party.{Party}
 use Rattle.model.specs.declared.turn.Kind.{Kind}
-use Rattle.model.specs.declared.turn.Kind as kinds
+use Rattle.model.specs.declared.turn.Kind.TheVariants as kinds
 use Rattle.model.specs.declared.turn.Refusal.{Refusal}
 use Rattle.model.specs.declared.turn.Turn.{Turn}
 use Rattle.model.specs.declared.turn.Turn.TheVariants.{Next}
@@ -25,13 +25,19 @@ use Rattle.model.specs.Coding.{Coding, IsCoding}
 use Rattle.model.specs.Families.Container.Looks.{state_in}
 use Rattle.model.specs.Parties.{party_of, others_of}
 use Rattle.model.specs.Refusals.{call_refusal}
+use Rattle.model.specs.LockFree.{steps_in as run_steps}
 use Rattle.model.specs.Turns.{IsReachedOn, AreAllowedBy, after_turn, after_turns, events_of}
 use Rattle.model.specs.World.{World, Trace, opening, capacity_error}
 use Rattle.laws_queues.specs.Fresh.{IsFreshRun, IsFreshTurn}
 use Rattle.laws_robust.specs.Open.{IsReachedOpen, open_refusal}
+use Rattle.threaded.specs.declared.share.Share.{Share}
 use Rattle.threaded.specs.Shares.{IsAll}
 use Rattle.history.specs.Known.{Known, events_by, by_party, owned}
 use Rattle.history.specs.declared.view.View.{View}
+
+-- a part of the whole
+abbrev pub IsPart : Share → Type 0
+IsPart s = (0 < s.parts) × (s.part ≤ s.parts)
 
 module _ {T : Type 0} where
   -- ---- where a party's call stands
@@ -85,7 +91,7 @@ module _ {T : Type 0} where
   -- what another party may write for a call under way, which then has still to see it: for a push that waits for room
   -- in an overflowing queue, that it acts with None
   abbrev pub MayBeLate : Start T × Flight T → List (Event T) → Type 0
-  MayBeLate (start, flights.TheVariants.Queues (Overflow (overflows.TheVariants.Push run))) late =
+  MayBeLate (start, flights.Queues (Overflow (overflows.Push run))) late =
       AllByRecursion (λ (e : Event T). (p : ℕ) × (e ≡ Acted p start PoppedNone)) late
   MayBeLate (start, flight) late = late ≡ []
 
@@ -94,7 +100,7 @@ module _ {T : Type 0} where
   IsLateFor (Some call) late = MayBeLate call late
 
   abbrev pub IsLate : Kind → Option (Start T × Flight T) → List (Event T) → Type 0
-  IsLate kinds.TheVariants.Overflow going late = IsLateFor going late
+  IsLate kinds.Overflow going late = IsLateFor going late
   IsLate kind going late = late ≡ []
 
   -- All that the party did was seen, but for what another wrote for it. A seat that was taken in had no call under way.
@@ -127,14 +133,14 @@ module _ {T : Type 0} where
   -- A machine lets a recovery free what a dead owner has; a thread claims a death, and cannot prove it. So a robust set of
   -- threads, or a container, is reached by an open run: nobody dies, and neither a yes nor a recovery is refused.
   abbrev pub IsReachedAs : Kind → Trace T → Type 0
-  IsReachedAs kinds.TheVariants.Robust t = IsReachedOpen t
-  IsReachedAs kinds.TheVariants.Container t = IsReachedOpen t
+  IsReachedAs kinds.Robust t = IsReachedOpen t
+  IsReachedAs kinds.Container t = IsReachedOpen t
   IsReachedAs kind t = IsReachedOn t
 
   -- no push found the last position, and no store the last version; the two on owners have neither
   abbrev pub IsFreshAs : Kind → Trace T → Type 0
-  IsFreshAs kinds.TheVariants.Robust t = Unit {0}
-  IsFreshAs kinds.TheVariants.Container t = Unit {0}
+  IsFreshAs kinds.Robust t = Unit {0}
+  IsFreshAs kinds.Container t = Unit {0}
   IsFreshAs kind t = IsFreshRun t
 
   -- a reached machine of this kind and capacity, in which no push found the last position, and no store the last version
@@ -147,8 +153,8 @@ module _ {T : Type 0} where
 
   -- what refuses a turn of such a machine
   abbrev pub refusal_as : Kind → World T → Turn T → Option Refusal
-  refusal_as kinds.TheVariants.Robust w turn = open_refusal w turn
-  refusal_as kinds.TheVariants.Container w turn = open_refusal w turn
+  refusal_as kinds.Robust w turn = open_refusal w turn
+  refusal_as kinds.Container w turn = open_refusal w turn
   refusal_as kind w turn = call_refusal w turn
 
   -- ---- the one run of a table
@@ -181,6 +187,31 @@ module _ {T : Type 0} where
     pub is : t ≡ run_of code kind capacity turns
     pub knew : (j : ℕ) (v : View T) → get_elem? views j ≡ some v → Knew turns v
 
+  -- ---- what was asked for
+
+  -- how many steps the run of these turns takes
+  abbrev pub steps_of_run : Coding T → Kind → ℕ → List (Turn T) → ℕ
+  steps_of_run code kind capacity turns = run_steps (opening code kind capacity 0) turns
+
+  -- how many of the turns go on with a call
+  abbrev pub nexts : List (Turn T) → ℕ
+  nexts [] = 0
+  nexts (Next p ∷ turns) = 1 + nexts turns
+  nexts (turn ∷ turns) = nexts turns
+
+  -- What a pass has asked for beside what was aside is no more than these steps, and just these where it has the whole share.
+  pub record HasAsked (v : View T) (steps : ℕ) : Type 0 where
+    pub share : IsPart v.share
+    pub most : v.asked ≤ v.aside + steps
+    pub all : IsAll v.share → v.asked ≡ v.aside + steps
+
+  -- What the seats have asked for together is what was aside and these steps. Of no seat more was aside than it asked for, and
+  -- a seat without a share asked for nothing else.
+  pub record HaveAsked (views : List (View T)) (steps : ℕ) : Type 0 where
+    pub sum : sum_by (λ (v : View T). v.asked) views ≡ sum_by (λ (v : View T). v.aside) views + steps
+    pub each : (j : ℕ) (v : View T) → get_elem? views j ≡ some v → v.aside ≤ v.asked
+    pub spent : (j : ℕ) (v : View T) → get_elem? views j ≡ some v → v.share.part ≡ 0 → v.asked ≡ v.aside
+
   -- the words of a table: the machine's, and one more, since passes are split at a word
   pub record IsMachine (code : Coding T) (kind : Kind) (capacity : ℕ)
       (s : State (Unit {0}) (View T)) : Type 0 where
@@ -195,6 +226,7 @@ module _ {T : Type 0} where
     pub made_none : (j : ℕ) → length s.views ≤ j → events_by j trace.events ≡ []
     pub known : Known s.views trace.events
     pub one : OneRun code kind capacity s.views trace
+    pub asked : HaveAsked s.views (steps_of_run code kind capacity one.turns)
 
   -- ---- what a caller knows
 
@@ -212,7 +244,8 @@ module _ {T : Type 0} where
     pub is : events ≡ trace.events
 
   -- What the pass has seen are the events of its turns. None of them is refused, so they make a run of a machine of this
-  -- kind and capacity. There others have changed words so often while the latest call of its party was under way.
+  -- kind and capacity. There others have changed words so often while the latest call of its party was under way. What the pass
+  -- asked for is bounded by the steps of the run.
   pub record Knows (code : Coding T) (kind : Kind) (capacity : ℕ) (v : View T) : Type 0 where
     pub coded : IsCoding code
     pub admitted : capacity_error kind capacity ≡ None
@@ -220,6 +253,7 @@ module _ {T : Type 0} where
     pub fresh : AreFresh (opening code kind capacity 0) v.turns
     pub is : v.seen ≡ (run_of code kind capacity v.turns).events
     pub others : v.others ≡ others_by (run_of code kind capacity v.turns).world v.party
+    pub asked : HasAsked v (steps_of_run code kind capacity v.turns)
 
   -- the run that it knew goes on to the one that it knows
   pub record Continues (code : Coding T) (kind : Kind) (capacity : ℕ) (old new : View T) : Type 0 where

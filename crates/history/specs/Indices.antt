@@ -6,29 +6,31 @@ use Rattle.steps.specs.declared.indices.enums.ReleaseMode.TheVariants as modes
 use Rattle.steps.specs.declared.indices.enums.ReleaseState.{ReleaseState}
 use Rattle.steps.specs.declared.indices.enums.ReleaseState.TheVariants as states
 use Rattle.steps.specs.declared.indices.unique.Acquire.{Acquire as Acquiring}
-use Rattle.steps.specs.declared.indices.unique.AcquireStage as acquires
+use Rattle.steps.specs.declared.indices.unique.AcquireStage.{AcquireStage}
+use Rattle.steps.specs.declared.indices.unique.AcquireStage.TheVariants as acquires
 use Rattle.steps.specs.declared.indices.unique.Release.{Release as Releasing}
 use Rattle.steps.specs.declared.indices.unique.DefaultMode.{DefaultMode}
 use Rattle.steps.specs.declared.indices.unique.LockMode.{LockMode}
 use Rattle.steps.specs.declared.indices.looks.BorrowedIndices.{BorrowedIndices as Counting}
 use Rattle.steps.specs.declared.indices.looks.IsLocked.{IsLocked as Looking}
-use Rattle.steps.specs.declared.indices.unique.ReleaseStage as releases
+use Rattle.steps.specs.declared.indices.unique.ReleaseStage.{ReleaseStage}
+use Rattle.steps.specs.declared.indices.unique.ReleaseStage.TheVariants as releases
 use Rattle.model.specs.declared.event.Answer.TheVariants.{State, Number, Truth}
 use Rattle.model.specs.declared.event.Event.{Event}
 use Rattle.model.specs.declared.event.Event.TheVariants.{Claimed, Freed, Locked}
 use Rattle.model.specs.declared.event.Start.TheVariants.{Indices}
-use Rattle.model.specs.declared.families.Flight as flights
+use Rattle.model.specs.declared.families.Flight.TheVariants as flights
 use Rattle.model.specs.declared.families.indices.IndexStart.TheVariants.{Acquire, Release, BorrowedIndices, IsLocked}
-use Rattle.model.specs.declared.families.indices.calls.IndexFlight as calls
+use Rattle.model.specs.declared.families.indices.calls.IndexFlight.TheVariants as calls
 use Rattle.model.specs.Families.Indices.Calls.{acquire_answer}
 use Rattle.history.specs.Stages.{Calling}
 
-abbrev pub StandsIn : ℕ → acquires.AcquireStage → Type 0
-StandsIn capacity acquires.TheVariants.LoadsHead = Unit {0}
-StandsIn capacity (acquires.TheVariants.LoadsNext head) = proposed head < capacity
-StandsIn capacity (acquires.TheVariants.ExchangesHead head next) = Unit {0}
-StandsIn capacity (acquires.TheVariants.Claims index) = index < capacity
-StandsIn capacity (acquires.TheVariants.Scans index) = index < capacity
+abbrev pub StandsIn : ℕ → AcquireStage → Type 0
+StandsIn capacity acquires.LoadsHead = Unit {0}
+StandsIn capacity (acquires.LoadsNext head) = proposed head < capacity
+StandsIn capacity (acquires.ExchangesHead head next) = Unit {0}
+StandsIn capacity (acquires.Claims index) = index < capacity
+StandsIn capacity (acquires.Scans index) = index < capacity
 
 module _ {T : Type 0} where
   abbrev pub claimed_by : ℕ → Acquired → List (Event T)
@@ -42,8 +44,8 @@ module _ {T : Type 0} where
         by = λ was p. IfSome was (λ q. q ≡ p);
         stands = λ capacity c. (c.capacity ≡ capacity) × (0 < capacity) × StandsIn capacity c.stage;
         flight = λ c m.
-            flights.TheVariants.Indices
-            (calls.TheVariants.Acquire (record { call = c; given = tt; room = m }));
+            flights.Indices
+            (calls.Acquire (record { call = c; given = tt; room = m }));
         answer = λ e m. acquire_answer e;
         skips = λ c n. false;
         left = λ e. ⊥;
@@ -52,8 +54,8 @@ module _ {T : Type 0} where
       }
 
   -- what a release has written at its stages since this one
-  abbrev pub freed_at : ℕ → ℕ → releases.ReleaseStage → List (Event T)
-  freed_at p index releases.TheVariants.ClearsFlag = []
+  abbrev pub freed_at : ℕ → ℕ → ReleaseStage → List (Event T)
+  freed_at p index releases.ClearsFlag = []
   freed_at p index stage = Freed p index ∷ []
 
   abbrev pub gives_index : ℕ → Calling T (Releasing DefaultMode) (Unit {0}) ReleaseState
@@ -63,8 +65,8 @@ module _ {T : Type 0} where
         by = λ was p. Unit {0};
         stands = λ capacity c. (c.capacity ≡ capacity) × (index < capacity);
         flight = λ c m.
-            flights.TheVariants.Indices
-            (calls.TheVariants.ReleaseDefault (record { call = c; given = index; room = m }));
+            flights.Indices
+            (calls.ReleaseDefault (record { call = c; given = index; room = m }));
         answer = λ e m. State e;
         skips = λ c n. false;
         left = λ e. ⊥;
@@ -85,8 +87,8 @@ module _ {T : Type 0} where
         by = λ was p. Unit {0};
         stands = λ capacity c. (c.capacity ≡ capacity) × (index < capacity);
         flight = λ c m.
-            flights.TheVariants.Indices
-            (calls.TheVariants.ReleaseLock (record { call = c; given = index; room = m }));
+            flights.Indices
+            (calls.ReleaseLock (record { call = c; given = index; room = m }));
         answer = λ e m. State e;
         skips = λ c n. false;
         left = λ e. ⊥;
@@ -101,8 +103,8 @@ module _ {T : Type 0} where
         by = λ was p. IfSome was (λ q. q ≡ p);
         stands = λ capacity c. Unit {0};
         flight = λ c m.
-            flights.TheVariants.Indices
-            (calls.TheVariants.BorrowedIndices (record { call = c; given = tt; room = m }));
+            flights.Indices
+            (calls.BorrowedIndices (record { call = c; given = tt; room = m }));
         answer = λ n m. Number n;
         skips = λ c n. false;
         left = λ e. ⊥;
@@ -117,8 +119,8 @@ module _ {T : Type 0} where
         by = λ was p. IfSome was (λ q. q ≡ p);
         stands = λ capacity c. Unit {0};
         flight = λ c m.
-            flights.TheVariants.Indices
-            (calls.TheVariants.IsLocked (record { call = c; given = tt; room = m }));
+            flights.Indices
+            (calls.IsLocked (record { call = c; given = tt; room = m }));
         answer = λ b m. Truth b;
         skips = λ c n. false;
         left = λ e. ⊥;

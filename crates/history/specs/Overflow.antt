@@ -3,20 +3,22 @@ use Rattle.std.specs.Prelude.{◌≡◌, ◌⊎◌, ℕ, ◌-◌, ◌^◌, ◌<�
 use Rattle.std.specs.List.{AllByRecursion}
 use Rattle.steps.specs.declared.copied.OneWord.{OneWord}
 use Rattle.steps.specs.declared.queues.overflow.Pop.{Pop as Popping}
-use Rattle.steps.specs.declared.queues.overflow.PopStage as pops
+use Rattle.steps.specs.declared.queues.overflow.PopStage.{PopStage}
+use Rattle.steps.specs.declared.queues.overflow.PopStage.TheVariants as pops
 use Rattle.steps.specs.declared.queues.overflow.Push.{Push as Pushing}
 use Rattle.steps.specs.declared.queues.overflow.PushEnd.{PushEnd}
 use Rattle.steps.specs.declared.queues.overflow.PushEnd.TheVariants.{Added, Own, Oldest}
-use Rattle.steps.specs.declared.queues.overflow.PushStage as pushes
+use Rattle.steps.specs.declared.queues.overflow.PushStage.{PushStage}
+use Rattle.steps.specs.declared.queues.overflow.PushStage.TheVariants as pushes
 use Rattle.steps.specs.Queues.Overflow.{push_answer, pop_answer}
 use Rattle.model.specs.declared.event.Answer.TheVariants.{PoppedNone, PoppedIndex}
 use Rattle.model.specs.declared.event.Event.{Event}
 use Rattle.model.specs.declared.event.Event.TheVariants.{Published, HandedOut, Acted}
 use Rattle.model.specs.declared.event.Item.TheVariants.{Index}
 use Rattle.model.specs.declared.event.Start.TheVariants.{Queues}
-use Rattle.model.specs.declared.families.Flight as flights
+use Rattle.model.specs.declared.families.Flight.TheVariants as flights
 use Rattle.model.specs.declared.families.queues.QueueStart.TheVariants.{PushIndex, Pop}
-use Rattle.model.specs.declared.families.queues.calls.OverflowCall as overflows
+use Rattle.model.specs.declared.families.queues.calls.OverflowCall.TheVariants as overflows
 use Rattle.model.specs.declared.families.queues.calls.QueueFlight.TheVariants.{Overflow}
 use Rattle.model.specs.Families.Queues.Calls.{popped}
 use Rattle.model.specs.Families.Queues.Reading.{producer_of, consumer_of}
@@ -25,12 +27,12 @@ use Rattle.history.specs.Queues.{pop_wrote}
 use Rattle.history.specs.Stages.{Calling}
 
 -- without capacity no word is asked for, and no such call is driven
-abbrev pub over_push_skips : pushes.PushStage → ℕ → Bool
-over_push_skips pushes.TheVariants.LoadsWrite n = n == 2 ^ 64 - 1
+abbrev pub over_push_skips : PushStage → ℕ → Bool
+over_push_skips pushes.LoadsWrite n = n == 2 ^ 64 - 1
 over_push_skips stage n = false
 
-abbrev pub HasPushWord : pushes.PushStage → Type 0
-HasPushWord pushes.TheVariants.HandsBack = ⊥
+abbrev pub HasPushWord : PushStage → Type 0
+HasPushWord pushes.HandsBack = ⊥
 HasPushWord stage = Unit {0}
 
 -- a push that ended so is a call of the history; where its own number comes back, it is none
@@ -38,8 +40,8 @@ abbrev pub HasActed : PushEnd → Type 0
 HasActed Own = ⊥
 HasActed end = Unit {0}
 
-abbrev pub HasPopWord : pops.PopStage → Type 0
-HasPopWord pops.TheVariants.FindsNone = ⊥
+abbrev pub HasPopWord : PopStage → Type 0
+HasPopWord pops.FindsNone = ⊥
 HasPopWord stage = Unit {0}
 
 module _ {T : Type 0} where
@@ -64,7 +66,7 @@ module _ {T : Type 0} where
         start = Queues (PushIndex v);
         by = λ was p. Unit {0};
         stands = λ capacity c. (capacity < 2 ^ 32) × (c.capacity ≡ capacity) × HasPushWord c.stage;
-        flight = λ c m. flights.TheVariants.Queues (Overflow (overflows.TheVariants.Push
+        flight = λ c m. flights.Queues (Overflow (overflows.Push
             (record { call = c; given = v; room = m })));
         answer = λ e m. popped (push_answer v m.0 e);
         skips = λ c n. over_push_skips c.stage n;
@@ -79,7 +81,7 @@ module _ {T : Type 0} where
         start = Queues Pop;
         by = λ was p. Unit {0};
         stands = λ capacity c. (capacity < 2 ^ 32) × (c.capacity ≡ capacity) × HasPopWord c.stage;
-        flight = λ c m. flights.TheVariants.Queues (Overflow (overflows.TheVariants.Pop
+        flight = λ c m. flights.Queues (Overflow (overflows.Pop
             (record { call = c; given = tt; room = m })));
         answer = λ e m. popped (pop_answer m.0 e);
         skips = λ c n. false;

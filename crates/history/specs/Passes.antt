@@ -1,5 +1,5 @@
 -- What a call, a split and a join leave of what passes know, and what the whole share says.
-use Rattle.std.specs.Prelude.{◌≡◌, ◌⊎◌, ◌++◌, ℕ, None, [], sum_by}
+use Rattle.std.specs.Prelude.{◌≡◌, ◌⊎◌, ◌++◌, ◌+◌, ℕ, None, [], sum_by}
 use Rattle.model.specs.declared.event.Event.{Event}
 use Rattle.threaded.specs.Shares.{half_of, both_of, IsAll}
 use Rattle.history.specs.declared.view.View.{View}
@@ -30,6 +30,11 @@ module _ {T : Type 0} where
     pub right_turns : right.turns ≡ old.turns
     pub others : left.others ≡ old.others
     pub right_others : right.others ≡ 0
+    -- the split is one operation, and no step of a call
+    pub asked : left.asked ≡ old.asked + 1
+    pub aside : left.aside ≡ old.aside + 1
+    pub right_asked : right.asked ≡ 0
+    pub right_aside : right.aside ≡ 0
     pub share : left.share ≡ half_of old.share
     pub right_share : right.share ≡ half_of old.share
 
@@ -42,4 +47,6 @@ module _ {T : Type 0} where
     pub others : IsBeginning theirs.seen new.seen
     pub ours_ran : AreFirst mine.turns new.turns
     pub theirs_ran : AreFirst theirs.turns new.turns
+    -- each operation of the join is no step of a call
+    pub aside : new.asked + (mine.aside + theirs.aside) ≡ (mine.asked + theirs.asked) + new.aside
     pub whole : IsAll new.share → (new.seen ≡ mine.seen) ⊎ (new.seen ≡ theirs.seen)

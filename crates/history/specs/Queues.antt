@@ -8,20 +8,20 @@ use Rattle.model.specs.declared.event.Event.TheVariants.{Published, HandedOut, A
 use Rattle.model.specs.declared.event.Event.{Event}
 use Rattle.model.specs.declared.event.Item.TheVariants.{Index}
 use Rattle.model.specs.declared.event.Start.TheVariants.{Queues}
-use Rattle.model.specs.declared.families.Flight as flights
+use Rattle.model.specs.declared.families.Flight.TheVariants as flights
 use Rattle.model.specs.declared.families.queues.QueueStart.{QueueStart}
 use Rattle.model.specs.declared.families.queues.QueueStart.TheVariants.{PushIndex, Pop, Len, IsEmpty, IsFull}
 use Rattle.model.specs.declared.families.queues.calls.LengthOf.{LengthOf}
-use Rattle.model.specs.declared.families.queues.calls.LengthOf as measures
-use Rattle.model.specs.declared.families.queues.calls.QueueFlight as flying
-use Rattle.model.specs.declared.families.queues.calls.RoleCall as roles
+use Rattle.model.specs.declared.families.queues.calls.LengthOf.TheVariants as measures
+use Rattle.model.specs.declared.families.queues.calls.QueueFlight.TheVariants as flying
+use Rattle.model.specs.declared.families.queues.calls.RoleCall.TheVariants as roles
 use Rattle.steps.specs.declared.queues.lengths.Len.{Len as Counting}
 use Rattle.steps.specs.declared.queues.roles.AcquireRole.{AcquireRole}
 use Rattle.steps.specs.declared.queues.roles.ReleaseRole.{ReleaseRole}
 use Rattle.steps.specs.declared.queues.roles.Role.{Role}
 use Rattle.history.specs.Roles.{role_word, acquire_start, release_start}
 use Rattle.model.specs.declared.families.queues.calls.QueueFlight.TheVariants.{Indices}
-use Rattle.model.specs.declared.families.queues.calls.RingCall as rings
+use Rattle.model.specs.declared.families.queues.calls.RingCall.TheVariants as rings
 use Rattle.steps.specs.Queues.Ring.{cell_word, pop_answer}
 use Rattle.steps.specs.declared.copied.OneWord.{OneWord}
 use Rattle.steps.specs.declared.queues.ring.Pop as pop_calls
@@ -54,7 +54,7 @@ module _ {T : Type 0} where
         stands = PushStands;
         skips = λ c n. push_skips c.stage n;
         left = λ e. e ≡ false;
-        flight = λ c m. flights.TheVariants.Queues (Indices (rings.TheVariants.Push (record { call = c; given = v; room = m })));
+        flight = λ c m. flights.Queues (Indices (rings.Push (record { call = c; given = v; room = m })));
         answer = λ e m. Truth e;
         wrote = λ capacity p from c m es. es ≡ [];
         wrote_all = λ capacity p from e m es. es ≡ push_wrote p v e;
@@ -83,7 +83,7 @@ module _ {T : Type 0} where
         stands = PopStands;
         skips = λ c n. false;
         left = λ e. ⊥;
-        flight = λ c m. flights.TheVariants.Queues (Indices (rings.TheVariants.Pop (record { call = c; given = tt; room = m })));
+        flight = λ c m. flights.Queues (Indices (rings.Pop (record { call = c; given = tt; room = m })));
         answer = λ e m. popped (pop_answer m.0 e);
         wrote = λ capacity p from c m es. es ≡ [];
         wrote_all = λ capacity p from e m es. es ≡ pop_wrote p m.0 e;
@@ -97,7 +97,7 @@ module _ {T : Type 0} where
         start = Queues (acquire_start role);
         by = λ was p. IfSome was (λ q. q ≡ p);
         stands = λ capacity c. c.word ≡ role_word role;
-        flight = λ c m. flights.TheVariants.Queues (flying.TheVariants.Role (roles.TheVariants.Acquire (record { call = c; given = tt; room = m })));
+        flight = λ c m. flights.Queues (flying.Role (roles.Acquire (record { call = c; given = tt; room = m })));
         answer = λ b m. Truth b;
         skips = λ c n. false;
         left = λ e. ⊥;
@@ -112,7 +112,7 @@ module _ {T : Type 0} where
         start = Queues (release_start role);
         by = λ was p. Unit {0};
         stands = λ capacity c. c.word ≡ role_word role;
-        flight = λ c m. flights.TheVariants.Queues (flying.TheVariants.Role (roles.TheVariants.Release (record { call = c; given = tt; room = m })));
+        flight = λ c m. flights.Queues (flying.Role (roles.Release (record { call = c; given = tt; room = m })));
         answer = λ e m. answers.Done;
         skips = λ c n. false;
         left = λ e. ⊥;
@@ -123,9 +123,9 @@ module _ {T : Type 0} where
   -- ---- how many wait
 
   abbrev pub length_start : LengthOf → QueueStart T
-  length_start measures.TheVariants.Len = Len
-  length_start measures.TheVariants.IsEmpty = IsEmpty
-  length_start measures.TheVariants.IsFull = IsFull
+  length_start measures.Len = Len
+  length_start measures.IsEmpty = IsEmpty
+  length_start measures.IsFull = IsFull
 
   abbrev pub counts_waiting : LengthOf → ℕ → Calling T Counting (Unit {0}) ℕ
   counts_waiting which size =
@@ -133,7 +133,7 @@ module _ {T : Type 0} where
         start = Queues (length_start which);
         by = λ was p. IfSome was (λ q. q ≡ p);
         stands = λ capacity c. (c.capacity ≡ capacity) × (c.capacity ≡ size);
-        flight = λ c m. flights.TheVariants.Queues (flying.TheVariants.Length which (record { call = c; given = tt; room = m }));
+        flight = λ c m. flights.Queues (flying.Length which (record { call = c; given = tt; room = m }));
         answer = λ n m. length_answer which size n;
         skips = λ c n. false;
         left = λ e. ⊥;

@@ -8,21 +8,26 @@ use Rattle.steps.specs.declared.indices.enums.ReleaseState.{ReleaseState}
 use Rattle.steps.specs.declared.indices.enums.ReleaseState.TheVariants as states
 use Rattle.steps.specs.declared.indices.enums.UniqueIndexSetAcquireFailure.TheVariants as failures
 use Rattle.steps.specs.declared.indices.robust.acquire.Acquire.{Acquire as Acquiring}
-use Rattle.steps.specs.declared.indices.robust.acquire.AcquireStage as acquires
+use Rattle.steps.specs.declared.indices.robust.acquire.AcquireStage.{AcquireStage}
+use Rattle.steps.specs.declared.indices.robust.acquire.AcquireStage.TheVariants as acquires
 use Rattle.steps.specs.declared.indices.robust.looks.BorrowedIndices.{BorrowedIndices as Counting}
 use Rattle.steps.specs.declared.indices.robust.looks.IsLocked.{IsLocked as Looking}
-use Rattle.steps.specs.declared.indices.robust.parts.Count as counts
-use Rattle.steps.specs.declared.indices.robust.parts.Lock as locks
+use Rattle.steps.specs.declared.indices.robust.parts.Count.{Count}
+use Rattle.steps.specs.declared.indices.robust.parts.Count.TheVariants as counts
+use Rattle.steps.specs.declared.indices.robust.parts.Lock.{Lock}
+use Rattle.steps.specs.declared.indices.robust.parts.Lock.TheVariants as locks
 use Rattle.steps.specs.declared.indices.robust.recover.Recover.{Recover as Recovering}
-use Rattle.steps.specs.declared.indices.robust.recover.RecoverStage as recovers
+use Rattle.steps.specs.declared.indices.robust.recover.RecoverStage.{RecoverStage}
+use Rattle.steps.specs.declared.indices.robust.recover.RecoverStage.TheVariants as recovers
 use Rattle.steps.specs.declared.indices.robust.release.GiveBack.{GiveBack}
 use Rattle.steps.specs.declared.indices.robust.release.Release.{Release as Releasing}
-use Rattle.steps.specs.declared.indices.robust.release.ReleaseStage as releases
+use Rattle.steps.specs.declared.indices.robust.release.ReleaseStage.{ReleaseStage}
+use Rattle.steps.specs.declared.indices.robust.release.ReleaseStage.TheVariants as releases
 use Rattle.model.specs.declared.event.Answer.TheVariants.{State, Number, Truth}
 use Rattle.model.specs.declared.event.Event.{Event}
 use Rattle.model.specs.declared.event.Event.TheVariants.{Filled, Granted, FreedOf, Asked, Told, Locked}
 use Rattle.model.specs.declared.event.Start.TheVariants.{Robust}
-use Rattle.model.specs.declared.families.Flight as flights
+use Rattle.model.specs.declared.families.Flight.TheVariants as flights
 use Rattle.model.specs.declared.families.indices.robust.RobustStart.TheVariants.{Acquire, Release, Recover, BorrowedIndices, IsLocked}
 use Rattle.model.specs.declared.families.indices.robust.calls.RobustFlight.TheVariants as calls
 use Rattle.model.specs.Families.Indices.Robust.Calls.{acquire_answer, release_answer}
@@ -30,30 +35,30 @@ use Rattle.history.specs.Stages.{Calling}
 
 -- ---- where a call stands in a set of this capacity: each index that it is at is one of the set
 
-abbrev pub CountIn : ℕ → counts.Count → Type 0
-CountIn capacity (counts.TheVariants.LoadsCell counter index filled) = index < capacity
+abbrev pub CountIn : ℕ → Count → Type 0
+CountIn capacity (counts.LoadsCell counter index filled) = index < capacity
 CountIn capacity count = Unit {0}
 
-abbrev pub LockIn : ℕ → locks.Lock → Type 0
-LockIn capacity (locks.TheVariants.Counts count) = CountIn capacity count
+abbrev pub LockIn : ℕ → Lock → Type 0
+LockIn capacity (locks.Counts count) = CountIn capacity count
 LockIn capacity lock = Unit {0}
 
-abbrev pub AcquireIn : ℕ → acquires.AcquireStage → Type 0
-AcquireIn capacity (acquires.TheVariants.FillsCell counter index) = index < capacity
-AcquireIn capacity (acquires.TheVariants.Raises index raise) = index < capacity
+abbrev pub AcquireIn : ℕ → AcquireStage → Type 0
+AcquireIn capacity (acquires.FillsCell counter index) = index < capacity
+AcquireIn capacity (acquires.Raises index raise) = index < capacity
 AcquireIn capacity stage = Unit {0}
 
 -- it locks in the mode for that alone
-abbrev pub ReleaseIn : ℕ → ReleaseMode → releases.ReleaseStage → Type 0
-ReleaseIn capacity mode (releases.TheVariants.Locks lock) = (mode ≡ LockIfLastIndex) × LockIn capacity lock
+abbrev pub ReleaseIn : ℕ → ReleaseMode → ReleaseStage → Type 0
+ReleaseIn capacity mode (releases.Locks lock) = (mode ≡ LockIfLastIndex) × LockIn capacity lock
 ReleaseIn capacity mode stage = Unit {0}
 
-abbrev pub RecoverIn : ℕ → ReleaseMode → recovers.RecoverStage → Type 0
-RecoverIn capacity mode (recovers.TheVariants.LoadsCell index) = index < capacity
-RecoverIn capacity mode (recovers.TheVariants.Asks index owner) = index < capacity
-RecoverIn capacity mode (recovers.TheVariants.EmptiesCell index owner) = index < capacity
-RecoverIn capacity mode (recovers.TheVariants.Raises index raise) = index < capacity
-RecoverIn capacity mode (recovers.TheVariants.Locks index lock) =
+abbrev pub RecoverIn : ℕ → ReleaseMode → RecoverStage → Type 0
+RecoverIn capacity mode (recovers.LoadsCell index) = index < capacity
+RecoverIn capacity mode (recovers.Asks index owner) = index < capacity
+RecoverIn capacity mode (recovers.EmptiesCell index owner) = index < capacity
+RecoverIn capacity mode (recovers.Raises index raise) = index < capacity
+RecoverIn capacity mode (recovers.Locks index lock) =
     (mode ≡ LockIfLastIndex) × (index < capacity) × LockIn capacity lock
 RecoverIn capacity mode stage = Unit {0}
 
@@ -61,8 +66,8 @@ RecoverIn capacity mode stage = Unit {0}
 
 module _ {T : Type 0} where
   -- what an acquire has written at this stage
-  abbrev pub filled_at : ℕ → ℕ → acquires.AcquireStage → List (Event T)
-  filled_at p owner (acquires.TheVariants.Raises index raise) = Filled p index owner ∷ []
+  abbrev pub filled_at : ℕ → ℕ → AcquireStage → List (Event T)
+  filled_at p owner (acquires.Raises index raise) = Filled p index owner ∷ []
   filled_at p owner stage = []
 
   -- and in all: one that met the lock may have filled an index, which keeps its owner
@@ -81,7 +86,7 @@ module _ {T : Type 0} where
         by = λ was p. IfSome was (λ q. q ≡ p);
         stands = λ capacity c. (c.capacity ≡ capacity) × AcquireIn capacity c.stage;
         flight = λ c m.
-            flights.TheVariants.Robust
+            flights.Robust
             (calls.Acquire (record { call = c; given = owner; room = m }));
         answer = λ e m. acquire_answer e;
         skips = λ c n. false;
@@ -93,8 +98,8 @@ module _ {T : Type 0} where
   -- ---- release
 
   -- what a release has written at this stage
-  abbrev pub freed_at : ℕ → GiveBack → releases.ReleaseStage → List (Event T)
-  freed_at p given releases.TheVariants.EmptiesCell = []
+  abbrev pub freed_at : ℕ → GiveBack → ReleaseStage → List (Event T)
+  freed_at p given releases.EmptiesCell = []
   freed_at p given stage = FreedOf p given.index given.owner ∷ []
 
   -- and in all: nothing where another owner had the index, or none; it answers that the set is locked by whom it may
@@ -114,7 +119,7 @@ module _ {T : Type 0} where
         stands = λ capacity c.
             (c.capacity ≡ capacity) × (given.index < capacity) × ReleaseIn capacity given.mode c.stage;
         flight = λ c m.
-            flights.TheVariants.Robust
+            flights.Robust
             (calls.Release (record { call = c; given = given; room = m }));
         answer = λ e m. release_answer e;
         skips = λ c n. false;
@@ -164,33 +169,33 @@ pub record HasCome (mode : ReleaseMode) (index : ℕ) (came : Came) (owner : ℕ
   pub is : visits ≡ before ++ visit index owner came ∷ []
 
 -- the visits of a recovery at this stage: that which it asks about is one when it has the answer
-abbrev pub VisitsAt : ℕ → ReleaseMode → recovers.RecoverStage → List Visit → Type 0
-VisitsAt capacity mode recovers.TheVariants.LoadsCounter visits = visits ≡ []
-VisitsAt capacity mode (recovers.TheVariants.LoadsCell index) visits = AreVisits mode index visits
-VisitsAt capacity mode (recovers.TheVariants.Asks index owner) visits = AreVisits mode index visits
-VisitsAt capacity mode (recovers.TheVariants.EmptiesCell index owner) visits =
+abbrev pub VisitsAt : ℕ → ReleaseMode → RecoverStage → List Visit → Type 0
+VisitsAt capacity mode recovers.LoadsCounter visits = visits ≡ []
+VisitsAt capacity mode (recovers.LoadsCell index) visits = AreVisits mode index visits
+VisitsAt capacity mode (recovers.Asks index owner) visits = AreVisits mode index visits
+VisitsAt capacity mode (recovers.EmptiesCell index owner) visits =
     HasCome mode index HasAsked owner visits
-VisitsAt capacity mode (recovers.TheVariants.Raises index raise) visits =
+VisitsAt capacity mode (recovers.Raises index raise) visits =
     (owner : ℕ) × HasCome mode index HasFreed owner visits
-VisitsAt capacity mode (recovers.TheVariants.Locks index lock) visits =
+VisitsAt capacity mode (recovers.Locks index lock) visits =
     (owner : ℕ) × HasCome mode index HasFreed owner visits
-VisitsAt capacity mode recovers.TheVariants.LoadsCounterAgain visits = AreVisits mode capacity visits
+VisitsAt capacity mode recovers.LoadsCounterAgain visits = AreVisits mode capacity visits
 
-abbrev pub visits_locked : locks.Lock → List Visit → ℕ → List Visit
-visits_locked (locks.TheVariants.Counts count) visits old = visits
-visits_locked (locks.TheVariants.ExchangesCounter counter) visits old =
+abbrev pub visits_locked : Lock → List Visit → ℕ → List Visit
+visits_locked (locks.Counts count) visits old = visits
+visits_locked (locks.ExchangesCounter counter) visits old =
     if old == counter then came_to HasLocked visits else visits
 
 -- and those after it, by what it has heard there
-abbrev pub visits_taken : recovers.RecoverStage → List Visit → ℕ → List Visit
-visits_taken recovers.TheVariants.LoadsCounter visits old = visits
-visits_taken (recovers.TheVariants.LoadsCell index) visits old = visits
-visits_taken (recovers.TheVariants.Asks index owner) visits old = visits ++ visit index owner HasAsked ∷ []
-visits_taken (recovers.TheVariants.EmptiesCell index owner) visits old =
+abbrev pub visits_taken : RecoverStage → List Visit → ℕ → List Visit
+visits_taken recovers.LoadsCounter visits old = visits
+visits_taken (recovers.LoadsCell index) visits old = visits
+visits_taken (recovers.Asks index owner) visits old = visits ++ visit index owner HasAsked ∷ []
+visits_taken (recovers.EmptiesCell index owner) visits old =
     came_to (if old == owner then HasFreed else WasTold) visits
-visits_taken (recovers.TheVariants.Raises index raise) visits old = visits
-visits_taken (recovers.TheVariants.Locks index lock) visits old = visits_locked lock visits old
-visits_taken recovers.TheVariants.LoadsCounterAgain visits old = visits
+visits_taken (recovers.Raises index raise) visits old = visits
+visits_taken (recovers.Locks index lock) visits old = visits_locked lock visits old
+visits_taken recovers.LoadsCounterAgain visits old = visits
 
 abbrev pub visits_after : Recovering → List Visit → ℕ → List Visit
 visits_after call visits old = visits_taken call.stage visits old
@@ -213,14 +218,14 @@ module _ {T : Type 0} where
   wrote_by p visits = flat_map (wrote_of p) visits
 
   -- at this stage it has written so much more: the question, and a yes, which its next step tells
-  abbrev pub wrote_now : ℕ → recovers.RecoverStage → List (Event T)
-  wrote_now p recovers.TheVariants.LoadsCounter = []
-  wrote_now p (recovers.TheVariants.LoadsCell index) = []
-  wrote_now p (recovers.TheVariants.Asks index owner) = Asked p index owner ∷ []
-  wrote_now p (recovers.TheVariants.EmptiesCell index owner) = Told p index owner ∷ []
-  wrote_now p (recovers.TheVariants.Raises index raise) = []
-  wrote_now p (recovers.TheVariants.Locks index lock) = []
-  wrote_now p recovers.TheVariants.LoadsCounterAgain = []
+  abbrev pub wrote_now : ℕ → RecoverStage → List (Event T)
+  wrote_now p recovers.LoadsCounter = []
+  wrote_now p (recovers.LoadsCell index) = []
+  wrote_now p (recovers.Asks index owner) = Asked p index owner ∷ []
+  wrote_now p (recovers.EmptiesCell index owner) = Told p index owner ∷ []
+  wrote_now p (recovers.Raises index raise) = []
+  wrote_now p (recovers.Locks index lock) = []
+  wrote_now p recovers.LoadsCounterAgain = []
 
   -- its room is the list of its visits, which the set does not know of
   abbrev pub recovers_owned : ReleaseMode → Calling T Recovering (List Visit) ReleaseState
@@ -230,7 +235,7 @@ module _ {T : Type 0} where
         by = λ was p. IfSome was (λ q. q ≡ p);
         stands = λ capacity c. (c.capacity ≡ capacity) × RecoverIn capacity mode c.stage;
         flight = λ c visits.
-            flights.TheVariants.Robust
+            flights.Robust
             (calls.Recover (record { call = c; given = mode; room = tt }));
         answer = λ e visits. State e;
         skips = λ c n. false;
@@ -250,7 +255,7 @@ module _ {T : Type 0} where
         by = λ was p. IfSome was (λ q. q ≡ p);
         stands = λ capacity c. (c.capacity ≡ capacity) × CountIn capacity c.count;
         flight = λ c m.
-            flights.TheVariants.Robust
+            flights.Robust
             (calls.BorrowedIndices (record { call = c; given = tt; room = m }));
         answer = λ n m. Number n;
         skips = λ c n. false;
@@ -266,7 +271,7 @@ module _ {T : Type 0} where
         by = λ was p. IfSome was (λ q. q ≡ p);
         stands = λ capacity c. Unit {0};
         flight = λ c m.
-            flights.TheVariants.Robust
+            flights.Robust
             (calls.IsLocked (record { call = c; given = tt; room = m }));
         answer = λ b m. Truth b;
         skips = λ c n. false;

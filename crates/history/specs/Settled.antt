@@ -42,6 +42,7 @@ module _ {T : Type 0} (code : Coding T) where
     pub state : new.state ≡ old.state
     pub idle : new.going ≡ None
     pub asked : new.asked ≤ old.asked + 1
+    pub aside : new.asked + old.aside ≡ old.asked + new.aside
     pub fresh : new.other ≡ []
     pub others : List (Event T)
     pub seen : new.seen

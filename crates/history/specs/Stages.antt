@@ -128,6 +128,7 @@ module _ {T C M E : Type 0} (code : Coding T) (kind : Kind) (call : Calling T C 
     pub state : LeavesState call → base.party ≡ Some party → v.state ≡ base.state
     pub past : (n : ℕ) → call.skips c n ≡ false
     pub asked : StepsOnly base v
+    pub aside : v.aside ≡ base.aside
     pub alone : v.other ≡ []
     pub wrote : List (Event T)
     pub tells : call.wrote base.capacity party base.going c m wrote
@@ -182,6 +183,7 @@ module _ {T C M E : Type 0} (code : Coding T) (kind : Kind) (call : Calling T C 
     pub named : started (party_of party (run_of code kind base.capacity w.turns).world.latest) ≡ Some call.start
     pub counted : steps_in (run_of code kind base.capacity w.turns).world party ≡ w.taken
     pub took : StepsOnly base w ⊎ (w.asked ≤ base.asked + 1)
+    pub aside : (w.aside ≡ base.aside) ⊎ (w.aside ≡ base.aside + 1)
     -- who has the whole has made all of it
     pub all : IsAll base.share → (f : Event T → ℕ) → sum_by f w.seen ≡ sum_by f w.made
     pub parties : IsOfParties w

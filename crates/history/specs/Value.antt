@@ -1,9 +1,11 @@
 -- The calls on the single value as calls of the model, and which pass has the producer's role.
 use Rattle.std.specs.Prelude.{◌≡◌, ℕ, ◌+◌, ◌-◌, ◌^◌, ◌<◌, ◌==◌, Bool, true, false, Some, IfSome, List, [], ◌∷◌, ◌++◌, sum_by}
 use Rattle.steps.specs.declared.atomic.Load.{Load as Loading}
-use Rattle.steps.specs.declared.atomic.LoadStage as loads
+use Rattle.steps.specs.declared.atomic.LoadStage.{LoadStage}
+use Rattle.steps.specs.declared.atomic.LoadStage.TheVariants as loads
 use Rattle.steps.specs.declared.atomic.Store.{Store as Storing}
-use Rattle.steps.specs.declared.atomic.StoreStage as stores
+use Rattle.steps.specs.declared.atomic.StoreStage.{StoreStage}
+use Rattle.steps.specs.declared.atomic.StoreStage.TheVariants as stores
 use Rattle.steps.specs.declared.queues.roles.AcquireRole.{AcquireRole}
 use Rattle.steps.specs.declared.queues.roles.ReleaseRole.{ReleaseRole}
 use Rattle.steps.specs.Atomic.{cell_word, before_version}
@@ -13,9 +15,9 @@ use Rattle.model.specs.declared.event.Answer.TheVariants.{Truth}
 use Rattle.model.specs.declared.event.Event.{Event}
 use Rattle.model.specs.declared.event.Event.TheVariants.{Acted, Finished}
 use Rattle.model.specs.declared.event.Start.TheVariants.{Atomic}
-use Rattle.model.specs.declared.families.Flight as flights
+use Rattle.model.specs.declared.families.Flight.TheVariants as flights
 use Rattle.model.specs.declared.families.atomic.AtomicStart.TheVariants.{AcquireProducer, ReleaseProducer, Store, Load}
-use Rattle.model.specs.declared.families.atomic.calls.AtomicFlight as calls
+use Rattle.model.specs.declared.families.atomic.calls.AtomicFlight.TheVariants as calls
 use Rattle.model.specs.Coding.{Coding}
 use Rattle.model.specs.Families.Atomic.Calls.{producer_word}
 use Rattle.model.specs.Families.Atomic.Reading.{holder_of}
@@ -49,7 +51,7 @@ module _ {T : Type 0} where
         start = Atomic AcquireProducer;
         by = λ was p. IfSome was (λ q. q ≡ p);
         stands = λ capacity c. c.word ≡ producer_word;
-        flight = λ c m. flights.TheVariants.Atomic (calls.TheVariants.Acquire (record { call = c; given = tt; room = m }));
+        flight = λ c m. flights.Atomic (calls.Acquire (record { call = c; given = tt; room = m }));
         answer = λ b m. Truth b;
         skips = λ c n. false;
         left = λ e. ⊥;
@@ -64,7 +66,7 @@ module _ {T : Type 0} where
         start = Atomic ReleaseProducer;
         by = λ was p. Unit {0};
         stands = λ capacity c. c.word ≡ producer_word;
-        flight = λ c m. flights.TheVariants.Atomic (calls.TheVariants.Release (record { call = c; given = tt; room = m }));
+        flight = λ c m. flights.Atomic (calls.Release (record { call = c; given = tt; room = m }));
         answer = λ e m. answers.Done;
         skips = λ c n. false;
         left = λ e. ⊥;
@@ -75,13 +77,13 @@ module _ {T : Type 0} where
 -- ---- stores
 
 -- the first load of a store finds the last version
-abbrev pub store_skips : stores.StoreStage → ℕ → Bool
-store_skips stores.TheVariants.LoadsVersion found = found == 2 ^ 64 - 1
+abbrev pub store_skips : StoreStage → ℕ → Bool
+store_skips stores.LoadsVersion found = found == 2 ^ 64 - 1
 store_skips stage found = false
 
 -- a word of a cell that a store is to store
-abbrev pub StoreStands : ℕ → stores.StoreStage → Type 0
-StoreStands size (stores.TheVariants.StoresCell cell at) =
+abbrev pub StoreStands : ℕ → StoreStage → Type 0
+StoreStands size (stores.StoresCell cell at) =
     ((version : ℕ) × (cell ≡ cell_word size version)) × (at < size)
 StoreStands size stage = Unit {0}
 
@@ -92,7 +94,7 @@ module _ {T : Type 0} (code : Coding T) where
         start = Atomic (Store value);
         by = λ was p. Unit {0};
         stands = λ capacity c. StoreStands code.size c.stage;
-        flight = λ c m. flights.TheVariants.Atomic (calls.TheVariants.Store (record { call = c; given = value; room = m }));
+        flight = λ c m. flights.Atomic (calls.Store (record { call = c; given = value; room = m }));
         answer = λ e m. Truth e;
         skips = λ c n. store_skips c.stage n;
         left = λ e. e ≡ false;
@@ -103,8 +105,8 @@ module _ {T : Type 0} (code : Coding T) where
 
 -- ---- loads, by way of a room that has these words
 
-abbrev pub LoadStands : ℕ → loads.LoadStage → Type 0
-LoadStands size (loads.TheVariants.LoadsCell version cell at) =
+abbrev pub LoadStands : ℕ → LoadStage → Type 0
+LoadStands size (loads.LoadsCell version cell at) =
     (cell ≡ cell_word size (before_version version)) × (at < size)
 LoadStands size stage = Unit {0}
 
@@ -119,7 +121,7 @@ module _ {T R : Type 0} (code : Coding T) (words_in : R → List ℕ) where
         start = Atomic Load;
         by = λ was p. IfSome was (λ q. q ≡ p);
         stands = λ capacity c. LoadStands code.size c.stage;
-        flight = λ c m. flights.TheVariants.Atomic (calls.TheVariants.Load
+        flight = λ c m. flights.Atomic (calls.Load
             (record {
               call = record { stage = c.stage; of = record {} };
               given = tt;

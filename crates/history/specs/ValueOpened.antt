@@ -10,6 +10,7 @@ use Rattle.model.specs.declared.turn.Turn.TheVariants.{Begin, Next}
 use Rattle.model.specs.Coding.{Coding}
 use Rattle.threaded.specs.Shares.{all_shares}
 use Rattle.history.specs.declared.view.View.{View}
+use Rattle.history.specs.History.{nexts}
 
 -- a value opens with one store at least: as many as its version is above 1
 abbrev pub first_stores : ℕ → ℕ
@@ -58,7 +59,8 @@ module _ {T : Type 0} (value : T) where
         made = opened (first_stores version);
         going = None;
         state = None;
-        asked = 0;
+        asked = nexts (opened_turns size (first_stores version));
+        aside = 0;
         taken = 0;
         others = 0;
       }

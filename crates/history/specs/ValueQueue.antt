@@ -1,9 +1,11 @@
 -- The calls on a queue of values as calls of the model; those on its roles and its lengths are any queue's.
 use Rattle.std.specs.Prelude.{◌≡◌, ℕ, ◌^◌, ◌<◌, Bool, true, false, List, [], ◌∷◌}
 use Rattle.steps.specs.declared.queues.ring.Pop.{Pop as Popping}
-use Rattle.steps.specs.declared.queues.ring.PopStage as pops
+use Rattle.steps.specs.declared.queues.ring.PopStage.{PopStage}
+use Rattle.steps.specs.declared.queues.ring.PopStage.TheVariants as pops
 use Rattle.steps.specs.declared.queues.ring.Push.{Push as Pushing}
-use Rattle.steps.specs.declared.queues.ring.PushStage as pushes
+use Rattle.steps.specs.declared.queues.ring.PushStage.{PushStage}
+use Rattle.steps.specs.declared.queues.ring.PushStage.TheVariants as pushes
 use Rattle.steps.specs.Copied.{value_in}
 use Rattle.steps.specs.Queues.Ring.{cell_word, pop_answer}
 use Rattle.model.specs.declared.event.Answer.TheVariants.{Truth, Popped, PoppedNone}
@@ -11,10 +13,10 @@ use Rattle.model.specs.declared.event.Event.{Event}
 use Rattle.model.specs.declared.event.Event.TheVariants.{Published, HandedOut, Acted}
 use Rattle.model.specs.declared.event.Item.TheVariants.{Value}
 use Rattle.model.specs.declared.event.Start.TheVariants.{Queues}
-use Rattle.model.specs.declared.families.Flight as flights
+use Rattle.model.specs.declared.families.Flight.TheVariants as flights
 use Rattle.model.specs.declared.families.queues.QueueStart.TheVariants.{Push, Pop}
 use Rattle.model.specs.declared.families.queues.calls.QueueFlight.TheVariants.{Values}
-use Rattle.model.specs.declared.families.queues.calls.RingCall as rings
+use Rattle.model.specs.declared.families.queues.calls.RingCall.TheVariants as rings
 use Rattle.model.specs.Coding.{Coding}
 use Rattle.model.specs.Families.Queues.Calls.{popped_value}
 use Rattle.history.specs.Queues.{push_skips}
@@ -26,13 +28,13 @@ abbrev pub IsWordOf : ℕ → ℕ → ℕ → ℕ → ℕ → Type 0
 IsWordOf size capacity position cell at =
     (0 < capacity) × (cell ≡ cell_word capacity size position) × (at < size)
 
-abbrev pub PushPlace : ℕ → ℕ → pushes.PushStage → Type 0
-PushPlace size capacity (pushes.TheVariants.StoresCell write cell at) =
+abbrev pub PushPlace : ℕ → ℕ → PushStage → Type 0
+PushPlace size capacity (pushes.StoresCell write cell at) =
     IsWordOf size capacity write cell at
 PushPlace size capacity stage = Unit {0}
 
-abbrev pub PopPlace : ℕ → ℕ → pops.PopStage → Type 0
-PopPlace size capacity (pops.TheVariants.LoadsCell read cell at) =
+abbrev pub PopPlace : ℕ → ℕ → PopStage → Type 0
+PopPlace size capacity (pops.LoadsCell read cell at) =
     IsWordOf size capacity read cell at
 PopPlace size capacity stage = Unit {0}
 
@@ -57,8 +59,8 @@ module _ {T : Type 0} (code : Coding T) where
             (capacity < 2 ^ 32) × (c.capacity ≡ capacity) × PushPlace code.size capacity c.stage;
         skips = λ c n. push_skips c.stage n;
         left = λ e. e ≡ false;
-        flight = λ c m. flights.TheVariants.Queues
-            (Values (rings.TheVariants.Push (record { call = c; given = v; room = m })));
+        flight = λ c m. flights.Queues
+            (Values (rings.Push (record { call = c; given = v; room = m })));
         answer = λ e m. Truth e;
         wrote = λ capacity p from c m es. es ≡ [];
         wrote_all = λ capacity p from e m es. es ≡ value_push_wrote p v e;
@@ -78,8 +80,8 @@ module _ {T R : Type 0} (code : Coding T) (words_in : R → List ℕ) where
             (capacity < 2 ^ 32) × (c.capacity ≡ capacity) × PopPlace code.size capacity c.stage;
         skips = λ c n. false;
         left = λ e. ⊥;
-        flight = λ c m. flights.TheVariants.Queues
-            (Values (rings.TheVariants.Pop
+        flight = λ c m. flights.Queues
+            (Values (rings.Pop
             (record {
               call = record { capacity = c.capacity; stage = c.stage; of = record {} };
               given = tt;

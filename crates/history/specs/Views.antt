@@ -4,7 +4,7 @@ use Rattle.model.specs.declared.event.Event.{Event}
 use Rattle.model.specs.declared.event.Start.{Start}
 use Rattle.model.specs.declared.families.Flight.{Flight}
 use Rattle.model.specs.declared.turn.Kind.{Kind}
-use Rattle.model.specs.declared.turn.Kind as kinds
+use Rattle.model.specs.declared.turn.Kind.TheVariants as kinds
 use Rattle.model.specs.Coding.{Coding}
 use Rattle.model.specs.World.{Trace}
 use Rattle.threaded.specs.Shares.{all_shares, no_share, half_of, both_of, IsAll}
@@ -28,6 +28,7 @@ module _ {T : Type 0} where
         going = None;
         state = None;
         asked = 0;
+        aside = 0;
         taken = 0;
         others = 0;
       }
@@ -47,12 +48,13 @@ module _ {T : Type 0} where
         going = None;
         state = None;
         asked = 0;
+        aside = 0;
         taken = 0;
         others = 0;
       }
 
   abbrev pub left_view : View T → View T
-  left_view v = record v { share = half_of v.share; asked = v.asked + 1 }
+  left_view v = record v { share = half_of v.share; asked = v.asked + 1; aside = v.aside + 1 }
 
   abbrev pub joined_view : View T → View T → View T
   joined_view v w =
@@ -68,6 +70,7 @@ module _ {T : Type 0} where
         going = v.going;
         state = v.state;
         asked = v.asked + w.asked + 1;
+        aside = v.aside + w.aside + 1;
         taken = v.taken;
         others = v.others;
       }
@@ -86,6 +89,7 @@ module _ {T : Type 0} where
         going = None;
         state = None;
         asked = 0;
+        aside = 0;
         taken = 0;
         others = 0;
       }
@@ -99,6 +103,8 @@ module _ {T : Type 0} where
     pub share : w.share ≡ v.share
     pub other : w.other ≡ []
     pub made : w.made ≡ v.made
+    -- what was asked for since is no step of a call
+    pub aside : w.asked + v.aside ≡ v.asked + w.aside
     pub mine : IsBeginning v.seen w.seen
     pub theirs : IsBeginning v.other w.seen
     -- who has the whole had seen all of it, and each event in it is its own or of who was taken in
@@ -128,5 +134,5 @@ module _ {T : Type 0} where
   -- Where another may write for a call under way, of which the look would not know that it has seen it, nothing is
   -- promised of a look while one is under way.
   abbrev pub WhenIdle : Kind → Option (Start T × Flight T) → Type 0 → Type 0
-  WhenIdle kinds.TheVariants.Overflow going Told = going ≡ None → Told
+  WhenIdle kinds.Overflow going Told = going ≡ None → Told
   WhenIdle kind going Told = Told

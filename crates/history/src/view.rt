@@ -90,9 +90,13 @@ pub struct View<T> {
     pub going: Option<Going<T>>,
     /// The state of a container that its party has, as its latest look has left it.
     pub state: Option<Shown<T>>,
-    /// How many operations on words its seat has asked for.
+    /// How many operations on words it and the seats that were taken in have asked for, and how many steps the run took by which
+    /// the structure opened.
     pub asked: u64,
-    /// How many of them its latest call has taken, where that is under way: the steps of the call in the machine.
+    /// How many of them were no steps of a call in the run that its turns make: those of splits, joins and calls that are not in
+    /// the history.
+    pub aside: u64,
+    /// How many of those that it has asked for its latest call has taken, where that is under way: the steps of the call in the machine.
     pub taken: u64,
     /// How many changes of words other parties made while the latest call of its party was under way, in the run that
     /// its turns make.

@@ -14,7 +14,7 @@ use Rattle.model.specs.declared.families.container.ContainerStart.TheVariants.{R
 use Rattle.model.specs.declared.party.Doing.{Doing}
 use Rattle.model.specs.declared.party.Doing.TheVariants.{Going, Over}
 use Rattle.model.specs.declared.party.Party.{Party}
-use Rattle.model.specs.declared.turn.Kind as kinds
+use Rattle.model.specs.declared.turn.Kind.TheVariants as kinds
 use Rattle.model.specs.declared.turn.Turn.{Turn}
 use Rattle.model.specs.declared.turn.Turn.TheVariants.{Begin, Next, Decide, Die}
 use Rattle.model.specs.Coding.{Coding}
@@ -278,7 +278,7 @@ module _ {T : Type 0} (code : Coding T) (c : ℕ) where
 
 -- ---- a run
 
-module _ {T : Type 0} (t : Trace T) (is : t.world.kind ≡ kinds.TheVariants.Container) (r : IsReachedOpen t) where
+module _ {T : Type 0} (t : Trace T) (is : t.world.kind ≡ kinds.Container) (r : IsReachedOpen t) where
   abbrev code : Coding T
   code = t.world.coding
 

@@ -22,37 +22,48 @@ use Rattle.steps.specs.declared.ask.Ask.{Ask}
 use Rattle.steps.specs.declared.ask.Op.{Op}
 use Rattle.steps.specs.declared.ask.Op.TheVariants.{Load, Store, Add as AddBy, Exchange}
 use Rattle.steps.specs.declared.container.add.Add as adding
-use Rattle.steps.specs.declared.container.add.AddStage as adds
+use Rattle.steps.specs.declared.container.add.AddStage.{AddStage}
+use Rattle.steps.specs.declared.container.add.AddStage.TheVariants as adds
 use Rattle.steps.specs.declared.container.add.Owned.{Owned}
 use Rattle.steps.specs.declared.container.find.Find as finding
-use Rattle.steps.specs.declared.container.find.FindStage as finds
+use Rattle.steps.specs.declared.container.find.FindStage.{FindStage}
+use Rattle.steps.specs.declared.container.find.FindStage.TheVariants as finds
 use Rattle.steps.specs.declared.container.look.Look as looking
-use Rattle.steps.specs.declared.container.look.LookStage as looks
+use Rattle.steps.specs.declared.container.look.LookStage.{LookStage}
+use Rattle.steps.specs.declared.container.look.LookStage.TheVariants as looks
 use Rattle.steps.specs.declared.container.recover.DeadOwner.{DeadOwner}
 use Rattle.steps.specs.declared.container.recover.Recover as recovering
-use Rattle.steps.specs.declared.container.recover.RecoverStage as recovers
+use Rattle.steps.specs.declared.container.recover.RecoverStage.{RecoverStage}
+use Rattle.steps.specs.declared.container.recover.RecoverStage.TheVariants as recovers
 use Rattle.steps.specs.declared.container.remove.Remove as removing
-use Rattle.steps.specs.declared.container.remove.RemoveStage as removes
+use Rattle.steps.specs.declared.container.remove.RemoveStage.{RemoveStage}
+use Rattle.steps.specs.declared.container.remove.RemoveStage.TheVariants as removes
 use Rattle.steps.specs.declared.container.replace.Replace as replacing
 use Rattle.steps.specs.declared.container.replace.Replacement.{Replacement}
-use Rattle.steps.specs.declared.container.replace.ReplaceStage as replaces
+use Rattle.steps.specs.declared.container.replace.ReplaceStage.{ReplaceStage}
+use Rattle.steps.specs.declared.container.replace.ReplaceStage.TheVariants as replaces
 use Rattle.steps.specs.declared.container.state.ContainerState.{ContainerState}
 use Rattle.steps.specs.declared.copied.Buffer.{Buffer}
 use Rattle.steps.specs.declared.indices.enums.ReleaseState.{ReleaseState}
-use Rattle.steps.specs.declared.indices.robust.acquire.AcquireStage as acquires
+use Rattle.steps.specs.declared.indices.robust.acquire.AcquireStage.{AcquireStage}
+use Rattle.steps.specs.declared.indices.robust.acquire.AcquireStage.TheVariants as acquires
 use Rattle.steps.specs.declared.indices.robust.looks.BorrowedIndices as counting
 use Rattle.steps.specs.declared.indices.robust.parts.Count as counts
-use Rattle.steps.specs.declared.indices.robust.parts.Counted as ends
-use Rattle.steps.specs.declared.indices.robust.parts.Lock as locks
-use Rattle.steps.specs.declared.indices.robust.parts.Raise as raises
+use Rattle.steps.specs.declared.indices.robust.parts.Counted.{Counted}
+use Rattle.steps.specs.declared.indices.robust.parts.Counted.TheVariants as ends
+use Rattle.steps.specs.declared.indices.robust.parts.Lock.{Lock}
+use Rattle.steps.specs.declared.indices.robust.parts.Lock.TheVariants as locks
+use Rattle.steps.specs.declared.indices.robust.parts.Raise.{Raise}
+use Rattle.steps.specs.declared.indices.robust.parts.Raise.TheVariants as raises
 use Rattle.steps.specs.declared.indices.robust.release.GiveBack.{GiveBack}
-use Rattle.steps.specs.declared.indices.robust.release.ReleaseStage as releases
+use Rattle.steps.specs.declared.indices.robust.release.ReleaseStage.{ReleaseStage}
+use Rattle.steps.specs.declared.indices.robust.release.ReleaseStage.TheVariants as releases
 use Rattle.model.specs.declared.event.Answer.{Answer}
-use Rattle.model.specs.declared.event.Answer as answers
+use Rattle.model.specs.declared.event.Answer.TheVariants as answers
 use Rattle.model.specs.declared.event.Event.TheVariants.{Begun, Hidden}
 use Rattle.model.specs.declared.event.Start.TheVariants.{Container}
 use Rattle.model.specs.declared.families.container.ContainerStart.{ContainerStart}
-use Rattle.model.specs.declared.families.container.ContainerStart as starts
+use Rattle.model.specs.declared.families.container.ContainerStart.TheVariants as starts
 use Rattle.model.specs.declared.families.container.calls.ContainerFlight.{ContainerFlight}
 use Rattle.model.specs.declared.families.container.calls.ContainerFlight.TheVariants.{Add, Remove, Replace, Find, Recover, Look, Count, IsLocked}
 use Rattle.model.specs.declared.families.container.calls.CountOf.{CountOf}
@@ -71,12 +82,12 @@ use Rattle.history_laws.specs.Containers.{rise, rises}
 
 -- ---- what a call may still add
 
-abbrev pub add_lifts : adds.AddStage → ℕ
-add_lifts (adds.TheVariants.AddsChange index) = 1
+abbrev pub add_lifts : AddStage → ℕ
+add_lifts (adds.AddsChange index) = 1
 add_lifts stage = 2
 
-abbrev pub replace_lifts : replaces.ReplaceStage → ℕ
-replace_lifts replaces.TheVariants.AddsChange = 1
+abbrev pub replace_lifts : ReplaceStage → ℕ
+replace_lifts replaces.AddsChange = 1
 replace_lifts stage = 2
 
 module _ {T : Type 0} where
@@ -96,26 +107,26 @@ module _ {T : Type 0} where
 abbrev hides : ℕ → ℕ → ℕ
 hides count old = if old == count then 1 else 0
 
-abbrev add_adds : adds.AddStage → ℕ → ℕ
-add_adds (adds.TheVariants.Hides index count) old = hides count old
-add_adds (adds.TheVariants.AddsCount index) old = 1
-add_adds (adds.TheVariants.AddsChange index) old = 1
+abbrev add_adds : AddStage → ℕ → ℕ
+add_adds (adds.Hides index count) old = hides count old
+add_adds (adds.AddsCount index) old = 1
+add_adds (adds.AddsChange index) old = 1
 add_adds stage old = 0
 
-abbrev replace_adds : replaces.ReplaceStage → ℕ → ℕ
-replace_adds (replaces.TheVariants.Hides count) old = hides count old
-replace_adds replaces.TheVariants.AddsCount old = 1
-replace_adds replaces.TheVariants.AddsChange old = 1
+abbrev replace_adds : ReplaceStage → ℕ → ℕ
+replace_adds (replaces.Hides count) old = hides count old
+replace_adds replaces.AddsCount old = 1
+replace_adds replaces.AddsChange old = 1
 replace_adds stage old = 0
 
-abbrev remove_adds : removes.RemoveStage → ℕ → ℕ
-remove_adds (removes.TheVariants.Hides count state) old = hides count old
-remove_adds (removes.TheVariants.AddsChange state) old = 1
+abbrev remove_adds : RemoveStage → ℕ → ℕ
+remove_adds (removes.Hides count state) old = hides count old
+remove_adds (removes.AddsChange state) old = 1
 remove_adds stage old = 0
 
-abbrev recover_adds : recovers.RecoverStage → ℕ → ℕ
-recover_adds (recovers.TheVariants.Hides index count) old = hides count old
-recover_adds (recovers.TheVariants.AddsChange state) old = 1
+abbrev recover_adds : RecoverStage → ℕ → ℕ
+recover_adds (recovers.Hides index count) old = hides count old
+recover_adds (recovers.AddsChange state) old = 1
 recover_adds stage old = 0
 
 abbrev pub container_adds : {T : Type 0} → ContainerFlight T → ℕ → ℕ
@@ -127,20 +138,20 @@ container_adds flight old = 0
 
 -- ---- the cells that it writes are cells of the set
 
-abbrev AcquireWithin : ℕ → acquires.AcquireStage → Type 0
-AcquireWithin c (acquires.TheVariants.FillsCell counter index) = index < c
+abbrev AcquireWithin : ℕ → AcquireStage → Type 0
+AcquireWithin c (acquires.FillsCell counter index) = index < c
 AcquireWithin c stage = Unit {0}
 
-abbrev AddWithin : ℕ → adds.AddStage → Type 0
-AddWithin c (adds.TheVariants.Acquires stage) = AcquireWithin c stage
+abbrev AddWithin : ℕ → AddStage → Type 0
+AddWithin c (adds.Acquires stage) = AcquireWithin c stage
 AddWithin c stage = Unit {0}
 
-abbrev RemoveWithin : ℕ → GiveBack → removes.RemoveStage → Type 0
-RemoveWithin c given (removes.TheVariants.Releases count stage) = given.index < c
+abbrev RemoveWithin : ℕ → GiveBack → RemoveStage → Type 0
+RemoveWithin c given (removes.Releases count stage) = given.index < c
 RemoveWithin c given stage = Unit {0}
 
-abbrev RecoverWithin : ℕ → recovers.RecoverStage → Type 0
-RecoverWithin c (recovers.TheVariants.EmptiesCell index count) = index < c
+abbrev RecoverWithin : ℕ → RecoverStage → Type 0
+RecoverWithin c (recovers.EmptiesCell index count) = index < c
 RecoverWithin c stage = Unit {0}
 
 abbrev pub IsWithin : {T : Type 0} → ℕ → ContainerFlight T → Type 0
@@ -154,21 +165,21 @@ IsWithin c (Count which run) = Unit {0}
 IsWithin c (IsLocked run) = Unit {0}
 
 module _ {T : Type 0} (c z : ℕ) (all : List SetAct) (done : List (Act T)) where
-  add_within : (owner : ℕ) (value : T) (run : _) → At c z all done (starts.TheVariants.Add value owner) (Add run) → IsWithin c (Add run)
+  add_within : (owner : ℕ) (value : T) (run : _) → At c z all done (starts.Add value owner) (Add run) → IsWithin c (Add run)
   add_within owner value run at = grind arith
 
-  remove_within : (index owner : ℕ) (mode : _) (run : _) → At c z all done (starts.TheVariants.Remove index owner mode) (Remove run)
+  remove_within : (index owner : ℕ) (mode : _) (run : _) → At c z all done (starts.Remove index owner mode) (Remove run)
       → IsWithin {T = T} c (Remove run)
   remove_within index owner mode run at = let placed = place_is c index in grind arith
 
-  recover_within : (owner : ℕ) (mode : _) (run : _) → At c z all done (starts.TheVariants.Recover owner mode) (Recover run)
+  recover_within : (owner : ℕ) (mode : _) (run : _) → At c z all done (starts.Recover owner mode) (Recover run)
       → IsWithin {T = T} c (Recover run)
   recover_within owner mode run at = grind arith
 
   pub is_within : (start : ContainerStart T) (flight : ContainerFlight T) → At c z all done start flight → IsWithin c flight
-  is_within (starts.TheVariants.Add value owner) (Add run) at = add_within owner value run at
-  is_within (starts.TheVariants.Remove index owner mode) (Remove run) at = remove_within index owner mode run at
-  is_within (starts.TheVariants.Recover owner mode) (Recover run) at = recover_within owner mode run at
+  is_within (starts.Add value owner) (Add run) at = add_within owner value run at
+  is_within (starts.Remove index owner mode) (Remove run) at = remove_within index owner mode run at
+  is_within (starts.Recover owner mode) (Recover run) at = recover_within owner mode run at
   is_within start flight at = grind arith
 
 -- ---- the words
@@ -227,90 +238,90 @@ module _ (words : List ℕ) (n : ℕ) (inside : n < length words) where
     element_op : (size index at : ℕ) (op : Op) → Lifts (Some (record { word = element_word c size index at; op = op })) 0
     element_op size index at op = other (element_word c size index at) op 0 (λ e. absurd (omega arith))
 
-    raise_keeps : (raise : raises.Raise) → Lifts (ask_of (raise_want raise)) 0
-    raise_keeps raises.TheVariants.LoadsCounter = counter_op Load
-    raise_keeps (raises.TheVariants.ExchangesCounter k) = counter_op (Exchange k (one_more k))
+    raise_keeps : (raise : Raise) → Lifts (ask_of (raise_want raise)) 0
+    raise_keeps raises.LoadsCounter = counter_op Load
+    raise_keeps (raises.ExchangesCounter k) = counter_op (Exchange k (one_more k))
 
     count_keeps : (count : counts.Count) → Lifts (ask_of (count_want count)) 0
     count_keeps counts.TheVariants.LoadsCounter = counter_op Load
     count_keeps (counts.TheVariants.LoadsCell counter index filled) = loaded (cell_word index)
     count_keeps (counts.TheVariants.ExchangesCounter k filled) = counter_op (Exchange k (one_more k))
 
-    lock_keeps : (lock : locks.Lock) → Lifts (ask_of (lock_want lock)) 0
-    lock_keeps (locks.TheVariants.Counts count) = count_keeps count
-    lock_keeps (locks.TheVariants.ExchangesCounter k) = counter_op (Exchange k locked)
+    lock_keeps : (lock : Lock) → Lifts (ask_of (lock_want lock)) 0
+    lock_keeps (locks.Counts count) = count_keeps count
+    lock_keeps (locks.ExchangesCounter k) = counter_op (Exchange k locked)
 
-    acquire_keeps : (stage : acquires.AcquireStage) (owner : ℕ) → AcquireWithin c stage → Lifts (ask_of (acquire_asks stage owner)) 0
-    acquire_keeps acquires.TheVariants.LoadsCounter owner within = counter_op Load
-    acquire_keeps (acquires.TheVariants.FillsCell counter index) owner within = cell_op index (Exchange empty owner) within
-    acquire_keeps (acquires.TheVariants.ChecksCounter k) owner within = counter_op (Exchange k k)
-    acquire_keeps (acquires.TheVariants.Raises index raise) owner within = raise_keeps raise
+    acquire_keeps : (stage : AcquireStage) (owner : ℕ) → AcquireWithin c stage → Lifts (ask_of (acquire_asks stage owner)) 0
+    acquire_keeps acquires.LoadsCounter owner within = counter_op Load
+    acquire_keeps (acquires.FillsCell counter index) owner within = cell_op index (Exchange empty owner) within
+    acquire_keeps (acquires.ChecksCounter k) owner within = counter_op (Exchange k k)
+    acquire_keeps (acquires.Raises index raise) owner within = raise_keeps raise
 
-    release_keeps : (stage : releases.ReleaseStage) (given : GiveBack) → given.index < c → Lifts (ask_of (release_asks stage given)) 0
-    release_keeps releases.TheVariants.EmptiesCell given within = cell_op given.index (Exchange given.owner empty) within
-    release_keeps (releases.TheVariants.Raises raise) given within = raise_keeps raise
-    release_keeps (releases.TheVariants.Locks lock) given within = lock_keeps lock
+    release_keeps : (stage : ReleaseStage) (given : GiveBack) → given.index < c → Lifts (ask_of (release_asks stage given)) 0
+    release_keeps releases.EmptiesCell given within = cell_op given.index (Exchange given.owner empty) within
+    release_keeps (releases.Raises raise) given within = raise_keeps raise
+    release_keeps (releases.Locks lock) given within = lock_keeps lock
 
     -- the container's
 
     abbrev LiftsBy : Option Ask → (ℕ → ℕ) → Type 0
     LiftsBy ask adds = Lifts ask (adds (old_of words ask))
 
-    remove_lift : (stage : removes.RemoveStage) (given : GiveBack) → RemoveWithin c given stage
+    remove_lift : (stage : RemoveStage) (given : GiveBack) → RemoveWithin c given stage
         → LiftsBy (ask_of (remove_asks c stage given)) (remove_adds stage)
-    remove_lift removes.TheVariants.Refuses given within = omega arith
-    remove_lift removes.TheVariants.LoadsCount given within = loaded (count_word c given.index)
-    remove_lift (removes.TheVariants.Releases count stage) given within = release_keeps stage given within
-    remove_lift (removes.TheVariants.Hides count state) given within = hidden (count_word c given.index) count
-    remove_lift (removes.TheVariants.AddsChange state) given within = counted_on (change_word c)
+    remove_lift removes.Refuses given within = omega arith
+    remove_lift removes.LoadsCount given within = loaded (count_word c given.index)
+    remove_lift (removes.Releases count stage) given within = release_keeps stage given within
+    remove_lift (removes.Hides count state) given within = hidden (count_word c given.index) count
+    remove_lift (removes.AddsChange state) given within = counted_on (change_word c)
 
-    recover_lift : (size : ℕ) (stage : recovers.RecoverStage) (owner : ℕ) → RecoverWithin c stage
+    recover_lift : (size : ℕ) (stage : RecoverStage) (owner : ℕ) → RecoverWithin c stage
         → LiftsBy (ask_of (recover_asks size c stage owner)) (recover_adds stage)
-    recover_lift size recovers.TheVariants.LoadsCounter owner within = counter_op Load
-    recover_lift size (recovers.TheVariants.LoadsCell index) owner within = loaded (cell_word index)
-    recover_lift size (recovers.TheVariants.LoadsCount index) owner within = loaded (count_word c index)
-    recover_lift size (recovers.TheVariants.LoadsWord index count at) owner within = element_op size index at Load
-    recover_lift size (recovers.TheVariants.ChecksCount index count) owner within = checked (count_word c index) count
-    recover_lift size (recovers.TheVariants.Asks index count) owner within = omega arith
-    recover_lift size (recovers.TheVariants.EmptiesCell index count) owner within = cell_op index (Exchange owner empty) within
-    recover_lift size (recovers.TheVariants.Hides index count) owner within = hidden (count_word c index) count
-    recover_lift size (recovers.TheVariants.Raises index raise) owner within = raise_keeps raise
-    recover_lift size (recovers.TheVariants.Locks index lock) owner within = lock_keeps lock
-    recover_lift size recovers.TheVariants.LoadsCounterAgain owner within = counter_op Load
-    recover_lift size (recovers.TheVariants.AddsChange state) owner within = counted_on (change_word c)
+    recover_lift size recovers.LoadsCounter owner within = counter_op Load
+    recover_lift size (recovers.LoadsCell index) owner within = loaded (cell_word index)
+    recover_lift size (recovers.LoadsCount index) owner within = loaded (count_word c index)
+    recover_lift size (recovers.LoadsWord index count at) owner within = element_op size index at Load
+    recover_lift size (recovers.ChecksCount index count) owner within = checked (count_word c index) count
+    recover_lift size (recovers.Asks index count) owner within = omega arith
+    recover_lift size (recovers.EmptiesCell index count) owner within = cell_op index (Exchange owner empty) within
+    recover_lift size (recovers.Hides index count) owner within = hidden (count_word c index) count
+    recover_lift size (recovers.Raises index raise) owner within = raise_keeps raise
+    recover_lift size (recovers.Locks index lock) owner within = lock_keeps lock
+    recover_lift size recovers.LoadsCounterAgain owner within = counter_op Load
+    recover_lift size (recovers.AddsChange state) owner within = counted_on (change_word c)
 
-    find_keeps : (size : ℕ) (stage : finds.FindStage) → Lifts (ask_of (find_asks size c stage)) 0
-    find_keeps size (finds.TheVariants.LoadsCell index found) = loaded (cell_word index)
-    find_keeps size (finds.TheVariants.LoadsCount index found) = loaded (count_word c index)
-    find_keeps size (finds.TheVariants.LoadsWord index found count at) = element_op size index at Load
-    find_keeps size (finds.TheVariants.ChecksCount index found count) = checked (count_word c index) count
-    find_keeps size (finds.TheVariants.Asks index found) = omega arith
+    find_keeps : (size : ℕ) (stage : FindStage) → Lifts (ask_of (find_asks size c stage)) 0
+    find_keeps size (finds.LoadsCell index found) = loaded (cell_word index)
+    find_keeps size (finds.LoadsCount index found) = loaded (count_word c index)
+    find_keeps size (finds.LoadsWord index found count at) = element_op size index at Load
+    find_keeps size (finds.ChecksCount index found count) = checked (count_word c index) count
+    find_keeps size (finds.Asks index found) = omega arith
 
-    look_keeps : (size : ℕ) (stage : looks.LookStage) → Lifts (ask_of (look_asks size c stage)) 0
-    look_keeps size looks.TheVariants.LoadsChange = loaded (change_word c)
-    look_keeps size (looks.TheVariants.LoadsCount index) = loaded (count_word c index)
-    look_keeps size (looks.TheVariants.LoadsWord index count at) = element_op size index at Load
-    look_keeps size (looks.TheVariants.ChecksCount index count) = checked (count_word c index) count
+    look_keeps : (size : ℕ) (stage : LookStage) → Lifts (ask_of (look_asks size c stage)) 0
+    look_keeps size looks.LoadsChange = loaded (change_word c)
+    look_keeps size (looks.LoadsCount index) = loaded (count_word c index)
+    look_keeps size (looks.LoadsWord index count at) = element_op size index at Load
+    look_keeps size (looks.ChecksCount index count) = checked (count_word c index) count
 
     module _ {T : Type 0} (code : Coding T) where
-      add_lift : (stage : adds.AddStage) (given : Owned T) → AddWithin c stage
+      add_lift : (stage : AddStage) (given : Owned T) → AddWithin c stage
           → LiftsBy (ask_of (add_asks code.words_of code.size c stage given)) (add_adds stage)
-      add_lift (adds.TheVariants.Acquires stage) given within = acquire_keeps stage given.owner within
-      add_lift (adds.TheVariants.LoadsCount index) given within = loaded (count_word c index)
-      add_lift (adds.TheVariants.Hides index count) given within = hidden (count_word c index) count
-      add_lift (adds.TheVariants.Stores index at) given within = element_op code.size index at (Store (get_or (code.words_of given.value) at 0))
-      add_lift (adds.TheVariants.AddsCount index) given within = counted_on (count_word c index)
-      add_lift (adds.TheVariants.AddsChange index) given within = counted_on (change_word c)
+      add_lift (adds.Acquires stage) given within = acquire_keeps stage given.owner within
+      add_lift (adds.LoadsCount index) given within = loaded (count_word c index)
+      add_lift (adds.Hides index count) given within = hidden (count_word c index) count
+      add_lift (adds.Stores index at) given within = element_op code.size index at (Store (get_or (code.words_of given.value) at 0))
+      add_lift (adds.AddsCount index) given within = counted_on (count_word c index)
+      add_lift (adds.AddsChange index) given within = counted_on (change_word c)
 
-      replace_lift : (stage : replaces.ReplaceStage) (given : Replacement T)
+      replace_lift : (stage : ReplaceStage) (given : Replacement T)
           → LiftsBy (ask_of (replace_asks code.words_of code.size c stage given)) (replace_adds stage)
-      replace_lift replaces.TheVariants.Refuses given = omega arith
-      replace_lift replaces.TheVariants.LoadsCell given = loaded (cell_word given.index)
-      replace_lift replaces.TheVariants.LoadsCount given = loaded (count_word c given.index)
-      replace_lift (replaces.TheVariants.Hides count) given = hidden (count_word c given.index) count
-      replace_lift (replaces.TheVariants.Stores at) given = element_op code.size given.index at (Store (get_or (code.words_of given.value) at 0))
-      replace_lift replaces.TheVariants.AddsCount given = counted_on (count_word c given.index)
-      replace_lift replaces.TheVariants.AddsChange given = counted_on (change_word c)
+      replace_lift replaces.Refuses given = omega arith
+      replace_lift replaces.LoadsCell given = loaded (cell_word given.index)
+      replace_lift replaces.LoadsCount given = loaded (count_word c given.index)
+      replace_lift (replaces.Hides count) given = hidden (count_word c given.index) count
+      replace_lift (replaces.Stores at) given = element_op code.size given.index at (Store (get_or (code.words_of given.value) at 0))
+      replace_lift replaces.AddsCount given = counted_on (count_word c given.index)
+      replace_lift replaces.AddsChange given = counted_on (change_word c)
 
   pub container_lift : {T : Type 0} (code : Coding T) (c : ℕ) → 1 + c ≤ n → n < 2 + (c + c) → (flight : ContainerFlight T) → IsWithin c flight
       → Lifts (ask_of (want code flight)) (container_adds flight (old_of words (ask_of (want code flight))))
@@ -340,12 +351,12 @@ module _ (words : List ℕ) (n : ℕ) (inside : n < length words) where
 
 -- ---- where the step leads
 
-add_most : (stage : adds.AddStage) → add_lifts stage ≤ 2
-add_most (adds.TheVariants.AddsChange index) = omega arith
+add_most : (stage : AddStage) → add_lifts stage ≤ 2
+add_most (adds.AddsChange index) = omega arith
 add_most stage = omega arith
 
-replace_most : (stage : replaces.ReplaceStage) → replace_lifts stage ≤ 2
-replace_most replaces.TheVariants.AddsChange = omega arith
+replace_most : (stage : ReplaceStage) → replace_lifts stage ≤ 2
+replace_most replaces.AddsChange = omega arith
 replace_most stage = omega arith
 
 module _ (T : Type 0) where
@@ -358,11 +369,11 @@ module _ (T : Type 0) where
   remove_leads given room (GoOn run) = omega arith
   remove_leads given room (Done answer) = omega arith
 
-  count_leads : (which : CountOf) (given room : Unit {0}) (call : counting.BorrowedIndices) (a : After counts.Count ends.Counted)
+  count_leads : (which : CountOf) (given room : Unit {0}) (call : counting.BorrowedIndices) (a : After counts.Count Counted)
       → lifts_left {T = T} (as_call (λ r. Count which r) (counted which) (went_on as_it_is given room (borrowed_counted call a))) ≤ 0
   count_leads which given room call (GoOn count) = omega arith
-  count_leads which given room call (Done ends.TheVariants.Locked) = omega arith
-  count_leads which given room call (Done (ends.TheVariants.Filled filled counter)) = omega arith
+  count_leads which given room call (Done ends.Locked) = omega arith
+  count_leads which given room call (Done (ends.Filled filled counter)) = omega arith
 
 module _ {T : Type 0} where
   add_leads : (given : Owned T) (room : Unit {0}) (a : After (adding.Add T) Added)
@@ -376,12 +387,12 @@ module _ {T : Type 0} where
   replace_leads given room (Done answer) = omega arith
 
   recover_leads : (given : DeadOwner) (room : Buffer 128) (a : After (recovering.Recover T (Buffer 128)) ReleaseState)
-      → lifts_left (as_call Recover answers.TheVariants.State (went_on as_it_is given room a)) ≤ 1
+      → lifts_left (as_call Recover answers.State (went_on as_it_is given room a)) ≤ 1
   recover_leads given room (GoOn run) = omega arith
   recover_leads given room (Done answer) = omega arith
 
   find_leads : (given : ℕ) (room : Buffer 128) (a : After (finding.Find T (Buffer 128)) ℕ)
-      → lifts_left (as_call Find answers.TheVariants.Number (went_on as_it_is given room a)) ≤ 0
+      → lifts_left (as_call Find answers.Number (went_on as_it_is given room a)) ≤ 0
   find_leads given room (GoOn run) = omega arith
   find_leads given room (Done number) = omega arith
 
@@ -400,36 +411,36 @@ module _ {T : Type 0} where
     Keeps flight old =
         container_adds flight old + lifts_left (after code state flight old) ≤ container_lifts flight + rises (effects code p state flight old)
 
-    add_keeps : (run : _) (stage : adds.AddStage) (old : ℕ) → Keeps (Add (record run { call = record run.call { stage = stage } })) old
-    add_keeps run (adds.TheVariants.Hides index count) old =
+    add_keeps : (run : _) (stage : AddStage) (old : ℕ) → Keeps (Add (record run { call = record run.call { stage = stage } })) old
+    add_keeps run (adds.Hides index count) old =
         let wrote = hidden_writes T p index (old == count) in omega arith
-    add_keeps run (adds.TheVariants.AddsCount index) old = omega arith
-    add_keeps run (adds.TheVariants.AddsChange index) old = omega arith
+    add_keeps run (adds.AddsCount index) old = omega arith
+    add_keeps run (adds.AddsChange index) old = omega arith
     add_keeps run stage old =
         let r = record run { call = record run.call { stage = stage } } in
         let leads = add_leads r.given r.room (add_after code.size r.call old) in
         omega arith
 
-    replace_keeps : (run : _) (stage : replaces.ReplaceStage) (old : ℕ) → Keeps (Replace (record run { call = record run.call { stage = stage } })) old
-    replace_keeps run (replaces.TheVariants.Hides count) old =
+    replace_keeps : (run : _) (stage : ReplaceStage) (old : ℕ) → Keeps (Replace (record run { call = record run.call { stage = stage } })) old
+    replace_keeps run (replaces.Hides count) old =
         let wrote = hidden_writes T p run.given.index (old == count) in omega arith
-    replace_keeps run replaces.TheVariants.AddsCount old = omega arith
-    replace_keeps run replaces.TheVariants.AddsChange old = omega arith
+    replace_keeps run replaces.AddsCount old = omega arith
+    replace_keeps run replaces.AddsChange old = omega arith
     replace_keeps run stage old =
         let r = record run { call = record run.call { stage = stage } } in
         let leads = replace_leads r.given r.room (replace_after code.size r.call r.given old) in
         omega arith
 
-    remove_keeps : (run : _) (stage : removes.RemoveStage) (old : ℕ) → Keeps (Remove (record run { call = record run.call { stage = stage } })) old
-    remove_keeps run (removes.TheVariants.Hides count state) old =
+    remove_keeps : (run : _) (stage : RemoveStage) (old : ℕ) → Keeps (Remove (record run { call = record run.call { stage = stage } })) old
+    remove_keeps run (removes.Hides count state) old =
         let wrote = hidden_writes T p run.given.index (old == count) in omega arith
-    remove_keeps run (removes.TheVariants.AddsChange state) old = omega arith
+    remove_keeps run (removes.AddsChange state) old = omega arith
     remove_keeps run stage old =
         let r = record run { call = record run.call { stage = stage } } in
         let leads = remove_leads T r.given r.room (remove_after r.call r.given old) in
         omega arith
 
-    recover_keeps : (run : _) (stage : recovers.RecoverStage) (old : ℕ) → Keeps (Recover (record run { call = record run.call { stage = stage } })) old
+    recover_keeps : (run : _) (stage : RecoverStage) (old : ℕ) → Keeps (Recover (record run { call = record run.call { stage = stage } })) old
     recover_keeps run stage old = grind arith
 
     pub keeps : (flight : ContainerFlight T) (old : ℕ) → Keeps flight old
@@ -446,5 +457,5 @@ module _ {T : Type 0} where
   -- ---- a begin
 
   pub begins : (c p : ℕ) (start : ContainerStart T) → container_lifts (first c start) ≤ rise (Begun p (Container start))
-  begins c p (starts.TheVariants.Replace index value owner) = replace_most _
+  begins c p (starts.Replace index value owner) = replace_most _
   begins c p start = omega arith

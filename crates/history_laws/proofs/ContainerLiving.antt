@@ -8,12 +8,12 @@ use Rattle.model.specs.declared.event.Event.TheVariants.{Begun, Told, Died, Fini
 use Rattle.model.specs.declared.event.Start.{Start}
 use Rattle.model.specs.declared.event.Start.TheVariants.{Container}
 use Rattle.model.specs.declared.families.Flight.{Flight}
-use Rattle.model.specs.declared.families.Flight as flights
+use Rattle.model.specs.declared.families.Flight.TheVariants as flights
 use Rattle.model.specs.declared.families.container.ContainerStart.{ContainerStart}
-use Rattle.model.specs.declared.families.container.ContainerStart as starts
+use Rattle.model.specs.declared.families.container.ContainerStart.TheVariants as starts
 use Rattle.model.specs.declared.families.container.ContainerStart.TheVariants.{Recover}
 use Rattle.model.specs.declared.families.container.calls.ContainerFlight.{ContainerFlight}
-use Rattle.model.specs.declared.families.container.calls.ContainerFlight as calls
+use Rattle.model.specs.declared.families.container.calls.ContainerFlight.TheVariants as calls
 use Rattle.model.specs.declared.party.Doing.{Doing}
 use Rattle.model.specs.declared.party.Doing.TheVariants.{Going, Over}
 use Rattle.model.specs.declared.party.Party.{Party}
@@ -136,18 +136,18 @@ module _ {T : Type 0} where
     for_living : (start : ContainerStart T) (flight : ContainerFlight T) → At c z all done start flight
         → ((owner : ℕ) → is_acting owner (Open (Container start) wrote) ≡ true → is_gone Word owner events ≡ false)
         → acts_for_gone Word events flight ≡ false
-    for_living (starts.TheVariants.Add value owner) (calls.TheVariants.Add run) at lives =
+    for_living (starts.Add value owner) (calls.Add run) at lives =
         ap (λ given. is_gone Word given.owner events) at.1 ∙ lives owner (eq-eqb owner owner refl)
-    for_living (starts.TheVariants.Remove index owner mode) (calls.TheVariants.Remove run) at lives =
+    for_living (starts.Remove index owner mode) (calls.Remove run) at lives =
         ap (λ given. is_gone Word given.owner events) at.1 ∙ lives owner (eq-eqb owner owner refl)
-    for_living (starts.TheVariants.Replace index value owner) (calls.TheVariants.Replace run) at lives =
+    for_living (starts.Replace index value owner) (calls.Replace run) at lives =
         ap (λ given. is_gone Word given.owner events) at.1 ∙ lives owner (eq-eqb owner owner refl)
     for_living start flight at lives = grind arith
 
 module _ {T : Type 0} (code : Coding T) (c : ℕ) (t : Trace T) (s : Sound code c t) (living : Living t.events) where
   by_name : (p : ℕ) (all : List SetAct) (done : List (Act T)) (wrote : List (Event T)) (start : Start T) (flight : Flight T)
       → FlightAt c code.size all done start flight → span_of p t.events ≡ Open start wrote → is_for_gone t.events (Some flight) ≡ false
-  by_name p all done wrote (Container start) (flights.TheVariants.Container flight) at is =
+  by_name p all done wrote (Container start) (flights.Container flight) at is =
       for_living code c code.size all done t.events wrote start flight at (λ owner acts. living p owner (ap (is_acting owner) is ∙ acts))
   by_name p all done wrote start flight at is = absurd at
 

@@ -12,16 +12,15 @@ use Rattle.model.specs.declared.event.Event.TheVariants.{Begun}
 use Rattle.model.specs.declared.event.Start.{Start}
 use Rattle.model.specs.declared.event.Start.TheVariants.{Container}
 use Rattle.model.specs.declared.families.Flight.{Flight}
-use Rattle.model.specs.declared.families.Flight as flights
+use Rattle.model.specs.declared.families.Flight.TheVariants as flights
 use Rattle.model.specs.declared.families.Registry.{Registry}
-use Rattle.model.specs.declared.families.Registry as registries
+use Rattle.model.specs.declared.families.Registry.TheVariants as registries
 use Rattle.model.specs.declared.families.container.ContainerStart.{ContainerStart}
 use Rattle.model.specs.declared.families.container.calls.ContainerFlight.{ContainerFlight}
 use Rattle.model.specs.declared.party.Doing.{Doing}
 use Rattle.model.specs.declared.party.Doing.TheVariants.{Going, Over}
 use Rattle.model.specs.declared.party.Party.{Party}
-use Rattle.model.specs.declared.turn.Kind.{Kind}
-use Rattle.model.specs.declared.turn.Kind as kinds
+use Rattle.model.specs.declared.turn.Kind.TheVariants as kinds
 use Rattle.model.specs.declared.turn.Turn.{Turn}
 use Rattle.model.specs.declared.turn.Turn.TheVariants.{Begin, Next, Decide, Die}
 use Rattle.model.specs.Coding.{Coding}
@@ -51,7 +50,7 @@ module _ {T : Type 0} where
   -- ---- any call
 
   abbrev pub lifts : Flight T → ℕ
-  lifts (flights.TheVariants.Container flight) = container_lifts flight
+  lifts (flights.Container flight) = container_lifts flight
   lifts flight = 0
 
   abbrev pub lifts_of : Option (Flight T) → ℕ
@@ -184,20 +183,20 @@ module _ {T : Type 0} where
 
 module _ {T : Type 0} (code : Coding T) (c : ℕ) where
   any_left : (a : After (ContainerFlight T) (Answer T))
-      → lifts_of (flight_after (as_call flights.TheVariants.Container (λ (answer : Answer T). answer) a)) ≡ lifts_left a
+      → lifts_of (flight_after (as_call flights.Container (λ (answer : Answer T). answer) a)) ≡ lifts_left a
   any_left (GoOn flight) = refl
   any_left (Done answer) = refl
 
   abbrev any_step : ℕ → ContainerFlight T → ℕ → List ℕ → List (ℕ × ContainerState T) → Step (Flight T) (Registry T) T
   any_step p flight answer dead states =
-      as_step flights.TheVariants.Container (λ kept. registries.TheVariants.Container kept.0 kept.1) (calls.step code p flight answer dead states)
+      as_step flights.Container (λ kept. registries.Container kept.0 kept.1) (calls.step code p flight answer dead states)
 
   module _ (n : ℕ) (words : List ℕ) (p : ℕ) (dead : List ℕ) (states : List (ℕ × ContainerState T)) (flight : ContainerFlight T) where
     writes : (old : ℕ) → rises (calls.effects code p (state_of p states) flight old) ≤ rises (any_step p flight old dead states).wrote
     writes old =
         let more = rises_more (calls.effects code p (state_of p states) flight old) (calls.questions p flight old) in omega arith
 
-    decided : (old : ℕ) → PaysBy n words (flights.TheVariants.Container flight) None (any_step p flight old dead states)
+    decided : (old : ℕ) → PaysBy n words (flights.Container flight) None (any_step p flight old dead states)
     decided old =
         record {
           pays =
@@ -211,7 +210,7 @@ module _ {T : Type 0} (code : Coding T) (c : ℕ) where
       abbrev wanted : Option Ask
       wanted = ask_of (want code flight)
 
-      stepped_so : PaysBy n words (flights.TheVariants.Container flight) wanted (any_step p flight (old_of words wanted) dead states)
+      stepped_so : PaysBy n words (flights.Container flight) wanted (any_step p flight (old_of words wanted) dead states)
       stepped_so =
           record {
             pays =
@@ -226,12 +225,12 @@ module _ {T : Type 0} (code : Coding T) (c : ℕ) where
 
 module _ {T : Type 0} where
   begins_by : (c p : ℕ) (start : ContainerStart T) (flight : Flight T) (b : Bool)
-      → option_map flights.TheVariants.Container (if b then Some (first c start) else None) ≡ Some flight → lifts flight ≤ rise (Begun p (Container start))
+      → option_map flights.Container (if b then Some (first c start) else None) ≡ Some flight → lifts flight ≤ rise (Begun p (Container start))
   begins_by c p start flight true e =
-      subst (λ f. lifts f ≤ rise (Begun p (Container start))) (some_same (flights.TheVariants.Container (first c start)) flight e) (begins_so c p start)
+      subst (λ f. lifts f ≤ rise (Begun p (Container start))) (some_same (flights.Container (first c start)) flight e) (begins_so c p start)
   begins_by c p start flight false e = absurd (cc)
 
-  begins_any : (c p : ℕ) (start : Start T) (kept : Registry T) (flight : Flight T) → first_of kinds.TheVariants.Container c start kept ≡ Some flight
+  begins_any : (c p : ℕ) (start : Start T) (kept : Registry T) (flight : Flight T) → first_of kinds.Container c start kept ≡ Some flight
       → lifts flight ≤ rise (Begun p start)
   begins_any c p (Container start) kept flight e = begins_by c p start flight (names_owner start) e
   begins_any c p start kept flight e = absurd (cc)
@@ -243,7 +242,7 @@ module _ {T : Type 0} (code : Coding T) (c : ℕ) (t : Trace T) (s : Sound code 
   ws = t.world.words
 
   abbrev Kept : Registry T
-  Kept = registries.TheVariants.Container s.state.dead s.state.states
+  Kept = registries.Container s.state.dead s.state.states
 
   abbrev PaysIn : Coding T → ℕ → Option Ask → ℕ → Registry T → Start T → Flight T → Type 0
   PaysIn z p ask answer kept start flight = PaysBy n ws flight ask (step_of z ws (beside_of ws kept t.world.latest p) p start flight answer kept)
@@ -257,13 +256,13 @@ module _ {T : Type 0} (code : Coding T) (c : ℕ) (t : Trace T) (s : Sound code 
   pays_in : (p : ℕ) (all : List SetAct) (done : List (Act T)) (start : Start T) (flight : Flight T)
       → FlightAt c code.size all done start flight
       → PaysIn code p (ask_of (want_of code flight)) (old_of ws (ask_of (want_of code flight))) Kept start flight
-  pays_in p all done (Container start) (flights.TheVariants.Container flight) at =
+  pays_in p all done (Container start) (flights.Container flight) at =
       stepped_so code c n ws p s.state.dead s.state.states flight inside past before (is_within c code.size all done start flight at)
   pays_in p all done start flight at = absurd at
 
   decides_in : (p answer : ℕ) (all : List SetAct) (done : List (Act T)) (start : Start T) (flight : Flight T) → FlightAt c code.size all done start flight
       → PaysIn code p None answer Kept start flight
-  decides_in p answer all done (Container start) (flights.TheVariants.Container flight) at =
+  decides_in p answer all done (Container start) (flights.Container flight) at =
       decided code c n ws p s.state.dead s.state.states flight answer
   decides_in p answer all done start flight at = absurd at
 

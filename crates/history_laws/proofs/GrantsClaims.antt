@@ -4,7 +4,7 @@ use Rattle.std.proofs.Common.{arith, if◌then◌else◌}
 use Rattle.std.proofs.lemmas.Bool.{cases_eq}
 use Rattle.model.specs.declared.event.Start.{Start}
 use Rattle.model.specs.declared.event.Start.TheVariants.{Robust, Container}
-use Rattle.model.specs.declared.families.container.ContainerStart as containers
+use Rattle.model.specs.declared.families.container.ContainerStart.TheVariants as containers
 use Rattle.model.specs.declared.families.indices.robust.RobustStart.TheVariants.{Acquire, Release}
 use Rattle.model.specs.Families.Indices.Robust.Reading.{SetAct, Fills, Grants, set_acts, without}
 use Rattle.model.specs.Reading.{Span, Open}
@@ -29,9 +29,9 @@ module _ (i : ℕ) where
 
   abbrev pub claim_by : {T : Type 0} → Start T → List SetAct → Claim
   claim_by (Robust (Acquire o)) all = fill_claim o all
-  claim_by (Container (containers.TheVariants.Add value o)) all = fill_claim o all
+  claim_by (Container (containers.Add value o)) all = fill_claim o all
   claim_by (Robust (Release j o mode)) all = give_claim j o all
-  claim_by (Container (containers.TheVariants.Remove j o mode)) all = give_claim j o all
+  claim_by (Container (containers.Remove j o mode)) all = give_claim j o all
   claim_by start all = Apart
 
   abbrev pub claim : {T : Type 0} → Span T → Claim

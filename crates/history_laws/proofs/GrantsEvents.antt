@@ -11,8 +11,8 @@ use Rattle.model.specs.declared.event.Event.{Event}
 use Rattle.model.specs.declared.event.Event.TheVariants.{Begun, Filled, Granted, FreedOf, Asked, Told, Locked, Died, Finished}
 use Rattle.model.specs.declared.event.Start.{Start}
 use Rattle.model.specs.declared.event.Start.TheVariants.{Robust, Container}
-use Rattle.model.specs.declared.families.container.ContainerStart as containers
-use Rattle.model.specs.declared.families.indices.robust.RobustStart as robusts
+use Rattle.model.specs.declared.families.container.ContainerStart.TheVariants as containers
+use Rattle.model.specs.declared.families.indices.robust.RobustStart.TheVariants as robusts
 use Rattle.model.specs.Families.Container.Promises as container
 use Rattle.model.specs.Families.Indices.Robust.Promises as robust
 use Rattle.model.specs.Families.Indices.Robust.Promises.{SetDoes}
@@ -69,8 +69,8 @@ module _ {T : Type 0} (i : ℕ) where
   Says before (FreedOf p j o) =
       (claim i (longer (span_of p before) (FreedOf p j o)) ≡ Apart)
       × (MayFree p j before (span_of p before) → GaveBack p j o before ⊎ ((q : ℕ) → is_at j (span_of q before) ≡ false))
-  Says before (Finished p (Robust (robusts.TheVariants.Acquire o)) (Index j)) = claim i (span_of p before) ≡ here i j (Held o)
-  Says before (Finished p (Container (containers.TheVariants.Add value o)) (Index j)) = claim i (span_of p before) ≡ here i j (Held o)
+  Says before (Finished p (Robust (robusts.Acquire o)) (Index j)) = claim i (span_of p before) ≡ here i j (Held o)
+  Says before (Finished p (Container (containers.Add value o)) (Index j)) = claim i (span_of p before) ≡ here i j (Held o)
   Says before e = Unit {0}
 
   -- it says so of a container, and of a set
@@ -106,32 +106,32 @@ module _ {T : Type 0} (i : ℕ) where
 
     container_one : (p j o : ℕ) (before : List (Event T)) (span : Span T) → Stands container.promise c (FreedOf p j o) span
         → MayFree p j before span → OneOf p j o before span
-    container_one p j o before (Open (Container (containers.TheVariants.Remove k owner mode)) wrote) h may =
+    container_one p j o before (Open (Container (containers.Remove k owner mode)) wrote) h may =
         inl (grind arith, subst (λ n. SinceBegin p (λ part since. settled_of j part ≡ Some n) before) (sym h.1) may)
-    container_one p j o before (Open (Container (containers.TheVariants.Recover owner mode)) wrote) h may = inr may
+    container_one p j o before (Open (Container (containers.Recover owner mode)) wrote) h may = inr may
     container_one p j o before span h may = absurd h
 
     robust_one : (p j o : ℕ) (before : List (Event T)) (span : Span T) → Stands robust.promise c (FreedOf p j o) span
         → MayFree p j before span → OneOf p j o before span
-    robust_one p j o before (Open (Robust (robusts.TheVariants.Release k owner mode)) wrote) h may =
+    robust_one p j o before (Open (Robust (robusts.Release k owner mode)) wrote) h may =
         inl (grind arith, subst (λ n. SinceBegin p (λ part since. settled_of j part ≡ Some n) before) (sym h.1) may)
-    robust_one p j o before (Open (Robust (robusts.TheVariants.Recover mode)) wrote) h may = inr may
+    robust_one p j o before (Open (Robust (robusts.Recover mode)) wrote) h may = inr may
     robust_one p j o before span h may = absurd h
 
     container_ends : (p j o : ℕ) (value : T) (span : Span T)
-        → Stands container.promise c (Finished p (Container (containers.TheVariants.Add value o)) (Index j)) span → claim i span ≡ here i j (Held o)
+        → Stands container.promise c (Finished p (Container (containers.Add value o)) (Index j)) span → claim i span ≡ here i j (Held o)
     container_ends p j o value span h = grind arith
 
     container_ends_none : (p j o : ℕ) (span : Span T)
-        → Stands {T = T} container.promise c (Finished p (Robust (robusts.TheVariants.Acquire o)) (Index j)) span → ⊥
+        → Stands {T = T} container.promise c (Finished p (Robust (robusts.Acquire o)) (Index j)) span → ⊥
     container_ends_none p j o span h = grind arith
 
     robust_ends : (p j o : ℕ) (span : Span T)
-        → Stands {T = T} robust.promise c (Finished p (Robust (robusts.TheVariants.Acquire o)) (Index j)) span → claim i span ≡ here i j (Held o)
+        → Stands {T = T} robust.promise c (Finished p (Robust (robusts.Acquire o)) (Index j)) span → claim i span ≡ here i j (Held o)
     robust_ends p j o span h = grind arith
 
     robust_ends_none : (p j o : ℕ) (value : T) (span : Span T)
-        → Stands robust.promise c (Finished p (Container (containers.TheVariants.Add value o)) (Index j)) span → ⊥
+        → Stands robust.promise c (Finished p (Container (containers.Add value o)) (Index j)) span → ⊥
     robust_ends_none p j o value span h = grind arith
 
     pub container_says : (before : List (Event T)) (e : Event T) → StandsRight container.promise c before e → Says before e
@@ -139,8 +139,8 @@ module _ {T : Type 0} (i : ℕ) where
     container_says before (Granted p j o) h = container_grants p j o (span_of p before) h
     container_says before (FreedOf p j o) h =
         (container_frees p j o (span_of p before) h, λ may. container_one p j o before (span_of p before) h may)
-    container_says before (Finished p (Robust (robusts.TheVariants.Acquire o)) (Index j)) h = absurd (container_ends_none p j o (span_of p before) h)
-    container_says before (Finished p (Container (containers.TheVariants.Add value o)) (Index j)) h = container_ends p j o value (span_of p before) h
+    container_says before (Finished p (Robust (robusts.Acquire o)) (Index j)) h = absurd (container_ends_none p j o (span_of p before) h)
+    container_says before (Finished p (Container (containers.Add value o)) (Index j)) h = container_ends p j o value (span_of p before) h
     container_says before e h = tt
 
     pub robust_says : (before : List (Event T)) (e : Event T) → StandsRight robust.promise c before e → Says before e
@@ -148,8 +148,8 @@ module _ {T : Type 0} (i : ℕ) where
     robust_says before (Granted p j o) h = robust_grants p j o (span_of p before) h
     robust_says before (FreedOf p j o) h =
         (robust_frees p j o (span_of p before) h, λ may. robust_one p j o before (span_of p before) h may)
-    robust_says before (Finished p (Robust (robusts.TheVariants.Acquire o)) (Index j)) h = robust_ends p j o (span_of p before) h
-    robust_says before (Finished p (Container (containers.TheVariants.Add value o)) (Index j)) h = absurd (robust_ends_none p j o value (span_of p before) h)
+    robust_says before (Finished p (Robust (robusts.Acquire o)) (Index j)) h = robust_ends p j o (span_of p before) h
+    robust_says before (Finished p (Container (containers.Add value o)) (Index j)) h = absurd (robust_ends_none p j o value (span_of p before) h)
     robust_says before e h = tt
 
   -- ---- what an event makes of a claim
@@ -210,14 +210,14 @@ module _ {T : Type 0} (i : ℕ) where
   abbrev Calm : Event T → Type 0
   Calm (Filled p j o) = ⊥
   Calm (Granted p j o) = ⊥
-  Calm (Begun p (Robust (robusts.TheVariants.Release j o mode))) = ⊥
-  Calm (Begun p (Container (containers.TheVariants.Remove j o mode))) = ⊥
+  Calm (Begun p (Robust (robusts.Release j o mode))) = ⊥
+  Calm (Begun p (Container (containers.Remove j o mode))) = ⊥
   Calm e = Unit {0}
 
   begun_apart : (p : ℕ) (start : Start T) → Calm (Begun p start) → claim_by i start [] ≡ Apart
-  begun_apart p (Robust (robusts.TheVariants.Release j o mode)) calm = absurd calm
-  begun_apart p (Container (containers.TheVariants.Remove j o mode)) calm = absurd calm
-  begun_apart p (Robust (robusts.TheVariants.Acquire o)) calm = refl
+  begun_apart p (Robust (robusts.Release j o mode)) calm = absurd calm
+  begun_apart p (Container (containers.Remove j o mode)) calm = absurd calm
+  begun_apart p (Robust (robusts.Acquire o)) calm = refl
   begun_apart p start calm = refl
 
   module _ (events : List (Event T)) (g : GoodAt events) where
@@ -365,15 +365,15 @@ module _ {T : Type 0} (i : ℕ) where
     step c (Filled p j o) does says may = step_fill c p j o does says
     step c (Granted p j o) does says may = step_grant p j o says
     step c (FreedOf p j o) does says may = step_free p j o says may
-    step c (Finished p (Robust (robusts.TheVariants.Acquire o)) (Index j)) does says may =
-        step_end p j o (Finished p (Robust (robusts.TheVariants.Acquire o)) (Index j)) refl (ended_apart (span_of p events) (Index j)) says (j == i) refl
-    step c (Finished p (Container (containers.TheVariants.Add value o)) (Index j)) does says may =
-        step_end p j o (Finished p (Container (containers.TheVariants.Add value o)) (Index j)) refl
+    step c (Finished p (Robust (robusts.Acquire o)) (Index j)) does says may =
+        step_end p j o (Finished p (Robust (robusts.Acquire o)) (Index j)) refl (ended_apart (span_of p events) (Index j)) says (j == i) refl
+    step c (Finished p (Container (containers.Add value o)) (Index j)) does says may =
+        step_end p j o (Finished p (Container (containers.Add value o)) (Index j)) refl
         (ended_apart (span_of p events) (Index j)) says (j == i) refl
-    step c (Begun p (Robust (robusts.TheVariants.Release j o mode))) does says may =
-        step_begin p j o (Robust (robusts.TheVariants.Release j o mode)) refl (j == i) refl
-    step c (Begun p (Container (containers.TheVariants.Remove j o mode))) does says may =
-        step_begin p j o (Container (containers.TheVariants.Remove j o mode)) refl (j == i) refl
+    step c (Begun p (Robust (robusts.Release j o mode))) does says may =
+        step_begin p j o (Robust (robusts.Release j o mode)) refl (j == i) refl
+    step c (Begun p (Container (containers.Remove j o mode))) does says may =
+        step_begin p j o (Container (containers.Remove j o mode)) refl (j == i) refl
     step c e does says may = quietly e (stays_calm e tt)
 
     right_now : (e : Event T) → Says events e → GrantsRightAt i events e

@@ -1,14 +1,14 @@
 -- The conditions on histories of owners at worked runs of a container, of values of two words.
 use Rattle.std.proofs.Common.{◌≡◌, ℕ, true, false, Some, List, [], ◌∷◌, ◌++◌, refl}
 use Rattle.steps.specs.declared.indices.enums.ReleaseMode.TheVariants.{Default}
-use Rattle.steps.specs.declared.indices.enums.ReleaseState as states
+use Rattle.steps.specs.declared.indices.enums.ReleaseState.TheVariants as states
 use Rattle.model.specs.declared.event.Answer.TheVariants.{Index, State}
 use Rattle.model.specs.declared.event.Event.{Event}
 use Rattle.model.specs.declared.event.Event.TheVariants.{Begun, Filled, Granted, FreedOf, Asked, Placed, Copied, Shown, Finished}
 use Rattle.model.specs.declared.event.Start.{Start}
 use Rattle.model.specs.declared.event.Start.TheVariants.{Container}
 use Rattle.model.specs.declared.families.container.ContainerStart.TheVariants.{Add, Recover}
-use Rattle.model.specs.declared.turn.Kind as kinds
+use Rattle.model.specs.declared.turn.Kind.TheVariants as kinds
 use Rattle.model.specs.declared.turn.Turn.{Turn}
 use Rattle.model.specs.declared.turn.Turn.TheVariants.{Decide}
 use Rattle.model.specs.Families.Indices.Robust.Reading.{holder_of}
@@ -28,7 +28,7 @@ abbrev recover : ℕ → Start ℕ
 recover owner = Container (Recover owner Default)
 
 abbrev ran_on : ℕ → List (Turn ℕ) → Trace ℕ
-ran_on capacity turns = run_open turns (opening two_words kinds.TheVariants.Container capacity 3)
+ran_on capacity turns = run_open turns (opening two_words kinds.Container capacity 3)
 
 -- ---- two adds
 
@@ -79,7 +79,7 @@ before_both =
     ∷ Begun 1 (recover 1)
     ∷ Shown 1 0
     ∷ FreedOf 1 0 1
-    ∷ Finished 1 (recover 1) (State states.TheVariants.Unlocked)
+    ∷ Finished 1 (recover 1) (State states.Unlocked)
     ∷ Begun 2 (add 7 2)
     ∷ Filled 2 0 2
     ∷ Granted 0 0 1
@@ -116,7 +116,7 @@ pub again_events : again.events
     ∷ Begun 1 (recover 1)
     ∷ Copied 1 0 5
     ∷ Asked 1 0 1
-    ∷ Finished 1 (recover 1) (State states.TheVariants.Unlocked)
+    ∷ Finished 1 (recover 1) (State states.Unlocked)
     ∷ Begun 0 (add 6 1)
     ∷ Filled 0 1 1
     ∷ Granted 0 1 1

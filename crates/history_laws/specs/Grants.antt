@@ -3,7 +3,7 @@ use Rattle.std.specs.Prelude.{◌≡◌, ℕ, ◌==◌, ◌&&◌, Bool, true, fa
 use Rattle.model.specs.declared.event.Event.{Event}
 use Rattle.model.specs.declared.event.Event.TheVariants.{Granted, FreedOf}
 use Rattle.model.specs.declared.event.Start.TheVariants.{Robust, Container}
-use Rattle.model.specs.declared.families.container.ContainerStart as containers
+use Rattle.model.specs.declared.families.container.ContainerStart.TheVariants as containers
 use Rattle.model.specs.declared.families.indices.robust.RobustStart.TheVariants.{Acquire, Release, Recover}
 use Rattle.model.specs.Families.Indices.Robust.Promises.{MayGiveBack}
 use Rattle.model.specs.Families.Indices.Robust.Reading.{SetAct, Fills, set_acts, holder_of}
@@ -22,9 +22,9 @@ module _ {T : Type 0} where
   -- a call is at the index that has filled it, or is to give it back
   abbrev pub is_at : ℕ → Span T → Bool
   is_at i (Open (Robust (Acquire owner)) wrote) = has_filled i (set_acts wrote)
-  is_at i (Open (Container (containers.TheVariants.Add value owner)) wrote) = has_filled i (set_acts wrote)
+  is_at i (Open (Container (containers.Add value owner)) wrote) = has_filled i (set_acts wrote)
   is_at i (Open (Robust (Release index owner mode)) wrote) = (index == i) && has_done_nothing (set_acts wrote)
-  is_at i (Open (Container (containers.TheVariants.Remove index owner mode)) wrote) =
+  is_at i (Open (Container (containers.Remove index owner mode)) wrote) =
       (index == i) && has_done_nothing (set_acts wrote)
   is_at i span = false
 
@@ -32,7 +32,7 @@ module _ {T : Type 0} where
   -- might be given back for its owner.
   abbrev pub MayFree : ℕ → ℕ → List (Event T) → Span T → Type 0
   MayFree p index before (Open (Robust (Recover mode)) wrote) = (q : ℕ) → is_at index (span_of q before) ≡ false
-  MayFree p index before (Open (Container (containers.TheVariants.Recover owner mode)) wrote) =
+  MayFree p index before (Open (Container (containers.Recover owner mode)) wrote) =
       (q : ℕ) → is_at index (span_of q before) ≡ false
   MayFree p index before span = MayGiveBack p index before span
 

@@ -5,8 +5,8 @@ use Rattle.laws_bits.proofs.Names.{Answer, Event, Start, Bits, Flight, BitsStart
 use Rattle.laws_bits.proofs.Names.{ask_of, want, after, goes_back, effects_of, is_loan, Stands, Span, Open, own_after}
 use Rattle.laws_bits.proofs.Names.{span_of, answer_in, one_if, old_of, words_after, change_of, step_count}
 use Rattle.laws_bits.proofs.Names.{doing_after, ending_of, AreOwn, AllFollow}
-use Rattle.model.specs.declared.families.Flight as flights
-use Rattle.model.specs.declared.families.Registry as registries
+use Rattle.model.specs.declared.families.Flight.TheVariants as flights
+use Rattle.model.specs.declared.families.Registry.TheVariants as registries
 use Rattle.model.specs.declared.turn.Kind.{Kind}
 use Rattle.model.specs.Promise.{Promise}
 use Rattle.model.proofs.Family as families
@@ -38,20 +38,20 @@ module _ {T : Type 0} where
   -- ---- the family of a kind
 
   abbrev pub number_by : (BitsFlight → ℕ → ℕ) → Flight T → ℕ → ℕ
-  number_by number (flights.TheVariants.Bits flight) backs = number flight backs
+  number_by number (flights.Bits flight) backs = number flight backs
   number_by number flight backs = 0
 
   abbrev pub FlightAt : (BitsStart → BitsFlight → Type 0) → Start T → Flight T → Type 0
-  FlightAt at (Bits start) (flights.TheVariants.Bits flight) = at start flight
+  FlightAt at (Bits start) (flights.Bits flight) = at start flight
   FlightAt at start flight = ⊥
 
   abbrev pub KnowsFlight : (BitsFlight → Type 0) → Flight T → Type 0
-  KnowsFlight knows (flights.TheVariants.Bits flight) = knows flight
+  KnowsFlight knows (flights.Bits flight) = knows flight
   KnowsFlight knows flight = ⊥
 
   module _ (K : SetOutline T) where
     abbrev pub wrote_by : ℕ → Flight T → Span T → List (Event T)
-    wrote_by p (flights.TheVariants.Bits flight) span = K.wrote p flight span
+    wrote_by p (flights.Bits flight) span = K.wrote p flight span
     wrote_by p flight span = []
 
     abbrev pub outline : Outline T
@@ -62,7 +62,7 @@ module _ {T : Type 0} where
           promise = K.promise;
           State = SetState T;
           words = λ s. s.words;
-          kept = λ s. registries.TheVariants.Nothing;
+          kept = λ s. registries.Nothing;
           Holds = λ code c s latest events turns. K.Holds c s.words events turns × (s.events ≡ events);
           written = λ c s p flight. wrote_by p flight (span_of p s.events);
           number = λ code c. number_by K.number;

@@ -7,8 +7,8 @@ use Rattle.laws_bits.proofs.Names.{effects_of, BeginsNone, IsEffectOf, Open, spa
 use Rattle.laws_bits.proofs.Names.{Trace, others_begin_none, Orders, Keeps, span_of-own, span_of-other}
 use Rattle.laws_bits.proofs.Names.{AreOwn}
 use Rattle.std.proofs.Common.{arith}
-use Rattle.model.specs.declared.families.Flight as flights
-use Rattle.model.specs.declared.families.Registry as registries
+use Rattle.model.specs.declared.families.Flight.TheVariants as flights
+use Rattle.model.specs.declared.families.Registry.TheVariants as registries
 use Rattle.model.specs.declared.turn.Refusal.TheVariants.{BadIndex}
 use Rattle.model.specs.declared.turn.Turn.{Turn}
 use Rattle.model.specs.Families.{begin_of}
@@ -40,7 +40,7 @@ module _ {T : Type 0} (K : SetOutline T) where
   -- what a kind owes
   pub record SetLaws (code : Coding T) (c : ℕ) : Type 1 where
     -- of its machine at the opening, and of what it promises
-    pub bare : (opening_of K.kind).kept {T = T} c ≡ registries.TheVariants.Nothing
+    pub bare : (opening_of K.kind).kept {T = T} c ≡ registries.Nothing
     pub opens : K.Holds c ((opening_of K.kind).words code.size c) [] 0
     pub promise : promise_of {T = T} K.kind ≡ K.promise
     pub tells : (old : Trace T) (turn : Turn T) (new : Trace T) → K.promise.tells old turn new
@@ -78,30 +78,30 @@ module _ {T : Type 0} (K : SetOutline T) where
   module _ (code : Coding T) (c : ℕ) (L : SetLaws code c) where
     no_question : (wrote : List (Event T)) (start : Start T) (flight : Flight T)
         → FlightAt (K.At c wrote) start flight → is_question (want_of code flight) ≡ false
-    no_question wrote (Bits start) (flights.TheVariants.Bits flight) at = L.asks wrote start flight at
+    no_question wrote (Bits start) (flights.Bits flight) at = L.asks wrote start flight at
     no_question wrote start flight at = absurd at
 
     most : (wrote : List (Event T)) (backs : ℕ) (start : Start T) (flight : Flight T) → FlightAt (K.At c wrote) start flight
         → number_by K.number flight backs ≤ K.promise.most_steps c code.size start backs
-    most wrote backs (Bits start) (flights.TheVariants.Bits flight) at = L.most wrote backs start flight at
+    most wrote backs (Bits start) (flights.Bits flight) at = L.most wrote backs start flight at
     most wrote backs start flight at = absurd at
 
     paid : (p : ℕ) (events : List (Event T)) (words : List ℕ) (since changes backs : ℕ) (flight : Flight T)
         → KnowsFlight (K.Knows p events words since changes backs) flight → backs ≤ changes - since
-    paid p events words since changes backs (flights.TheVariants.Bits flight) h = L.paid p events words since changes backs flight h
+    paid p events words since changes backs (flights.Bits flight) h = L.paid p events words since changes backs flight h
     paid p events words since changes backs flight h = absurd h
 
     still : (q : ℕ) (words : List ℕ) (events : List (Event T)) (turns changes : ℕ) (words' : List ℕ) (es : List (Event T)) (changes' : ℕ)
         → K.Preserves c words events turns changes words' es changes' → BeginsNone q es → (since backs : ℕ) (flight : Flight T)
         → KnowsFlight (K.Knows q events words since changes backs) flight → KnowsFlight (K.Knows q (events ++ es) words' since changes' backs) flight
-    still q words events turns changes words' es changes' preserves none since backs (flights.TheVariants.Bits flight) h =
+    still q words events turns changes words' es changes' preserves none since backs (flights.Bits flight) h =
         L.still q words events turns changes words' es changes' preserves none since backs flight h
     still q words events turns changes words' es changes' preserves none since backs flight h = absurd h
 
     module _ (t : Trace T) (s : Sound (family K code c) t) (p : ℕ) where
       step_shows : (x : Party T) (since : ℕ) (start : Start T) (flight : Flight T) → StandsThere (family K code c) t s p x since start flight
           → families.StepOf (outline K) (scene_of (outline K) code c t s p x.steps x.backs since) start flight
-      step_shows x since (Bits start) (flights.TheVariants.Bits flight) here =
+      step_shows x since (Bits start) (flights.Bits flight) here =
           let shows =
           L.step s.state t.events t.world.turns p t.world.changes since x.steps x.backs s.holds.0 start flight _ here.at here.span refl here.steps here.knows in
           record {
@@ -114,12 +114,12 @@ module _ {T : Type 0} (K : SetOutline T) where
 
       -- its first stage is one of the set's own
       some_first : (start : BitsStart) (flight : Flight T)
-          → first_of K.kind c (Bits start) registries.TheVariants.Nothing ≡ Some flight
-          → (mine : BitsFlight) × (flight ≡ flights.TheVariants.Bits mine) × (first K.kind c start ≡ Some mine)
+          → first_of K.kind c (Bits start) registries.Nothing ≡ Some flight
+          → (mine : BitsFlight) × (flight ≡ flights.Bits mine) × (first K.kind c start ≡ Some mine)
       some_first x0 x1 x2 = grind arith
 
-      begin_shows : (start : Start T) (flight : Flight T) → first_of K.kind c start registries.TheVariants.Nothing ≡ Some flight
-          → first_row ((begin_of K.kind c start).rows registries.TheVariants.Nothing p) ≡ None
+      begin_shows : (start : Start T) (flight : Flight T) → first_of K.kind c start registries.Nothing ≡ Some flight
+          → first_row ((begin_of K.kind c start).rows registries.Nothing p) ≡ None
           → families.Begins (outline K) (scene_of (outline K) code c t s p 0 0 t.world.changes) start flight
       begin_shows (Bits start) flight e rows =
           let mine = some_first start flight e in
@@ -136,16 +136,16 @@ module _ {T : Type 0} (K : SetOutline T) where
             wrote = ap (λ span. K.wrote p mine.0 span) span ∙ is.wrote;
             knows = is.knows;
           })
-      begin_shows start flight e rows = absurd (L.begins_own registries.TheVariants.Nothing start flight e)
+      begin_shows start flight e rows = absurd (L.begins_own registries.Nothing start flight e)
 
     writes : (t : Trace T) (p : ℕ) (words : List ℕ) (wrote : List (Event T)) (start : Start T) (flight : Flight T) → FlightAt (K.At c wrote) start flight
-        → laws.Writes (outline K) t (Next p) (step_from t p t.world.coding words registries.TheVariants.Nothing start flight)
-    writes t p words wrote (Bits start) (flights.TheVariants.Bits flight) at = laws.only_effects (outline K) t (Next p) _ (L.effects p _ wrote start flight at)
+        → laws.Writes (outline K) t (Next p) (step_from t p t.world.coding words registries.Nothing start flight)
+    writes t p words wrote (Bits start) (flights.Bits flight) at = laws.only_effects (outline K) t (Next p) _ (L.effects p _ wrote start flight at)
     writes t p words wrote start flight at = absurd at
 
     told : (at : BitsStart → BitsFlight → Type 0) (p : ℕ) (start : Start T) (flight : Flight T) → FlightAt at start flight
         → (z : Coding T) (words : List ℕ) (beside : Option (ℕ × ℕ)) (answer : ℕ)
-        → (step_of z words beside p start flight answer registries.TheVariants.Nothing).after ≡ goes_of z p flight answer registries.TheVariants.Nothing
+        → (step_of z words beside p start flight answer registries.Nothing).after ≡ goes_of z p flight answer registries.Nothing
     told x0 x1 x2 x3 x4 x5 x6 x7 = grind arith
 
   -- ---- every run

@@ -9,19 +9,19 @@ use Rattle.steps.specs.declared.ask.After.{After}
 use Rattle.steps.specs.declared.ask.Op.TheVariants.{Load}
 use Rattle.steps.specs.declared.bits.bit_set.ResetNext.{ResetNext}
 use Rattle.steps.specs.declared.bits.bit_set.ResetNextStage.{ResetNextStage}
-use Rattle.steps.specs.declared.bits.bit_set.ResetNextStage as resetting
+use Rattle.steps.specs.declared.bits.bit_set.ResetNextStage.TheVariants as resetting
 use Rattle.steps.specs.declared.bits.bit_set.SetStage.{SetStage}
-use Rattle.steps.specs.declared.bits.bit_set.SetStage as setting
+use Rattle.steps.specs.declared.bits.bit_set.SetStage.TheVariants as setting
 use Rattle.steps.specs.declared.copied.OneWord.{OneWord}
 use Rattle.model.specs.declared.event.Answer.{Answer}
 use Rattle.model.specs.declared.event.Start.{Start}
 use Rattle.model.specs.declared.event.Start.TheVariants as starts
 use Rattle.model.specs.declared.families.Flight.{Flight}
-use Rattle.model.specs.declared.families.Flight as flights
+use Rattle.model.specs.declared.families.Flight.TheVariants as flights
 use Rattle.model.specs.declared.families.Registry.{Registry}
-use Rattle.model.specs.declared.families.Registry as registries
+use Rattle.model.specs.declared.families.Registry.TheVariants as registries
 use Rattle.model.specs.declared.families.bits.calls.BitsFlight.{BitsFlight}
-use Rattle.model.specs.declared.families.bits.calls.BitsFlight as calls
+use Rattle.model.specs.declared.families.bits.calls.BitsFlight.TheVariants as calls
 use Rattle.model.specs.declared.turn.Kind.TheVariants.{Bits, Counts}
 use Rattle.model.specs.Coding.{Coding}
 use Rattle.model.specs.Families.{first_of, want_of, after_of, goes_of, step_of, is_question, kept_after_begin, kept_after_death}
@@ -39,37 +39,37 @@ use Rattle.laws_bits.proofs.Bits.Knows.{set_at, next_at}
 
 -- an exchange whose element is still as it was found is the last step; another tests the element again
 abbrev set_left : List ℕ → ℕ → SetStage → ℕ
-set_left words bit setting.TheVariants.LoadsElement = 1
-set_left words bit (setting.TheVariants.ExchangesElement found) = cond (get_or words (element_of bit) 0 == found) 0 1
+set_left words bit setting.LoadsElement = 1
+set_left words bit (setting.ExchangesElement found) = cond (get_or words (element_of bit) 0 == found) 0 1
 
 abbrev next_left : List ℕ → ℕ → ResetNextStage → ℕ
-next_left words c resetting.TheVariants.LoadsPosition = c + 2
-next_left words c (resetting.TheVariants.LoadsElement start passed) = c - (passed + 1) + 2
-next_left words c (resetting.TheVariants.ExchangesElement start passed found) =
+next_left words c resetting.LoadsPosition = c + 2
+next_left words c (resetting.LoadsElement start passed) = c - (passed + 1) + 2
+next_left words c (resetting.ExchangesElement start passed found) =
     cond (get_or words (element_of (place_after c start passed)) 0 == found) 1 (c - (passed + 1) + 2)
-next_left words c (resetting.TheVariants.StoresPosition place) = 0
+next_left words c (resetting.StoresPosition place) = 0
 
 abbrev bits_left : List ℕ → BitsFlight → ℕ
-bits_left words (calls.TheVariants.Set run) = set_left words run.given run.call.stage
-bits_left words (calls.TheVariants.ResetNext run) = next_left words run.call.capacity run.call.stage
-bits_left words (calls.TheVariants.ResetAll run) = run.call.end - run.call.word - 1
+bits_left words (calls.Set run) = set_left words run.given run.call.stage
+bits_left words (calls.ResetNext run) = next_left words run.call.capacity run.call.stage
+bits_left words (calls.ResetAll run) = run.call.end - run.call.word - 1
 bits_left words flight = 0
 
 -- ---- how many words it changes at most before its last step
 
 -- a reset of the next one stores the position once it has cleared a bit
 abbrev next_pays : ResetNextStage → ℕ
-next_pays (resetting.TheVariants.StoresPosition place) = 0
+next_pays (resetting.StoresPosition place) = 0
 next_pays stage = 1
 
 abbrev bits_pays : BitsFlight → ℕ
-bits_pays (calls.TheVariants.ResetNext run) = next_pays run.call.stage
-bits_pays (calls.TheVariants.ResetAll run) = run.call.end - run.call.word - 1
+bits_pays (calls.ResetNext run) = next_pays run.call.stage
+bits_pays (calls.ResetAll run) = run.call.end - run.call.word - 1
 bits_pays flight = 0
 
 -- no call of a counting set has a loop that others can make longer
 abbrev counts_left : BitsFlight → ℕ
-counts_left (calls.TheVariants.TakeAll run) = run.call.end - run.call.word - 1
+counts_left (calls.TakeAll run) = run.call.end - run.call.word - 1
 counts_left flight = 0
 
 -- ---- no call has more left
@@ -79,14 +79,14 @@ one_of true a b most x y = x
 one_of false a b most x y = y
 
 set_most : (words : List ℕ) (c bit : ℕ) (stage : SetStage) → set_left words bit stage ≤ c + 2
-set_most words c bit setting.TheVariants.LoadsElement = omega arith
-set_most words c bit (setting.TheVariants.ExchangesElement found) = one_of _ 0 1 (c + 2) (omega arith) (omega arith)
+set_most words c bit setting.LoadsElement = omega arith
+set_most words c bit (setting.ExchangesElement found) = one_of _ 0 1 (c + 2) (omega arith) (omega arith)
 
 next_most : (words : List ℕ) (c : ℕ) (stage : ResetNextStage) → next_left words c stage ≤ c + 2
-next_most words c resetting.TheVariants.LoadsPosition = omega arith
-next_most words c (resetting.TheVariants.LoadsElement start passed) = omega arith
-next_most words c (resetting.TheVariants.ExchangesElement start passed found) = one_of _ 1 (c - (passed + 1) + 2) (c + 2) (omega arith) (omega arith)
-next_most words c (resetting.TheVariants.StoresPosition place) = omega arith
+next_most words c resetting.LoadsPosition = omega arith
+next_most words c (resetting.LoadsElement start passed) = omega arith
+next_most words c (resetting.ExchangesElement start passed found) = one_of _ 1 (c - (passed + 1) + 2) (c + 2) (omega arith) (omega arith)
+next_most words c (resetting.StoresPosition place) = omega arith
 
 next_few : (c : ℕ) (stage : ResetNextStage) → next_pays stage ≤ max 1 (elements c - 1)
 next_few x0 x1 = grind arith
@@ -94,27 +94,27 @@ next_few x0 x1 = grind arith
 -- ---- where a call stands
 
 abbrev BitsStand : ℕ → BitsFlight → Type 0
-BitsStand c (calls.TheVariants.Set run) = Unit {0}
-BitsStand c (calls.TheVariants.ResetNext run) = run.call.capacity ≡ c
-BitsStand c (calls.TheVariants.ResetAll run) = (run.call.end ≡ 1 + elements c) × (1 ≤ run.call.word)
+BitsStand c (calls.Set run) = Unit {0}
+BitsStand c (calls.ResetNext run) = run.call.capacity ≡ c
+BitsStand c (calls.ResetAll run) = (run.call.end ≡ 1 + elements c) × (1 ≤ run.call.word)
 BitsStand c flight = ⊥
 
 abbrev CountsStand : ℕ → BitsFlight → Type 0
-CountsStand c (calls.TheVariants.Count run) = Unit {0}
-CountsStand c (calls.TheVariants.TakeAll run) = run.call.end ≡ c
+CountsStand c (calls.Count run) = Unit {0}
+CountsStand c (calls.TakeAll run) = run.call.end ≡ c
 CountsStand c flight = ⊥
 
 module _ {T : Type 0} where
   abbrev left : List ℕ → Flight T → ℕ
-  left words (flights.TheVariants.Bits flight) = bits_left words flight
+  left words (flights.Bits flight) = bits_left words flight
   left words flight = 0
 
   abbrev pays : Flight T → ℕ
-  pays (flights.TheVariants.Bits flight) = bits_pays flight
+  pays (flights.Bits flight) = bits_pays flight
   pays flight = 0
 
   abbrev count_left : Flight T → ℕ
-  count_left (flights.TheVariants.Bits flight) = counts_left flight
+  count_left (flights.Bits flight) = counts_left flight
   count_left flight = 0
 
   abbrev measure : ℕ → WordMeasure T
@@ -126,11 +126,11 @@ module _ {T : Type 0} where
   -- ---- where a call stands
 
   abbrev FlightStands : (BitsFlight → Type 0) → Start T → Flight T → Type 0
-  FlightStands stands (starts.Bits start) (flights.TheVariants.Bits flight) = stands flight
+  FlightStands stands (starts.Bits start) (flights.Bits flight) = stands flight
   FlightStands stands start flight = ⊥
 
   abbrev Kept : Registry T → Type 0
-  Kept registries.TheVariants.Nothing = Unit {0}
+  Kept registries.Nothing = Unit {0}
   Kept kept = ⊥
 
   abbrev bits_outline : Outline T
@@ -162,26 +162,26 @@ module _ {T : Type 0} where
     M = measure n
 
     abbrev Shown : BitsFlight → Type 0
-    Shown flight = StepFalls M code words (flights.TheVariants.Bits flight)
+    Shown flight = StepFalls M code words (flights.Bits flight)
 
     -- a set
     set_falls : (bit : ℕ) (stage : SetStage) → Shown (set_at bit stage)
-    set_falls bit setting.TheVariants.LoadsElement = go (has_flag word bit) refl
+    set_falls bit setting.LoadsElement = go (has_flag word bit) refl
       where
         word : ℕ
         word = get_or words (element_of bit) 0
 
-        go : (t : Bool) → has_flag word bit ≡ t → Shown (set_at bit setting.TheVariants.LoadsElement)
+        go : (t : Bool) → has_flag word bit ≡ t → Shown (set_at bit setting.LoadsElement)
         go true t = rw t tt
         go false t =
             let self = same_is word in
             rw t (inl (load_leaves words (element_of bit), rw self (omega arith), omega arith))
-    set_falls bit (setting.TheVariants.ExchangesElement found) = go (word == found) refl (has_flag word bit) refl
+    set_falls bit (setting.ExchangesElement found) = go (word == found) refl (has_flag word bit) refl
       where
         word : ℕ
         word = get_or words (element_of bit) 0
 
-        go : (t : Bool) → (word == found) ≡ t → (u : Bool) → has_flag word bit ≡ u → Shown (set_at bit (setting.TheVariants.ExchangesElement found))
+        go : (t : Bool) → (word == found) ≡ t → (u : Bool) → has_flag word bit ≡ u → Shown (set_at bit (setting.ExchangesElement found))
         go true t u e = rw t tt
         go false t true u = rw (t, u) tt
         go false t false u =
@@ -191,11 +191,11 @@ module _ {T : Type 0} where
     -- a reset of the next one
     abbrev as_next : After ResetNext (Option ℕ) → After (Flight T) (Answer T)
     as_next after =
-        as_call flights.TheVariants.Bits (λ answer. answer)
-        (as_call calls.TheVariants.ResetNext reset_answer (went_on as_it_is tt tt after))
+        as_call flights.Bits (λ answer. answer)
+        (as_call calls.ResetNext reset_answer (went_on as_it_is tt tt after))
 
     abbrev next_flight : ℕ → ResetNextStage → Flight T
-    next_flight c stage = flights.TheVariants.Bits (next_at c stage)
+    next_flight c stage = flights.Bits (next_at c stage)
 
     abbrev loaded : ℕ → List ℕ
     loaded w = words_after words (Some (record { word = w; op = Load }))
@@ -224,17 +224,17 @@ module _ {T : Type 0} where
         go false t false u = rw (t, u) tt
 
     next_falls : (c : ℕ) (stage : ResetNextStage) → Shown (next_at c stage)
-    next_falls c resetting.TheVariants.LoadsPosition = go (nat_lt 0 c) refl
+    next_falls c resetting.LoadsPosition = go (nat_lt 0 c) refl
       where
-        go : (t : Bool) → nat_lt 0 c ≡ t → Shown (next_at c resetting.TheVariants.LoadsPosition)
+        go : (t : Bool) → nat_lt 0 c ≡ t → Shown (next_at c resetting.LoadsPosition)
         go true t =
             let less : 0 < c = grind (arith, nat_tests) in
             rw t (inl (load_leaves words 0, omega arith, omega arith))
         go false t = rw t tt
-    next_falls c (resetting.TheVariants.LoadsElement start passed) =
-        tests_fall (loaded (element_of (place_after c start passed))) (next_flight c (resetting.TheVariants.LoadsElement start passed)) c start passed
-        (resetting.TheVariants.LoadsElement start passed) (load_leaves words (element_of (place_after c start passed))) (omega arith) (omega arith)
-    next_falls c (resetting.TheVariants.ExchangesElement start passed found) = go (word == found) refl
+    next_falls c (resetting.LoadsElement start passed) =
+        tests_fall (loaded (element_of (place_after c start passed))) (next_flight c (resetting.LoadsElement start passed)) c start passed
+        (resetting.LoadsElement start passed) (load_leaves words (element_of (place_after c start passed))) (omega arith) (omega arith)
+    next_falls c (resetting.ExchangesElement start passed found) = go (word == found) refl
       where
         place : ℕ
         place = place_after c start passed
@@ -243,7 +243,7 @@ module _ {T : Type 0} where
         word = get_or words (element_of place) 0
 
         stage : ResetNextStage
-        stage = resetting.TheVariants.ExchangesElement start passed found
+        stage = resetting.ExchangesElement start passed found
 
         go : (t : Bool) → (word == found) ≡ t → Shown (next_at c stage)
         go true t = rw t (inr (rw t (omega arith), inr (omega arith)))
@@ -251,15 +251,15 @@ module _ {T : Type 0} where
             rw t
             (tests_fall (loaded (element_of place)) (next_flight c stage) c start passed stage (load_leaves words (element_of place))
             (rw t (omega arith)) (omega arith))
-    next_falls c (resetting.TheVariants.StoresPosition place) = tt
+    next_falls c (resetting.StoresPosition place) = tt
 
     -- a reset of all
     all_falls : (word end : ℕ) (room : OneWord)
-        → Shown (calls.TheVariants.ResetAll (record { call = record { word = word; end = end }; given = tt; room = room }))
+        → Shown (calls.ResetAll (record { call = record { word = word; end = end }; given = tt; room = room }))
     all_falls word end room = go (nat_lt (word + 1) end) refl (nat_lt word end) refl
       where
         flight : BitsFlight
-        flight = calls.TheVariants.ResetAll (record { call = record { word = word; end = end }; given = tt; room = room })
+        flight = calls.ResetAll (record { call = record { word = word; end = end }; given = tt; room = room })
 
         go : (t : Bool) → nat_lt (word + 1) end ≡ t → (u : Bool) → nat_lt word end ≡ u → Shown flight
         go true t true u = let less : word + 1 < end = grind (arith, nat_tests) in rw (t, u) (inr (omega arith, inr (omega arith)))
@@ -270,21 +270,21 @@ module _ {T : Type 0} where
         go false t u e = rw t tt
 
     bits_fall : (c : ℕ) (start : Start T) (flight : Flight T) → FlightStands (BitsStand c) start flight → StepFalls M code words flight
-    bits_fall c (starts.Bits start) (flights.TheVariants.Bits (calls.TheVariants.Set run)) at = set_falls run.given run.call.stage
-    bits_fall c (starts.Bits start) (flights.TheVariants.Bits (calls.TheVariants.ResetNext run)) at = next_falls run.call.capacity run.call.stage
-    bits_fall c (starts.Bits start) (flights.TheVariants.Bits (calls.TheVariants.ResetAll run)) at = all_falls run.call.word run.call.end run.room
+    bits_fall c (starts.Bits start) (flights.Bits (calls.Set run)) at = set_falls run.given run.call.stage
+    bits_fall c (starts.Bits start) (flights.Bits (calls.ResetNext run)) at = next_falls run.call.capacity run.call.stage
+    bits_fall c (starts.Bits start) (flights.Bits (calls.ResetAll run)) at = all_falls run.call.word run.call.end run.room
     bits_fall c start flight at = absurd at
 
     -- of the counts
     abbrev CountShown : BitsFlight → Type 0
-    CountShown flight = StepFalls (counts_measure n) code words (flights.TheVariants.Bits flight)
+    CountShown flight = StepFalls (counts_measure n) code words (flights.Bits flight)
 
     takes_fall : (word end : ℕ) (room : OneWord)
-        → CountShown (calls.TheVariants.TakeAll (record { call = record { word = word; end = end }; given = tt; room = room }))
+        → CountShown (calls.TakeAll (record { call = record { word = word; end = end }; given = tt; room = room }))
     takes_fall word end room = go (nat_lt (word + 1) end) refl (nat_lt word end) refl
       where
         flight : BitsFlight
-        flight = calls.TheVariants.TakeAll (record { call = record { word = word; end = end }; given = tt; room = room })
+        flight = calls.TakeAll (record { call = record { word = word; end = end }; given = tt; room = room })
 
         go : (t : Bool) → nat_lt (word + 1) end ≡ t → (u : Bool) → nat_lt word end ≡ u → CountShown flight
         go true t true u = let less : word + 1 < end = grind (arith, nat_tests) in rw (t, u) (inr (omega arith, inl (λ other. omega arith, omega arith)))
@@ -292,27 +292,27 @@ module _ {T : Type 0} where
         go false t u e = rw t tt
 
     counts_fall : (c : ℕ) (start : Start T) (flight : Flight T) → FlightStands (CountsStand c) start flight → StepFalls (counts_measure n) code words flight
-    counts_fall c (starts.Bits start) (flights.TheVariants.Bits (calls.TheVariants.Count run)) at = tt
-    counts_fall c (starts.Bits start) (flights.TheVariants.Bits (calls.TheVariants.TakeAll run)) at = takes_fall run.call.word run.call.end run.room
+    counts_fall c (starts.Bits start) (flights.Bits (calls.Count run)) at = tt
+    counts_fall c (starts.Bits start) (flights.Bits (calls.TakeAll run)) at = takes_fall run.call.word run.call.end run.room
     counts_fall c start flight at = absurd at
 
   -- ---- no call has more left
 
   bits_most : (c : ℕ) (words : List ℕ) (start : Start T) (flight : Flight T) → FlightStands (BitsStand c) start flight
       → (left words flight ≤ c + 2) × (pays flight ≤ max 1 (elements c - 1))
-  bits_most c words (starts.Bits start) (flights.TheVariants.Bits (calls.TheVariants.Set run)) at =
+  bits_most c words (starts.Bits start) (flights.Bits (calls.Set run)) at =
       (set_most words c run.given run.call.stage, omega arith)
-  bits_most c words (starts.Bits start) (flights.TheVariants.Bits (calls.TheVariants.ResetNext run)) at =
+  bits_most c words (starts.Bits start) (flights.Bits (calls.ResetNext run)) at =
       (let here = next_most words run.call.capacity run.call.stage in omega arith, next_few c run.call.stage)
-  bits_most c words (starts.Bits start) (flights.TheVariants.Bits (calls.TheVariants.ResetAll run)) at =
+  bits_most c words (starts.Bits start) (flights.Bits (calls.ResetAll run)) at =
       let end = at.0 in
       let one = at.1 in
       (omega arith, grind arith)
   bits_most c words start flight at = absurd at
 
   counts_most : (c : ℕ) (start : Start T) (flight : Flight T) → FlightStands (CountsStand c) start flight → count_left flight ≤ c - 1
-  counts_most c (starts.Bits start) (flights.TheVariants.Bits (calls.TheVariants.Count run)) at = omega arith
-  counts_most c (starts.Bits start) (flights.TheVariants.Bits (calls.TheVariants.TakeAll run)) at = omega arith
+  counts_most c (starts.Bits start) (flights.Bits (calls.Count run)) at = omega arith
+  counts_most c (starts.Bits start) (flights.Bits (calls.TakeAll run)) at = omega arith
   counts_most c start flight at = absurd at
 
   -- ---- what a kind owes

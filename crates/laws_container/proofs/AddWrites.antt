@@ -12,9 +12,9 @@ use Rattle.laws_container.proofs.Names.{at_same, at_other, calm_less, gone_less,
 use Rattle.laws_container.proofs.Names.{loads_same, exchanges, fails_same}
 use Rattle.steps.specs.declared.ask.After.TheVariants.{Done}
 use Rattle.steps.specs.declared.container.add.Add as add_calls
-use Rattle.steps.specs.declared.container.add.AddStage as adds
+use Rattle.steps.specs.declared.container.add.AddStage.TheVariants as adds
 use Rattle.model.specs.declared.families.container.ContainerStart.TheVariants.{Add}
-use Rattle.model.specs.declared.families.container.calls.ContainerFlight as calls
+use Rattle.model.specs.declared.families.container.calls.ContainerFlight.TheVariants as calls
 use Rattle.laws_robust.proofs.Stages as set_stages
 use Rattle.laws_container.proofs.Adds.{acquire_step}
 use Rattle.laws_container.proofs.Contents.{store_writes}
@@ -57,7 +57,7 @@ module _ {T : Type 0} (scene : Scene T) (inv : Inv scene) (value : T) (owner : �
 
   -- how the call goes on, as an add of the kind
   abbrev as_add : After (add_calls.Add T) Added → After (ContainerFlight T) (Answer T)
-  as_add a = as_call calls.TheVariants.Add added (went_on as_it_is (record { value = value; owner = owner }) tt a)
+  as_add a = as_call calls.Add added (went_on as_it_is (record { value = value; owner = owner }) tt a)
 
   abbrev Here : AddStage → Type 0
   Here stage = IsHere scene (Add value owner) (add_at c value owner stage)
@@ -111,37 +111,37 @@ module _ {T : Type 0} (scene : Scene T) (inv : Inv scene) (value : T) (owner : �
 
     -- ---- the number is loaded
 
-    module _ (here : Here (adds.TheVariants.LoadsCount i)) (none : done scene ≡ []) (s : steps ≤ c + 3 + backs * (c + 1)) where
+    module _ (here : Here (adds.LoadsCount i)) (none : done scene ≡ []) (s : steps ≤ c + 3 + backs * (c + 1)) where
       abbrev load_it : Option Ask
       load_it = Some (set_stages.loads (count_word c i))
 
       abbrev number : ℕ
       number = count_in code c (before scene) i
 
-      loads_step : StepOf scene start (at_stage (adds.TheVariants.LoadsCount i))
+      loads_step : StepOf scene start (at_stage (adds.LoadsCount i))
       loads_step = go (is_even number) refl
         where
           go : (b : Bool) → is_even number ≡ b → Leads scene start (Some (set_stages.loads (count_word c i))) false scene.states []
-              (as_add (if b then GoOn (at_add (first_add c) (adds.TheVariants.Stores i 0)) else GoOn (at_add (first_add c) (adds.TheVariants.Hides i number))))
+              (as_add (if b then GoOn (at_add (first_add c) (adds.Stores i 0)) else GoOn (at_add (first_add c) (adds.Hides i number))))
           go true t =
               let some = inv.elements.coded.some in
-              calm_step (adds.TheVariants.LoadsCount i) (adds.TheVariants.Stores i 0) load_it
+              calm_step (adds.LoadsCount i) (adds.Stores i 0) load_it
               (loads_same ws (count_word c i)) here refl (omega arith) (granted, inl none, omega arith) (
-                owns_calm load_it (then_at (adds.TheVariants.Stores i 0) load_it),
-                first_word load_it (then_at (adds.TheVariants.Stores i 0) load_it) (loads_same ws (count_word c i))
+                owns_calm load_it (then_at (adds.Stores i 0) load_it),
+                first_word load_it (then_at (adds.Stores i 0) load_it) (loads_same ws (count_word c i))
                     (λ holds. even_is number t)
-                    (was_well_formed_calmly scene start tt here.span (then_at (adds.TheVariants.Stores i 0) load_it)),
+                    (was_well_formed_calmly scene start tt here.span (then_at (adds.Stores i 0) load_it)),
               )
           go false t =
-              calm_step (adds.TheVariants.LoadsCount i) (adds.TheVariants.Hides i number) load_it
+              calm_step (adds.LoadsCount i) (adds.Hides i number) load_it
               (loads_same ws (count_word c i)) here refl (omega arith) (granted, none, odd_is number t) (
-                owns_calm load_it (then_at (adds.TheVariants.Hides i number) load_it),
+                owns_calm load_it (then_at (adds.Hides i number) load_it),
                 (λ holds lives. inl (ap (λ w. count_at c w i) (loads_same ws (count_word c i)))),
               )
 
     -- ---- what stands there is hidden
 
-    module _ (count : ℕ) (here : Here (adds.TheVariants.Hides i count)) (none : done scene ≡ [])
+    module _ (count : ℕ) (here : Here (adds.Hides i count)) (none : done scene ≡ [])
         (odd : count % 2 ≡ 1) (covers : Covers code c owner i count (sees_now scene))
         (s : steps ≤ c + 4 + backs * (c + 1)) where
       abbrev hide_it : Option Ask
@@ -150,24 +150,24 @@ module _ {T : Type 0} (scene : Scene T) (inv : Inv scene) (value : T) (owner : �
       abbrev now_at : ℕ
       now_at = count_in code c (before scene) i
 
-      hides_step : StepOf scene start (at_stage (adds.TheVariants.Hides i count))
+      hides_step : StepOf scene start (at_stage (adds.Hides i count))
       hides_step = go (now_at == count) refl
         where
           go : (b : Bool) → (now_at == count) ≡ b
               → Leads scene start (Some (exchanges (count_word c i) count (one_more count))) false scene.states
-              ((if b then Hidden p i ∷ [] else []) ++ []) (GoOn (at_stage (adds.TheVariants.Stores i 0)))
+              ((if b then Hidden p i ∷ [] else []) ++ []) (GoOn (at_stage (adds.Stores i 0)))
           go true t =
               let is : now_at ≡ count = grind (arith, nat_tests) in
               let some = inv.elements.coded.some in
               let wide = inv.elements.wide in
-              let y = then_at (adds.TheVariants.Stores i 0) hide_it in
+              let y = then_at (adds.Stores i 0) hide_it in
               let new = hides_count scene inv i count below is in
               let now_odd : now_at % 2 ≡ 1 = ap (λ n. n % 2) is ∙ odd in
               let well_formed = was_well_formed scene start tt here.span (words_after ws hide_it) y (Hidden p i ∷ []) (refl, tt) in
               let after : count_at c (words_after ws hide_it) i ≡ one_more now_at =
               ap (λ w. count_at c w i) new ∙ count_set c code.size ws i (one_more now_at) (omega arith) in
-              goes_on scene start (at_stage (adds.TheVariants.Stores i 0)) hide_it false scene.states (Hidden p i ∷ []) here.span (λ start w. refl)
-              (hides scene inv start (at_stage (adds.TheVariants.Hides i count)) tt here y (words_after ws hide_it)
+              goes_on scene start (at_stage (adds.Stores i 0)) hide_it false scene.states (Hidden p i ∷ []) here.span (λ start w. refl)
+              (hides scene inv start (at_stage (adds.Hides i count)) tt here y (words_after ws hide_it)
               i below new refl now_odd (λ holds q ne o theirs fresh. nobody_else holds q ne o theirs) well_formed)
               ((granted.1, none), tt) (omega arith)
               (refl, refl, fits, ((below, ap (λ (d : List SetAct). d ++ []) granted.1), inr (ap (λ d. d ++ Hides i ∷ []) none), omega arith)) (
@@ -180,9 +180,9 @@ module _ {T : Type 0} (scene : Scene T) (inv : Inv scene) (value : T) (owner : �
           go false t =
               let other : now_at ≢ count = grind (arith, nat_tests) in
               let some = inv.elements.coded.some in
-              let y = then_at (adds.TheVariants.Stores i 0) hide_it in
+              let y = then_at (adds.Stores i 0) hide_it in
               let same = fails_same ws (count_word c i) count (one_more count) other in
-              calm_step (adds.TheVariants.Hides i count) (adds.TheVariants.Stores i 0) hide_it same here refl (omega arith) (granted, inl none, omega arith) (
+              calm_step (adds.Hides i count) (adds.Stores i 0) hide_it same here refl (omega arith) (granted, inl none, omega arith) (
                 owns_calm hide_it y,
                 first_word hide_it y same
                     (λ holds. ⊎_elim (λ e. absurd (other e)) (λ even. even) (covers holds (acts.stays holds.kept)))
@@ -191,7 +191,7 @@ module _ {T : Type 0} (scene : Scene T) (inv : Inv scene) (value : T) (owner : �
 
     -- ---- a word is stored
 
-    module _ (at : ℕ) (here : Here (adds.TheVariants.Stores i at))
+    module _ (at : ℕ) (here : Here (adds.Stores i at))
         (hidden : MayHaveHidden c code.size (all scene) (done scene) i) (ats : at < code.size)
         (w : Writes code c owner i value at (sees_now scene)) (s : steps ≤ c + 5 + at + backs * (c + 1)) where
       abbrev store_it : Option Ask
@@ -206,7 +206,7 @@ module _ {T : Type 0} (scene : Scene T) (inv : Inv scene) (value : T) (owner : �
           → Leads scene start store_it false scene.states [] (GoOn (at_stage next))
       store_to next owe few stands known =
           goes_calmly scene start (at_stage next) store_it false scene.states here.span
-          (stores_word scene inv start (at_stage (adds.TheVariants.Stores i at)) tt here (then_at next store_it)
+          (stores_word scene inv start (at_stage (adds.Stores i at)) tt here (then_at next store_it)
           (words_after ws store_it) i below at ats value owner mine (λ holds. w.has holds (acts.stays holds.kept))
           refl
           (was_well_formed scene start tt here.span (words_after ws store_it) (then_at next store_it) [] tt) (λ was. owe))
@@ -225,35 +225,35 @@ module _ {T : Type 0} (scene : Scene T) (inv : Inv scene) (value : T) (owner : �
                 (w.has before_it (acts.stays before_it.kept));
           }
 
-      stores_step : StepOf scene start (at_stage (adds.TheVariants.Stores i at))
+      stores_step : StepOf scene start (at_stage (adds.Stores i at))
       stores_step = go (nat_lt (at + 1) code.size) refl
         where
           go : (b : Bool) → nat_lt (at + 1) code.size ≡ b
               → Leads scene start (Some (stores_to (element_word c code.size i at) (get_or (code.words_of value) at 0)))
               false scene.states []
-              (as_add (if b then GoOn (at_add (first_add c) (adds.TheVariants.Stores i (at + 1))) else GoOn
-              (at_add (first_add c) (adds.TheVariants.AddsCount i))))
+              (as_add (if b then GoOn (at_add (first_add c) (adds.Stores i (at + 1))) else GoOn
+              (at_add (first_add c) (adds.AddsCount i))))
           go true t =
               let more : at + 1 < code.size = grind (arith, nat_tests) in
-              store_to (adds.TheVariants.Stores i (at + 1)) refl (omega arith) (granted, hidden, more) (
-                owns_calm store_it (then_at (adds.TheVariants.Stores i (at + 1)) store_it),
-                one_more_word (adds.TheVariants.Stores i (at + 1)),
+              store_to (adds.Stores i (at + 1)) refl (omega arith) (granted, hidden, more) (
+                owns_calm store_it (then_at (adds.Stores i (at + 1)) store_it),
+                one_more_word (adds.Stores i (at + 1)),
               )
           go false t =
               let last : code.size ≤ at + 1 = grind (arith, nat_tests) in
               let is : at + 1 ≡ code.size = omega arith in
-              store_to (adds.TheVariants.AddsCount i) refl (omega arith) (granted, hidden) (
-                owns_calm store_it (then_at (adds.TheVariants.AddsCount i) store_it),
+              store_to (adds.AddsCount i) refl (omega arith) (granted, hidden) (
+                owns_calm store_it (then_at (adds.AddsCount i) store_it),
                 subst (λ n. Writes code c owner i value n
                     (view scene.terms (words_after ws store_it) scene.states
-                    (put p (then_at (adds.TheVariants.AddsCount i) store_it) latest) events p (since_then scene store_it)
+                    (put p (then_at (adds.AddsCount i) store_it) latest) events p (since_then scene store_it)
                     (changes_then scene store_it) (backs_then scene false)))
-                    is (one_more_word (adds.TheVariants.AddsCount i)),
+                    is (one_more_word (adds.AddsCount i)),
               )
 
     -- ---- the value is placed
 
-    module _ (here : Here (adds.TheVariants.AddsCount i))
+    module _ (here : Here (adds.AddsCount i))
         (hidden : MayHaveHidden c code.size (all scene) (done scene) i)
         (w : Writes code c owner i value code.size (sees_now scene))
         (s : steps ≤ c + 5 + code.size + backs * (c + 1)) where
@@ -264,22 +264,22 @@ module _ {T : Type 0} (scene : Scene T) (inv : Inv scene) (value : T) (owner : �
       count_now = count_in code c (before scene) i
 
       abbrev y : Party T
-      y = then_at (adds.TheVariants.AddsChange i) add_it
+      y = then_at (adds.AddsChange i) add_it
 
       new : words_after ws add_it ≡ set ws (count_word c i) (one_more count_now)
       new = adds_to_count scene inv i below
 
-      places_step : StepOf scene start (at_stage (adds.TheVariants.AddsCount i))
+      places_step : StepOf scene start (at_stage (adds.AddsCount i))
       places_step = go (is_even count_now) refl
         where
           go : (b : Bool) → is_even count_now ≡ b
               → Leads scene start (Some (adds_one (count_word c i))) false scene.states
-              ((if b then Placed p i value ∷ [] else []) ++ []) (GoOn (at_stage (adds.TheVariants.AddsChange i)))
+              ((if b then Placed p i value ∷ [] else []) ++ []) (GoOn (at_stage (adds.AddsChange i)))
           go true t =
               let es = Placed p i value ∷ [] in
               let well_formed = was_well_formed scene start tt here.span (words_after ws add_it) y es (refl, tt) in
-              goes_on scene start (at_stage (adds.TheVariants.AddsChange i)) add_it false scene.states es here.span (λ start w. refl)
-              (places_it scene inv start (at_stage (adds.TheVariants.AddsCount i)) tt here y (words_after ws add_it)
+              goes_on scene start (at_stage (adds.AddsChange i)) add_it false scene.states es here.span (λ start w. refl)
+              (places_it scene inv start (at_stage (adds.AddsCount i)) tt here y (words_after ws add_it)
               i below new refl value owner acts mine (λ holds. w.has holds (acts.stays holds.kept)) well_formed)
               ((refl, granted.1, hidden), tt) (omega arith)
               (refl, refl, fits, (below, ap (λ (d : List SetAct). d ++ []) granted.1)) (
@@ -297,8 +297,8 @@ module _ {T : Type 0} (scene : Scene T) (inv : Inv scene) (value : T) (owner : �
               let even = (w.has (well_formed holds) (acts.stays holds.kept)).even in
               let odd = odd_is count_now t in
               absurd {A = ⊥} (omega arith) in
-              goes_calmly scene start (at_stage (adds.TheVariants.AddsChange i)) add_it false scene.states here.span
-              (misplaces scene inv start (at_stage (adds.TheVariants.AddsCount i)) tt here y (words_after ws add_it) i below new refl well_formed ill_formed)
+              goes_calmly scene start (at_stage (adds.AddsChange i)) add_it false scene.states here.span
+              (misplaces scene inv start (at_stage (adds.AddsCount i)) tt here y (words_after ws add_it) i below new refl well_formed ill_formed)
               (omega arith) (refl, refl, fits, granted) (
                 owns_calm add_it y,
                 (λ holds. absurd
@@ -309,19 +309,19 @@ module _ {T : Type 0} (scene : Scene T) (inv : Inv scene) (value : T) (owner : �
 
     -- ---- the change is counted, and the call ends
 
-    module _ (here : Here (adds.TheVariants.AddsChange i)) (placed : HasPlaced code c i value (sees_now scene))
+    module _ (here : Here (adds.AddsChange i)) (placed : HasPlaced code c i value (sees_now scene))
         (stood : Stood code c owner i (sees_now scene)) (s : steps ≤ c + 6 + code.size + backs * (c + 1)) where
       abbrev end_it : Option Ask
       end_it = Some (adds_one (change_word c))
 
-      ends_step : StepOf scene start (at_stage (adds.TheVariants.AddsChange i))
+      ends_step : StepOf scene start (at_stage (adds.AddsChange i))
       ends_step =
           let y = party_then scene start end_it false (Done (Index i)) in
           let es = Finished p (Container start) (Index i) ∷ [] in
           let well_formed = was_well_formed scene start tt here.span (words_after ws end_it) y es (refl, tt) in
           let new = adds_to_change scene inv in
           ends scene start (Index i) end_it false scene.states [] here.span none_lengthens
-          (ends_counted scene inv start (at_stage (adds.TheVariants.AddsChange i)) tt here y (words_after ws end_it) (Index i)
+          (ends_counted scene inv start (at_stage (adds.AddsChange i)) tt here y (words_after ws end_it) (Index i)
           (settles (of_set scene) (inv_of_set scene inv) (words_after ws end_it)
           (leaves_behind (of_set scene) (inv_of_set scene inv) (words_after ws end_it) (change_word c) _ (omega arith) new)
           i owner value
@@ -342,9 +342,9 @@ module _ {T : Type 0} (scene : Scene T) (inv : Inv scene) (value : T) (owner : �
       → AddAt scene.capacity scene.coding.size (all scene) (done scene) owner stage
       → AddKnows scene.coding scene.capacity value owner stage (sees_now scene)
       → scene.steps ≤ add_number scene.capacity scene.coding.size stage scene.backs → StepOf scene (Add value owner) (add_at scene.capacity value owner stage)
-  add_step (adds.TheVariants.Acquires stage) here at k s = acquire_step scene inv value owner fits acts stage here at.1 at.0 k s
-  add_step (adds.TheVariants.LoadsCount i) here at k s = loads_step scene inv value owner fits acts i at.0 k here at.1 s
-  add_step (adds.TheVariants.Hides i count) here at k s = hides_step scene inv value owner fits acts i at.0 k.0 count here at.1 at.2 k.1 s
-  add_step (adds.TheVariants.Stores i word) here at k s = stores_step scene inv value owner fits acts i at.0 k.0 word here at.1 at.2 k.1 s
-  add_step (adds.TheVariants.AddsCount i) here at k s = places_step scene inv value owner fits acts i at.0 k.0 here at.1 k.1 s
-  add_step (adds.TheVariants.AddsChange i) here at k s = ends_step scene inv value owner fits acts i at k.0 here k.1 k.2 s
+  add_step (adds.Acquires stage) here at k s = acquire_step scene inv value owner fits acts stage here at.1 at.0 k s
+  add_step (adds.LoadsCount i) here at k s = loads_step scene inv value owner fits acts i at.0 k here at.1 s
+  add_step (adds.Hides i count) here at k s = hides_step scene inv value owner fits acts i at.0 k.0 count here at.1 at.2 k.1 s
+  add_step (adds.Stores i word) here at k s = stores_step scene inv value owner fits acts i at.0 k.0 word here at.1 at.2 k.1 s
+  add_step (adds.AddsCount i) here at k s = places_step scene inv value owner fits acts i at.0 k.0 here at.1 k.1 s
+  add_step (adds.AddsChange i) here at k s = ends_step scene inv value owner fits acts i at k.0 here k.1 k.2 s

@@ -6,16 +6,17 @@ use Rattle.laws_container.proofs.Names.{Finished, Container, ContainerStart, Con
 use Rattle.laws_container.proofs.Names.{Fills, Grants, as_it_is, as_call, words_after, quiet_end, grants_alone}
 use Rattle.laws_container.proofs.Names.{owns_then, acquire_at, acquire_number, AcquireAt}
 use Rattle.steps.specs.declared.ask.After.TheVariants.{Done}
-use Rattle.steps.specs.declared.container.add.AddStage as adds
-use Rattle.steps.specs.declared.container.enums.ContainerAddFailure as add_failures
-use Rattle.steps.specs.declared.indices.enums.UniqueIndexSetAcquireFailure as failures
+use Rattle.steps.specs.declared.container.add.AddStage.TheVariants as adds
+use Rattle.steps.specs.declared.container.enums.ContainerAddFailure.TheVariants as add_failures
+use Rattle.steps.specs.declared.indices.enums.UniqueIndexSetAcquireFailure.{UniqueIndexSetAcquireFailure}
+use Rattle.steps.specs.declared.indices.enums.UniqueIndexSetAcquireFailure.TheVariants as failures
 use Rattle.steps.specs.declared.indices.robust.acquire.Acquire as set_calls
 use Rattle.steps.specs.declared.indices.robust.acquire.AcquireStage.{AcquireStage}
-use Rattle.steps.specs.declared.indices.robust.acquire.AcquireStage as acquires
-use Rattle.steps.specs.declared.indices.robust.parts.Raise as raises
+use Rattle.steps.specs.declared.indices.robust.acquire.AcquireStage.TheVariants as acquires
+use Rattle.steps.specs.declared.indices.robust.parts.Raise.TheVariants as raises
 use Rattle.steps.specs.Indices.Robust.Acquire.{Acquired}
 use Rattle.model.specs.declared.families.container.ContainerStart.TheVariants.{Add}
-use Rattle.model.specs.declared.families.container.calls.ContainerFlight as calls
+use Rattle.model.specs.declared.families.container.calls.ContainerFlight.TheVariants as calls
 use Rattle.laws_robust.proofs.Core as set_core
 use Rattle.laws_robust.proofs.Effects as set_effects
 use Rattle.laws_robust.proofs.Held.{Caller, WhyNot, FewEnd, held_step}
@@ -31,7 +32,7 @@ use Rattle.laws_container.proofs.Steps.{loads, ends_calmly}
 use Rattle.laws_container.proofs.Turns.{WellFormed}
 
 module _ {T : Type 0} (scene : Scene T) (inv : Inv scene) (value : T) (owner : ℕ) (fits : owner < empty) (acts : ActsFor scene owner) (stage : AcquireStage)
-    (here : IsHere scene (Add value owner) (add_at scene.capacity value owner (adds.TheVariants.Acquires stage))) where
+    (here : IsHere scene (Add value owner) (add_at scene.capacity value owner (adds.Acquires stage))) where
   open scene use {capacity as c, party as p, steps as steps, backs as backs}
 
   abbrev ws : List ℕ
@@ -41,7 +42,7 @@ module _ {T : Type 0} (scene : Scene T) (inv : Inv scene) (value : T) (owner : �
   start = Add value owner
 
   abbrev flight : ContainerFlight T
-  flight = add_at c value owner (adds.TheVariants.Acquires stage)
+  flight = add_at c value owner (adds.Acquires stage)
 
   abbrev goes_to : AddStage → ContainerFlight T
   goes_to next = add_at c value owner next
@@ -50,7 +51,7 @@ module _ {T : Type 0} (scene : Scene T) (inv : Inv scene) (value : T) (owner : �
   abbrev Lead : Option Ask → Bool → List (Event T) → After set_calls.Acquire Acquired → Type 0
   Lead ask back did a =
       Leads scene (Add value owner) ask back scene.states (did ++ [])
-      (as_call calls.TheVariants.Add added (went_on as_it_is (record { value = value; owner = owner }) tt (add_acquired (first_add c) a)))
+      (as_call calls.Add added (went_on as_it_is (record { value = value; owner = owner }) tt (add_acquired (first_add c) a)))
 
   module _ (none : done scene ≡ []) where
     still : (words' : List ℕ) (y : Party T) (es : List (Event T))
@@ -58,31 +59,31 @@ module _ {T : Type 0} (scene : Scene T) (inv : Inv scene) (value : T) (owner : �
         → OwesStill scene inv words' y es well_formed
     still words' y es well_formed = owes_none scene start flight y here refl
 
-    refuses : (failure : failures.UniqueIndexSetAcquireFailure) (ask : Option Ask) (back : Bool)
+    refuses : (failure : UniqueIndexSetAcquireFailure) (ask : Option Ask) (back : Bool)
         → words_after ws ask ≡ ws → WhyNot (of_set scene) (inv_of_set scene inv) owner fits acts.alive 0 failure
         → set_knows.IsPaid (set_stages.sees (of_set scene) ask back)
         → FewEnd (of_set scene) (inv_of_set scene inv) owner fits acts.alive 0 ask back → Lead ask back [] (Done (Err failure))
-    refuses failures.TheVariants.IsLocked ask back same why paid few =
-        let y = party_then scene start ask back (Done (NoPlace add_failures.TheVariants.IsLocked)) in
-        let es = Finished p (Container start) (NoPlace add_failures.TheVariants.IsLocked) ∷ [] in
+    refuses failures.IsLocked ask back same why paid few =
+        let y = party_then scene start ask back (Done (NoPlace add_failures.IsLocked)) in
+        let es = Finished p (Container start) (NoPlace add_failures.IsLocked) ∷ [] in
         let well_formed = was_well_formed scene start tt here.span (words_after ws ask) y es (refl, tt) in
-        ends scene start (NoPlace add_failures.TheVariants.IsLocked) ask back scene.states [] here.span none_lengthens
-        (ends_calmly scene inv start flight tt here y (words_after ws ask) (NoPlace add_failures.TheVariants.IsLocked)
+        ends scene start (NoPlace add_failures.IsLocked) ask back scene.states [] here.span none_lengthens
+        (ends_calmly scene inv start flight tt here y (words_after ws ask) (NoPlace add_failures.IsLocked)
         (set_effects.quietly (of_set scene) (inv_of_set scene inv) (words_after ws ask) es
         (set_effects.stays_same (of_set scene) (inv_of_set scene inv) (words_after ws ask) same).leaves
-        (quiet_end p (Container start) (NoPlace add_failures.TheVariants.IsLocked) (λ i o. refl) (λ i r. refl))
+        (quiet_end p (Container start) (NoPlace add_failures.IsLocked) (λ i o. refl) (λ i r. refl))
         (refl, tt) (tt, tt) (tt, tt))
         why.0 well_formed (λ holds. tt) same (λ i b. refl) (still (words_after ws ask) y es well_formed))
         ((refl, why.1), tt) (omega arith) (omega arith)
-    refuses failures.TheVariants.OutOfIndices ask back same why paid few =
-        let y = party_then scene start ask back (Done (NoPlace add_failures.TheVariants.OutOfSpace)) in
-        let es = Finished p (Container start) (NoPlace add_failures.TheVariants.OutOfSpace) ∷ [] in
+    refuses failures.OutOfIndices ask back same why paid few =
+        let y = party_then scene start ask back (Done (NoPlace add_failures.OutOfSpace)) in
+        let es = Finished p (Container start) (NoPlace add_failures.OutOfSpace) ∷ [] in
         let well_formed = was_well_formed scene start tt here.span (words_after ws ask) y es (refl, tt) in
-        ends scene start (NoPlace add_failures.TheVariants.OutOfSpace) ask back scene.states [] here.span none_lengthens
-        (ends_calmly scene inv start flight tt here y (words_after ws ask) (NoPlace add_failures.TheVariants.OutOfSpace)
+        ends scene start (NoPlace add_failures.OutOfSpace) ask back scene.states [] here.span none_lengthens
+        (ends_calmly scene inv start flight tt here y (words_after ws ask) (NoPlace add_failures.OutOfSpace)
         (set_effects.quietly (of_set scene) (inv_of_set scene inv) (words_after ws ask) es
         (set_effects.stays_same (of_set scene) (inv_of_set scene inv) (words_after ws ask) same).leaves
-        (quiet_end p (Container start) (NoPlace add_failures.TheVariants.OutOfSpace)
+        (quiet_end p (Container start) (NoPlace add_failures.OutOfSpace)
         (λ i o. refl) (λ i r. refl))
         (refl, tt) (tt, tt) (tt, tt)) (
           why.0,
@@ -96,18 +97,18 @@ module _ {T : Type 0} (scene : Scene T) (inv : Inv scene) (value : T) (owner : �
     caller =
         record {
           quiet = λ next ask back same at known few.
-              let y = party_then scene start ask back (GoOn (goes_to (adds.TheVariants.Acquires next))) in
+              let y = party_then scene start ask back (GoOn (goes_to (adds.Acquires next))) in
               let well_formed = was_well_formed scene start tt here.span (words_after ws ask) y [] tt in
-              goes_calmly scene start (goes_to (adds.TheVariants.Acquires next)) ask back scene.states here.span
+              goes_calmly scene start (goes_to (adds.Acquires next)) ask back scene.states here.span
               (loads scene inv start flight tt here y (words_after ws ask) same well_formed (still (words_after ws ask) y [] well_formed))
               (omega arith) (refl, refl, fits, (at, none)) known;
           filled = λ i ask new does below empty_all known few.
               let y =
               party_then scene start ask false
-              (GoOn (goes_to (adds.TheVariants.Acquires (acquires.TheVariants.Raises i raises.TheVariants.LoadsCounter)))) in
+              (GoOn (goes_to (adds.Acquires (acquires.Raises i raises.LoadsCounter)))) in
               let es = Filled p i owner ∷ [] in
               let well_formed = was_well_formed scene start tt here.span (words_after ws ask) y es (refl, tt) in
-              goes_on scene start (goes_to (adds.TheVariants.Acquires (acquires.TheVariants.Raises i raises.TheVariants.LoadsCounter)))
+              goes_on scene start (goes_to (adds.Acquires (acquires.Raises i raises.LoadsCounter)))
               ask false scene.states es here.span (λ start w. refl)
               (fills scene inv start flight tt here y (words_after ws ask)
               (rest_set scene inv start flight tt here y (words_after ws ask) (cell_word i) owner (omega arith) new)
@@ -118,11 +119,11 @@ module _ {T : Type 0} (scene : Scene T) (inv : Inv scene) (value : T) (owner : �
           fails = refuses;
           grants = λ i ask back below filled mine raised paid few.
               let stays = set_effects.raised_stays (of_set scene) (inv_of_set scene inv) (words_after ws ask) raised in
-              let y = party_then scene start ask back (GoOn (goes_to (adds.TheVariants.LoadsCount i))) in
+              let y = party_then scene start ask back (GoOn (goes_to (adds.LoadsCount i))) in
               let es = Granted p i owner ∷ [] in
               let well_formed = was_well_formed scene start tt here.span (words_after ws ask) y es (refl, tt) in
               let alone = grants_alone (of_set scene) (inv_of_set scene inv) (words_after ws ask) i owner mine acts.alive raised in
-              goes_on scene start (goes_to (adds.TheVariants.LoadsCount i)) ask back scene.states es here.span (λ start w. refl)
+              goes_on scene start (goes_to (adds.LoadsCount i)) ask back scene.states es here.span (λ start w. refl)
               (grants scene inv start flight tt here y (words_after ws ask)
               (λ n behind. stays.others n (omega arith)) stays.leaves.wide i owner alone well_formed
               (still (words_after ws ask) y es well_formed))
@@ -141,5 +142,5 @@ module _ {T : Type 0} (scene : Scene T) (inv : Inv scene) (value : T) (owner : �
     pub acquire_step : AcquireAt c owner (all scene) stage
         → set_knows.Knows c (acquire_at c owner stage) (set_stages.now (of_set scene))
         → steps ≤ acquire_number c stage backs
-        → StepOf scene (Add value owner) (add_at c value owner (adds.TheVariants.Acquires stage))
+        → StepOf scene (Add value owner) (add_at c value owner (adds.Acquires stage))
     acquire_step at k s = held_step (of_set scene) (inv_of_set scene inv) owner fits acts.alive 0 Lead caller stage at k (omega arith)

@@ -9,10 +9,10 @@ use Rattle.laws_container.proofs.Names.{HasWritten, AsksOnce, IsAnswered, IsTold
 use Rattle.laws_container.proofs.Names.{acts_of, state_of, effects, questions, IsIn, set_acts_of, read_in, answer_in}
 use Rattle.laws_container.proofs.Names.{number_of, ending_of, events_of, after_turn, Trace, both_ways}
 use Rattle.laws_container.proofs.Names.{raise_asks_none, lock_asks_none}
-use Rattle.steps.specs.declared.container.find.FindStage as finds
+use Rattle.steps.specs.declared.container.find.FindStage.TheVariants as finds
 use Rattle.steps.specs.declared.copied.Buffer as buffers
-use Rattle.model.specs.declared.families.Flight as flights
-use Rattle.model.specs.declared.families.container.ContainerStart as starts
+use Rattle.model.specs.declared.families.Flight.TheVariants as flights
+use Rattle.model.specs.declared.families.container.ContainerStart.TheVariants as starts
 use Rattle.model.specs.declared.families.container.calls.ContainerFlight.TheVariants.{Find, Recover}
 use Rattle.model.proofs.Frame as frame
 use Rattle.laws_container.proofs.AskedLeft.{made}
@@ -70,7 +70,7 @@ module _ {T : Type 0} (shown : Shown T) (terms : Terms) (code : Coding T) (t : T
         ++ ending_of p (Container start) (answer_in (any_call (after code state flight answer)))
 
     abbrev HasAsked : ContainerFlight T → Type 0
-    HasAsked flight = question_at t p ≡ question_in code (Some (flights.TheVariants.Container flight))
+    HasAsked flight = question_at t p ≡ question_in code (Some (flights.Container flight))
 
     -- a call of this name waits for the decision
     pub record Waiting (said : Bool) (start : ContainerStart T) : Type 0 where
@@ -89,7 +89,7 @@ module _ {T : Type 0} (shown : Shown T) (terms : Terms) (code : Coding T) (t : T
       abbrev Hears : ContainerFlight T → Type 0
       Hears flight =
           is_question (want code flight) ≡ true → HasAsked flight
-          → Wrote true (starts.TheVariants.Recover owner mode) flight 1
+          → Wrote true (starts.Recover owner mode) flight 1
           → IsTold p owner t (after_turn t (Decide p true))
 
       stage_hears : (given : DeadOwner) → given.owner ≡ owner
@@ -98,13 +98,13 @@ module _ {T : Type 0} (shown : Shown T) (terms : Terms) (code : Coding T) (t : T
       stage_hears given same capacity room stage due asked e = grind arith
 
       hears : (flight : ContainerFlight T)
-          → At c code.size (set_acts_of p t.events) (acts_of p t.events) (starts.TheVariants.Recover owner mode) flight
+          → At c code.size (set_acts_of p t.events) (acts_of p t.events) (starts.Recover owner mode) flight
           → Hears flight
       hears x0 x1 = grind (arith, stage_hears)
 
       abbrev Stays : ContainerFlight T → Type 0
       Stays flight =
-          is_question (want code flight) ≡ true → Wrote false (starts.TheVariants.Recover owner mode) flight 0
+          is_question (want code flight) ≡ true → Wrote false (starts.Recover owner mode) flight 0
           → (after_turn t (Decide p false)).events ≡ t.events
 
       stage_stays : (given : DeadOwner) (capacity : ℕ) (room : buffers.Buffer 128) (stage : RecoverStage)
@@ -112,7 +112,7 @@ module _ {T : Type 0} (shown : Shown T) (terms : Terms) (code : Coding T) (t : T
       stage_stays x0 x1 x2 x3 x4 x5 = grind (arith, append-nil, both_ways, raise_asks_none, lock_asks_none)
 
       stays : (flight : ContainerFlight T)
-          → At c code.size (set_acts_of p t.events) (acts_of p t.events) (starts.TheVariants.Recover owner mode) flight
+          → At c code.size (set_acts_of p t.events) (acts_of p t.events) (starts.Recover owner mode) flight
           → Stays flight
       stays (Recover run) at = stage_stays run.given run.call.capacity run.room run.call.stage
       stays flight at = absurd at
@@ -124,17 +124,17 @@ module _ {T : Type 0} (shown : Shown T) (terms : Terms) (code : Coding T) (t : T
         → IsWellFormedSoFar terms (after_turn t (Decide p false)).world.latest (after_turn t (Decide p false)).events) where
       abbrev Stops : ContainerFlight T → Type 0
       Stops flight =
-          is_question (want code flight) ≡ true → HasAsked flight → Wrote false (starts.TheVariants.Find owner) flight 0
+          is_question (want code flight) ≡ true → HasAsked flight → Wrote false (starts.Find owner) flight 0
           → StoppedIf well_formed p owner t (after_turn t (Decide p false))
 
       stage_stops : (capacity given : ℕ) (room : buffers.Buffer 128) (stage : FindStage) → Stops (find_at capacity given room stage)
-      stage_stops capacity given room (finds.TheVariants.LoadsCell k found) due asked e = absurd (cc)
-      stage_stops capacity given room (finds.TheVariants.LoadsCount k found) due asked e = absurd (cc)
-      stage_stops capacity given room (finds.TheVariants.LoadsWord k found count at) due asked e = absurd (cc)
-      stage_stops capacity given room (finds.TheVariants.ChecksCount k found count) due asked e = absurd (cc)
-      stage_stops capacity given room (finds.TheVariants.Asks k found) due asked e =
+      stage_stops capacity given room (finds.LoadsCell k found) due asked e = absurd (cc)
+      stage_stops capacity given room (finds.LoadsCount k found) due asked e = absurd (cc)
+      stage_stops capacity given room (finds.LoadsWord k found count at) due asked e = absurd (cc)
+      stage_stops capacity given room (finds.ChecksCount k found count) due asked e = absurd (cc)
+      stage_stops capacity given room (finds.Asks k found) due asked e =
           let ends : (after_turn t (Decide p false)).events
-          ≡ t.events ++ Finished p (Container (starts.TheVariants.Find owner)) (Number found) ∷ [] =
+          ≡ t.events ++ Finished p (Container (starts.Find owner)) (Number found) ∷ [] =
           ap (λ es. t.events ++ es) e in
           record {
             index = k;
@@ -145,7 +145,7 @@ module _ {T : Type 0} (shown : Shown T) (terms : Terms) (code : Coding T) (t : T
             counts = counts_up_to shown terms code t s may (Decide p false) r well_formed so_far p owner found k (read_in code room) ends refl asked;
           }
 
-      stops : (flight : ContainerFlight T) → At c code.size (set_acts_of p t.events) (acts_of p t.events) (starts.TheVariants.Find owner) flight → Stops flight
+      stops : (flight : ContainerFlight T) → At c code.size (set_acts_of p t.events) (acts_of p t.events) (starts.Find owner) flight → Stops flight
       stops (Find run) at = stage_stops run.call.capacity run.given run.room run.call.stage
       stops flight at = absurd at
 
@@ -159,7 +159,7 @@ module _ {T : Type 0} (shown : Shown T) (terms : Terms) (code : Coding T) (t : T
         (so_far : well_formed → IsWellFormedSoFar terms (after_turn t turn).world.latest (after_turn t turn).events)
         → FindsUpToIf well_formed t turn (after_turn t turn)
     finds_up_to well_formed so_far p owner is here =
-        let w = waiting p false (starts.TheVariants.Find owner) (by_turn p false is) here in
+        let w = waiting p false (starts.Find owner) (by_turn p false is) here in
         subst (λ u. StoppedIf well_formed p owner t (after_turn t u)) (sym is)
         (stops p owner (by_turn p false is) well_formed
         (subst (λ u. well_formed → IsWellFormedSoFar terms (after_turn t u).world.latest (after_turn t u).events) is so_far)

@@ -4,9 +4,9 @@ use Rattle.laws_container.proofs.Names.{◌≡◌, ℕ, ◌==◌, if◌then◌el
 use Rattle.laws_container.proofs.Names.{FindStage, RecoverStage, ContainerState, Answer, Flight, ContainerStart}
 use Rattle.laws_container.proofs.Names.{ContainerFlight, Coding, first, after, question_in, read_in}
 use Rattle.steps.specs.declared.ask.After.TheVariants.{Done}
-use Rattle.steps.specs.declared.container.find.FindStage as finds
-use Rattle.steps.specs.declared.container.recover.RecoverStage as recovers
-use Rattle.model.specs.declared.families.Flight as flights
+use Rattle.steps.specs.declared.container.find.FindStage.TheVariants as finds
+use Rattle.steps.specs.declared.container.recover.RecoverStage.TheVariants as recovers
+use Rattle.model.specs.declared.families.Flight.TheVariants as flights
 use Rattle.model.specs.declared.families.container.calls.ContainerFlight.TheVariants.{Find, Recover}
 use Rattle.laws_container.proofs.Stages.{any_call}
 
@@ -20,11 +20,11 @@ module _ {T : Type 0} (code : Coding T) where
   -- ---- what a step makes it ask about
 
   abbrev pub find_made : FindStage → T → ℕ → Option (ℕ × T)
-  find_made (finds.TheVariants.ChecksCount index found count) value old = if old == count then Some (index, value) else None
+  find_made (finds.ChecksCount index found count) value old = if old == count then Some (index, value) else None
   find_made stage value old = None
 
   abbrev pub recover_made : RecoverStage → T → ℕ → Option (ℕ × T)
-  recover_made (recovers.TheVariants.ChecksCount index count) value old = if old == count then Some (index, value) else None
+  recover_made (recovers.ChecksCount index count) value old = if old == count then Some (index, value) else None
   recover_made stage value old = None
 
   abbrev pub made : ContainerFlight T → ℕ → Option (ℕ × T)
@@ -42,5 +42,5 @@ module _ {T : Type 0} (code : Coding T) where
   question_left o flight old = grind arith
 
   -- and one that begins asks about none
-  pub question_first : (c : ℕ) (start : ContainerStart T) → question_in code (Some (flights.TheVariants.Container (first c start))) ≡ None
+  pub question_first : (c : ℕ) (start : ContainerStart T) → question_in code (Some (flights.Container (first c start))) ≡ None
   question_first c start = grind arith

@@ -15,8 +15,8 @@ use Rattle.laws_container.proofs.Names.{events_of_step, events_of_answer, events
 use Rattle.laws_container.proofs.Names.{events_of_decision, events_of, ending_of, ask_of_doing, after_turn, World}
 use Rattle.laws_container.proofs.Names.{Trace, flight_in, party_put_same, party_put_other, row_passed, StandsThere}
 use Rattle.laws_container.proofs.Names.{stands_there}
-use Rattle.model.specs.declared.families.Flight as flights
-use Rattle.model.specs.declared.turn.Kind as kinds
+use Rattle.model.specs.declared.families.Flight.TheVariants as flights
+use Rattle.model.specs.declared.turn.Kind.TheVariants as kinds
 use Rattle.model.proofs.Frame as frame
 use Rattle.laws_container.proofs.AskedLeft.{call_in, made, question_left, question_first}
 use Rattle.laws_container.proofs.Invariant.{family_by, view, wrote_of}
@@ -59,7 +59,7 @@ module _ {T : Type 0} (shown : Shown T) (terms : Terms) (code : Coding T) (c : �
     pub answer : ℕ
     pub since : ℕ
     pub backs : ℕ
-    pub asked : question_at t q ≡ question_in code (Some (flights.TheVariants.Container flight))
+    pub asked : question_at t q ≡ question_in code (Some (flights.Container flight))
     pub span : span_of q t.events ≡ Open (Container start) (wrote_of q t.events)
     pub at : At c code.size (set_acts_of q t.events) (acts_of q t.events) start flight
     pub knows : Knows code c flight (view terms s.state.words s.state.states t.world.latest t.events q since t.world.changes backs)
@@ -93,7 +93,7 @@ module _ {T : Type 0} (shown : Shown T) (terms : Terms) (code : Coding T) (c : �
     -- with what stays so of the flight
     pub record Went (flight : Flight T) : Type 0 where
       pub on : GoesOn turn q
-      pub is : flight ≡ flights.TheVariants.Container on.flight
+      pub is : flight ≡ flights.Container on.flight
       pub answered : on.answer ≡ answer
 
     abbrev From : Coding T → Registry T → Start T → Flight T → Type 0
@@ -104,7 +104,7 @@ module _ {T : Type 0} (shown : Shown T) (terms : Terms) (code : Coding T) (c : �
 
     by_names : (a : Start T) (flight : Flight T) → StandsThere (family_by terms code c) t s q x since a flight
         → From code (kept_now shown terms code c t s) a flight
-    by_names (Container start) (flights.TheVariants.Container flight) stands wrote asks others told asked =
+    by_names (Container start) (flights.Container flight) stands wrote asks others told asked =
         let there = is_there shown terms code c t s q x since found start flight stands in
         record {
           on =
@@ -243,16 +243,16 @@ module _ {T : Type 0} (shown : Shown T) (terms : Terms) (code : Coding T) (c : �
           ∙ e
 
       none_of : (start : Start T) (flight : Flight T)
-          → first_of kinds.TheVariants.Container t.world.capacity start t.world.kept ≡ Some flight
+          → first_of kinds.Container t.world.capacity start t.world.kept ≡ Some flight
           → question_in t.world.coding (Some flight) ≡ None
-      none_of (Container a) (flights.TheVariants.Container one) is =
-          let own = begins_own t.world.capacity t.world.kept (Container a) (flights.TheVariants.Container one) is in
-          subst (λ f. question_in t.world.coding (Some (flights.TheVariants.Container f)) ≡ None) own.0 (question_first t.world.coding t.world.capacity a)
+      none_of (Container a) (flights.Container one) is =
+          let own = begins_own t.world.capacity t.world.kept (Container a) (flights.Container one) is in
+          subst (λ f. question_in t.world.coding (Some (flights.Container f)) ≡ None) own.0 (question_first t.world.coding t.world.capacity a)
       none_of a one is = absurd (begins_own t.world.capacity t.world.kept a one is)
 
       here : p ≡ q → world_asks t.world p ≡ Some (index, value)
       here is =
-          let named : first_of kinds.TheVariants.Container t.world.capacity start t.world.kept ≡ Some flight =
+          let named : first_of kinds.Container t.world.capacity start t.world.kept ≡ Some flight =
           subst (λ kind. first_of kind t.world.capacity start t.world.kept ≡ Some flight) s.kind first in
           let none : question_in t.world.coding (Some flight) ≡ None = none_of start flight named in
           let stands : world_asks (after_begin t.world q start (Some flight)) q ≡ question_in t.world.coding (Some flight) =

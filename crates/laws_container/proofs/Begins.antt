@@ -10,9 +10,9 @@ use Rattle.laws_container.proofs.Names.{settled_of, wrote_in, IsOneOf, party_of,
 use Rattle.laws_container.proofs.Names.{span_of, IsShut, party_put_other, found_put_same, found_put_other, no_more}
 use Rattle.laws_container.proofs.Names.{span_of-own, count_none, GoneBy, is_gone, both_ways, calm_less}
 use Rattle.laws_container.proofs.Names.{gone_begun, since_begun}
-use Rattle.steps.specs.declared.container.remove.RemoveStage as removes
-use Rattle.steps.specs.declared.container.replace.ReplaceStage as replaces
-use Rattle.model.specs.declared.families.container.ContainerStart as starts
+use Rattle.steps.specs.declared.container.remove.RemoveStage.TheVariants as removes
+use Rattle.steps.specs.declared.container.replace.ReplaceStage.TheVariants as replaces
+use Rattle.model.specs.declared.families.container.ContainerStart.TheVariants as starts
 use Rattle.laws_robust.proofs.Begins.{begins, taken}
 use Rattle.laws_robust.proofs.Invariant as set
 use Rattle.laws_container.proofs.Invariant.{Scene, Elements, Changes, Does, before, after, of_set, view}
@@ -88,8 +88,8 @@ module _ {T : Type 0} (scene : Scene T)
   new_other q ne = found_put_other q p (fresh code c) scene.states ne
 
   other_states : (start : ContainerStart T) (q : ℕ) → q ≢ p → state_of q (states' start) ≡ state_of q scene.states
-  other_states starts.TheVariants.GetState q ne = new_other q ne
-  other_states starts.TheVariants.UpdateState q ne = go (is_some (state_of p scene.states))
+  other_states starts.GetState q ne = new_other q ne
+  other_states starts.UpdateState q ne = go (is_some (state_of p scene.states))
     where
       go : (b : Bool) → state_of q (if b then scene.states else with_state p (fresh code c) scene.states) ≡ state_of q scene.states
       go true = refl
@@ -133,11 +133,11 @@ module _ {T : Type 0} (scene : Scene T)
 
   module _ (index owner : ℕ) (mode : ReleaseMode) where
     abbrev removing : ContainerStart T
-    removing = starts.TheVariants.Remove index owner mode
+    removing = starts.Remove index owner mode
 
     remove_knows : (b : Bool) → nat_lt index c ≡ b
         → RemoveKnows code c (if b then index else c) owner mode
-        (if nat_lt (if b then index else c) c then removes.TheVariants.LoadsCount else removes.TheVariants.Refuses)
+        (if nat_lt (if b then index else c) c then removes.LoadsCount else removes.Refuses)
         (v removing)
     remove_knows true t =
         rw t
@@ -155,11 +155,11 @@ module _ {T : Type 0} (scene : Scene T)
 
   module _ (index : ℕ) (value : T) (owner : ℕ) where
     abbrev replacing : ContainerStart T
-    replacing = starts.TheVariants.Replace index value owner
+    replacing = starts.Replace index value owner
 
     replaces_know : (b : Bool) → nat_lt index c ≡ b
         → ReplacesKnow code c (if b then index else c) value owner
-        (if nat_lt (if b then index else c) c then replaces.TheVariants.LoadsCell else replaces.TheVariants.Refuses)
+        (if nat_lt (if b then index else c) c then replaces.LoadsCell else replaces.Refuses)
         (v replacing)
     replaces_know true t = rw t (paid replacing, replace_begun scene.terms.by p index owner value events)
     replaces_know false t = let past : nat_lt c c ≡ false = grind (arith, nat_tests) in rw past (paid replacing)
@@ -176,7 +176,7 @@ module _ {T : Type 0} (scene : Scene T)
         own = λ getting i value ne is. let none : None ≡ Some value = sym (shows_same _ c i) ∙ is in absurd (cc);
       }
 
-  old_state : (start : ContainerStart T) → start ≢ starts.TheVariants.GetState → (o : Option (ContainerState T))
+  old_state : (start : ContainerStart T) → start ≢ starts.GetState → (o : Option (ContainerState T))
       → state_of p scene.states ≡ o
       → LookRests code c (view scene.terms scene.words (if is_some o then scene.states else with_state p (fresh code c) scene.states)
       (put p (y start) latest) (events ++ begun start) p changes changes 0)
@@ -187,7 +187,7 @@ module _ {T : Type 0} (scene : Scene T)
         found = e;
         rests = still_rests start s e;
         own =
-            λ getting. let name : Some (Container start) ≡ Some (Container starts.TheVariants.GetState) =
+            λ getting. let name : Some (Container start) ≡ Some (Container starts.GetState) =
             sym (ap name_of (span_begun start)) ∙ getting in
             absurd (other (cc));
       }
@@ -196,21 +196,21 @@ module _ {T : Type 0} (scene : Scene T)
   at_first start named = grind arith
 
   gone_then : (by : GoneBy) (owner : ℕ) (mode : ReleaseMode)
-      → MayRecover by events (starts.TheVariants.Recover owner mode)
-      → is_gone by owner (events ++ begun (starts.TheVariants.Recover owner mode)) ≡ true
+      → MayRecover by events (starts.Recover owner mode)
+      → is_gone by owner (events ++ begun (starts.Recover owner mode)) ≡ true
   gone_then x0 x1 x2 x3 = grind (arith, fold-append, false, gone_begun)
 
   knows_first : (start : ContainerStart T) → MayRecover scene.terms.by events start → Knows code c (first c start) (v start)
-  knows_first (starts.TheVariants.Add value owner) r =
-      record { paid = paid (starts.TheVariants.Add value owner); scanned = tt; owns = tt; says = tt; gone = tt }
-  knows_first (starts.TheVariants.Remove index owner mode) r = remove_knows index owner mode (nat_lt index c) refl
-  knows_first (starts.TheVariants.Replace index value owner) r = replaces_know index value owner (nat_lt index c) refl
-  knows_first (starts.TheVariants.Find owner) r =
-      let start : ContainerStart T = starts.TheVariants.Find owner in
+  knows_first (starts.Add value owner) r =
+      record { paid = paid (starts.Add value owner); scanned = tt; owns = tt; says = tt; gone = tt }
+  knows_first (starts.Remove index owner mode) r = remove_knows index owner mode (nat_lt index c) refl
+  knows_first (starts.Replace index value owner) r = replaces_know index value owner (nat_lt index c) refl
+  knows_first (starts.Find owner) r =
+      let start : ContainerStart T = starts.Find owner in
       let none = count_none p (IsFilledWith owner) (events ++ begun start) in
       (length-replicate {A = ℕ} 128 0, (paid start, none, λ well_formed. record { count = none; copied = λ index less chosen through. absurd (omega arith) }))
-  knows_first (starts.TheVariants.Recover owner mode) r =
-      let start : ContainerStart T = starts.TheVariants.Recover owner mode in
+  knows_first (starts.Recover owner mode) r =
+      let start : ContainerStart T = starts.Recover owner mode in
       let dead = gone_then scene.terms.by owner mode r in (
         length-replicate {A = ℕ} 128 0,
         (
@@ -224,12 +224,12 @@ module _ {T : Type 0} (scene : Scene T)
         ),
         tt,
       )
-  knows_first starts.TheVariants.GetState r = (paid starts.TheVariants.GetState, new_state starts.TheVariants.GetState)
-  knows_first starts.TheVariants.UpdateState r =
-      (paid starts.TheVariants.UpdateState, old_state starts.TheVariants.UpdateState (λ e. cc) (state_of p scene.states) refl)
-  knows_first starts.TheVariants.Len r = record { paid = paid starts.TheVariants.Len; scanned = tt; owns = tt; says = tt; gone = tt }
-  knows_first starts.TheVariants.IsEmpty r = record { paid = paid starts.TheVariants.IsEmpty; scanned = tt; owns = tt; says = tt; gone = tt }
-  knows_first starts.TheVariants.IsLocked r = record { paid = paid starts.TheVariants.IsLocked; scanned = tt; owns = tt; says = tt; gone = tt }
+  knows_first starts.GetState r = (paid starts.GetState, new_state starts.GetState)
+  knows_first starts.UpdateState r =
+      (paid starts.UpdateState, old_state starts.UpdateState (λ e. cc) (state_of p scene.states) refl)
+  knows_first starts.Len r = record { paid = paid starts.Len; scanned = tt; owns = tt; says = tt; gone = tt }
+  knows_first starts.IsEmpty r = record { paid = paid starts.IsEmpty; scanned = tt; owns = tt; says = tt; gone = tt }
+  knows_first starts.IsLocked r = record { paid = paid starts.IsLocked; scanned = tt; owns = tt; says = tt; gone = tt }
 
   pub begins_shown : (start : ContainerStart T) → names_owner start ≡ true → MayRecover scene.terms.by events start → Begins scene start
   begins_shown start named r = record { does = does start; at = at_first start named; knows = knows_first start r }

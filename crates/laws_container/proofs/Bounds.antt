@@ -4,9 +4,9 @@ use Rattle.laws_container.proofs.Names.{LookStage, RecoverStage, RemoveStage, Re
 use Rattle.laws_container.proofs.Names.{LockIfLastIndex, Lock, Start, Container, Flight}
 use Rattle.laws_container.proofs.Names.{ContainerStart, ContainerFlight, Coding, most_steps}
 use Rattle.laws_container.proofs.Names.{place_of, most, Act, SetAct, times_below, lock_number, LockAt}
-use Rattle.steps.specs.declared.container.look.LookStage as looks
-use Rattle.model.specs.declared.families.Flight as flights
-use Rattle.model.specs.declared.families.container.ContainerStart as starts
+use Rattle.steps.specs.declared.container.look.LookStage.TheVariants as looks
+use Rattle.model.specs.declared.families.Flight.TheVariants as flights
+use Rattle.model.specs.declared.families.container.ContainerStart.TheVariants as starts
 use Rattle.model.proofs.Frame as frame
 use Rattle.laws_robust.proofs.Kept.{count_most, lock_most}
 use Rattle.laws_container.proofs.Invariant.{ContainerNow, family}
@@ -23,7 +23,7 @@ module _ {T : Type 0} (c z : ℕ) (all : List SetAct) (done : List (Act T)) wher
 
   remove_most : (i index owner : ℕ) (mode : ReleaseMode) (stage : RemoveStage) (backs : ℕ)
       → RemoveAt c z all done index owner mode stage
-      → remove_number c i owner mode stage backs ≤ most_steps {T = T} c z (starts.TheVariants.Remove index owner mode) backs
+      → remove_number c i owner mode stage backs ≤ most_steps {T = T} c z (starts.Remove index owner mode) backs
   remove_most i index owner mode stage backs at = grind arith
 
   replace_most : (index : ℕ) (stage : ReplaceStage) → ReplaceAt c z all done index stage → replace_number z stage ≤ 5 + z
@@ -39,14 +39,14 @@ module _ {T : Type 0} (c z : ℕ) (all : List SetAct) (done : List (Act T)) wher
 
   recover_most : (owner : ℕ) (mode : ReleaseMode) (stage : RecoverStage) (backs : ℕ)
       → RecoverAt c z all done owner mode stage
-      → recover_number c z mode stage backs ≤ most_steps {T = T} c z (starts.TheVariants.Recover owner mode) backs
+      → recover_number c z mode stage backs ≤ most_steps {T = T} c z (starts.Recover owner mode) backs
   recover_most x0 x1 x2 x3 x4 = grind (arith, recover_at_most, lock_most)
 
   look_most : (stage : LookStage) (backs : ℕ) → LookAt c z all done stage → look_number z stage backs ≤ 1 + c * (z + 2) + backs * (z + 1)
-  look_most looks.TheVariants.LoadsChange backs at = omega arith
-  look_most (looks.TheVariants.LoadsCount index) backs at = let few = times_below c index (z + 2) at.1 in omega arith
-  look_most (looks.TheVariants.LoadsWord index count word) backs at = let few = times_below c index (z + 2) at.1.0 in let below = at.2 in omega arith
-  look_most (looks.TheVariants.ChecksCount index count) backs at = let few = times_below c index (z + 2) at.1.0 in omega arith
+  look_most looks.LoadsChange backs at = omega arith
+  look_most (looks.LoadsCount index) backs at = let few = times_below c index (z + 2) at.1 in omega arith
+  look_most (looks.LoadsWord index count word) backs at = let few = times_below c index (z + 2) at.1.0 in let below = at.2 in omega arith
+  look_most (looks.ChecksCount index count) backs at = let few = times_below c index (z + 2) at.1.0 in omega arith
 
   steps_most : (backs : ℕ) (start : ContainerStart T) (flight : ContainerFlight T) → At c z all done start flight
       → number_of c z flight backs ≤ most_steps c z start backs
@@ -68,10 +68,10 @@ module _ {T : Type 0} where
       at_most : (s : ContainerNow T) (p backs : ℕ) (start : Start T) (flight : Flight T)
           → (family code c).At s p start flight
           → (family code c).number ((family code c).written s p flight) flight backs ≤ most c code.size start backs
-      at_most s p backs (Container start) (flights.TheVariants.Container flight) h = steps_most c code.size _ _ backs start flight h
+      at_most s p backs (Container start) (flights.Container flight) h = steps_most c code.size _ _ backs start flight h
       at_most s p backs start flight h = absurd h
 
       paid : (s : ContainerNow T) (p : ℕ) (events : List _) (since changes backs : ℕ) (flight : Flight T)
           → (family code c).Knows s p events since changes backs flight → backs ≤ changes - since
-      paid s p events since changes backs (flights.TheVariants.Container flight) h = pays code c _ flight h
+      paid s p events since changes backs (flights.Container flight) h = pays code c _ flight h
       paid s p events since changes backs flight h = absurd h

@@ -11,13 +11,19 @@ use Rattle.steps.specs.Container.Replace.{replace_asks}
 use Rattle.steps.specs.Indices.Robust.Parts.{cell_word, empty, one_more}
 use Rattle.steps.specs.declared.ask.Op.{Op}
 use Rattle.steps.specs.declared.ask.Op.TheVariants.{Load, Store, Add as AddBy, Exchange}
-use Rattle.steps.specs.declared.container.add.AddStage as adds
+use Rattle.steps.specs.declared.container.add.AddStage.{AddStage}
+use Rattle.steps.specs.declared.container.add.AddStage.TheVariants as adds
 use Rattle.steps.specs.declared.container.add.Owned.{Owned}
-use Rattle.steps.specs.declared.container.find.FindStage as finds
-use Rattle.steps.specs.declared.container.look.LookStage as looks
-use Rattle.steps.specs.declared.container.recover.RecoverStage as recovers
-use Rattle.steps.specs.declared.container.remove.RemoveStage as removes
-use Rattle.steps.specs.declared.container.replace.ReplaceStage as replaces
+use Rattle.steps.specs.declared.container.find.FindStage.{FindStage}
+use Rattle.steps.specs.declared.container.find.FindStage.TheVariants as finds
+use Rattle.steps.specs.declared.container.look.LookStage.{LookStage}
+use Rattle.steps.specs.declared.container.look.LookStage.TheVariants as looks
+use Rattle.steps.specs.declared.container.recover.RecoverStage.{RecoverStage}
+use Rattle.steps.specs.declared.container.recover.RecoverStage.TheVariants as recovers
+use Rattle.steps.specs.declared.container.remove.RemoveStage.{RemoveStage}
+use Rattle.steps.specs.declared.container.remove.RemoveStage.TheVariants as removes
+use Rattle.steps.specs.declared.container.replace.ReplaceStage.{ReplaceStage}
+use Rattle.steps.specs.declared.container.replace.ReplaceStage.TheVariants as replaces
 use Rattle.steps.specs.declared.container.replace.Replacement.{Replacement}
 use Rattle.steps.specs.declared.indices.robust.release.GiveBack.{GiveBack}
 use Rattle.model.specs.declared.families.container.calls.ContainerFlight.{ContainerFlight}
@@ -31,30 +37,30 @@ use Rattle.laws_robust.proofs.Counter.{counter_of, count_finds, lock_finds, acqu
 use Rattle.laws_robust.proofs.Counter.{first_then, other_then, count_leaves, lock_leaves, acquire_leaves, release_leaves, raise_leaves}
 use Rattle.laws_robust.proofs.Counter.{raise_then, lock_then, lock_old, count_then, acquire_then, acquire_old, release_then, release_old}
 
-abbrev pub add_then : adds.AddStage → ℕ → ℕ
-add_then (adds.TheVariants.Acquires stage) n = acquire_then stage n
+abbrev pub add_then : AddStage → ℕ → ℕ
+add_then (adds.Acquires stage) n = acquire_then stage n
 add_then stage n = n
 
-abbrev pub add_old : adds.AddStage → ℕ → ℕ → ℕ
-add_old (adds.TheVariants.Acquires stage) n cell = acquire_old stage n cell
+abbrev pub add_old : AddStage → ℕ → ℕ → ℕ
+add_old (adds.Acquires stage) n cell = acquire_old stage n cell
 add_old stage n cell = cell
 
-abbrev pub remove_then : removes.RemoveStage → ℕ → ℕ
-remove_then (removes.TheVariants.Releases count stage) n = release_then stage n
+abbrev pub remove_then : RemoveStage → ℕ → ℕ
+remove_then (removes.Releases count stage) n = release_then stage n
 remove_then stage n = n
 
-abbrev pub remove_old : removes.RemoveStage → ℕ → ℕ → ℕ
-remove_old (removes.TheVariants.Releases count stage) n cell = release_old stage n cell
+abbrev pub remove_old : RemoveStage → ℕ → ℕ → ℕ
+remove_old (removes.Releases count stage) n cell = release_old stage n cell
 remove_old stage n cell = cell
 
-abbrev pub recover_then : recovers.RecoverStage → ℕ → ℕ
-recover_then (recovers.TheVariants.Raises index raise) n = raise_then raise n
-recover_then (recovers.TheVariants.Locks index lock) n = lock_then lock n
+abbrev pub recover_then : RecoverStage → ℕ → ℕ
+recover_then (recovers.Raises index raise) n = raise_then raise n
+recover_then (recovers.Locks index lock) n = lock_then lock n
 recover_then stage n = n
 
-abbrev pub recover_old : recovers.RecoverStage → ℕ → ℕ → ℕ
-recover_old (recovers.TheVariants.Raises index raise) n cell = n
-recover_old (recovers.TheVariants.Locks index lock) n cell = lock_old lock n cell
+abbrev pub recover_old : RecoverStage → ℕ → ℕ → ℕ
+recover_old (recovers.Raises index raise) n cell = n
+recover_old (recovers.Locks index lock) n cell = lock_old lock n cell
 recover_old stage n cell = cell
 
 module _ {T : Type 0} where
@@ -77,44 +83,44 @@ module _ {T : Type 0} (code : Coding T) (words : List ℕ) where
       → old_of words (ask_of (want code flight)) ≡ container_old flight (counter_of words) (old_of words (ask_of (want code flight)))
   container_finds (Add run) = add_finds run.call.stage
     where
-      add_finds : (stage : adds.AddStage)
+      add_finds : (stage : AddStage)
           → old_of words (ask_of (add_asks code.words_of code.size run.call.capacity stage run.given))
           ≡ add_old stage (counter_of words) (old_of words (ask_of (add_asks code.words_of code.size run.call.capacity stage run.given)))
-      add_finds (adds.TheVariants.Acquires stage) = acquire_finds words stage run.given.owner
-      add_finds (adds.TheVariants.LoadsCount index) = refl
-      add_finds (adds.TheVariants.Hides index count) = refl
-      add_finds (adds.TheVariants.Stores index at) = refl
-      add_finds (adds.TheVariants.AddsCount index) = refl
-      add_finds (adds.TheVariants.AddsChange index) = refl
+      add_finds (adds.Acquires stage) = acquire_finds words stage run.given.owner
+      add_finds (adds.LoadsCount index) = refl
+      add_finds (adds.Hides index count) = refl
+      add_finds (adds.Stores index at) = refl
+      add_finds (adds.AddsCount index) = refl
+      add_finds (adds.AddsChange index) = refl
   container_finds (Remove run) = remove_finds run.call.stage
     where
-      remove_finds : (stage : removes.RemoveStage)
+      remove_finds : (stage : RemoveStage)
           → old_of words (ask_of (remove_asks run.call.capacity stage run.given))
           ≡ remove_old stage (counter_of words) (old_of words (ask_of (remove_asks run.call.capacity stage run.given)))
-      remove_finds removes.TheVariants.Refuses = refl
-      remove_finds removes.TheVariants.LoadsCount = refl
-      remove_finds (removes.TheVariants.Releases count stage) = release_finds words stage run.given
-      remove_finds (removes.TheVariants.Hides count state) = refl
-      remove_finds (removes.TheVariants.AddsChange state) = refl
+      remove_finds removes.Refuses = refl
+      remove_finds removes.LoadsCount = refl
+      remove_finds (removes.Releases count stage) = release_finds words stage run.given
+      remove_finds (removes.Hides count state) = refl
+      remove_finds (removes.AddsChange state) = refl
   container_finds (Replace run) = refl
   container_finds (Find run) = refl
   container_finds (Recover run) = recover_finds run.call.stage
     where
-      recover_finds : (stage : recovers.RecoverStage)
+      recover_finds : (stage : RecoverStage)
           → old_of words (ask_of (recover_asks code.size run.call.capacity stage run.given.owner))
           ≡ recover_old stage (counter_of words) (old_of words (ask_of (recover_asks code.size run.call.capacity stage run.given.owner)))
-      recover_finds recovers.TheVariants.LoadsCounter = refl
-      recover_finds (recovers.TheVariants.LoadsCell index) = refl
-      recover_finds (recovers.TheVariants.LoadsCount index) = refl
-      recover_finds (recovers.TheVariants.LoadsWord index count at) = refl
-      recover_finds (recovers.TheVariants.ChecksCount index count) = refl
-      recover_finds (recovers.TheVariants.Asks index count) = refl
-      recover_finds (recovers.TheVariants.EmptiesCell index count) = refl
-      recover_finds (recovers.TheVariants.Hides index count) = refl
-      recover_finds (recovers.TheVariants.Raises index raise) = raise_finds words raise
-      recover_finds (recovers.TheVariants.Locks index lock) = lock_finds words lock
-      recover_finds recovers.TheVariants.LoadsCounterAgain = refl
-      recover_finds (recovers.TheVariants.AddsChange state) = refl
+      recover_finds recovers.LoadsCounter = refl
+      recover_finds (recovers.LoadsCell index) = refl
+      recover_finds (recovers.LoadsCount index) = refl
+      recover_finds (recovers.LoadsWord index count at) = refl
+      recover_finds (recovers.ChecksCount index count) = refl
+      recover_finds (recovers.Asks index count) = refl
+      recover_finds (recovers.EmptiesCell index count) = refl
+      recover_finds (recovers.Hides index count) = refl
+      recover_finds (recovers.Raises index raise) = raise_finds words raise
+      recover_finds (recovers.Locks index lock) = lock_finds words lock
+      recover_finds recovers.LoadsCounterAgain = refl
+      recover_finds (recovers.AddsChange state) = refl
   container_finds (Look which call) = refl
   container_finds (Count which run) = count_finds words run.call.count
   container_finds (IsLocked run) = refl
@@ -131,60 +137,60 @@ module _ {T : Type 0} (code : Coding T) (words : List ℕ) where
         → counter_of (words_after words (Some (record { word = element_word c size index at; op = op }))) ≡ counter_of words
     element_leaves size index at op = other_then words some (element_word c size index at) op (omega arith)
 
-    add_leaves : (stage : adds.AddStage) (given : Owned T)
+    add_leaves : (stage : AddStage) (given : Owned T)
         → counter_of (words_after words (ask_of (add_asks code.words_of code.size c stage given))) ≡ add_then stage (counter_of words)
-    add_leaves (adds.TheVariants.Acquires stage) given = acquire_leaves words some stage given.owner
-    add_leaves (adds.TheVariants.LoadsCount index) given = count_leaves_it index Load
-    add_leaves (adds.TheVariants.Hides index count) given = count_leaves_it index (Exchange count (one_more count))
-    add_leaves (adds.TheVariants.Stores index at) given = element_leaves code.size index at (Store (get_or (code.words_of given.value) at 0))
-    add_leaves (adds.TheVariants.AddsCount index) given = count_leaves_it index (AddBy 1)
-    add_leaves (adds.TheVariants.AddsChange index) given = change_leaves
+    add_leaves (adds.Acquires stage) given = acquire_leaves words some stage given.owner
+    add_leaves (adds.LoadsCount index) given = count_leaves_it index Load
+    add_leaves (adds.Hides index count) given = count_leaves_it index (Exchange count (one_more count))
+    add_leaves (adds.Stores index at) given = element_leaves code.size index at (Store (get_or (code.words_of given.value) at 0))
+    add_leaves (adds.AddsCount index) given = count_leaves_it index (AddBy 1)
+    add_leaves (adds.AddsChange index) given = change_leaves
 
-    remove_leaves : (stage : removes.RemoveStage) (given : GiveBack)
+    remove_leaves : (stage : RemoveStage) (given : GiveBack)
         → counter_of (words_after words (ask_of (remove_asks c stage given))) ≡ remove_then stage (counter_of words)
-    remove_leaves removes.TheVariants.Refuses given = refl
-    remove_leaves removes.TheVariants.LoadsCount given = count_leaves_it given.index Load
-    remove_leaves (removes.TheVariants.Releases count stage) given = release_leaves words some stage given
-    remove_leaves (removes.TheVariants.Hides count state) given = count_leaves_it given.index (Exchange count (one_more count))
-    remove_leaves (removes.TheVariants.AddsChange state) given = change_leaves
+    remove_leaves removes.Refuses given = refl
+    remove_leaves removes.LoadsCount given = count_leaves_it given.index Load
+    remove_leaves (removes.Releases count stage) given = release_leaves words some stage given
+    remove_leaves (removes.Hides count state) given = count_leaves_it given.index (Exchange count (one_more count))
+    remove_leaves (removes.AddsChange state) given = change_leaves
 
-    replace_leaves : (stage : replaces.ReplaceStage) (given : Replacement T)
+    replace_leaves : (stage : ReplaceStage) (given : Replacement T)
         → counter_of (words_after words (ask_of (replace_asks code.words_of code.size c stage given))) ≡ counter_of words
-    replace_leaves replaces.TheVariants.Refuses given = refl
-    replace_leaves replaces.TheVariants.LoadsCell given = other_then words some (cell_word given.index) Load (omega arith)
-    replace_leaves replaces.TheVariants.LoadsCount given = count_leaves_it given.index Load
-    replace_leaves (replaces.TheVariants.Hides count) given = count_leaves_it given.index (Exchange count (one_more count))
-    replace_leaves (replaces.TheVariants.Stores at) given = element_leaves code.size given.index at (Store (get_or (code.words_of given.value) at 0))
-    replace_leaves replaces.TheVariants.AddsCount given = count_leaves_it given.index (AddBy 1)
-    replace_leaves replaces.TheVariants.AddsChange given = change_leaves
+    replace_leaves replaces.Refuses given = refl
+    replace_leaves replaces.LoadsCell given = other_then words some (cell_word given.index) Load (omega arith)
+    replace_leaves replaces.LoadsCount given = count_leaves_it given.index Load
+    replace_leaves (replaces.Hides count) given = count_leaves_it given.index (Exchange count (one_more count))
+    replace_leaves (replaces.Stores at) given = element_leaves code.size given.index at (Store (get_or (code.words_of given.value) at 0))
+    replace_leaves replaces.AddsCount given = count_leaves_it given.index (AddBy 1)
+    replace_leaves replaces.AddsChange given = change_leaves
 
-    find_leaves : (stage : finds.FindStage) → counter_of (words_after words (ask_of (find_asks code.size c stage))) ≡ counter_of words
-    find_leaves (finds.TheVariants.LoadsCell index found) = other_then words some (cell_word index) Load (omega arith)
-    find_leaves (finds.TheVariants.LoadsCount index found) = count_leaves_it index Load
-    find_leaves (finds.TheVariants.LoadsWord index found count at) = element_leaves code.size index at Load
-    find_leaves (finds.TheVariants.ChecksCount index found count) = count_leaves_it index (Exchange count count)
-    find_leaves (finds.TheVariants.Asks index found) = refl
+    find_leaves : (stage : FindStage) → counter_of (words_after words (ask_of (find_asks code.size c stage))) ≡ counter_of words
+    find_leaves (finds.LoadsCell index found) = other_then words some (cell_word index) Load (omega arith)
+    find_leaves (finds.LoadsCount index found) = count_leaves_it index Load
+    find_leaves (finds.LoadsWord index found count at) = element_leaves code.size index at Load
+    find_leaves (finds.ChecksCount index found count) = count_leaves_it index (Exchange count count)
+    find_leaves (finds.Asks index found) = refl
 
-    recover_leaves : (stage : recovers.RecoverStage) (owner : ℕ)
+    recover_leaves : (stage : RecoverStage) (owner : ℕ)
         → counter_of (words_after words (ask_of (recover_asks code.size c stage owner))) ≡ recover_then stage (counter_of words)
-    recover_leaves recovers.TheVariants.LoadsCounter owner = first_then words some Load
-    recover_leaves (recovers.TheVariants.LoadsCell index) owner = other_then words some (cell_word index) Load (omega arith)
-    recover_leaves (recovers.TheVariants.LoadsCount index) owner = count_leaves_it index Load
-    recover_leaves (recovers.TheVariants.LoadsWord index count at) owner = element_leaves code.size index at Load
-    recover_leaves (recovers.TheVariants.ChecksCount index count) owner = count_leaves_it index (Exchange count count)
-    recover_leaves (recovers.TheVariants.Asks index count) owner = refl
-    recover_leaves (recovers.TheVariants.EmptiesCell index count) owner = other_then words some (cell_word index) (Exchange owner empty) (omega arith)
-    recover_leaves (recovers.TheVariants.Hides index count) owner = count_leaves_it index (Exchange count (one_more count))
-    recover_leaves (recovers.TheVariants.Raises index raise) owner = raise_leaves words some raise
-    recover_leaves (recovers.TheVariants.Locks index lock) owner = lock_leaves words some lock
-    recover_leaves recovers.TheVariants.LoadsCounterAgain owner = first_then words some Load
-    recover_leaves (recovers.TheVariants.AddsChange state) owner = change_leaves
+    recover_leaves recovers.LoadsCounter owner = first_then words some Load
+    recover_leaves (recovers.LoadsCell index) owner = other_then words some (cell_word index) Load (omega arith)
+    recover_leaves (recovers.LoadsCount index) owner = count_leaves_it index Load
+    recover_leaves (recovers.LoadsWord index count at) owner = element_leaves code.size index at Load
+    recover_leaves (recovers.ChecksCount index count) owner = count_leaves_it index (Exchange count count)
+    recover_leaves (recovers.Asks index count) owner = refl
+    recover_leaves (recovers.EmptiesCell index count) owner = other_then words some (cell_word index) (Exchange owner empty) (omega arith)
+    recover_leaves (recovers.Hides index count) owner = count_leaves_it index (Exchange count (one_more count))
+    recover_leaves (recovers.Raises index raise) owner = raise_leaves words some raise
+    recover_leaves (recovers.Locks index lock) owner = lock_leaves words some lock
+    recover_leaves recovers.LoadsCounterAgain owner = first_then words some Load
+    recover_leaves (recovers.AddsChange state) owner = change_leaves
 
-    look_leaves : (stage : looks.LookStage) → counter_of (words_after words (ask_of (look_asks code.size c stage))) ≡ counter_of words
-    look_leaves looks.TheVariants.LoadsChange = other_then words some (change_word c) Load (omega arith)
-    look_leaves (looks.TheVariants.LoadsCount index) = count_leaves_it index Load
-    look_leaves (looks.TheVariants.LoadsWord index count at) = element_leaves code.size index at Load
-    look_leaves (looks.TheVariants.ChecksCount index count) = count_leaves_it index (Exchange count count)
+    look_leaves : (stage : LookStage) → counter_of (words_after words (ask_of (look_asks code.size c stage))) ≡ counter_of words
+    look_leaves looks.LoadsChange = other_then words some (change_word c) Load (omega arith)
+    look_leaves (looks.LoadsCount index) = count_leaves_it index Load
+    look_leaves (looks.LoadsWord index count at) = element_leaves code.size index at Load
+    look_leaves (looks.ChecksCount index count) = count_leaves_it index (Exchange count count)
 
   pub container_leaves : 0 < length words → (flight : ContainerFlight T)
       → counter_of (words_after words (ask_of (want code flight))) ≡ container_then flight (counter_of words)

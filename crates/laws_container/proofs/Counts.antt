@@ -9,12 +9,12 @@ use Rattle.laws_container.proofs.Names.{both_ways, not_shut, unlocked, is_shut, 
 use Rattle.laws_container.proofs.Names.{count_ask, part_step, IsSaid, Right, right_after, count_number, CountAt}
 use Rattle.laws_container.proofs.Names.{GoneBy, IsWorn}
 use Rattle.steps.specs.declared.ask.After.TheVariants.{Done}
-use Rattle.steps.specs.declared.indices.robust.parts.Count as parts
+use Rattle.steps.specs.declared.indices.robust.parts.Count.TheVariants as parts
 use Rattle.steps.specs.declared.indices.robust.parts.Counted.{Counted}
 use Rattle.steps.specs.Indices.Robust.Looks.{borrowed_counted}
-use Rattle.model.specs.declared.families.container.ContainerStart as starts
-use Rattle.model.specs.declared.families.container.calls.ContainerFlight as calls
-use Rattle.model.specs.declared.families.container.calls.CountOf as counts
+use Rattle.model.specs.declared.families.container.ContainerStart.TheVariants as starts
+use Rattle.model.specs.declared.families.container.calls.ContainerFlight.TheVariants as calls
+use Rattle.model.specs.declared.families.container.calls.CountOf.TheVariants as counts
 use Rattle.model.specs.Families.Container.Calls.{counted}
 use Rattle.laws_robust.proofs.Knows as set_knows
 use Rattle.laws_robust.proofs.Stages as set_stages
@@ -31,16 +31,16 @@ use Rattle.laws_container.proofs.Turns.{WellFormed}
 
 -- the call of each kind of count
 abbrev pub counts_as : {T : Type 0} → CountOf → ContainerStart T
-counts_as counts.TheVariants.Len = starts.TheVariants.Len
-counts_as counts.TheVariants.IsEmpty = starts.TheVariants.IsEmpty
+counts_as counts.Len = starts.Len
+counts_as counts.IsEmpty = starts.IsEmpty
 
 one_filled : {A : Type 0} (o : Option ℕ) → o ≡ None → is_some o ≡ true → A
 one_filled o none some = both_ways (is_some o) (ap is_some none) some
 
 module _ (T : Type 0) where
   no_replace : (which : CountOf) → NoReplace (counts_as {T = T} which)
-  no_replace counts.TheVariants.Len = tt
-  no_replace counts.TheVariants.IsEmpty = tt
+  no_replace counts.Len = tt
+  no_replace counts.IsEmpty = tt
 
   at_count : (which : CountOf) (c z : ℕ) (set_acts : List SetAct) (acts : List (Act T)) (count : Counting)
       → CountAt c count → set_acts ≡ [] → At c z set_acts acts (counts_as which) (count_at which c count)
@@ -104,7 +104,7 @@ module _ {T : Type 0} (scene : Scene T) (inv : Inv scene) where
     abbrev counts_to : Option Ask → Bool → After Counting Counted → Type 0
     counts_to ask back r =
         Leads scene (counts_as which) ask back scene.states []
-        (as_call (λ run. calls.TheVariants.Count which run) (counted which)
+        (as_call (λ run. calls.Count which run) (counted which)
         (went_on as_it_is tt tt (borrowed_counted (record { capacity = c; count = count }) r)))
 
     -- the count ends with this number
@@ -163,25 +163,25 @@ module _ {T : Type 0} (scene : Scene T) (inv : Inv scene) where
   pub count_step : (which : CountOf) (count : Counting) → IsHere scene (counts_as which) (count_at which c count)
       → CountAt c count → all scene ≡ [] → Knows code c (count_at which c count) (sees_now scene)
       → steps ≤ count_number c count + backs * (c + 2) → StepOf scene (counts_as which) (count_at which c count)
-  count_step which parts.TheVariants.LoadsCounter here at none k s = counts_move which parts.TheVariants.LoadsCounter here at none k s
-  count_step which (parts.TheVariants.LoadsCell number i filled) here at none k s =
-      counts_move which (parts.TheVariants.LoadsCell number i filled) here at none k s
-  count_step which (parts.TheVariants.ExchangesCounter number filled) here at none k s =
-      counts_move which (parts.TheVariants.ExchangesCounter number filled) here at none k s
+  count_step which parts.LoadsCounter here at none k s = counts_move which parts.LoadsCounter here at none k s
+  count_step which (parts.LoadsCell number i filled) here at none k s =
+      counts_move which (parts.LoadsCell number i filled) here at none k s
+  count_step which (parts.ExchangesCounter number filled) here at none k s =
+      counts_move which (parts.ExchangesCounter number filled) here at none k s
 
-  pub lock_step : IsHere scene starts.TheVariants.IsLocked lock_at → all scene ≡ []
-      → Knows code c lock_at (sees_now scene) → steps ≤ 0 → StepOf scene starts.TheVariants.IsLocked lock_at
+  pub lock_step : IsHere scene starts.IsLocked lock_at → all scene ≡ []
+      → Knows code c lock_at (sees_now scene) → steps ≤ 0 → StepOf scene starts.IsLocked lock_at
   lock_step here none k s =
       let ask = Some (set_stages.loads 0) in
       let answer = Truth (counter_of ws == locked) in
-      let y = party_then scene starts.TheVariants.IsLocked ask false (Done answer) in
-      let es = Finished p (Container starts.TheVariants.IsLocked) answer ∷ [] in
-      let well_formed = was_well_formed scene starts.TheVariants.IsLocked tt here.span (words_after ws ask) y es (refl, tt) in
+      let y = party_then scene starts.IsLocked ask false (Done answer) in
+      let es = Finished p (Container starts.IsLocked) answer ∷ [] in
+      let well_formed = was_well_formed scene starts.IsLocked tt here.span (words_after ws ask) y es (refl, tt) in
       let paid = k.paid in
-      ends scene starts.TheVariants.IsLocked answer ask false scene.states [] here.span none_lengthens
-      (ends_there scene inv starts.TheVariants.IsLocked lock_at tt here y (words_after ws ask)
+      ends scene starts.IsLocked answer ask false scene.states [] here.span none_lengthens
+      (ends_there scene inv starts.IsLocked lock_at tt here y (words_after ws ask)
       (stays_same (of_set scene) (inv_of_set scene inv) (words_after ws ask) (set_stages.loads_same ws 0)) answer
-      (quiet_end p (Container starts.TheVariants.IsLocked) answer (λ i o. refl) (λ i r. refl))
+      (quiet_end p (Container starts.IsLocked) answer (λ i o. refl) (λ i r. refl))
       (λ i b. refl) inv.good.lock well_formed (λ holds. tt)
-      (owes_none scene starts.TheVariants.IsLocked lock_at y here refl))
+      (owes_none scene starts.IsLocked lock_at y here refl))
       ((refl, none), tt) (omega arith) (omega arith)

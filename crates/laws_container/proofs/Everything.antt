@@ -1,5 +1,5 @@
 -- All that is shown of the turns of a container, call by call, and so what is proved of every run.
-use Rattle.model.specs.declared.turn.Kind as kinds
+use Rattle.model.specs.declared.turn.Kind.TheVariants as kinds
 use Rattle.laws_container.proofs.Names.{Keeps}
 use Rattle.laws_container.proofs.AddWrites.{add_step}
 use Rattle.laws_container.proofs.Begins.{begins_shown}
@@ -42,5 +42,5 @@ module _ {T : Type 0} where
       }
 
   -- what is proved of every run of the container
-  pub container_keeps : Keeps T kinds.TheVariants.Container
+  pub container_keeps : Keeps T kinds.Container
   container_keeps = keeps shown

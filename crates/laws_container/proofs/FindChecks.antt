@@ -9,11 +9,11 @@ use Rattle.laws_container.proofs.Names.{held_later, times_below, count_later, th
 use Rattle.laws_container.proofs.Names.{fails_same}
 use Rattle.steps.specs.declared.ask.After.TheVariants.{Done}
 use Rattle.steps.specs.declared.container.find.Find as find_calls
-use Rattle.steps.specs.declared.container.find.FindStage as finds
+use Rattle.steps.specs.declared.container.find.FindStage.TheVariants as finds
 use Rattle.steps.specs.declared.copied.Buffer as buffers
 use Rattle.model.specs.declared.event.Answer.TheVariants as answers
 use Rattle.model.specs.declared.families.container.ContainerStart.TheVariants.{Find}
-use Rattle.model.specs.declared.families.container.calls.ContainerFlight as calls
+use Rattle.model.specs.declared.families.container.calls.ContainerFlight.TheVariants as calls
 use Rattle.laws_container.proofs.Copies.{copied_value}
 use Rattle.laws_container.proofs.Invariant.{Scene, Inv, before}
 use Rattle.laws_container.proofs.Knows.{View, FindKnows, Knows}
@@ -42,17 +42,17 @@ module _ {T : Type 0} (scene : Scene T) (inv : Inv scene) (owner : ℕ) (fits : 
   v = sees_now scene
 
   abbrev as_find : buffers.Buffer 128 → After (find_calls.Find T (buffers.Buffer 128)) ℕ → After (ContainerFlight T) (Answer T)
-  as_find room a = as_call calls.TheVariants.Find answers.Number (went_on as_it_is owner room a)
+  as_find room a = as_call calls.Find answers.Number (went_on as_it_is owner room a)
 
   abbrev first : find_calls.Find T (buffers.Buffer 128)
-  first = record { capacity = c; stage = finds.TheVariants.LoadsCell 0 0; of = record {} }
+  first = record { capacity = c; stage = finds.LoadsCell 0 0; of = record {} }
 
   -- ---- its (number scene inv owner fits) is checked
 
   module _ (room : buffers.Buffer 128) (k found count : ℕ)
-      (here : IsHere scene (Find owner) (find_at c owner room (finds.TheVariants.ChecksCount k found count)))
-      (stands : FindAt c z (all scene) (done scene) (finds.TheVariants.ChecksCount k found count))
-      (h : FindKnows code c owner room (finds.TheVariants.ChecksCount k found count) v) (s : steps ≤ 2 + z + k * (z + 3)) where
+      (here : IsHere scene (Find owner) (find_at c owner room (finds.ChecksCount k found count)))
+      (stands : FindAt c z (all scene) (done scene) (finds.ChecksCount k found count))
+      (h : FindKnows code c owner room (finds.ChecksCount k found count) v) (s : steps ≤ 2 + z + k * (z + 3)) where
     abbrev count_now : ℕ
     count_now = count_in code c (before scene) k
 
@@ -66,20 +66,20 @@ module _ {T : Type 0} (scene : Scene T) (inv : Inv scene) (owner : ℕ) (fits : 
     copying = Copied p k value ∷ []
 
     -- the copy is whole
-    copies : count_now ≡ count → Leads scene start check_it false scene.states copying (GoOn (find_at c owner room (finds.TheVariants.Asks k found)))
+    copies : count_now ≡ count → Leads scene start check_it false scene.states copying (GoOn (find_at c owner room (finds.Asks k found)))
     copies is =
         let same : words_after ws check_it ≡ ws =
         exchange_sets ws (count_word c k) count count is ∙ (ap (set ws (count_word c k)) (sym is) ∙ set-get_or ws (count_word c k) 0) in
         let y =
-        (then_at scene inv owner fits) room (finds.TheVariants.ChecksCount k found count) here stands.0 room
-        (finds.TheVariants.Asks k found) check_it in
+        (then_at scene inv owner fits) room (finds.ChecksCount k found count) here stands.0 room
+        (finds.Asks k found) check_it in
         let well_formed = was_well_formed scene start tt here.span (words_after ws check_it) y copying (refl, tt) in
         let acts_then : acts_of p (events ++ copying) ≡ done scene ++ Copies k value ∷ [] =
         acts_more scene start here.span copying (refl, tt) (λ start w. refl) in
-        goes_on scene start (find_at c owner room (finds.TheVariants.Asks k found)) check_it false scene.states copying here.span (λ start w. refl)
+        goes_on scene start (find_at c owner room (finds.Asks k found)) check_it false scene.states copying here.span (λ start w. refl)
         (silently scene inv (words_after ws check_it) same y copying (tt, tt) (refl, tt) start
-        (find_at c owner room (finds.TheVariants.ChecksCount k found count)) tt here well_formed
-        (owes_none scene start (find_at c owner room (finds.TheVariants.ChecksCount k found count)) y here refl)
+        (find_at c owner room (finds.ChecksCount k found count)) tt here well_formed
+        (owes_none scene start (find_at c owner room (finds.ChecksCount k found count)) y here refl)
         (record {
           asks = (tt, tt);
           recovers = (tt, tt);
@@ -131,37 +131,37 @@ module _ {T : Type 0} (scene : Scene T) (inv : Inv scene) (owner : ℕ) (fits : 
 
     fails : count_now ≢ count → Leads scene start check_it false scene.states [] (as_find room (find_comes_to first (k + 1) found))
     fails other =
-        (comes_to_next scene inv owner fits) room (finds.TheVariants.ChecksCount k found count) here stands.0 check_it
+        (comes_to_next scene inv owner fits) room (finds.ChecksCount k found count) here stands.0 check_it
         (fails_same ws (count_word c k) count count other) k found stands.1.0 h.0.0 (omega arith)
         (below_more k (k + 1) _ (omega arith) stands.1.1) h.0.1
         ((found_past scene inv owner fits) k found (λ holds through. other (h.1 holds through)) h.0.2) h.2.room
 
-    check_step : StepOf scene start (find_at c owner room (finds.TheVariants.ChecksCount k found count))
+    check_step : StepOf scene start (find_at c owner room (finds.ChecksCount k found count))
     check_step = go (count_now == count) refl
       where
         go : (b : Bool) → (count_now == count) ≡ b
             → Leads scene start (Some (exchanges (count_word c k) count count)) false scene.states
             ((if b then Copied p k (read_in code room) ∷ [] else []) ++ [])
-            (as_find room (if b then GoOn (at_find first (finds.TheVariants.Asks k found)) else find_comes_to first (k + 1) found))
+            (as_find room (if b then GoOn (at_find first (finds.Asks k found)) else find_comes_to first (k + 1) found))
         go true t = let is : count_now ≡ count = grind (arith, nat_tests) in copies is
         go false t = let other : count_now ≢ count = grind (arith, nat_tests) in fails other
 
   -- ---- it is told whether to go on
 
   pub find_decided : (room : buffers.Buffer 128) (k found : ℕ)
-      → FindAt c z (all scene) (done scene) (finds.TheVariants.Asks k found)
-      → IsHere scene (Find owner) (find_at c owner room (finds.TheVariants.Asks k found))
-      → Knows code c (find_at c owner room (finds.TheVariants.Asks k found)) v
-      → steps ≤ find_number z (finds.TheVariants.Asks k found) → (answer : ℕ)
-      → AnswerOf scene (Find owner) (find_at c owner room (finds.TheVariants.Asks k found)) None answer
+      → FindAt c z (all scene) (done scene) (finds.Asks k found)
+      → IsHere scene (Find owner) (find_at c owner room (finds.Asks k found))
+      → Knows code c (find_at c owner room (finds.Asks k found)) v
+      → steps ≤ find_number z (finds.Asks k found) → (answer : ℕ)
+      → AnswerOf scene (Find owner) (find_at c owner room (finds.Asks k found)) None answer
   find_decided room k found at here h s answer = go (answer == 0)
     where
       go : (b : Bool) → Leads scene start None false scene.states [] (as_find room (if b then Done found else find_comes_to first (k + 1) found))
       go true = let all_of = times_below c k (z + 3) at.1 in
           let below = at.1 in
-          (ends_there scene inv owner fits) room (finds.TheVariants.Asks k found) here at.0 None refl (k + 1) found (omega arith) h.1.0.0 (omega arith) h.1.0.1
+          (ends_there scene inv owner fits) room (finds.Asks k found) here at.0 None refl (k + 1) found (omega arith) h.1.0.0 (omega arith) h.1.0.1
       go false =
-          (comes_to_next scene inv owner fits) room (finds.TheVariants.Asks k found) here at.0 None refl k found at.1
+          (comes_to_next scene inv owner fits) room (finds.Asks k found) here at.0 None refl k found at.1
           h.1.0.0 (omega arith) at.2 h.1.0.1 h.1.0.2 h.0
 
   -- ---- any step
@@ -169,8 +169,8 @@ module _ {T : Type 0} (scene : Scene T) (inv : Inv scene) (owner : ℕ) (fits : 
   pub find_step : (room : buffers.Buffer 128) (stage : FindStage) → FindAt c z (all scene) (done scene) stage
       → IsHere scene (Find owner) (find_at c owner room stage) → Knows code c (find_at c owner room stage) v
       → steps ≤ find_number z stage → StepOf scene (Find owner) (find_at c owner room stage)
-  find_step room (finds.TheVariants.LoadsCell k found) at here h s = (cell_step scene inv owner fits) room h.0 k found here at h.1 s
-  find_step room (finds.TheVariants.LoadsCount k found) at here h s = (count_step scene inv owner fits) room h.0 k found here at h.1 s
-  find_step room (finds.TheVariants.LoadsWord k found count word) at here h s = (word_step scene inv owner fits) room k found count word here at h.1 s
-  find_step room (finds.TheVariants.ChecksCount k found count) at here h s = check_step room k found count here at h.1 s
-  find_step room (finds.TheVariants.Asks k found) at here h s = find_decided room k found at here h s 0
+  find_step room (finds.LoadsCell k found) at here h s = (cell_step scene inv owner fits) room h.0 k found here at h.1 s
+  find_step room (finds.LoadsCount k found) at here h s = (count_step scene inv owner fits) room h.0 k found here at h.1 s
+  find_step room (finds.LoadsWord k found count word) at here h s = (word_step scene inv owner fits) room k found count word here at h.1 s
+  find_step room (finds.ChecksCount k found count) at here h s = check_step room k found count here at h.1 s
+  find_step room (finds.Asks k found) at here h s = find_decided room k found at here h s 0

@@ -13,11 +13,11 @@ use Rattle.laws_container.proofs.Names.{still_once, still_through, all_so, both_
 use Rattle.laws_container.proofs.Names.{loads_same}
 use Rattle.steps.specs.declared.ask.After.TheVariants.{Done}
 use Rattle.steps.specs.declared.container.find.Find as find_calls
-use Rattle.steps.specs.declared.container.find.FindStage as finds
+use Rattle.steps.specs.declared.container.find.FindStage.TheVariants as finds
 use Rattle.steps.specs.declared.copied.Buffer as buffers
 use Rattle.model.specs.declared.event.Answer.TheVariants as answers
 use Rattle.model.specs.declared.families.container.ContainerStart.TheVariants.{Find}
-use Rattle.model.specs.declared.families.container.calls.ContainerFlight as calls
+use Rattle.model.specs.declared.families.container.calls.ContainerFlight.TheVariants as calls
 use Rattle.laws_robust.proofs.Stages as set_stages
 use Rattle.laws_container.proofs.Contents.{Stands}
 use Rattle.laws_container.proofs.Core.{count_at}
@@ -73,10 +73,10 @@ module _ {T : Type 0} (scene : Scene T) (inv : Inv scene) (owner : ℕ) (fits : 
   v = sees_now scene
 
   abbrev as_find : buffers.Buffer 128 → After (find_calls.Find T (buffers.Buffer 128)) ℕ → After (ContainerFlight T) (Answer T)
-  as_find room a = as_call calls.TheVariants.Find answers.Number (went_on as_it_is owner room a)
+  as_find room a = as_call calls.Find answers.Number (went_on as_it_is owner room a)
 
   abbrev first : find_calls.Find T (buffers.Buffer 128)
-  first = record { capacity = c; stage = finds.TheVariants.LoadsCell 0 0; of = record {} }
+  first = record { capacity = c; stage = finds.LoadsCell 0 0; of = record {} }
 
   abbrev Counted : ℕ → ℕ → Type 0
   Counted bound number = IsCount p (IsFilledWith owner) bound number events
@@ -218,40 +218,40 @@ module _ {T : Type 0} (scene : Scene T) (inv : Inv scene) (owner : ℕ) (fits : 
       where
         go : (b : Bool) → nat_lt (k + 1) c ≡ b
             → Leads scene start ask false scene.states []
-            (as_find room (if b then GoOn (at_find first (finds.TheVariants.LoadsCell (k + 1) found)) else Done found))
+            (as_find room (if b then GoOn (at_find first (finds.LoadsCell (k + 1) found)) else Done found))
         go true t =
             let more : k + 1 < c = grind (arith, nat_tests) in
-            calm_step room (finds.TheVariants.LoadsCell (k + 1) found) ask same few (nothing, more, seen)
-            (long, counts_calm room (finds.TheVariants.LoadsCell (k + 1) found) ask (k + 1) (k + 1) found paid counted has)
+            calm_step room (finds.LoadsCell (k + 1) found) ask same few (nothing, more, seen)
+            (long, counts_calm room (finds.LoadsCell (k + 1) found) ask (k + 1) (k + 1) found paid counted has)
         go false t = let all_of = times_below c k (z + 3) below in ends_there ask same (k + 1) found (omega arith) paid (omega arith) counted
 
   -- ---- a cell is loaded
 
   module _ (room : buffers.Buffer 128) (long : IsLong room) (k found : ℕ)
-      (here : IsHere scene (Find owner) (find_at c owner room (finds.TheVariants.LoadsCell k found)))
-      (at : FindAt c z (all scene) (done scene) (finds.TheVariants.LoadsCell k found))
+      (here : IsHere scene (Find owner) (find_at c owner room (finds.LoadsCell k found)))
+      (at : FindAt c z (all scene) (done scene) (finds.LoadsCell k found))
       (h : Finds code c owner k k found v) (s : steps ≤ k * (z + 3)) where
-    pub cell_step : StepOf scene start (find_at c owner room (finds.TheVariants.LoadsCell k found))
+    pub cell_step : StepOf scene start (find_at c owner room (finds.LoadsCell k found))
     cell_step = go (cell ws k == owner) refl
       where
         go : (b : Bool) → (cell ws k == owner) ≡ b → Leads scene start (Some (set_stages.loads (cell_word k))) false scene.states []
-            (as_find room (if b then GoOn (at_find first (finds.TheVariants.LoadsCount k (one_more found))) else find_comes_to first (k + 1) found))
+            (as_find room (if b then GoOn (at_find first (finds.LoadsCount k (one_more found))) else find_comes_to first (k + 1) found))
         go true t =
             let is : cell ws k ≡ owner = grind (arith, nat_tests) in
-            calm_step room (finds.TheVariants.LoadsCell k found) here at.0 room
-            (finds.TheVariants.LoadsCount k (one_more found)) (Some (set_stages.loads (cell_word k)))
+            calm_step room (finds.LoadsCell k found) here at.0 room
+            (finds.LoadsCount k (one_more found)) (Some (set_stages.loads (cell_word k)))
             (loads_same ws (cell_word k)) (omega arith) at (
               long,
               (
-                counts_calm room (finds.TheVariants.LoadsCell k found) here at.0 room
-                    (finds.TheVariants.LoadsCount k (one_more found)) (Some (set_stages.loads (cell_word k))) (k + 1) k
+                counts_calm room (finds.LoadsCell k found) here at.0 room
+                    (finds.LoadsCount k (one_more found)) (Some (set_stages.loads (cell_word k))) (k + 1) k
                     (one_more found) h.0 (one_counts k found at.1 is h.1) (found_one k found at.1 is h.2 h.1),
                 held_now p (IsFilledWith owner k) events (filled_by (of_set scene) (inv_of_set scene inv) k at.1 owner fits is),
               ),
             )
         go false t =
             let other : cell ws k ≢ owner = grind (arith, nat_tests) in
-            comes_to_next room (finds.TheVariants.LoadsCell k found) here at.0
+            comes_to_next room (finds.LoadsCell k found) here at.0
             (Some (set_stages.loads (cell_word k))) (loads_same ws (cell_word k)) k found at.1 h.0 (omega arith)
             (below_more k (k + 1) _ (omega arith) at.2)
             (none_counts k found at.1 other h.1) (found_none k found at.1 other h.2) long
@@ -259,22 +259,22 @@ module _ {T : Type 0} (scene : Scene T) (inv : Inv scene) (owner : ℕ) (fits : 
   -- ---- the number of the element is loaded
 
   module _ (room : buffers.Buffer 128) (long : IsLong room) (k found : ℕ)
-      (here : IsHere scene (Find owner) (find_at c owner room (finds.TheVariants.LoadsCount k found)))
-      (at : FindAt c z (all scene) (done scene) (finds.TheVariants.LoadsCount k found))
-      (h : FindKnows code c owner room (finds.TheVariants.LoadsCount k found) v) (s : steps ≤ 1 + k * (z + 3)) where
+      (here : IsHere scene (Find owner) (find_at c owner room (finds.LoadsCount k found)))
+      (at : FindAt c z (all scene) (done scene) (finds.LoadsCount k found))
+      (h : FindKnows code c owner room (finds.LoadsCount k found) v) (s : steps ≤ 1 + k * (z + 3)) where
     abbrev pub number : ℕ
     number = count_in code c (before scene) k
 
     abbrev load_it : Option Ask
     load_it = Some (set_stages.loads (count_word c k))
 
-    pub count_step : StepOf scene start (find_at c owner room (finds.TheVariants.LoadsCount k found))
+    pub count_step : StepOf scene start (find_at c owner room (finds.LoadsCount k found))
     count_step = go (is_even number) refl
       where
         go : (b : Bool) → is_even number ≡ b → Leads scene start (Some (set_stages.loads (count_word c k))) false scene.states []
-            (as_find room (if b then find_comes_to first (k + 1) found else GoOn (at_find first (finds.TheVariants.LoadsWord k found number 0))))
+            (as_find room (if b then find_comes_to first (k + 1) found else GoOn (at_find first (finds.LoadsWord k found number 0))))
         go true t =
-            comes_to_next room (finds.TheVariants.LoadsCount k found) here at.0 load_it
+            comes_to_next room (finds.LoadsCount k found) here at.0 load_it
             (loads_same ws (count_word c k)) k found at.1 h.0.0 (omega arith)
             (below_more k (k + 1) _ (omega arith) at.2) h.0.1
             (found_past k found
@@ -285,16 +285,16 @@ module _ {T : Type 0} (scene : Scene T) (inv : Inv scene) (owner : ℕ) (fits : 
         go false t =
             let some = inv.elements.coded.some in
             let same = loads_same ws (count_word c k) in
-            calm_step room (finds.TheVariants.LoadsCount k found) here at.0 room
-            (finds.TheVariants.LoadsWord k found number 0) load_it same (omega arith)
+            calm_step room (finds.LoadsCount k found) here at.0 room
+            (finds.LoadsWord k found number 0) load_it same (omega arith)
             (at.0, (at.1, at.2, odd_is number t), omega arith) (
               long,
               (
-                counts_calm room (finds.TheVariants.LoadsCount k found) here at.0 room
-                    (finds.TheVariants.LoadsWord k found number 0) load_it (k + 1) k found h.0.0 h.0.1 h.0.2,
+                counts_calm room (finds.LoadsCount k found) here at.0 room
+                    (finds.LoadsWord k found number 0) load_it (k + 1) k found h.0.0 h.0.1 h.0.2,
                 (λ holds through. ap (λ w. count_at c w k) same),
-                copying_first code c (SeesCalmly room (finds.TheVariants.LoadsCount k found) here at.0 room
-                    (finds.TheVariants.LoadsWord k found number 0) load_it)
+                copying_first code c (SeesCalmly room (finds.LoadsCount k found) here at.0 room
+                    (finds.LoadsWord k found number 0) load_it)
                     k number room.words at.1 long (odd_is number t)
                     (λ kept. let eq = ap (λ w. count_at c w k) same in omega arith),
                 h.1,
@@ -304,9 +304,9 @@ module _ {T : Type 0} (scene : Scene T) (inv : Inv scene) (owner : ℕ) (fits : 
   -- ---- a word of it is loaded
 
   module _ (room : buffers.Buffer 128) (k found count at : ℕ)
-      (here : IsHere scene (Find owner) (find_at c owner room (finds.TheVariants.LoadsWord k found count at)))
-      (stands : FindAt c z (all scene) (done scene) (finds.TheVariants.LoadsWord k found count at))
-      (h : FindKnows code c owner room (finds.TheVariants.LoadsWord k found count at) v) (s : steps ≤ 2 + at + k * (z + 3)) where
+      (here : IsHere scene (Find owner) (find_at c owner room (finds.LoadsWord k found count at)))
+      (stands : FindAt c z (all scene) (done scene) (finds.LoadsWord k found count at))
+      (h : FindKnows code c owner room (finds.LoadsWord k found count at) v) (s : steps ≤ 2 + at + k * (z + 3)) where
     abbrev word : ℕ
     word = datum_in code c (before scene) k at
 
@@ -322,44 +322,44 @@ module _ {T : Type 0} (scene : Scene T) (inv : Inv scene) (owner : ℕ) (fits : 
     -- what it knows of the copy then
     copied_on : (next : FindStage)
         → Copying code c k count room'.words (at + 1)
-        (SeesCalmly room (finds.TheVariants.LoadsWord k found count at) here stands.0 room' next load_word)
+        (SeesCalmly room (finds.LoadsWord k found count at) here stands.0 room' next load_word)
     copied_on next =
-        copying_more code c v (SeesCalmly room (finds.TheVariants.LoadsWord k found count at) here stands.0 room' next load_word)
+        copying_more code c v (SeesCalmly room (finds.LoadsWord k found count at) here stands.0 room' next load_word)
         k count room.words at stands.2 inv.elements.coded.few same_words (λ kept. kept)
-        (was_well_formed_calmly scene start tt here.span (then_at room (finds.TheVariants.LoadsWord k found count at) here stands.0 room' next load_word)) h.2
+        (was_well_formed_calmly scene start tt here.span (then_at room (finds.LoadsWord k found count at) here stands.0 room' next load_word)) h.2
 
-    steady_on : (next : FindStage) → Steady code c k count (SeesCalmly room (finds.TheVariants.LoadsWord k found count at) here stands.0 room' next load_word)
+    steady_on : (next : FindStage) → Steady code c k count (SeesCalmly room (finds.LoadsWord k found count at) here stands.0 room' next load_word)
     steady_on next holds through =
         ap (λ w. count_at c w k) same_words
         ∙ h.1 (was_well_formed_calmly scene start tt here.span
-        (then_at room (finds.TheVariants.LoadsWord k found count at) here stands.0 room' next load_word) holds)
+        (then_at room (finds.LoadsWord k found count at) here stands.0 room' next load_word) holds)
         through
 
     counted_on : (next : FindStage)
         → Finds code c owner (k + 1) k found
-        (SeesCalmly room (finds.TheVariants.LoadsWord k found count at) here stands.0 room' next load_word)
+        (SeesCalmly room (finds.LoadsWord k found count at) here stands.0 room' next load_word)
     counted_on next =
-        counts_calm room (finds.TheVariants.LoadsWord k found count at) here stands.0 room' next load_word (k + 1) k found h.0.0 h.0.1 h.0.2
+        counts_calm room (finds.LoadsWord k found count at) here stands.0 room' next load_word (k + 1) k found h.0.0 h.0.1 h.0.2
 
     long_on : IsLong room'
     long_on = length-set room.words at word ∙ h.2.room
 
-    pub word_step : StepOf scene start (find_at c owner room (finds.TheVariants.LoadsWord k found count at))
+    pub word_step : StepOf scene start (find_at c owner room (finds.LoadsWord k found count at))
     word_step = go (nat_lt (at + 1) z) refl
       where
         go : (b : Bool) → nat_lt (at + 1) z ≡ b → Leads scene start (Some (set_stages.loads (element_word c z k at))) false scene.states []
-            (as_find room' (if b then GoOn (at_find first (finds.TheVariants.LoadsWord k found count (at + 1))) else GoOn
-            (at_find first (finds.TheVariants.ChecksCount k found count))))
+            (as_find room' (if b then GoOn (at_find first (finds.LoadsWord k found count (at + 1))) else GoOn
+            (at_find first (finds.ChecksCount k found count))))
         go true t =
             let more : at + 1 < z = grind (arith, nat_tests) in
-            calm_step room (finds.TheVariants.LoadsWord k found count at) here stands.0 room'
-            (finds.TheVariants.LoadsWord k found count (at + 1)) load_word same_words (omega arith)
+            calm_step room (finds.LoadsWord k found count at) here stands.0 room'
+            (finds.LoadsWord k found count (at + 1)) load_word same_words (omega arith)
             (stands.0, stands.1, more) (
               long_on,
               (
-                counted_on (finds.TheVariants.LoadsWord k found count (at + 1)),
-                steady_on (finds.TheVariants.LoadsWord k found count (at + 1)),
-                copied_on (finds.TheVariants.LoadsWord k found count (at + 1)),
+                counted_on (finds.LoadsWord k found count (at + 1)),
+                steady_on (finds.LoadsWord k found count (at + 1)),
+                copied_on (finds.LoadsWord k found count (at + 1)),
                 h.3,
               ),
             )
@@ -367,16 +367,16 @@ module _ {T : Type 0} (scene : Scene T) (inv : Inv scene) (owner : ℕ) (fits : 
             let last : z ≤ at + 1 = grind (arith, nat_tests) in
             let ats = stands.2 in
             let is : at + 1 ≡ z = omega arith in
-            calm_step room (finds.TheVariants.LoadsWord k found count at) here stands.0 room'
-            (finds.TheVariants.ChecksCount k found count) load_word same_words (omega arith) (stands.0, stands.1) (
+            calm_step room (finds.LoadsWord k found count at) here stands.0 room'
+            (finds.ChecksCount k found count) load_word same_words (omega arith) (stands.0, stands.1) (
               long_on,
               (
-                counted_on (finds.TheVariants.ChecksCount k found count),
-                steady_on (finds.TheVariants.ChecksCount k found count),
+                counted_on (finds.ChecksCount k found count),
+                steady_on (finds.ChecksCount k found count),
                 subst (λ n. Copying code c k count room'.words n
-                    (SeesCalmly room (finds.TheVariants.LoadsWord k found count at) here stands.0 room'
-                    (finds.TheVariants.ChecksCount k found count) load_word))
-                    is (copied_on (finds.TheVariants.ChecksCount k found count)),
+                    (SeesCalmly room (finds.LoadsWord k found count at) here stands.0 room'
+                    (finds.ChecksCount k found count) load_word))
+                    is (copied_on (finds.ChecksCount k found count)),
                 h.3,
               ),
             )

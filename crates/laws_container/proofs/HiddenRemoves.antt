@@ -9,8 +9,8 @@ use Rattle.laws_container.proofs.Names.{FilledSinceFreed, SetAct, Frees, Locks, 
 use Rattle.laws_container.proofs.Names.{held_later, counter_of, IsWorn, worn_on, both_ways, quiet_end, exchanges}
 use Rattle.laws_container.proofs.Names.{fails_same}
 use Rattle.steps.specs.declared.ask.After.TheVariants.{Done}
-use Rattle.steps.specs.declared.container.remove.RemoveStage as removes
-use Rattle.steps.specs.declared.indices.enums.ReleaseState as states
+use Rattle.steps.specs.declared.container.remove.RemoveStage.TheVariants as removes
+use Rattle.steps.specs.declared.indices.enums.ReleaseState.TheVariants as states
 use Rattle.model.specs.declared.event.Answer.TheVariants as answers
 use Rattle.model.specs.declared.families.container.ContainerStart.TheVariants.{Remove}
 use Rattle.laws_robust.proofs.Effects as set_effects
@@ -36,13 +36,13 @@ total_is x0 x1 x2 x3 x4 x5 x6 = grind arith
 -- it has freed its index
 removed_frees : (T : Type 0) (index owner : ℕ) (mode : ReleaseMode) (state : ReleaseState) (made : List SetAct)
     → HasDone {T = T} (Remove index owner mode) (answers.State state) made [] → IsOneOf (Frees index owner) made
-removed_frees T index owner Default states.TheVariants.Locked made h = absurd h
-removed_frees T index owner Default states.TheVariants.Unlocked made h =
+removed_frees T index owner Default states.Locked made h = absurd h
+removed_frees T index owner Default states.Unlocked made h =
     subst (IsOneOf (Frees index owner)) (sym h) (record { before = []; after = []; is = refl })
-removed_frees T index owner LockIfLastIndex states.TheVariants.Locked made h =
+removed_frees T index owner LockIfLastIndex states.Locked made h =
     ⊎_elim (λ e. subst (IsOneOf (Frees index owner)) (sym e) (record { before = []; after = []; is = refl }))
     (λ e. subst (IsOneOf (Frees index owner)) (sym e) (record { before = []; after = Locks ∷ []; is = refl })) h
-removed_frees T index owner LockIfLastIndex states.TheVariants.Unlocked made h =
+removed_frees T index owner LockIfLastIndex states.Unlocked made h =
     subst (IsOneOf (Frees index owner)) (sym h) (record { before = []; after = []; is = refl })
 
 -- whatever it has done to elements
@@ -82,9 +82,9 @@ module _ {T : Type 0} (scene : Scene T) (inv : Inv scene) (index owner : ℕ) (m
 
   -- ---- what stands there is hidden
 
-  module _ (count : ℕ) (state : ReleaseState) (here : Here (removes.TheVariants.Hides count state))
-      (stands : RemoveAt c z (all scene) (done scene) index owner mode (removes.TheVariants.Hides count state))
-      (k : RemoveKnows code c index owner mode (removes.TheVariants.Hides count state) (sees_now scene))
+  module _ (count : ℕ) (state : ReleaseState) (here : Here (removes.Hides count state))
+      (stands : RemoveAt c z (all scene) (done scene) index owner mode (removes.Hides count state))
+      (k : RemoveKnows code c index owner mode (removes.Hides count state) (sees_now scene))
       (s : steps ≤ 1 + release_total c index owner mode backs) where
     abbrev hide_it : Option Ask
     hide_it = Some (exchanges (count_word c index) count (one_more count))
@@ -93,7 +93,7 @@ module _ {T : Type 0} (scene : Scene T) (inv : Inv scene) (index owner : ℕ) (m
     count_now = count_in code c (before scene) index
 
     abbrev next : RemoveStage
-    next = removes.TheVariants.AddsChange state
+    next = removes.AddsChange state
 
     -- the exchange leaves the counter
     counter_stays : counter_of ws ≡ greatest → counter_of (words_after ws hide_it) ≡ greatest
@@ -112,9 +112,9 @@ module _ {T : Type 0} (scene : Scene T) (inv : Inv scene) (index owner : ℕ) (m
     says_then : (m : ReleaseMode) (t : ReleaseState) (es : List (Event T)) → BeginsNone p es → (y : Party T)
         → RemoveSays code c index owner m t (sees_now scene)
         → RemoveSays code c index owner m t (then_sees scene hide_it false scene.states y es)
-    says_then m states.TheVariants.Locked es fresh y h = locked_later events es h
-    says_then Default states.TheVariants.Unlocked es fresh y h = tt
-    says_then LockIfLastIndex states.TheVariants.Unlocked es fresh y h = (
+    says_then m states.Locked es fresh y h = locked_later events es h
+    says_then Default states.Unlocked es fresh y h = tt
+    says_then LockIfLastIndex states.Unlocked es fresh y h = (
       held_later p IsUnlocked events es fresh h.0,
       ⊎_elim (λ end. inl (worn_on scene.terms.by ws (words_after ws hide_it) counter_stays end))
           (λ (found : FilledSinceFreed p owner index events). inr
@@ -122,12 +122,12 @@ module _ {T : Type 0} (scene : Scene T) (inv : Inv scene) (index owner : ℕ) (m
           h.1,
     )
 
-    pub hides_step : StepOf scene start (at_stage (removes.TheVariants.Hides count state))
+    pub hides_step : StepOf scene start (at_stage (removes.Hides count state))
     hides_step = go (count_now == count) refl
       where
         go : (b : Bool) → (count_now == count) ≡ b
             → Leads scene start (Some (exchanges (count_word c index) count (one_more count))) false scene.states
-            ((if b then Hidden p index ∷ [] else []) ++ []) (GoOn (at_stage (removes.TheVariants.AddsChange state)))
+            ((if b then Hidden p index ∷ [] else []) ++ []) (GoOn (at_stage (removes.AddsChange state)))
         go true t =
             let is : count_now ≡ count = grind (arith, nat_tests) in
             let y = then_at next hide_it false in
@@ -135,7 +135,7 @@ module _ {T : Type 0} (scene : Scene T) (inv : Inv scene) (index owner : ℕ) (m
             let odd : count_now % 2 ≡ 1 = ap (λ n. n % 2) is ∙ stands.4 in
             let total = same_total in
             goes_on scene start (at_stage next) hide_it false scene.states es here.span (λ start w. refl)
-            (hides scene inv start (at_stage (removes.TheVariants.Hides count state)) tt here y
+            (hides scene inv start (at_stage (removes.Hides count state)) tt here y
             (words_after ws hide_it) index below (hides_count scene inv index count below is) refl odd
             (λ holds q ne o theirs fresh. both_ways (left_of index events) fresh (k.2.left holds is))
             (was_well_formed scene start tt here.span (words_after ws hide_it) y es (refl, tt)))
@@ -158,7 +158,7 @@ module _ {T : Type 0} (scene : Scene T) (inv : Inv scene) (index owner : ℕ) (m
             let y = then_at next hide_it false in
             let total = same_total in
             goes_on scene start (at_stage next) hide_it false scene.states [] here.span none_lengthens
-            (loads scene inv start (at_stage (removes.TheVariants.Hides count state)) tt here y
+            (loads scene inv start (at_stage (removes.Hides count state)) tt here y
             (words_after ws hide_it) (fails_same ws (count_word c index) count (one_more count) other)
             (was_well_formed scene start tt here.span (words_after ws hide_it) y [] tt) (λ was. refl))
             tt (omega arith) (
@@ -179,9 +179,9 @@ module _ {T : Type 0} (scene : Scene T) (inv : Inv scene) (index owner : ℕ) (m
 
   -- ---- the change is counted, and the call ends
 
-  module _ (state : ReleaseState) (here : Here (removes.TheVariants.AddsChange state))
+  module _ (state : ReleaseState) (here : Here (removes.AddsChange state))
       (has_done : HasDone {T = T} (Remove index owner mode) (answers.State state) (all scene) [])
-      (k : RemoveKnows code c index owner mode (removes.TheVariants.AddsChange state) (sees_now scene))
+      (k : RemoveKnows code c index owner mode (removes.AddsChange state) (sees_now scene))
       (s : steps ≤ 2 + release_total c index owner mode backs) where
     abbrev end_it : Option Ask
     end_it = Some (adds_one (change_word c))
@@ -197,7 +197,7 @@ module _ {T : Type 0} (scene : Scene T) (inv : Inv scene) (index owner : ℕ) (m
         (Finished p (Container (Remove index owner m)) (answers.State t))
     answers_right x0 x1 x2 = grind (arith, inl, worn_on, counter_stays_then, inr)
 
-    pub end_step : StepOf scene start (at_stage (removes.TheVariants.AddsChange state))
+    pub end_step : StepOf scene start (at_stage (removes.AddsChange state))
     end_step =
         let y = party_then scene start end_it false (Done (answers.State state)) in
         let es = Finished p (Container start) (answers.State state) ∷ [] in
@@ -206,7 +206,7 @@ module _ {T : Type 0} (scene : Scene T) (inv : Inv scene) (index owner : ℕ) (m
         let most = total_is c z index owner mode (backs_then scene false) T in
         let total = same_total in
         ends scene start (answers.State state) end_it false scene.states [] here.span none_lengthens
-        (ends_counted scene inv start (at_stage (removes.TheVariants.AddsChange state)) tt here y (words_after ws end_it) (answers.State state)
+        (ends_counted scene inv start (at_stage (removes.AddsChange state)) tt here y (words_after ws end_it) (answers.State state)
         (set_effects.quietly (of_set scene) (inv_of_set scene inv) (words_after ws end_it) es
         (leaves_behind (of_set scene) (inv_of_set scene inv) (words_after ws end_it) (change_word c) _ (omega arith) new)
         (quiet_end p (Container start) (answers.State state) (λ i o. refl) (λ i r. refl))

@@ -12,8 +12,8 @@ use Rattle.laws_container.proofs.Names.{old_of, number_of, ask_of_doing, ending_
 use Rattle.laws_container.proofs.Names.{events_of_next, events_of_decision, after_turn, Trace, flight_in, AreRight}
 use Rattle.laws_container.proofs.Names.{Each-append, Each-less, span_of-own, StandsThere, stands_there, Word, gone_after}
 use Rattle.laws_container.proofs.Names.{is_gone, ActsForRight, IsHonest, open_refusal}
-use Rattle.model.specs.declared.families.Flight as flights
-use Rattle.model.specs.declared.families.Registry as registries
+use Rattle.model.specs.declared.families.Flight.TheVariants as flights
+use Rattle.model.specs.declared.families.Registry.TheVariants as registries
 use Rattle.model.specs.declared.families.container.ContainerStart.TheVariants.{Add, Remove}
 use Rattle.model.proofs.Frame as frame
 use Rattle.laws_container.specs.Gone.{acts_for_gone}
@@ -139,7 +139,7 @@ module _ {T : Type 0} (terms : Terms) (code : Coding T) (c : ℕ) (t : Trace T) 
 
   -- a call that acts for none who is gone, or waits for an answer
   abbrev Minds : Flight T → Type 0
-  Minds (flights.TheVariants.Container flight) = (acts_for_gone Word t.events flight ≡ false) ⊎ (is_question (want t.world.coding flight) ≡ true)
+  Minds (flights.Container flight) = (acts_for_gone Word t.events flight ≡ false) ⊎ (is_question (want t.world.coding flight) ≡ true)
   Minds flight = Unit {0}
 
   module _ (p answer : ℕ) (x : Party T) (since : ℕ) where
@@ -148,9 +148,9 @@ module _ {T : Type 0} (terms : Terms) (code : Coding T) (c : ℕ) (t : Trace T) 
         events_of_step p start (step_of t.world.coding t.world.words (beside_of t.world.words kept t.world.latest p) p start flight answer kept)
 
     by_name : (start : Start T) (flight : Flight T) → StandsThere (family_by terms code c) t s p x since start flight → Minds flight
-        → Spans (writes (registries.TheVariants.Container s.state.dead s.state.states) start flight)
-        → Honest (writes (registries.TheVariants.Container s.state.dead s.state.states) start flight)
-    by_name (Container start) (flights.TheVariants.Container flight) stands minds spans =
+        → Spans (writes (registries.Container s.state.dead s.state.states) start flight)
+        → Honest (writes (registries.Container s.state.dead s.state.states) start flight)
+    by_name (Container start) (flights.Container flight) stands minds spans =
         let state = state_of p s.state.states in
         let did : List (Event T) = effects t.world.coding p state flight answer ++ questions p flight answer in
         let live : IsForLiving t.events start =
@@ -175,11 +175,11 @@ module _ {T : Type 0} (terms : Terms) (code : Coding T) (c : ℕ) (t : Trace T) 
   same = subst IsHonest (sym (append-nil t.events)) honest
 
   by_steps : (flight : Flight T) → is_for_gone t.events (Some flight) ≡ false → Minds flight
-  by_steps (flights.TheVariants.Container flight) h = inl h
+  by_steps (flights.Container flight) h = inl h
   by_steps flight h = tt
 
   by_question : (flight : Flight T) → is_question (want_of t.world.coding flight) ≡ true → Minds flight
-  by_question (flights.TheVariants.Container flight) h = inr h
+  by_question (flights.Container flight) h = inr h
   by_question flight h = tt
 
   flies : (p : ℕ) (x : Party T) (flight : Flight T) (since : ℕ) → party_of p t.world.latest ≡ Some x → x.doing ≡ Going flight since

@@ -8,10 +8,10 @@ use Rattle.laws_container.proofs.Names.{announced_of, acts_of, state_of, fresh, 
 use Rattle.laws_container.proofs.Names.{set_acts_of, party_of, put, doing_of, flight_of, Stands, Each, Span}
 use Rattle.laws_container.proofs.Names.{own_after, span_of, party_put_same, party_put_other, AllFollow, AreRight}
 use Rattle.laws_container.proofs.Names.{Each-append, span_of-other, is_gone, IsSeen}
-use Rattle.model.specs.declared.event.Start as any_starts
-use Rattle.model.specs.declared.families.Flight as flights
-use Rattle.model.specs.declared.families.Registry as registries
-use Rattle.model.specs.declared.turn.Kind as kinds
+use Rattle.model.specs.declared.event.Start.TheVariants as any_starts
+use Rattle.model.specs.declared.families.Flight.TheVariants as flights
+use Rattle.model.specs.declared.families.Registry.TheVariants as registries
+use Rattle.model.specs.declared.turn.Kind.TheVariants as kinds
 use Rattle.model.proofs.Family as families
 use Rattle.model.proofs.Family.{Outline}
 use Rattle.model.proofs.Frame as frame
@@ -109,16 +109,16 @@ module _ {T : Type 0} where
   wrote_of p events = wrote_in (span_of p events)
 
   abbrev number : ℕ → ℕ → Flight T → ℕ → ℕ
-  number c z (flights.TheVariants.Container flight) backs = number_of c z flight backs
+  number c z (flights.Container flight) backs = number_of c z flight backs
   number c z flight backs = 0
 
   abbrev pub FlightAt : ℕ → ℕ → List SetAct → List (Act T) → Start T → Flight T → Type 0
-  FlightAt c z all done (any_starts.TheVariants.Container start) (flights.TheVariants.Container flight) =
+  FlightAt c z all done (any_starts.Container start) (flights.Container flight) =
       At c z all done start flight
   FlightAt c z all done start flight = ⊥
 
   abbrev pub Knowing : Coding T → ℕ → Flight T → View T → Type 0
-  Knowing code c (flights.TheVariants.Container flight) v = Knows code c flight v
+  Knowing code c (flights.Container flight) v = Knows code c flight v
   Knowing code c flight v = ⊥
 
   abbrev pub view : Terms → List ℕ → List (ℕ × ContainerState T) → List (ℕ × Party T) → List (Event T) → ℕ → ℕ → ℕ → ℕ → View T
@@ -138,12 +138,12 @@ module _ {T : Type 0} where
   abbrev pub outline : Terms → Outline T
   outline terms =
       record {
-        kind = kinds.TheVariants.Container;
+        kind = kinds.Container;
         no_loan = refl;
         promise = promise;
         State = ContainerNow T;
         words = λ s. s.words;
-        kept = λ s. registries.TheVariants.Container s.dead s.states;
+        kept = λ s. registries.Container s.dead s.states;
         Holds = λ code c s latest events turns. Holds terms code c s latest events turns;
         written = λ c s p flight. wrote_of p s.events;
         number = λ code c. number c code.size;
@@ -286,7 +286,7 @@ module _ {T : Type 0} (scene : Scene T) where
       → (since backs : ℕ) (flight : Flight T)
       → Knowing code c flight (view scene.terms scene.words scene.states latest events q since scene.changes backs)
       → Knowing code c flight (view scene.terms words' states' (put p y latest) (events ++ es) q since changes' backs)
-  any_knows words' states' y es changes' does seen q ne since backs (flights.TheVariants.Container flight) h =
+  any_knows words' states' y es changes' does seen q ne since backs (flights.Container flight) h =
       still_knows code c (view scene.terms scene.words scene.states latest events q since scene.changes backs)
       (record {
         words_then = words';

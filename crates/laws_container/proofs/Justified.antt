@@ -6,9 +6,9 @@ use Rattle.laws_container.proofs.Names.{Decide, Coding, step_of, goes_of}
 use Rattle.laws_container.proofs.Names.{IsWellFormedRun, promise, state_of}
 use Rattle.laws_container.proofs.Names.{IsParty, refusal_of, number_of}
 use Rattle.laws_container.proofs.Names.{after_turn, Trace, passes, Keeps}
-use Rattle.model.specs.declared.families.Flight as flights
-use Rattle.model.specs.declared.turn.Kind as kinds
-use Rattle.model.specs.declared.families.Registry as registries
+use Rattle.model.specs.declared.families.Flight.TheVariants as flights
+use Rattle.model.specs.declared.turn.Kind.TheVariants as kinds
+use Rattle.model.specs.declared.families.Registry.TheVariants as registries
 use Rattle.model.proofs.FamilyLaws as laws
 use Rattle.model.proofs.FamilyLaws.{Writes, only_effects, Owed}
 use Rattle.model.proofs.Frame as frame
@@ -26,16 +26,16 @@ use Rattle.laws_container.proofs.Written.{all_effects}
 module _ {T : Type 0} (shown : Shown T) (code : Coding T) (c : ℕ) where
   writes : (t : Trace T) (turn : Turn T) (p : ℕ) → IsParty turn p → (answer : ℕ) (s : ContainerNow T) (start : Start T) (flight : Flight T)
       → (family code c).At s p start flight
-      → Writes (outline dying) t turn (answered_from t p t.world.coding answer s.words (registries.TheVariants.Container s.dead s.states) start flight)
-  writes t turn p mine answer s (Container start) (flights.TheVariants.Container flight) at =
+      → Writes (outline dying) t turn (answered_from t p t.world.coding answer s.words (registries.Container s.dead s.states) start flight)
+  writes t turn p mine answer s (Container start) (flights.Container flight) at =
       only_effects (outline dying) t turn _ (all_effects turn p mine t.world.coding (state_of p s.states) flight answer)
   writes t turn p mine answer s start flight at = absurd at
 
   -- a call of the container goes on as its table says
   told : (s : ContainerNow T) (p : ℕ) (start : Start T) (flight : Flight T) → (family code c).At s p start flight
       → (z : Coding T) (words : List ℕ) (beside : Option (ℕ × ℕ)) (answer : ℕ)
-      → (step_of z words beside p start flight answer (registries.TheVariants.Container s.dead s.states)).after
-      ≡ goes_of z p flight answer (registries.TheVariants.Container s.dead s.states)
+      → (step_of z words beside p start flight answer (registries.Container s.dead s.states)).after
+      ≡ goes_of z p flight answer (registries.Container s.dead s.states)
   told s p start flight at z words beside answer = grind arith
 
   tells_all : (t : Trace T) (turn : Turn T) → refusal_of t.world turn ≡ None
@@ -76,5 +76,5 @@ module _ {T : Type 0} (shown : Shown T) (code : Coding T) (c : ℕ) where
 
 module _ {T : Type 0} (shown : Shown T) where
   -- what is proved of every run of the container
-  pub keeps : Keeps T kinds.TheVariants.Container
+  pub keeps : Keeps T kinds.Container
   keeps = laws.keeps (outline dying) (May shown) (all_turns shown) (λ code c coded admitted. owed shown code c)

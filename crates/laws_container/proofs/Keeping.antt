@@ -9,12 +9,12 @@ use Rattle.laws_container.proofs.Names.{FilledSinceFreed, set_acts_of, wrote_in,
 use Rattle.laws_container.proofs.Names.{HeldSometime, party_of, span_of, held_later, gone_less, worn_on, count_later}
 use Rattle.laws_container.proofs.Names.{Goes, Spares, IsSeen, knows_later, through_less, through_now, acquire_at}
 use Rattle.laws_container.proofs.Names.{release_at}
-use Rattle.steps.specs.declared.container.add.AddStage as adds
-use Rattle.steps.specs.declared.container.find.FindStage as finds
-use Rattle.steps.specs.declared.container.remove.RemoveStage as removes
-use Rattle.steps.specs.declared.container.replace.ReplaceStage as replaces
+use Rattle.steps.specs.declared.container.add.AddStage.TheVariants as adds
+use Rattle.steps.specs.declared.container.find.FindStage.TheVariants as finds
+use Rattle.steps.specs.declared.container.remove.RemoveStage.TheVariants as removes
+use Rattle.steps.specs.declared.container.replace.ReplaceStage.TheVariants as replaces
 use Rattle.steps.specs.declared.copied.Buffer as buffers
-use Rattle.steps.specs.declared.indices.robust.release.ReleaseStage as releases
+use Rattle.steps.specs.declared.indices.robust.release.ReleaseStage.TheVariants as releases
 use Rattle.laws_robust.proofs.Knows as set
 use Rattle.laws_container.proofs.HiddenKnows.{no_index}
 use Rattle.model.proofs.Locks.{locked_later}
@@ -158,29 +158,29 @@ module _ {T : Type 0} (code : Coding T) (c : ℕ) (v : View T) (turn : OthersTur
   stood x0 x1 x2 x3 x4 x5 x6 = grind (arith, lives)
 
   pub add_knows : (value : T) (owner : ℕ) (stage : AddStage) → AddKnows code c value owner stage v → AddKnows code c value owner stage later
-  add_knows value owner (adds.TheVariants.Acquires stage) h = set_knows (acquire_at c owner stage) h
-  add_knows value owner (adds.TheVariants.LoadsCount index) h = add_owns owner index h
-  add_knows value owner (adds.TheVariants.Hides index count) h =
+  add_knows value owner (adds.Acquires stage) h = set_knows (acquire_at c owner stage) h
+  add_knows value owner (adds.LoadsCount index) h = add_owns owner index h
+  add_knows value owner (adds.Hides index count) h =
       (add_owns owner index h.0, covers owner index count h.0.within (adds_write owner index h.0) h.1)
-  add_knows value owner (adds.TheVariants.Stores index at) h =
+  add_knows value owner (adds.Stores index at) h =
       (add_owns owner index h.0, writes owner index value at h.0.within (adds_write owner index h.0) h.1)
-  add_knows value owner (adds.TheVariants.AddsCount index) h =
+  add_knows value owner (adds.AddsCount index) h =
       (add_owns owner index h.0, writes owner index value code.size h.0.within (adds_write owner index h.0) h.1)
-  add_knows value owner (adds.TheVariants.AddsChange index) h =
+  add_knows value owner (adds.AddsChange index) h =
       (add_owns owner index h.0, placed index value h.1, stood owner index h.0.within (adds_write owner index h.0) h.2)
 
   pub replaces_know : (index : ℕ) (value : T) (owner : ℕ) (stage : ReplaceStage)
       → ReplacesKnow code c index value owner stage v → ReplacesKnow code c index value owner stage later
-  replaces_know index value owner replaces.TheVariants.Refuses h = paid h
-  replaces_know index value owner replaces.TheVariants.LoadsCell h = (paid h.0, replace_owns index owner h.1)
-  replaces_know index value owner replaces.TheVariants.LoadsCount h = replace_knows index owner value h
-  replaces_know index value owner (replaces.TheVariants.Hides count) h =
+  replaces_know index value owner replaces.Refuses h = paid h
+  replaces_know index value owner replaces.LoadsCell h = (paid h.0, replace_owns index owner h.1)
+  replaces_know index value owner replaces.LoadsCount h = replace_knows index owner value h
+  replaces_know index value owner (replaces.Hides count) h =
       (replace_knows index owner value h.0, covers owner index count h.0.within (replaces_write owner index value h.0) h.1)
-  replaces_know index value owner (replaces.TheVariants.Stores at) h =
+  replaces_know index value owner (replaces.Stores at) h =
       (replace_knows index owner value h.0, writes owner index value at h.0.within (replaces_write owner index value h.0) h.1)
-  replaces_know index value owner replaces.TheVariants.AddsCount h =
+  replaces_know index value owner replaces.AddsCount h =
       (replace_knows index owner value h.0, writes owner index value code.size h.0.within (replaces_write owner index value h.0) h.1)
-  replaces_know index value owner replaces.TheVariants.AddsChange h =
+  replaces_know index value owner replaces.AddsChange h =
       (replace_knows index owner value h.0, placed index value h.1, stood owner index h.0.within (replaces_write owner index value h.0) h.2)
 
   -- ---- a remove
@@ -213,29 +213,29 @@ module _ {T : Type 0} (code : Coding T) (c : ℕ) (v : View T) (turn : OthersTur
   release_hides : (index owner : ℕ) (mode : ReleaseMode) (count : ℕ) (stage : ReleaseStage)
       → set.Knows c (release_at c index owner mode stage) (of_set v) → ReleaseLeft code c index count stage v
       → ReleaseHides code c index owner count stage v → ReleaseHides code c index owner count stage later
-  release_hides index owner mode count releases.TheVariants.EmptiesCell k left h =
+  release_hides index owner mode count releases.EmptiesCell k left h =
       remove_covers code c q owner index count (now v) words' latest' es goes spares passes leaves left.0 k.owns h
-  release_hides index owner mode count (releases.TheVariants.Raises raise) k left h =
+  release_hides index owner mode count (releases.Raises raise) k left h =
       hidden_stands code c q owner index count (now v) words' latest' es goes spares passes leaves left.within h
-  release_hides index owner mode count (releases.TheVariants.Locks lock) k left h =
+  release_hides index owner mode count (releases.Locks lock) k left h =
       hidden_stands code c q owner index count (now v) words' latest' es goes spares passes leaves left.within h
 
   pub remove_knows : (index owner : ℕ) (mode : ReleaseMode) (stage : RemoveStage)
       → RemoveKnows code c index owner mode stage v → RemoveKnows code c index owner mode stage later
-  remove_knows index owner mode removes.TheVariants.Refuses h = paid h
-  remove_knows index owner mode removes.TheVariants.LoadsCount h = set_knows (release_at c index owner mode releases.TheVariants.EmptiesCell) h
-  remove_knows index owner mode (removes.TheVariants.Releases count stage) h = (
+  remove_knows index owner mode removes.Refuses h = paid h
+  remove_knows index owner mode removes.LoadsCount h = set_knows (release_at c index owner mode releases.EmptiesCell) h
+  remove_knows index owner mode (removes.Releases count stage) h = (
     set_knows (release_at c index owner mode stage) h.0,
     release_left index count stage h.1,
     release_hides index owner mode count stage h.0 h.1 h.2,
   )
-  remove_knows index owner mode (removes.TheVariants.Hides count state) h = (
+  remove_knows index owner mode (removes.Hides count state) h = (
     paid h.0,
     remove_says index owner mode state h.1,
     has_left index count h.2,
     hidden_stands code c q owner index count (now v) words' latest' es goes spares passes leaves h.2.within h.3,
   )
-  remove_knows index owner mode (removes.TheVariants.AddsChange state) h =
+  remove_knows index owner mode (removes.AddsChange state) h =
       (paid h.0, remove_says index owner mode state h.1, hidden_later code c q owner no_index (now v) words' latest' es spares passes h.2)
 
   -- ---- a copy, and a find
@@ -271,18 +271,18 @@ module _ {T : Type 0} (code : Coding T) (c : ℕ) (v : View T) (turn : OthersTur
   steady x0 x1 x2 x3 x4 x5 = grind (arith, through_before, through_now, is_some)
 
   pub find_knows : (owner : ℕ) (room : buffers.Buffer 128) (stage : FindStage) → FindKnows code c owner room stage v → FindKnows code c owner room stage later
-  find_knows owner room (finds.TheVariants.LoadsCell index number) h = finds_on owner index index number h
-  find_knows owner room (finds.TheVariants.LoadsCount index number) h = (finds_on owner (index + 1) index number h.0, once (IsFilledWith owner index) h.1)
-  find_knows owner room (finds.TheVariants.LoadsWord index number count at) h = (
+  find_knows owner room (finds.LoadsCell index number) h = finds_on owner index index number h
+  find_knows owner room (finds.LoadsCount index number) h = (finds_on owner (index + 1) index number h.0, once (IsFilledWith owner index) h.1)
+  find_knows owner room (finds.LoadsWord index number count at) h = (
     finds_on owner (index + 1) index number h.0,
     steady index count h.2.within h.1,
     copying index count room.words at h.2,
     once (IsFilledWith owner index) h.3,
   )
-  find_knows owner room (finds.TheVariants.ChecksCount index number count) h = (
+  find_knows owner room (finds.ChecksCount index number count) h = (
     finds_on owner (index + 1) index number h.0,
     steady index count h.2.within h.1,
     copying index count room.words code.size h.2,
     once (IsFilledWith owner index) h.3,
   )
-  find_knows owner room (finds.TheVariants.Asks index number) h = (finds_on owner (index + 1) (index + 1) number h.0, has_copied index room h.1)
+  find_knows owner room (finds.Asks index number) h = (finds_on owner (index + 1) (index + 1) number h.0, has_copied index room h.1)

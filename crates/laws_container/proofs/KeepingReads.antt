@@ -6,10 +6,10 @@ use Rattle.laws_container.proofs.Names.{ContainerFlight, Count, IsLocked, Coding
 use Rattle.laws_container.proofs.Names.{IsUnlocked, StillToFree, filled_of, Asks, Yes, set_acts_of, IsOneOf}
 use Rattle.laws_container.proofs.Names.{IsHonestBy, gone_more, honest_less, stays_lost, held_paid, still_scanned}
 use Rattle.laws_container.proofs.Names.{through_less, borrowed_at, looking}
-use Rattle.steps.specs.declared.container.look.LookStage as looks
-use Rattle.steps.specs.declared.container.recover.RecoverStage as recovers
+use Rattle.steps.specs.declared.container.look.LookStage.TheVariants as looks
+use Rattle.steps.specs.declared.container.recover.RecoverStage.TheVariants as recovers
 use Rattle.steps.specs.declared.copied.Buffer as buffers
-use Rattle.steps.specs.declared.indices.enums.ReleaseState as states
+use Rattle.steps.specs.declared.indices.enums.ReleaseState.TheVariants as states
 use Rattle.model.specs.declared.families.container.calls.ContainerFlight.TheVariants.{Add, Remove, Replace, Find}
 use Rattle.model.specs.declared.families.container.calls.ContainerFlight.TheVariants.{Recover, Look}
 use Rattle.laws_robust.proofs.Knows as set
@@ -107,8 +107,8 @@ module _ {T : Type 0} (code : Coding T) (c : ℕ) (v : View T) (turn : OthersTur
       }
 
   recover_says : (owner : ℕ) (mode : ReleaseMode) (state : ReleaseState) → RecoverSays code c owner mode state v → RecoverSays code c owner mode state later
-  recover_says owner mode states.TheVariants.Locked h = locked_later events es h
-  recover_says owner mode states.TheVariants.Unlocked h = (
+  recover_says owner mode states.Locked h = locked_later events es h
+  recover_says owner mode states.Unlocked h = (
     still_gone owner h.0,
     unlocked_later q owner events es spares.none (set_acts_same code c v turn) h.1,
     recovered owner h.0 h.2,
@@ -127,32 +127,32 @@ module _ {T : Type 0} (code : Coding T) (c : ℕ) (v : View T) (turn : OthersTur
 
   recover_knows : (owner : ℕ) (mode : ReleaseMode) (room : buffers.Buffer 128) (stage : RecoverStage)
       → RecoverKnows code c owner mode room stage v → RecoverKnows code c owner mode room stage later
-  recover_knows owner mode room recovers.TheVariants.LoadsCounter h = (
+  recover_knows owner mode room recovers.LoadsCounter h = (
     paid code c v turn h.0,
     still_gone owner h.1,
     gone_but owner none h.1 h.2,
   )
-  recover_knows owner mode room (recovers.TheVariants.LoadsCell index) h = (paid code c v turn h.0, recovers_on owner index none h.1)
-  recover_knows owner mode room (recovers.TheVariants.LoadsCount index) h = (
+  recover_knows owner mode room (recovers.LoadsCell index) h = (paid code c v turn h.0, recovers_on owner index none h.1)
+  recover_knows owner mode room (recovers.LoadsCount index) h = (
     paid code c v turn h.0,
     recovers_on owner index none h.1,
     once code c v turn (IsFilledWith owner index) h.2,
   )
-  recover_knows owner mode room (recovers.TheVariants.LoadsWord index count at) h = (
+  recover_knows owner mode room (recovers.LoadsWord index count at) h = (
     check_paid code c v turn index count h.0,
     recovers_on owner index none h.1,
     once code c v turn (IsFilledWith owner index) h.2,
     copying code c v turn index count room.words at h.3,
     covers_on owner index count h.3.within h.1.dead h.4,
   )
-  recover_knows owner mode room (recovers.TheVariants.ChecksCount index count) h = (
+  recover_knows owner mode room (recovers.ChecksCount index count) h = (
     check_paid code c v turn index count h.0,
     recovers_on owner index none h.1,
     once code c v turn (IsFilledWith owner index) h.2,
     copying code c v turn index count room.words code.size h.3,
     covers_on owner index count h.3.within h.1.dead h.4,
   )
-  recover_knows owner mode room (recovers.TheVariants.Asks index count) h = (
+  recover_knows owner mode room (recovers.Asks index count) h = (
     paid code c v turn h.0,
     recovers_on owner (index + 1) none h.1,
     h.2,
@@ -160,14 +160,14 @@ module _ {T : Type 0} (code : Coding T) (c : ℕ) (v : View T) (turn : OthersTur
     has_copied code c v turn index room h.4,
     covers_on owner index count h.2 h.1.dead h.5,
   )
-  recover_knows owner mode room (recovers.TheVariants.EmptiesCell index count) h = (
+  recover_knows owner mode room (recovers.EmptiesCell index count) h = (
     paid code c v turn h.0,
     recovers_on owner (index + 1) (λ i. i ≡ index) h.1,
     h.2,
     count_below code c v turn index count h.2 h.3,
     covers_on owner index count h.2 h.1.dead h.4,
   )
-  recover_knows owner mode room (recovers.TheVariants.Hides index count) h = (
+  recover_knows owner mode room (recovers.Hides index count) h = (
     paid code c v turn h.0,
     recovers_then owner (index + 1) none (StillStands code c index count (now v))
         (StillStands code c index count (now later))
@@ -175,17 +175,17 @@ module _ {T : Type 0} (code : Coding T) (c : ℕ) (v : View T) (turn : OthersTur
         h.1,
     has_left code c v turn index count h.2,
   )
-  recover_knows owner mode room (recovers.TheVariants.Raises index raise) h = (
+  recover_knows owner mode room (recovers.Raises index raise) h = (
     held_paid v.terms.by v.words words' events es q v.since v.changes changes' v.backs goes spares seen (set.raise_holds raise) h.0,
     recovers_on owner (index + 1) none h.1,
   )
-  recover_knows owner mode room (recovers.TheVariants.Locks index lock) h = (
+  recover_knows owner mode room (recovers.Locks index lock) h = (
     held_paid v.terms.by v.words words' events es q v.since v.changes changes' v.backs goes spares seen (set.lock_holds lock) h.0,
     recovers_on owner (index + 1) none h.1,
     still_scanned v.terms.by v.words words' events es q v.since v.changes changes' v.backs goes spares seen (set.lock_scan c lock) h.2,
   )
-  recover_knows owner mode room recovers.TheVariants.LoadsCounterAgain h = (paid code c v turn h.0, recovers_on owner c none h.1)
-  recover_knows owner mode room (recovers.TheVariants.AddsChange state) h = (
+  recover_knows owner mode room recovers.LoadsCounterAgain h = (paid code c v turn h.0, recovers_on owner c none h.1)
+  recover_knows owner mode room (recovers.AddsChange state) h = (
     paid code c v turn h.0,
     recover_says owner mode state h.1,
     hidden_later code c q owner no_index (now v) words' latest' es spares passes h.2,
@@ -226,10 +226,10 @@ module _ {T : Type 0} (code : Coding T) (c : ℕ) (v : View T) (turn : OthersTur
       }
 
   look_knows : (stage : LookStage) → LookKnows code c stage v → LookKnows code c stage later
-  look_knows looks.TheVariants.LoadsChange h = (paid code c v turn h.0, look_rests h.1)
-  look_knows (looks.TheVariants.LoadsCount index) h = (paid code c v turn h.0, looks_on index c h.1)
-  look_knows (looks.TheVariants.LoadsWord index count at) h = (check_paid code c v turn index count h.0, look_copies index count at h.1)
-  look_knows (looks.TheVariants.ChecksCount index count) h = (
+  look_knows looks.LoadsChange h = (paid code c v turn h.0, look_rests h.1)
+  look_knows (looks.LoadsCount index) h = (paid code c v turn h.0, looks_on index c h.1)
+  look_knows (looks.LoadsWord index count at) h = (check_paid code c v turn index count h.0, look_copies index count at h.1)
+  look_knows (looks.ChecksCount index count) h = (
     check_paid code c v turn index count h.0,
     look_copies index count code.size h.1,
   )

@@ -6,7 +6,7 @@ use Rattle.laws_container.proofs.Names.{HasElements, IsContained, IsContainer, K
 use Rattle.laws_container.proofs.Names.{question_in, Copies, acts_of, state_of, is_locked, cell_of, filled_of}
 use Rattle.laws_container.proofs.Names.{IsLatest, doing_of, flight_of}
 use Rattle.laws_container.proofs.Names.{Trace, cell, Death}
-use Rattle.model.specs.declared.families.Registry as registries
+use Rattle.model.specs.declared.families.Registry.TheVariants as registries
 use Rattle.model.proofs.Frame as frame
 use Rattle.laws_container.proofs.Answers.{asks_right, recovers_right, answers_right}
 use Rattle.laws_container.proofs.Invariant.{moment, family, family_by}
@@ -39,7 +39,7 @@ module _ {T : Type 0} (terms : Terms) (code : Coding T) (t : Trace T) (s : frame
   words_are : t.world.words ≡ s.state.words
   words_are = s.fit.words
 
-  kept_are : t.world.kept ≡ registries.TheVariants.Container s.state.dead s.state.states
+  kept_are : t.world.kept ≡ registries.Container s.state.dead s.state.states
   kept_are = s.fit.kept
 
   -- what a party's call under way knows

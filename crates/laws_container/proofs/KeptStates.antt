@@ -13,9 +13,9 @@ use Rattle.laws_container.proofs.Names.{after_decision, after_answer, ask_of_doi
 use Rattle.laws_container.proofs.Names.{flight_in, progress_in, party_put_same, found_put_other, StandsThere}
 use Rattle.laws_container.proofs.Names.{stands_there, both_ways}
 use Rattle.steps.specs.declared.container.look.Look.{Look}
-use Rattle.steps.specs.declared.container.look.LookStage as stages
-use Rattle.model.specs.declared.families.Flight as flights
-use Rattle.model.specs.declared.families.Registry as registries
+use Rattle.steps.specs.declared.container.look.LookStage.TheVariants as stages
+use Rattle.model.specs.declared.families.Flight.TheVariants as flights
+use Rattle.model.specs.declared.families.Registry.TheVariants as registries
 use Rattle.model.specs.declared.families.loan.LoanStart.{LoanStart}
 use Rattle.model.proofs.Frame as frame
 use Rattle.laws_container.proofs.Invariant.{family_by}
@@ -43,7 +43,7 @@ module _ {T : Type 0} where
   written x0 x1 x2 x3 x4 x5 x6 x7 = grind (arith, written_other)
 
   stays : (code : Coding T) (q : ℕ) (flight : ContainerFlight T) (n : ℕ) (states : List (ℕ × ContainerState T)) (p : ℕ)
-      → IsApart p q (flights.TheVariants.Container flight)
+      → IsApart p q (flights.Container flight)
       → state_of p (states_after code q flight n states) ≡ state_of p states
   stays x0 x1 x2 x3 x4 x5 x6 = grind (arith, written)
 
@@ -59,14 +59,14 @@ module _ {T : Type 0} where
   held_stays : (code : Coding T) (capacity p q : ℕ) (start : ContainerStart T) (kept : Registry T) (w : World T)
       → is_look_of w q (Begin p (Container start)) ≡ false
       → state_in (keeps code capacity start p kept) q ≡ state_in kept q
-  held_stays code capacity p q GetState (registries.TheVariants.Container dead states) w none =
+  held_stays code capacity p q GetState (registries.Container dead states) w none =
       found_put_other q p (fresh code capacity) states (differ p q none)
-  held_stays code capacity p q UpdateState (registries.TheVariants.Container dead states) w none = go (is_some (state_of p states))
+  held_stays code capacity p q UpdateState (registries.Container dead states) w none = go (is_some (state_of p states))
     where
       go : (b : Bool) → state_of q (if b then states else with_state p (fresh code capacity) states) ≡ state_of q states
       go true = refl
       go false = found_put_other q p (fresh code capacity) states (differ p q none)
-  held_stays code capacity p q start (registries.TheVariants.Container dead states) w none = refl
+  held_stays code capacity p q start (registries.Container dead states) w none = refl
   held_stays code capacity p q start kept w none = refl
 
   loan_stays : (q : ℕ) (start : LoanStart) (kept : Registry T) → state_in (loan_keeps start kept) q ≡ state_in kept q
@@ -164,7 +164,7 @@ module _ {T : Type 0} where
   first_step : (code : Coding T) (c : ℕ) (which : LookOf) (stage : LookStage) (o : Option (ContainerState T)) (n : ℕ)
       → UpdateState ≡ looks_as {T = T} which
       → answer_in (any_call (goes_after code o (look_at which c stage) n)) ≡ Some (Truth false)
-      → stage ≡ stages.TheVariants.LoadsChange
+      → stage ≡ stages.LoadsChange
   first_step code c which stage o n name e = grind arith
 
 module _ {T : Type 0} (shown : Shown T) (terms : Terms) (code : Coding T) (t : Trace T) (turn : Turn T)

@@ -10,16 +10,16 @@ use Rattle.laws_container.proofs.Names.{HeldThroughout, FilledSinceFreed, StillT
 use Rattle.laws_container.proofs.Names.{set_acts_of, IsOneOf, IsLatest, read_in, HeldSometime, party_of, Open}
 use Rattle.laws_container.proofs.Names.{span_of, is_gone, IsHonestBy, IsCalm, IsWorn, acquire_at, release_at}
 use Rattle.laws_container.proofs.Names.{borrowed_at, looking}
-use Rattle.steps.specs.declared.container.add.AddStage as adds
-use Rattle.steps.specs.declared.container.find.FindStage as finds
+use Rattle.steps.specs.declared.container.add.AddStage.TheVariants as adds
+use Rattle.steps.specs.declared.container.find.FindStage.TheVariants as finds
 use Rattle.steps.specs.declared.container.look.LookStage as looks
-use Rattle.steps.specs.declared.container.recover.RecoverStage as recovers
-use Rattle.steps.specs.declared.container.remove.RemoveStage as removes
-use Rattle.steps.specs.declared.container.replace.ReplaceStage as replaces
+use Rattle.steps.specs.declared.container.recover.RecoverStage.TheVariants as recovers
+use Rattle.steps.specs.declared.container.remove.RemoveStage.TheVariants as removes
+use Rattle.steps.specs.declared.container.replace.ReplaceStage.TheVariants as replaces
 use Rattle.steps.specs.declared.copied.Buffer as buffers
-use Rattle.steps.specs.declared.indices.enums.ReleaseState as states
-use Rattle.steps.specs.declared.indices.robust.release.ReleaseStage as releases
-use Rattle.model.specs.declared.families.container.ContainerStart as starts
+use Rattle.steps.specs.declared.indices.enums.ReleaseState.TheVariants as states
+use Rattle.steps.specs.declared.indices.robust.release.ReleaseStage.TheVariants as releases
+use Rattle.model.specs.declared.families.container.ContainerStart.TheVariants as starts
 use Rattle.model.specs.declared.families.container.calls.ContainerFlight.TheVariants.{Add, Remove, Replace, Find}
 use Rattle.model.specs.declared.families.container.calls.ContainerFlight.TheVariants.{Recover, Look}
 use Rattle.laws_robust.proofs.Knows as set
@@ -102,7 +102,7 @@ module _ {T : Type 0} where
     pub steps : 1 ≤ party.steps
     pub wrote : List (Event T)
     pub span : span_of v.party v.events
-        ≡ Open (Container (starts.TheVariants.Replace index value owner)) wrote
+        ≡ Open (Container (starts.Replace index value owner)) wrote
 
   pub record ReplaceKnows (c index owner : ℕ) (value : T) (v : View T) : Type 0 where
     pub paid : IsPaid v
@@ -137,41 +137,41 @@ module _ {T : Type 0} (code : Coding T) (c : ℕ) where
       → (left_of index v.events ≡ false) × (is_some (contents_of index v.events) ≡ true)
 
   abbrev pub AddKnows : T → ℕ → AddStage → View T → Type 0
-  AddKnows value owner (adds.TheVariants.Acquires stage) v =
+  AddKnows value owner (adds.Acquires stage) v =
       set.Knows c (acquire_at c owner stage) (of_set v)
-  AddKnows value owner (adds.TheVariants.LoadsCount index) v = AddOwns c owner index v
-  AddKnows value owner (adds.TheVariants.Hides index count) v =
+  AddKnows value owner (adds.LoadsCount index) v = AddOwns c owner index v
+  AddKnows value owner (adds.Hides index count) v =
       AddOwns c owner index v × Covers owner index count v
-  AddKnows value owner (adds.TheVariants.Stores index at) v =
+  AddKnows value owner (adds.Stores index at) v =
       AddOwns c owner index v × Writes owner index value at v
-  AddKnows value owner (adds.TheVariants.AddsCount index) v =
+  AddKnows value owner (adds.AddsCount index) v =
       AddOwns c owner index v × Writes owner index value code.size v
-  AddKnows value owner (adds.TheVariants.AddsChange index) v =
+  AddKnows value owner (adds.AddsChange index) v =
       AddOwns c owner index v × HasPlaced index value v × Stood owner index v
 
   abbrev pub ReplacesKnow : ℕ → T → ℕ → ReplaceStage → View T → Type 0
-  ReplacesKnow index value owner replaces.TheVariants.Refuses v = IsPaid v
-  ReplacesKnow index value owner replaces.TheVariants.LoadsCell v =
+  ReplacesKnow index value owner replaces.Refuses v = IsPaid v
+  ReplacesKnow index value owner replaces.LoadsCell v =
       IsPaid v × ReplaceOwns v.terms.by v.party index owner v.events
-  ReplacesKnow index value owner replaces.TheVariants.LoadsCount v =
+  ReplacesKnow index value owner replaces.LoadsCount v =
       ReplaceKnows c index owner value v
-  ReplacesKnow index value owner (replaces.TheVariants.Hides count) v =
+  ReplacesKnow index value owner (replaces.Hides count) v =
       ReplaceKnows c index owner value v × Covers owner index count v
-  ReplacesKnow index value owner (replaces.TheVariants.Stores at) v =
+  ReplacesKnow index value owner (replaces.Stores at) v =
       ReplaceKnows c index owner value v × Writes owner index value at v
-  ReplacesKnow index value owner replaces.TheVariants.AddsCount v =
+  ReplacesKnow index value owner replaces.AddsCount v =
       ReplaceKnows c index owner value v × Writes owner index value code.size v
-  ReplacesKnow index value owner replaces.TheVariants.AddsChange v =
+  ReplacesKnow index value owner replaces.AddsChange v =
       ReplaceKnows c index owner value v × HasPlaced index value v × Stood owner index v
 
   -- ---- a remove
 
   -- what the state says with which it will end
   abbrev pub RemoveSays : ℕ → ℕ → ReleaseMode → ReleaseState → View T → Type 0
-  RemoveSays index owner mode states.TheVariants.Locked v = is_locked v.events ≡ true
-  RemoveSays index owner LockIfLastIndex states.TheVariants.Unlocked v =
+  RemoveSays index owner mode states.Locked v = is_locked v.events ≡ true
+  RemoveSays index owner LockIfLastIndex states.Unlocked v =
       WasOpen v × (Worn v ⊎ FilledSinceFreed v.party owner index v.events)
-  RemoveSays index owner Default states.TheVariants.Unlocked v = Unit {0}
+  RemoveSays index owner Default states.Unlocked v = Unit {0}
 
   -- the number has come this far
   abbrev pub HasCome : ℕ → ℕ → View T → Type 0
@@ -185,28 +185,28 @@ module _ {T : Type 0} (code : Coding T) (c : ℕ) where
 
   -- a remove that has freed
   abbrev pub ReleaseLeft : ℕ → ℕ → ReleaseStage → View T → Type 0
-  ReleaseLeft index count releases.TheVariants.EmptiesCell v =
+  ReleaseLeft index count releases.EmptiesCell v =
       (index < c) × HasCome index count v
   ReleaseLeft index count stage v = HasLeft index count v
 
   -- and of what stood there
   abbrev pub ReleaseHides : ℕ → ℕ → ℕ → ReleaseStage → View T → Type 0
-  ReleaseHides index owner count releases.TheVariants.EmptiesCell v =
+  ReleaseHides index owner count releases.EmptiesCell v =
       RemoveCovers code c v.party owner index count (now v)
   ReleaseHides index owner count stage v =
       HasHidden code c v.party owner (StillStands code c index count (now v)) (now v)
 
   abbrev pub RemoveKnows : ℕ → ℕ → ReleaseMode → RemoveStage → View T → Type 0
-  RemoveKnows index owner mode removes.TheVariants.Refuses v = IsPaid v
-  RemoveKnows index owner mode removes.TheVariants.LoadsCount v =
-      set.Knows c (release_at c index owner mode releases.TheVariants.EmptiesCell) (of_set v)
-  RemoveKnows index owner mode (removes.TheVariants.Releases count stage) v =
+  RemoveKnows index owner mode removes.Refuses v = IsPaid v
+  RemoveKnows index owner mode removes.LoadsCount v =
+      set.Knows c (release_at c index owner mode releases.EmptiesCell) (of_set v)
+  RemoveKnows index owner mode (removes.Releases count stage) v =
       set.Knows c (release_at c index owner mode stage) (of_set v) × ReleaseLeft index count stage v
       × ReleaseHides index owner count stage v
-  RemoveKnows index owner mode (removes.TheVariants.Hides count state) v =
+  RemoveKnows index owner mode (removes.Hides count state) v =
       IsPaid v × RemoveSays index owner mode state v × HasLeft index count v
       × HasHidden code c v.party owner (StillStands code c index count (now v)) (now v)
-  RemoveKnows index owner mode (removes.TheVariants.AddsChange state) v =
+  RemoveKnows index owner mode (removes.AddsChange state) v =
       IsPaid v × RemoveSays index owner mode state v
       × HasHidden code c v.party owner no_index (now v)
 
@@ -250,17 +250,17 @@ module _ {T : Type 0} (code : Coding T) (c : ℕ) where
       WellFormed (now v) → StoodThere v.party index v.events → count_in code c (now v) index ≡ count
 
   abbrev pub FindKnows : ℕ → buffers.Buffer 128 → FindStage → View T → Type 0
-  FindKnows owner room (finds.TheVariants.LoadsCell index found) v =
+  FindKnows owner room (finds.LoadsCell index found) v =
       Finds owner index index found v
-  FindKnows owner room (finds.TheVariants.LoadsCount index found) v =
+  FindKnows owner room (finds.LoadsCount index found) v =
       Finds owner (index + 1) index found v × WasFilled owner index v
-  FindKnows owner room (finds.TheVariants.LoadsWord index found count at) v =
+  FindKnows owner room (finds.LoadsWord index found count at) v =
       Finds owner (index + 1) index found v × Steady index count v
       × Copying index count room.words at v × WasFilled owner index v
-  FindKnows owner room (finds.TheVariants.ChecksCount index found count) v =
+  FindKnows owner room (finds.ChecksCount index found count) v =
       Finds owner (index + 1) index found v × Steady index count v
       × Copying index count room.words code.size v × WasFilled owner index v
-  FindKnows owner room (finds.TheVariants.Asks index found) v =
+  FindKnows owner room (finds.Asks index found) v =
       Finds owner (index + 1) (index + 1) found v × HasCopied index room v
 
   -- ---- a recovery
@@ -289,73 +289,73 @@ module _ {T : Type 0} (code : Coding T) (c : ℕ) where
     pub hidden : HasHidden code c v.party owner But (now v)
 
   abbrev pub RecoverSays : ℕ → ReleaseMode → ReleaseState → View T → Type 0
-  RecoverSays owner mode states.TheVariants.Locked v = is_locked v.events ≡ true
-  RecoverSays owner mode states.TheVariants.Unlocked v =
+  RecoverSays owner mode states.Locked v = is_locked v.events ≡ true
+  RecoverSays owner mode states.Unlocked v =
       IsGone owner v × UnlockedAtLast v.party v.events
       × HasRecoveredBy v.terms.by v.party owner v.events
       × FilledSinceEachBy (Worn v) mode v.party owner v.events
 
   abbrev pub RecoverKnows : ℕ → ReleaseMode → buffers.Buffer 128 → RecoverStage → View T → Type 0
-  RecoverKnows owner mode room recovers.TheVariants.LoadsCounter v =
+  RecoverKnows owner mode room recovers.LoadsCounter v =
       IsPaid v × IsGone owner v × Gone owner v
-  RecoverKnows owner mode room (recovers.TheVariants.LoadsCell index) v =
+  RecoverKnows owner mode room (recovers.LoadsCell index) v =
       IsPaid v × Recovers owner index no_index no_index v
-  RecoverKnows owner mode room (recovers.TheVariants.LoadsCount index) v =
+  RecoverKnows owner mode room (recovers.LoadsCount index) v =
       IsPaid v × Recovers owner index no_index no_index v × WasFilled owner index v
-  RecoverKnows owner mode room (recovers.TheVariants.LoadsWord index count at) v =
+  RecoverKnows owner mode room (recovers.LoadsWord index count at) v =
       CheckPaid index count v × Recovers owner index no_index no_index v × WasFilled owner index v
       × Copying index count room.words at v
       × RecoverCovers code c owner index count (now v)
-  RecoverKnows owner mode room (recovers.TheVariants.ChecksCount index count) v =
+  RecoverKnows owner mode room (recovers.ChecksCount index count) v =
       CheckPaid index count v × Recovers owner index no_index no_index v × WasFilled owner index v
       × Copying index count room.words code.size v
       × RecoverCovers code c owner index count (now v)
-  RecoverKnows owner mode room (recovers.TheVariants.Asks index count) v =
+  RecoverKnows owner mode room (recovers.Asks index count) v =
       IsPaid v × Recovers owner (index + 1) no_index no_index v
       × (index < c) × HasCome index count v
       × HasCopied index room v
       × RecoverCovers code c owner index count (now v)
-  RecoverKnows owner mode room (recovers.TheVariants.EmptiesCell index count) v =
+  RecoverKnows owner mode room (recovers.EmptiesCell index count) v =
       IsPaid v × Recovers owner (index + 1) (λ i. i ≡ index) no_index v
       × (index < c) × HasCome index count v
       × RecoverCovers code c owner index count (now v)
-  RecoverKnows owner mode room (recovers.TheVariants.Hides index count) v =
+  RecoverKnows owner mode room (recovers.Hides index count) v =
       IsPaid v × Recovers owner (index + 1) no_index (StillStands code c index count (now v)) v × HasLeft index count v
-  RecoverKnows owner mode room (recovers.TheVariants.Raises index raise) v =
+  RecoverKnows owner mode room (recovers.Raises index raise) v =
       set.Paid (set.raise_holds raise) (of_set v) × Recovers owner (index + 1) no_index no_index v
-  RecoverKnows owner mode room (recovers.TheVariants.Locks index lock) v =
+  RecoverKnows owner mode room (recovers.Locks index lock) v =
       set.Paid (set.lock_holds lock) (of_set v) × Recovers owner (index + 1) no_index no_index v
       × set.Scanned (set.lock_scan c lock) (of_set v)
-  RecoverKnows owner mode room recovers.TheVariants.LoadsCounterAgain v =
+  RecoverKnows owner mode room recovers.LoadsCounterAgain v =
       IsPaid v × Recovers owner c no_index no_index v
-  RecoverKnows owner mode room (recovers.TheVariants.AddsChange state) v =
+  RecoverKnows owner mode room (recovers.AddsChange state) v =
       IsPaid v × RecoverSays owner mode state v × HasHidden code c v.party owner no_index (now v)
 
   -- and what it knows of its locks, where it is at an index that it has freed from its Hides on
   abbrev pub RecoverFills : ℕ → ReleaseMode → RecoverStage → View T → Type 0
-  RecoverFills owner mode recovers.TheVariants.LoadsCounter v = Unit {0}
-  RecoverFills owner mode (recovers.TheVariants.LoadsCell index) v =
+  RecoverFills owner mode recovers.LoadsCounter v = Unit {0}
+  RecoverFills owner mode (recovers.LoadsCell index) v =
       FilledBut (Worn v) mode v.party owner NoIndex v.events
-  RecoverFills owner mode (recovers.TheVariants.LoadsCount index) v =
+  RecoverFills owner mode (recovers.LoadsCount index) v =
       FilledBut (Worn v) mode v.party owner NoIndex v.events
-  RecoverFills owner mode (recovers.TheVariants.LoadsWord index count at) v =
+  RecoverFills owner mode (recovers.LoadsWord index count at) v =
       FilledBut (Worn v) mode v.party owner NoIndex v.events
-  RecoverFills owner mode (recovers.TheVariants.ChecksCount index count) v =
+  RecoverFills owner mode (recovers.ChecksCount index count) v =
       FilledBut (Worn v) mode v.party owner NoIndex v.events
-  RecoverFills owner mode (recovers.TheVariants.Asks index count) v =
+  RecoverFills owner mode (recovers.Asks index count) v =
       FilledBut (Worn v) mode v.party owner NoIndex v.events
-  RecoverFills owner mode (recovers.TheVariants.EmptiesCell index count) v =
+  RecoverFills owner mode (recovers.EmptiesCell index count) v =
       FilledBut (Worn v) mode v.party owner NoIndex v.events
-  RecoverFills owner mode (recovers.TheVariants.Hides index count) v =
+  RecoverFills owner mode (recovers.Hides index count) v =
       FilledBut (Worn v) mode v.party owner (λ i. i ≡ index) v.events
-  RecoverFills owner mode (recovers.TheVariants.Raises index raise) v =
+  RecoverFills owner mode (recovers.Raises index raise) v =
       FilledBut (Worn v) mode v.party owner (λ i. i ≡ index) v.events
-  RecoverFills owner mode (recovers.TheVariants.Locks index lock) v =
+  RecoverFills owner mode (recovers.Locks index lock) v =
       FilledBut (Worn v) mode v.party owner (λ i. i ≡ index) v.events
       × set.LockSays c (FoundFilled v.party v.events) lock
-  RecoverFills owner mode recovers.TheVariants.LoadsCounterAgain v =
+  RecoverFills owner mode recovers.LoadsCounterAgain v =
       FilledBut (Worn v) mode v.party owner NoIndex v.events
-  RecoverFills owner mode (recovers.TheVariants.AddsChange state) v = Unit {0}
+  RecoverFills owner mode (recovers.AddsChange state) v = Unit {0}
 
   -- ---- a look
 

@@ -5,8 +5,8 @@ use Rattle.laws_container.proofs.Names.{ContainerStart, ContainerFlight, Begin, 
 use Rattle.laws_container.proofs.Names.{going_rows, after, names_owner, state_of, effects, questions, has_died}
 use Rattle.laws_container.proofs.Names.{IsEffectOf, is_due, first_row, answer_in, events_of_step, Trace, flight_in}
 use Rattle.laws_container.proofs.Names.{stands_there, open_refusal, AllLive, StepsLeave, end_leaves}
-use Rattle.model.specs.declared.families.Flight as flights
-use Rattle.model.specs.declared.families.Registry as registries
+use Rattle.model.specs.declared.families.Flight.TheVariants as flights
+use Rattle.model.specs.declared.families.Registry.TheVariants as registries
 use Rattle.model.proofs.Frame as frame
 use Rattle.laws_robust.proofs.Alive.{Leaves}
 use Rattle.laws_robust.proofs.Told.{joined}
@@ -34,8 +34,8 @@ module _ {T : Type 0} (terms : Terms) (code : Coding T) (c : ℕ) (t : Trace T) 
         events_of_step p start (step_of t.world.coding t.world.words (beside_of t.world.words kept t.world.latest p) p start flight answer kept)
 
     step_leaves : (start : Start T) (flight : Flight T) → (family_by terms code c).At s.state p start flight
-        → AllByRecursion Leaves (writes (registries.TheVariants.Container s.state.dead s.state.states) start flight)
-    step_leaves (Container start) (flights.TheVariants.Container flight) at =
+        → AllByRecursion Leaves (writes (registries.Container s.state.dead s.state.states) start flight)
+    step_leaves (Container start) (flights.Container flight) at =
         let state = state_of p s.state.states in
         let did : List (Event T) = effects t.world.coding p state flight answer ++ questions p flight answer in
         joined Leaves did _ (effects_leave p did (all_effects (Next p) p refl t.world.coding state flight answer))
@@ -55,12 +55,12 @@ module _ {T : Type 0} (terms : Terms) (code : Coding T) (c : ℕ) (t : Trace T) 
     has_not_died owner = s.holds.good.died owner ∙ all owner
 
     pub step_is_free : (flight : ContainerFlight T)
-        → first_row (going_rows t.world.coding t.world.kept (Some (flights.TheVariants.Container flight)) None) ≡ None
+        → first_row (going_rows t.world.coding t.world.kept (Some (flights.Container flight)) None) ≡ None
     step_is_free flight = grind arith
 
     -- a step of a call that waits for no answer
-    pub next_is_free : (p : ℕ) (flight : ContainerFlight T) → flight_in t.world p ≡ Some (flights.TheVariants.Container flight)
-        → is_due t.world.coding (Some (flights.TheVariants.Container flight)) ≡ false → open_refusal t.world (Next p) ≡ None
+    pub next_is_free : (p : ℕ) (flight : ContainerFlight T) → flight_in t.world p ≡ Some (flights.Container flight)
+        → is_due t.world.coding (Some (flights.Container flight)) ≡ false → open_refusal t.world (Next p) ≡ None
     next_is_free p flight here due = grind arith
 
     -- a call of the container, for an owner that is none of an empty cell

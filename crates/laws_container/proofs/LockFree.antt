@@ -5,11 +5,13 @@ use Rattle.std.proofs.lemmas.Bool.{cases_eq}
 use Rattle.std.proofs.lemmas.Bool.Decides.{nat_tests}
 use Rattle.steps.specs.declared.ask.After.{After}
 use Rattle.steps.specs.declared.ask.After.TheVariants.{GoOn, Done}
-use Rattle.steps.specs.declared.container.find.FindStage as finds
+use Rattle.steps.specs.declared.container.find.FindStage.{FindStage}
+use Rattle.steps.specs.declared.container.find.FindStage.TheVariants as finds
 use Rattle.steps.specs.declared.container.look.Look.{Look}
-use Rattle.steps.specs.declared.container.recover.RecoverStage as recovers
-use Rattle.steps.specs.declared.container.remove.RemoveStage as removes
-use Rattle.steps.specs.declared.container.replace.ReplaceStage as replaces
+use Rattle.steps.specs.declared.container.recover.RecoverStage.{RecoverStage}
+use Rattle.steps.specs.declared.container.recover.RecoverStage.TheVariants as recovers
+use Rattle.steps.specs.declared.container.remove.RemoveStage.TheVariants as removes
+use Rattle.steps.specs.declared.container.replace.ReplaceStage.TheVariants as replaces
 use Rattle.steps.specs.declared.container.state.ContainerState.{ContainerState}
 use Rattle.steps.specs.declared.indices.enums.ReleaseMode.TheVariants.{LockIfLastIndex, Default}
 use Rattle.steps.specs.declared.copied.Buffer as buffers
@@ -20,14 +22,14 @@ use Rattle.model.specs.declared.event.Answer.{Answer}
 use Rattle.model.specs.declared.event.Start.{Start}
 use Rattle.model.specs.declared.event.Start.TheVariants as starts
 use Rattle.model.specs.declared.families.Flight.{Flight}
-use Rattle.model.specs.declared.families.Flight as flights
+use Rattle.model.specs.declared.families.Flight.TheVariants as flights
 use Rattle.model.specs.declared.families.Registry.{Registry}
-use Rattle.model.specs.declared.families.Registry as registries
+use Rattle.model.specs.declared.families.Registry.TheVariants as registries
 use Rattle.model.specs.declared.families.container.ContainerStart.{ContainerStart}
-use Rattle.model.specs.declared.families.container.ContainerStart as container_starts
+use Rattle.model.specs.declared.families.container.ContainerStart.TheVariants as container_starts
 use Rattle.model.specs.declared.families.container.calls.ContainerFlight.{ContainerFlight}
-use Rattle.model.specs.declared.families.container.calls.ContainerFlight as calls
-use Rattle.model.specs.declared.turn.Kind as kinds
+use Rattle.model.specs.declared.families.container.calls.ContainerFlight.TheVariants as calls
+use Rattle.model.specs.declared.turn.Kind.TheVariants as kinds
 use Rattle.model.specs.Coding.{Coding, IsCoding}
 use Rattle.model.specs.Families.{first_of, want_of, goes_of, step_of, is_question, kept_after_begin, kept_after_death}
 use Rattle.model.specs.Families.Container.Calls.{first, want, after, states_after, writes_state, place_of}
@@ -66,26 +68,26 @@ module _ {T : Type 0} (code : Coding T) (c : ℕ) where
   place_within x0 = grind (arith, nat_tests)
 
   first_stands : (start : ContainerStart T) → IsDefault (starts.Container start) → CallStands c (first c start)
-  first_stands (container_starts.TheVariants.Add value owner) such = (refl, tt)
-  first_stands (container_starts.TheVariants.Remove index owner LockIfLastIndex) such = absurd such
-  first_stands (container_starts.TheVariants.Remove index owner Default) such = (refl, refl, place_within index, go (nat_lt (place_of c index) c))
+  first_stands (container_starts.Add value owner) such = (refl, tt)
+  first_stands (container_starts.Remove index owner LockIfLastIndex) such = absurd such
+  first_stands (container_starts.Remove index owner Default) such = (refl, refl, place_within index, go (nat_lt (place_of c index) c))
     where
-      go : (t : Bool) → RemoveStands (cond t removes.TheVariants.LoadsCount removes.TheVariants.Refuses)
+      go : (t : Bool) → RemoveStands (cond t removes.LoadsCount removes.Refuses)
       go true = tt
       go false = tt
-  first_stands (container_starts.TheVariants.Replace index value owner) such = (refl, go (nat_lt (place_of c index) c))
+  first_stands (container_starts.Replace index value owner) such = (refl, go (nat_lt (place_of c index) c))
     where
-      go : (t : Bool) → ReplaceStands (cond t replaces.TheVariants.LoadsCell replaces.TheVariants.Refuses)
+      go : (t : Bool) → ReplaceStands (cond t replaces.LoadsCell replaces.Refuses)
       go true = tt
       go false = tt
-  first_stands (container_starts.TheVariants.Find owner) such = refl
-  first_stands (container_starts.TheVariants.Recover owner LockIfLastIndex) such = absurd such
-  first_stands (container_starts.TheVariants.Recover owner Default) such = (refl, refl, tt)
-  first_stands container_starts.TheVariants.GetState such = (refl, tt)
-  first_stands container_starts.TheVariants.UpdateState such = (refl, tt)
-  first_stands container_starts.TheVariants.Len such = refl
-  first_stands container_starts.TheVariants.IsEmpty such = refl
-  first_stands container_starts.TheVariants.IsLocked such = tt
+  first_stands (container_starts.Find owner) such = refl
+  first_stands (container_starts.Recover owner LockIfLastIndex) such = absurd such
+  first_stands (container_starts.Recover owner Default) such = (refl, refl, tt)
+  first_stands container_starts.GetState such = (refl, tt)
+  first_stands container_starts.UpdateState such = (refl, tt)
+  first_stands container_starts.Len such = refl
+  first_stands container_starts.IsEmpty such = refl
+  first_stands container_starts.IsLocked such = tt
 
   pub call_goes : (state : Option (ContainerState T)) (flight : ContainerFlight T) (old : ℕ) → CallStands c flight → StandsAfter (after code state flight old)
   call_goes x0 x1 x2 x3 = grind (arith, nat_tests)
@@ -121,13 +123,13 @@ module _ {T : Type 0} (code : Coding T) (c : ℕ) where
 
   pub steps_has : (p q : ℕ) (flight : ContainerFlight T) (old : ℕ) (states : List (ℕ × ContainerState T)) → has_state q states
       → has_state q (states_after code p flight old states)
-  steps_has p q (calls.TheVariants.Look which call) old states has = looks_has p q call old states (state_of p states) refl has
+  steps_has p q (calls.Look which call) old states has = looks_has p q call old states (state_of p states) refl has
   steps_has p q flight old states has = has
 
   begins_has : (p q : ℕ) (start : ContainerStart T) (states : List (ℕ × ContainerState T)) → has_state q states
       → has_state q (states_at_begin code c start p states)
-  begins_has p q container_starts.TheVariants.GetState states has = put_has p q (fresh code c) states has
-  begins_has p q container_starts.TheVariants.UpdateState states has = go (is_some (state_of p states))
+  begins_has p q container_starts.GetState states has = put_has p q (fresh code c) states has
+  begins_has p q container_starts.UpdateState states has = go (is_some (state_of p states))
     where
       go : (t : Bool) → has_state q (cond t states (with_state p (fresh code c) states))
       go true = has
@@ -135,7 +137,7 @@ module _ {T : Type 0} (code : Coding T) (c : ℕ) where
   begins_has p q start states has = has
 
   -- where a look begins
-  look_has : (p : ℕ) (states : List (ℕ × ContainerState T)) → has_state p (states_at_begin code c container_starts.TheVariants.UpdateState p states)
+  look_has : (p : ℕ) (states : List (ℕ × ContainerState T)) → has_state p (states_at_begin code c container_starts.UpdateState p states)
   look_has p states = go (is_some (state_of p states)) refl
     where
       go : (t : Bool) → is_some (state_of p states) ≡ t → has_state p (cond t states (with_state p (fresh code c) states))
@@ -143,61 +145,61 @@ module _ {T : Type 0} (code : Coding T) (c : ℕ) where
       go false t = ap is_some (found_put_same p (fresh code c) states)
 
   abbrev pub in_states : List ℕ → List (ℕ × ContainerState T) → Registry T
-  in_states dead states = registries.TheVariants.Container dead states
+  in_states dead states = registries.Container dead states
 
   pub lasts_by : (dead later : List ℕ) (states then : List (ℕ × ContainerState T)) → ((q : ℕ) → has_state q states → has_state q then)
       → Lasts outline (in_states dead states) (in_states later then)
-  lasts_by dead later states then more q (flights.TheVariants.Container (calls.TheVariants.Look which call)) known = more q known
+  lasts_by dead later states then more q (flights.Container (calls.Look which call)) known = more q known
   lasts_by dead later states then more q flight known = tt
 
   first_known : (p : ℕ) (dead : List ℕ) (states : List (ℕ × ContainerState T)) (start : ContainerStart T)
-      → Known p (in_states dead (states_at_begin code c start p states)) (flights.TheVariants.Container (first c start))
-  first_known p dead states container_starts.TheVariants.GetState = ap is_some (found_put_same p (fresh code c) states)
-  first_known p dead states container_starts.TheVariants.UpdateState = look_has p states
+      → Known p (in_states dead (states_at_begin code c start p states)) (flights.Container (first c start))
+  first_known p dead states container_starts.GetState = ap is_some (found_put_same p (fresh code c) states)
+  first_known p dead states container_starts.UpdateState = look_has p states
   first_known p dead states start = tt
 
   -- a call stays of its kind
   pub call_known : (p : ℕ) (dead : List ℕ) (states : List (ℕ × ContainerState T)) (o : Option (ContainerState T)) (flight : ContainerFlight T) (old : ℕ)
-      → Known p (in_states dead states) (flights.TheVariants.Container flight)
+      → Known p (in_states dead states) (flights.Container flight)
       → KnownAfter outline p (in_states dead states) (any_call code c [] (after code o flight old))
   call_known x0 x1 x2 x3 x4 x5 x6 = grind arith
 
   -- ---- each step of a call falls
 
   pub call_falls : (words : List ℕ) (p : ℕ) (dead : List ℕ) (states : List (ℕ × ContainerState T)) (flight : ContainerFlight T) → CallStands c flight
-      → Known p (in_states dead states) (flights.TheVariants.Container flight) → ShownBy code c words (state_of p states) flight
-  call_falls words p dead states (calls.TheVariants.Add run) at known =
+      → Known p (in_states dead states) (flights.Container flight) → ShownBy code c words (state_of p states) flight
+  call_falls words p dead states (calls.Add run) at known =
       subst (λ n. ShownBy code c words (state_of p states) (add_at n run.given.value run.given.owner run.call.stage)) (sym at.0)
       (add_falls code c words (state_of p states) run.given.value run.given.owner run.call.stage at.1)
-  call_falls words p dead states (calls.TheVariants.Remove run) at known =
+  call_falls words p dead states (calls.Remove run) at known =
       subst (λ m. ShownBy code c words (state_of p states) (remove_at run.call.capacity run.given.index run.given.owner m run.call.stage)) (sym at.1)
       (subst (λ n. ShownBy code c words (state_of p states) (remove_at n run.given.index run.given.owner Default run.call.stage)) (sym at.0)
       (remove_falls code c words (state_of p states) run.given.index run.given.owner run.call.stage at.2 at.3))
-  call_falls words p dead states (calls.TheVariants.Replace run) at known =
+  call_falls words p dead states (calls.Replace run) at known =
       subst (λ n. ShownBy code c words (state_of p states) (replace_at n run.given.index run.given.value run.given.owner run.call.stage)) (sym at.0)
       (replace_falls code c words (state_of p states) run.given.index run.given.value run.given.owner run.call.stage at.1)
-  call_falls words p dead states (calls.TheVariants.Find run) at known =
+  call_falls words p dead states (calls.Find run) at known =
       subst (λ n. ShownBy code c words (state_of p states) (find_at n run.given run.room run.call.stage)) (sym at)
       (find_falls code c words run.given run.room run.call.stage)
-  call_falls words p dead states (calls.TheVariants.Recover run) at known =
+  call_falls words p dead states (calls.Recover run) at known =
       subst (λ m. ShownBy code c words (state_of p states) (recover_at run.call.capacity run.given.owner m run.room run.call.stage)) (sym at.1)
       (subst (λ n. ShownBy code c words (state_of p states) (recover_at n run.given.owner Default run.room run.call.stage)) (sym at.0)
       (recover_falls code c words run.given.owner run.room run.call.stage at.2))
-  call_falls words p dead states (calls.TheVariants.Look which call) at known = go (state_of p states) known
+  call_falls words p dead states (calls.Look which call) at known = go (state_of p states) known
     where
-      go : (o : Option (ContainerState T)) → is_some o ≡ true → ShownBy code c words o (calls.TheVariants.Look which call)
+      go : (o : Option (ContainerState T)) → is_some o ≡ true → ShownBy code c words o (calls.Look which call)
       go None none = absurd (cc)
       go (Some state) some =
           subst (λ n. ShownBy code c words (Some state) (look_at which n call.stage)) (sym at.0) (look_falls code c words which state call.stage at.1)
-  call_falls words p dead states (calls.TheVariants.Count which run) at known =
+  call_falls words p dead states (calls.Count which run) at known =
       subst (λ n. ShownBy code c words (state_of p states) (count_at which n run.call.count)) (sym at) (count_falls code c words which run.call.count)
-  call_falls words p dead states (calls.TheVariants.IsLocked run) at known = tt
+  call_falls words p dead states (calls.IsLocked run) at known = tt
 
   falls : (words : List ℕ) (p : ℕ) (kept : Registry T) (start : Start T) (flight : Flight T) → At code c start flight → Kept kept → Known p kept flight
       → StepFallsBy (measure code.size c) code words p kept flight
-  falls words p (registries.TheVariants.Container dead states) (starts.Container start) (flights.TheVariants.Container flight) at held known =
+  falls words p (registries.Container dead states) (starts.Container start) (flights.Container flight) at held known =
       call_falls words p dead states flight at known
-  falls words p kept (starts.Container start) (flights.TheVariants.Container flight) at held known = absurd held
+  falls words p kept (starts.Container start) (flights.Container flight) at held known = absurd held
   falls words p kept start flight at held known = absurd at
 
   -- ---- a decision
@@ -205,72 +207,72 @@ module _ {T : Type 0} (code : Coding T) (c : ℕ) where
   abbrev pub Decided : List ℕ → Option (ContainerState T) → ContainerFlight T → Type 0
   Decided words state flight =
       (said : Bool) → is_question (want code flight) ≡ true
-      → FallsIn (M code c words) words words 0 (flights.TheVariants.Container flight) (any_call code c words (after code state flight (number_of said)))
+      → FallsIn (M code c words) words words 0 (flights.Container flight) (any_call code c words (after code state flight (number_of said)))
 
-  find_decides : (words : List ℕ) (owner : ℕ) (room : buffers.Buffer 128) (stage : finds.FindStage) → Decided words None (find_at c owner room stage)
-  find_decides words owner room (finds.TheVariants.LoadsCell index found) said due = absurd (cc)
-  find_decides words owner room (finds.TheVariants.LoadsCount index found) said due = absurd (cc)
-  find_decides words owner room (finds.TheVariants.LoadsWord index found count at) said due = absurd (cc)
-  find_decides words owner room (finds.TheVariants.ChecksCount index found count) said due = absurd (cc)
-  find_decides words owner room (finds.TheVariants.Asks index found) true due =
-      find_comes code c words words 0 index found owner room room (finds.TheVariants.Asks index found) refl (omega arith)
-  find_decides words owner room (finds.TheVariants.Asks index found) false due = tt
+  find_decides : (words : List ℕ) (owner : ℕ) (room : buffers.Buffer 128) (stage : FindStage) → Decided words None (find_at c owner room stage)
+  find_decides words owner room (finds.LoadsCell index found) said due = absurd (cc)
+  find_decides words owner room (finds.LoadsCount index found) said due = absurd (cc)
+  find_decides words owner room (finds.LoadsWord index found count at) said due = absurd (cc)
+  find_decides words owner room (finds.ChecksCount index found count) said due = absurd (cc)
+  find_decides words owner room (finds.Asks index found) true due =
+      find_comes code c words words 0 index found owner room room (finds.Asks index found) refl (omega arith)
+  find_decides words owner room (finds.Asks index found) false due = tt
 
-  recover_decides : (words : List ℕ) (owner : ℕ) (room : buffers.Buffer 128) (stage : recovers.RecoverStage)
+  recover_decides : (words : List ℕ) (owner : ℕ) (room : buffers.Buffer 128) (stage : RecoverStage)
       → Decided words None (recover_at c owner Default room stage)
-  recover_decides words owner room (recovers.TheVariants.Asks index count) true due = inl (refl, omega arith, omega arith)
-  recover_decides words owner room (recovers.TheVariants.Asks index count) false due =
-      recover_comes code c words words 0 index owner room room (recovers.TheVariants.Asks index count) refl (omega arith) (omega arith)
-  recover_decides words owner room recovers.TheVariants.LoadsCounter said due = absurd (cc)
-  recover_decides words owner room (recovers.TheVariants.LoadsCell index) said due = absurd (cc)
-  recover_decides words owner room (recovers.TheVariants.LoadsCount index) said due = absurd (cc)
-  recover_decides words owner room (recovers.TheVariants.LoadsWord index count at) said due = absurd (cc)
-  recover_decides words owner room (recovers.TheVariants.ChecksCount index count) said due = absurd (cc)
-  recover_decides words owner room (recovers.TheVariants.EmptiesCell index count) said due = absurd (cc)
-  recover_decides words owner room (recovers.TheVariants.Hides index count) said due = absurd (cc)
-  recover_decides words owner room (recovers.TheVariants.Raises index raise) said due = let none = no_raise raise in absurd (cc)
+  recover_decides words owner room (recovers.Asks index count) true due = inl (refl, omega arith, omega arith)
+  recover_decides words owner room (recovers.Asks index count) false due =
+      recover_comes code c words words 0 index owner room room (recovers.Asks index count) refl (omega arith) (omega arith)
+  recover_decides words owner room recovers.LoadsCounter said due = absurd (cc)
+  recover_decides words owner room (recovers.LoadsCell index) said due = absurd (cc)
+  recover_decides words owner room (recovers.LoadsCount index) said due = absurd (cc)
+  recover_decides words owner room (recovers.LoadsWord index count at) said due = absurd (cc)
+  recover_decides words owner room (recovers.ChecksCount index count) said due = absurd (cc)
+  recover_decides words owner room (recovers.EmptiesCell index count) said due = absurd (cc)
+  recover_decides words owner room (recovers.Hides index count) said due = absurd (cc)
+  recover_decides words owner room (recovers.Raises index raise) said due = let none = no_raise raise in absurd (cc)
     where
       no_raise : (raise : raises.Raise) → is_question (raise_want raise) ≡ false
       no_raise x0 = grind arith
-  recover_decides words owner room (recovers.TheVariants.Locks index lock) said due = let none = no_lock lock in absurd (cc)
+  recover_decides words owner room (recovers.Locks index lock) said due = let none = no_lock lock in absurd (cc)
     where
       no_lock : (lock : locks.Lock) → is_question (lock_want lock) ≡ false
       no_lock x0 = grind arith
-  recover_decides words owner room recovers.TheVariants.LoadsCounterAgain said due = absurd (cc)
-  recover_decides words owner room (recovers.TheVariants.AddsChange end) said due = absurd (cc)
+  recover_decides words owner room recovers.LoadsCounterAgain said due = absurd (cc)
+  recover_decides words owner room (recovers.AddsChange end) said due = absurd (cc)
 
   -- a find or a recovery, which alone ask
   abbrev pub may_ask : ContainerFlight T → Bool
-  may_ask (calls.TheVariants.Find run) = true
-  may_ask (calls.TheVariants.Recover run) = true
+  may_ask (calls.Find run) = true
+  may_ask (calls.Recover run) = true
   may_ask flight = false
 
   pub never_asks : (flight : ContainerFlight T) → is_question (want code flight) ≡ true → may_ask flight ≡ true
   never_asks x0 x1 = grind arith
 
   pub call_decides : (words : List ℕ) (state : Option (ContainerState T)) (flight : ContainerFlight T) → CallStands c flight → Decided words state flight
-  call_decides words state (calls.TheVariants.Find run) at said due =
+  call_decides words state (calls.Find run) at said due =
       subst (λ n. Decided words state (find_at n run.given run.room run.call.stage)) (sym at)
       (λ s d. find_decides words run.given run.room run.call.stage s d) said due
-  call_decides words state (calls.TheVariants.Recover run) at said due =
+  call_decides words state (calls.Recover run) at said due =
       subst (λ m. Decided words state (recover_at run.call.capacity run.given.owner m run.room run.call.stage)) (sym at.1)
       (subst (λ n. Decided words state (recover_at n run.given.owner Default run.room run.call.stage)) (sym at.0)
       (λ s d. recover_decides words run.given.owner run.room run.call.stage s d)) said due
-  call_decides words state (calls.TheVariants.Add run) at said due = let asks = never_asks (calls.TheVariants.Add run) due in absurd (cc)
-  call_decides words state (calls.TheVariants.Remove run) at said due = let asks = never_asks (calls.TheVariants.Remove run) due in absurd (cc)
-  call_decides words state (calls.TheVariants.Replace run) at said due = let asks = never_asks (calls.TheVariants.Replace run) due in absurd (cc)
-  call_decides words state (calls.TheVariants.Look which call) at said due = let asks = never_asks (calls.TheVariants.Look which call) due in absurd (cc)
-  call_decides words state (calls.TheVariants.Count which run) at said due = let asks = never_asks (calls.TheVariants.Count which run) due in absurd (cc)
-  call_decides words state (calls.TheVariants.IsLocked run) at said due = let asks = never_asks (calls.TheVariants.IsLocked run) due in absurd (cc)
+  call_decides words state (calls.Add run) at said due = let asks = never_asks (calls.Add run) due in absurd (cc)
+  call_decides words state (calls.Remove run) at said due = let asks = never_asks (calls.Remove run) due in absurd (cc)
+  call_decides words state (calls.Replace run) at said due = let asks = never_asks (calls.Replace run) due in absurd (cc)
+  call_decides words state (calls.Look which call) at said due = let asks = never_asks (calls.Look which call) due in absurd (cc)
+  call_decides words state (calls.Count which run) at said due = let asks = never_asks (calls.Count which run) due in absurd (cc)
+  call_decides words state (calls.IsLocked run) at said due = let asks = never_asks (calls.IsLocked run) due in absurd (cc)
 
   -- ---- what it owes
 
   decides : (words : List ℕ) (p : ℕ) (kept : Registry T) (start : Start T) (flight : Flight T) (said : Bool) → At code c start flight → Kept kept
       → is_question (want_of code flight) ≡ true
       → FallsIn (measure code.size c) words words 0 flight (goes_of code p flight (number_of said) kept)
-  decides words p (registries.TheVariants.Container dead states) (starts.Container start) (flights.TheVariants.Container flight) said at held due =
+  decides words p (registries.Container dead states) (starts.Container start) (flights.Container flight) said at held due =
       call_decides words (state_of p states) flight at said due
-  decides words p kept (starts.Container start) (flights.TheVariants.Container flight) said at held due = absurd held
+  decides words p kept (starts.Container start) (flights.Container flight) said at held due = absurd held
   decides words p kept start flight said at held due = absurd at
 
   told : (words : List ℕ) (beside : Option (ℕ × ℕ)) (p : ℕ) (start : Start T) (flight : Flight T) (old : ℕ) (kept : Registry T)
@@ -280,9 +282,9 @@ module _ {T : Type 0} (code : Coding T) (c : ℕ) where
   stays : (words : List ℕ) (beside : Option (ℕ × ℕ)) (p : ℕ) (start : Start T) (flight : Flight T) (old : ℕ) (kept : Registry T)
       → At code c start flight → Kept kept
       → Kept (step_of code words beside p start flight old kept).kept × Lasts outline kept (step_of code words beside p start flight old kept).kept
-  stays words beside p (starts.Container start) (flights.TheVariants.Container flight) old (registries.TheVariants.Container dead states) at held =
+  stays words beside p (starts.Container start) (flights.Container flight) old (registries.Container dead states) at held =
       (tt, lasts_by dead dead states (states_after code p flight old states) (λ q has. steps_has p q flight old states has))
-  stays words beside p (starts.Container start) (flights.TheVariants.Container flight) old kept at held = absurd held
+  stays words beside p (starts.Container start) (flights.Container flight) old kept at held = absurd held
   stays words beside p start flight old kept at held = absurd at
 
   own_after : (start : ContainerStart T) (after : After (ContainerFlight T) (Answer T)) → StandsAfter after
@@ -292,32 +294,32 @@ module _ {T : Type 0} (code : Coding T) (c : ℕ) where
 
   goes : (p : ℕ) (start : Start T) (flight : Flight T) (old : ℕ) (kept : Registry T) → At code c start flight → Kept kept → Known p kept flight
       → OwnAfter outline code c start (goes_of code p flight old kept) × KnownAfter outline p kept (goes_of code p flight old kept)
-  goes p (starts.Container start) (flights.TheVariants.Container flight) old (registries.TheVariants.Container dead states) at held known = (
+  goes p (starts.Container start) (flights.Container flight) old (registries.Container dead states) at held known = (
     own_after start (after code (state_of p states) flight old) (call_goes (state_of p states) flight old at),
     call_known p dead states (state_of p states) flight old known,
   )
-  goes p (starts.Container start) (flights.TheVariants.Container flight) old kept at held known = absurd held
+  goes p (starts.Container start) (flights.Container flight) old kept at held known = absurd held
   goes p start flight old kept at held known = absurd at
 
   begins : (start : Start T) (kept : Registry T) (flight : Flight T) → IsDefault start → Kept kept
-      → first_of kinds.TheVariants.Container c start kept ≡ Some flight
+      → first_of kinds.Container c start kept ≡ Some flight
       → At code c start flight × ((p : ℕ) → Kept (kept_after_begin code c start p kept))
   begins x0 x1 x2 x3 x4 x5 = grind (arith, first_stands)
 
-  is_first : (start : Start T) (kept : Registry T) (flight : Flight T) → first_of kinds.TheVariants.Container c start kept ≡ Some flight
-      → (begun : ContainerStart T) × (start ≡ starts.Container begun) × (flight ≡ flights.TheVariants.Container (first c begun))
+  is_first : (start : Start T) (kept : Registry T) (flight : Flight T) → first_of kinds.Container c start kept ≡ Some flight
+      → (begun : ContainerStart T) × (start ≡ starts.Container begun) × (flight ≡ flights.Container (first c begun))
   is_first (starts.Container start) kept flight e = (start, refl, grind arith)
   is_first start kept flight e = absurd (grind arith)
 
   pub knows : (start : Start T) (kept : Registry T) (flight : Flight T) (p : ℕ) → Kept kept
-      → first_of kinds.TheVariants.Container c start kept ≡ Some flight
+      → first_of kinds.Container c start kept ≡ Some flight
       → Known p (kept_after_begin code c start p kept) flight × Lasts outline kept (kept_after_begin code c start p kept)
-  knows start (registries.TheVariants.Container dead states) flight p held e =
+  knows start (registries.Container dead states) flight p held e =
       let first = is_first start (in_states dead states) flight e in
       let begun = first.0 in
       subst (λ f. Known p (kept_after_begin code c start p (in_states dead states)) f
       × Lasts outline (in_states dead states) (kept_after_begin code c start p (in_states dead states))) (sym first.2)
-      (subst (λ a. Known p (kept_after_begin code c a p (in_states dead states)) (flights.TheVariants.Container (first_call begun))
+      (subst (λ a. Known p (kept_after_begin code c a p (in_states dead states)) (flights.Container (first_call begun))
       × Lasts outline (in_states dead states) (kept_after_begin code c a p (in_states dead states))) (sym first.1)
       (first_known p dead states begun, lasts_by dead dead states (states_at_begin code c begun p states) (λ q has. begins_has p q begun states has)))
     where
@@ -326,10 +328,10 @@ module _ {T : Type 0} (code : Coding T) (c : ℕ) where
   knows start kept flight p held e = absurd held
 
   pub dies : (kept : Registry T) (owner : ℕ) → Kept kept → Kept (kept_after_death kept owner) × Lasts outline kept (kept_after_death kept owner)
-  dies (registries.TheVariants.Container dead states) owner held = (tt, lasts_by dead (dead_with owner dead) states states (λ q has. has))
+  dies (registries.Container dead states) owner held = (tt, lasts_by dead (dead_with owner dead) states states (λ q has. has))
   dies kept owner held = absurd held
 
-  laws : IsCoding code → capacity_error kinds.TheVariants.Container c ≡ None → OwnLaws outline code c
+  laws : IsCoding code → capacity_error kinds.Container c ≡ None → OwnLaws outline code c
   laws coded admitted =
       record {
         opens = tt;
@@ -347,9 +349,9 @@ module _ {T : Type 0} (code : Coding T) (c : ℕ) where
 -- in runs of calls that do not lock, whichever rows refuse turns
 pub container_keeps_ending_by : {T : Type 0} (refuses : World T → Turn T → Option Refusal)
     → ((w : World T) (turn : Turn T) → refuses w turn ≡ None → IsPossible w turn)
-    → KeepsEndingBy refuses kinds.TheVariants.Container IsDefault default_container_bound
+    → KeepsEndingBy refuses kinds.Container IsDefault default_container_bound
 container_keeps_ending_by {T} refuses possible =
     keeps_ending_by (outline {T = T}) (λ code c coded admitted. laws code c coded admitted) refuses possible default_container_bound (λ code c n. refl)
 
-pub container_keeps_ending : {T : Type 0} → KeepsEndingOf T kinds.TheVariants.Container IsDefault default_container_bound
+pub container_keeps_ending : {T : Type 0} → KeepsEndingOf T kinds.Container IsDefault default_container_bound
 container_keeps_ending {T} = container_keeps_ending_by {T = T} call_refusal possible_on

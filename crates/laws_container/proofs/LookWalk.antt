@@ -12,7 +12,7 @@ use Rattle.laws_container.proofs.Names.{copy_in, set_acts, old_of, words_after, 
 use Rattle.laws_container.proofs.Names.{exchanges, loads_same, fails_same, exchange_sets}
 use Rattle.steps.specs.declared.ask.After.TheVariants.{Done}
 use Rattle.steps.specs.declared.container.look.Look.{Look}
-use Rattle.steps.specs.declared.container.look.LookStage as stages
+use Rattle.steps.specs.declared.container.look.LookStage.TheVariants as stages
 use Rattle.steps.specs.Picks.{by_test, by_eq}
 use Rattle.laws_container.proofs.Contents.{Stands}
 use Rattle.laws_container.proofs.Copies.{copying_first, copying_more, copied_value}
@@ -132,10 +132,10 @@ module _ {T : Type 0} (scene : Scene T) (inv : Inv scene) where
             → steps + step_count ask ≤ 1 + (index + 1) * (code.size + 2) + backs_then scene back * (code.size + 1)
             → ((m' : Now T) → Comes m' what → Course code c m' p s' (index + 1) c) → Lead back (copies_of p what) s' (look_comes_to (call_at stage) (index + 1))
         comes_to what s' right seen few course =
-            by_test (Lead back (copies_of p what) s') (nat_lt (index + 1) c) (GoOn (call_at (stages.TheVariants.LoadsCount (index + 1)))) (Done true)
+            by_test (Lead back (copies_of p what) s') (nat_lt (index + 1) c) (GoOn (call_at (stages.LoadsCount (index + 1)))) (Done true)
             (λ t.
             let more : index + 1 < c = grind (arith, nat_tests) in
-            walker.goes (stages.TheVariants.LoadsCount (index + 1)) back what s' right same (none_more what, more, seen) few
+            walker.goes (stages.LoadsCount (index + 1)) back what s' right same (none_more what, more, seen) few
             (λ words' states' latest' es' comes found. (
               paid,
               record {
@@ -184,13 +184,13 @@ module _ {T : Type 0} (scene : Scene T) (inv : Inv scene) where
             where
               go : (b : Bool) → is_even n ≡ b
                   → Lead back [] s'
-                  (if b then look_comes_to (call_at stage) (index + 1) else GoOn (call_at (stages.TheVariants.LoadsWord index n 0)))
+                  (if b then look_comes_to (call_at stage) (index + 1) else GoOn (call_at (stages.LoadsWord index n 0)))
               go true t =
                   comes_to None s' tt (seen_passed index (done scene) seen) (omega arith) (passed_even t)
               go false t =
                   let some = inv.elements.coded.some in
                   let odd = odd_is n t in
-                  walker.goes (stages.TheVariants.LoadsWord index n 0) back None s' tt same
+                  walker.goes (stages.LoadsWord index n 0) back None s' tt same
                   (none_more None, (below, seen_still index (done scene) seen, odd), omega arith) (omega arith)
                   (λ words' states' latest' es' comes found.
                   let m' : Now T = record { terms = scene.terms; words = words'; latest = latest'; events = es' } in
@@ -231,20 +231,20 @@ module _ {T : Type 0} (scene : Scene T) (inv : Inv scene) where
       -- ---- the number of changes is loaded
 
       pub walks_change : Walker s (Some (loads (change_word c))) Lead → steps ≤ 0 → IsPaid (sees_now scene)
-          → done scene ≡ [] → Rests code c m p s → ShowsOwn p s c events → WalkAt stages.TheVariants.LoadsChange
+          → done scene ≡ [] → Rests code c m p s → ShowsOwn p s c events → WalkAt stages.LoadsChange
       walks_change walker few paid nothing rests own =
           by_eq (Lead false [] (record s { shown = with_change s.shown (change_in code c m) })) (change_in code c m)
-          s.seen.change (Done false) (look_comes_to (call_at stages.TheVariants.LoadsChange) 0)
+          s.seen.change (Done false) (look_comes_to (call_at stages.LoadsChange) 0)
           (λ is.
           let same : change_in code c m ≡ s.shown.change = is ∙ rests.seen in
           subst (λ n. Lead false [] (record s { shown = with_change s.shown n }) (Done false)) (sym same)
           (walker.stays (loads_same ws (change_word c)) none (omega arith) (omega arith) rests own (sym same)))
           (λ other.
           by_test (Lead false [] (record s { shown = with_change s.shown (change_in code c m) })) (nat_lt 0 c)
-          (GoOn (call_at (stages.TheVariants.LoadsCount 0))) (Done true)
+          (GoOn (call_at (stages.LoadsCount 0))) (Done true)
           (λ t.
           let some = inv.good.some in
-          walker.goes (stages.TheVariants.LoadsCount 0) false None
+          walker.goes (stages.LoadsCount 0) false None
           (record s { shown = with_change s.shown (change_in code c m) }) tt (loads_same ws (change_word c))
           (ap (λ d. d ++ []) none, omega arith, ap_below nothing) (omega arith)
           (λ words' states' latest' es' comes found. (
@@ -268,9 +268,9 @@ module _ {T : Type 0} (scene : Scene T) (inv : Inv scene) where
       pub walks_count : (index : ℕ) → index < c → Walker s (Some (loads (count_word c index))) Lead
           → steps ≤ 1 + index * (code.size + 2) + backs * (code.size + 1) → IsPaid (sees_now scene)
           → AreBelow index (seen_in (done scene)) → Course code c m p s index c
-          → WalkAt (stages.TheVariants.LoadsCount index)
+          → WalkAt (stages.LoadsCount index)
       walks_count index below walker few paid seen course =
-          let stage = stages.TheVariants.LoadsCount index in
+          let stage = stages.LoadsCount index in
           let ask = Some (loads (count_word c index)) in
           let same = loads_same ws (count_word c index) in
           let unseen = course.unseen index (omega arith) below (λ e. absurd (omega arith)) in
@@ -304,14 +304,14 @@ module _ {T : Type 0} (scene : Scene T) (inv : Inv scene) where
             (backs_then scene false))
         paid_then x0 x1 x2 x3 x4 = grind (arith, inl, count_at, inr)
 
-        pub walks_word : Walker s (Some (loads (element_word c code.size index at))) Lead → WalkAt (stages.TheVariants.LoadsWord index count at)
+        pub walks_word : Walker s (Some (loads (element_word c code.size index at))) Lead → WalkAt (stages.LoadsWord index count at)
         walks_word walker =
             by_test (Lead false [] with_it) (nat_lt (at + 1) code.size)
-            (GoOn (call_at (stages.TheVariants.LoadsWord index count (at + 1))))
-            (GoOn (call_at (stages.TheVariants.ChecksCount index count)))
+            (GoOn (call_at (stages.LoadsWord index count (at + 1))))
+            (GoOn (call_at (stages.ChecksCount index count)))
             (λ t.
             let more : at + 1 < code.size = grind (arith, nat_tests) in
-            walker.goes (stages.TheVariants.LoadsWord index count (at + 1)) false None with_it tt same_words
+            walker.goes (stages.LoadsWord index count (at + 1)) false None with_it tt same_words
             (ap (λ d. d ++ []) none, (below, seen_still index (done scene) seen, odd), more) (omega arith)
             (λ words' states' latest' es' comes found. (
               paid_then words' states' latest' es' comes,
@@ -336,7 +336,7 @@ module _ {T : Type 0} (scene : Scene T) (inv : Inv scene) where
             (λ t.
             let last : code.size ≤ at + 1 = grind (arith, nat_tests) in
             let is : at + 1 ≡ code.size = omega arith in
-            walker.goes (stages.TheVariants.ChecksCount index count) false None with_it tt same_words
+            walker.goes (stages.ChecksCount index count) false None with_it tt same_words
             (ap (λ d. d ++ []) none, (below, seen_still index (done scene) seen, odd)) (omega arith)
             (λ words' states' latest' es' comes found. (
               paid_then words' states' latest' es' comes,
@@ -404,28 +404,28 @@ module _ {T : Type 0} (scene : Scene T) (inv : Inv scene) where
               let eq : value ≡ shown = cc in
               subst (λ v. HasCopied p index v m'.events) eq (comes.on.now index value refl))
 
-        pub walks_check : Walker s (Some (exchanges (count_word c index) count count)) Lead → WalkAt (stages.TheVariants.ChecksCount index count)
+        pub walks_check : Walker s (Some (exchanges (count_word c index) count count)) Lead → WalkAt (stages.ChecksCount index count)
         walks_check walker = go (count_in code c m index == count) refl
           where
             go : (b : Bool) → (count_in code c m index == count) ≡ b → Lead (not b) (if b then Copied p index (copy_in code s) ∷ [] else [])
                 (record s {
                   shown =
                       if b then shown_now.shown else
-                      (look_shows code (call_at (stages.TheVariants.LoadsCount index)) s (count_in code c m index)).shown;
+                      (look_shows code (call_at (stages.LoadsCount index)) s (count_in code c m index)).shown;
                 })
-                (if b then look_comes_to (call_at (stages.TheVariants.ChecksCount index count)) (index + 1) else
-                look_finds (call_at (stages.TheVariants.ChecksCount index count)) index (count_in code c m index))
+                (if b then look_comes_to (call_at (stages.ChecksCount index count)) (index + 1) else
+                look_finds (call_at (stages.ChecksCount index count)) index (count_in code c m index))
             go true t =
                 let is : count_in code c m index ≡ count = grind (arith, nat_tests) in
                 let paid_now : backs + scene.since ≤ scene.changes = ⊎_elim (λ k. k.1) (λ more. omega arith) paid in
-                comes_to (stages.TheVariants.ChecksCount index count)
+                comes_to (stages.ChecksCount index count)
                 (Some (exchanges (count_word c index) count count)) walker false (same_count is) (omega arith) index
                 below (Some (index, value)) shown_now (seen, stands_now is)
                 (seen_copied index value (done scene) seen) (omega arith) (passed_copied is)
             go false t =
                 let other : count_in code c m index ≢ count = grind (arith, nat_tests) in
                 let paid_now : backs + scene.since + 1 ≤ scene.changes = ⊎_elim (λ k. absurd (other k.0)) (λ more. more) paid in
-                finds (stages.TheVariants.ChecksCount index count)
+                finds (stages.ChecksCount index count)
                 (Some (exchanges (count_word c index) count count)) walker true
                 (fails_same ws (count_word c index) count count other) (omega arith) index below index
                 (λ i ne out. ne) course seen (omega arith)

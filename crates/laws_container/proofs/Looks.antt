@@ -14,9 +14,9 @@ use Rattle.std.specs.Ordering.{nat_cmp, is_eq}
 use Rattle.std.specs.Map.{lookup, set_value}
 use Rattle.steps.specs.declared.ask.After.TheVariants.{Done}
 use Rattle.steps.specs.declared.container.look.Look.{Look}
-use Rattle.steps.specs.declared.container.look.LookStage as stages
-use Rattle.model.specs.declared.families.container.ContainerStart as starts
-use Rattle.model.specs.declared.families.container.calls.LookOf as kinds
+use Rattle.steps.specs.declared.container.look.LookStage.TheVariants as stages
+use Rattle.model.specs.declared.families.container.ContainerStart.TheVariants as starts
+use Rattle.model.specs.declared.families.container.calls.LookOf.TheVariants as kinds
 use Rattle.laws_container.specs.Gone.{AnswersBy}
 use Rattle.laws_container.proofs.Core.{count_at}
 use Rattle.laws_container.proofs.Effects.{OwesStill}
@@ -71,8 +71,8 @@ module _ {X : Type 0} where
 -- ---- the call of each kind of look
 
 abbrev pub looks_as : {T : Type 0} → LookOf → ContainerStart T
-looks_as kinds.TheVariants.GetState = starts.TheVariants.GetState
-looks_as kinds.TheVariants.UpdateState = starts.TheVariants.UpdateState
+looks_as kinds.GetState = starts.GetState
+looks_as kinds.UpdateState = starts.UpdateState
 
 module _ (T : Type 0) where
   pub no_replace : (which : LookOf) → NoReplace (looks_as {T = T} which)
@@ -317,10 +317,10 @@ module _ {T : Type 0} (scene : Scene T) (inv : Inv scene) where
     pub found : state_of p scene.states ≡ Some state
 
   pub state_known : (stage : LookStage) → LookKnows code c stage (sees_now scene) → HasState
-  state_known stages.TheVariants.LoadsChange k = let h = k.1 in record { state = h.state; found = h.found }
-  state_known (stages.TheVariants.LoadsCount index) k = let h = k.1 in record { state = h.state; found = h.found }
-  state_known (stages.TheVariants.LoadsWord index count word) k = let h = k.1 in record { state = h.looks.state; found = h.looks.found }
-  state_known (stages.TheVariants.ChecksCount index count) k = let h = k.1 in record { state = h.looks.state; found = h.looks.found }
+  state_known stages.LoadsChange k = let h = k.1 in record { state = h.state; found = h.found }
+  state_known (stages.LoadsCount index) k = let h = k.1 in record { state = h.state; found = h.found }
+  state_known (stages.LoadsWord index count word) k = let h = k.1 in record { state = h.looks.state; found = h.looks.found }
+  state_known (stages.ChecksCount index count) k = let h = k.1 in record { state = h.looks.state; found = h.looks.found }
 
   pub walks : (stage : LookStage) → LookAt c code.size (all scene) (done scene) stage
       → (k : LookKnows code c stage (sees_now scene)) → steps ≤ look_number code.size stage backs
@@ -328,13 +328,13 @@ module _ {T : Type 0} (scene : Scene T) (inv : Inv scene) where
       → ((ask : Option Ask) → Walker scene inv (state_known stage k).state ask (Leads_to ask))
       → WalkAt scene inv (state_known stage k).state (Leads_to (ask_of (look_asks code.size c stage))) stage
   unfolding state_known
-  walks stages.TheVariants.LoadsChange at k few Leads_to walks_to = let h = k.1 in walks_change scene inv h.state _ at.0 (walks_to _) few k.0 at.1 h.rests h.own
-  walks (stages.TheVariants.LoadsCount index) at k few Leads_to walks_to = let h = k.1 in
+  walks stages.LoadsChange at k few Leads_to walks_to = let h = k.1 in walks_change scene inv h.state _ at.0 (walks_to _) few k.0 at.1 h.rests h.own
+  walks (stages.LoadsCount index) at k few Leads_to walks_to = let h = k.1 in
       walks_count scene inv h.state _ at.0 index at.1 (walks_to _) few k.0 at.2 h.course
-  walks (stages.TheVariants.LoadsWord index count word) at k few Leads_to walks_to =
+  walks (stages.LoadsWord index count word) at k few Leads_to walks_to =
       let h = k.1 in
       walks_word scene inv h.looks.state _ at.0 index count word at.1.0 at.2 at.1.2 few k.0 at.1.1 h.looks.course h.number h.copying (walks_to _)
-  walks (stages.TheVariants.ChecksCount index count) at k few Leads_to walks_to =
+  walks (stages.ChecksCount index count) at k few Leads_to walks_to =
       let h = k.1 in
       walks_check scene inv h.looks.state _ at.0 index count at.1.0 at.1.2 few k.0 at.1.1 h.looks.course h.copying (walks_to _)
 

@@ -12,11 +12,11 @@ use Rattle.laws_container.proofs.Names.{span_of, is_due, IsShut, Step, answer_in
 use Rattle.laws_container.proofs.Names.{after_next, after_decision, after_answer, events_of_step, events_of_answer}
 use Rattle.laws_container.proofs.Names.{events_of_next, events_of_decision, events_of, ending_of, ask_of_doing}
 use Rattle.laws_container.proofs.Names.{after_turn, Trace, flight_in, no_more, StandsThere, stands_there, both_ways}
-use Rattle.model.specs.declared.families.Flight as flights
-use Rattle.model.specs.declared.families.Registry as registries
-use Rattle.model.specs.declared.families.container.ContainerStart as starts
-use Rattle.model.specs.declared.families.container.calls.ContainerFlight as calls
-use Rattle.model.specs.declared.families.container.calls.LookOf as kinds
+use Rattle.model.specs.declared.families.Flight.TheVariants as flights
+use Rattle.model.specs.declared.families.Registry.TheVariants as registries
+use Rattle.model.specs.declared.families.container.ContainerStart.TheVariants as starts
+use Rattle.model.specs.declared.families.container.calls.ContainerFlight.TheVariants as calls
+use Rattle.model.specs.declared.families.container.calls.LookOf.TheVariants as kinds
 use Rattle.model.proofs.Frame as frame
 use Rattle.laws_container.proofs.Invariant.{Scene, Inv, family_by}
 use Rattle.laws_container.proofs.KeptCopies.{name_of, IsGetting, HasCopied}
@@ -80,22 +80,22 @@ module _ {T : Type 0} where
 
   look_flight : (c z : ℕ) (made : List SetAct) (did : List (Act T)) (a : ContainerStart T) (flight : ContainerFlight T)
       → IsLook a → At c z made did a flight → IsLookFlight c z made did a flight
-  look_flight c z made did starts.TheVariants.GetState (calls.TheVariants.Look which call) look at =
+  look_flight c z made did starts.GetState (calls.Look which call) look at =
       record {
-        which = kinds.TheVariants.GetState;
+        which = kinds.GetState;
         stage = call.stage;
         name = refl;
         is = ap (λ n. look_at which n call.stage) at.0 ∙ ap (λ w. look_at w c call.stage) at.1;
       }
-  look_flight c z made did starts.TheVariants.GetState flight look at = absurd at
-  look_flight c z made did starts.TheVariants.UpdateState (calls.TheVariants.Look which call) look at =
+  look_flight c z made did starts.GetState flight look at = absurd at
+  look_flight c z made did starts.UpdateState (calls.Look which call) look at =
       record {
-        which = kinds.TheVariants.UpdateState;
+        which = kinds.UpdateState;
         stage = call.stage;
         name = refl;
         is = ap (λ n. look_at which n call.stage) at.0 ∙ ap (λ w. look_at w c call.stage) at.1;
       }
-  look_flight c z made did starts.TheVariants.UpdateState flight look at = absurd at
+  look_flight c z made did starts.UpdateState flight look at = absurd at
   look_flight c z made did a flight look at = absurd look
 
   look_stands : (which : LookOf) (c z : ℕ) (made : List SetAct) (did : List (Act T)) (stage : LookStage)
@@ -128,7 +128,7 @@ module _ {T : Type 0} (shown : Shown T) (terms : Terms) (code : Coding T) (c : �
     pub next : Party T
     pub latest_is : latest ≡ put q next t.world.latest
     pub steps_then : next.steps ≡ party.steps + 1
-    pub kept_then : kept ≡ registries.TheVariants.Container s.state.dead (states_after code q (look_at which c stage) (old stage) s.state.states)
+    pub kept_then : kept ≡ registries.Container s.state.dead (states_after code q (look_at which c stage) (old stage) s.state.states)
     pub events_are : es ≡ (effects code q (state_of q s.state.states) (look_at which c stage) (old stage)
         ++ questions q (look_at which c stage) (old stage))
         ++ Finished q (Container (looks_as which)) answer ∷ []
@@ -146,15 +146,15 @@ module _ {T : Type 0} (shown : Shown T) (terms : Terms) (code : Coding T) (c : �
 
     abbrev Case : ContainerStart T → ContainerFlight T → Type 0
     Case a flight =
-        (n : ℕ) → StandsThere (family_by terms code c) t s q x since (Container a) (flights.TheVariants.Container flight)
-        → (is_question (want_of code (flights.TheVariants.Container flight)) ≡ false
-        → n ≡ old_of s.state.words (ask_of (want_of code (flights.TheVariants.Container flight))))
-        → StepFrom n code (kept_now shown terms code c t s) (Container a) (flights.TheVariants.Container flight)
+        (n : ℕ) → StandsThere (family_by terms code c) t s q x since (Container a) (flights.Container flight)
+        → (is_question (want_of code (flights.Container flight)) ≡ false
+        → n ≡ old_of s.state.words (ask_of (want_of code (flights.Container flight))))
+        → StepFrom n code (kept_now shown terms code c t s) (Container a) (flights.Container flight)
 
     -- what a step writes of which the last is this end
     last_of : (n : ℕ) (a : ContainerStart T) (flight : ContainerFlight T)
         → Ended (events_of_step q (Container a)
-        (stepping n code (kept_now shown terms code c t s) (Container a) (flights.TheVariants.Container flight)))
+        (stepping n code (kept_now shown terms code c t s) (Container a) (flights.Container flight)))
         → IsLast q p (Container a) (Container start) (answer_in (any_call (goes_after code (state_of q s.state.states) flight n))) answer
     last_of n a flight e =
         ends_last turn q p (effects code q (state_of q s.state.states) flight n ++ questions q flight n)
@@ -165,7 +165,7 @@ module _ {T : Type 0} (shown : Shown T) (terms : Terms) (code : Coding T) (c : �
     look_case : (which : LookOf) (stage : LookStage) → Case (looks_as which) (look_at which c stage)
     look_case which stage n stands is =
         subst (λ k. StepFrom k code (kept_now shown terms code c t s) (Container (looks_as which))
-        (flights.TheVariants.Container (look_at which c stage)))
+        (flights.Container (look_at which c stage)))
         (sym (is (look_asks_none code.size c stage)))
         (λ next counts e.
         let end = last_of (old stage) (looks_as which) (look_at which c stage) e in
@@ -311,7 +311,7 @@ module _ {T : Type 0} (shown : Shown T) (terms : Terms) (code : Coding T) (c : �
     -- what a get_state shows it has copied itself
     abbrev Own : ℕ → ContainerStart T → Type 0
     Own n a =
-        (state : ContainerState T) → state_in new.world.kept n ≡ Some state → a ≡ starts.TheVariants.GetState
+        (state : ContainerState T) → state_in new.world.kept n ≡ Some state → a ≡ starts.GetState
         → (i : ℕ) (value : T) → shows state i ≡ Some value → HasCopied n i value new.events
 
     here_own : Own end.party (looks_as l.which)
@@ -353,8 +353,8 @@ module _ {T : Type 0} (shown : Shown T) (terms : Terms) (code : Coding T) (t : T
 
   pub looks_own : ShowsOwnCopies t (after_turn t turn)
   looks_own p i answer state value ends found shown_there =
-      told_own shown terms code t.world.capacity t s may p starts.TheVariants.GetState answer ends.is_look
-      ends.wrote (after_turn t turn) (ended p starts.TheVariants.GetState answer ends) ⊥ (λ never. absurd never)
+      told_own shown terms code t.world.capacity t s may p starts.GetState answer ends.is_look
+      ends.wrote (after_turn t turn) (ended p starts.GetState answer ends) ⊥ (λ never. absurd never)
       state found refl i value shown_there
 
   pub looks_leave : LeavesState t turn (after_turn t turn)

@@ -6,23 +6,30 @@ use Rattle.std.proofs.lemmas.List.{get_or_past}
 use Rattle.std.proofs.lemmas.Bool.Decides.{nat_tests}
 use Rattle.steps.specs.Container.Layout.{count_word, is_even}
 use Rattle.steps.specs.Indices.Robust.Parts.{cell_word, one_more}
-use Rattle.steps.specs.declared.container.add.AddStage as adds
-use Rattle.steps.specs.declared.container.find.FindStage as finds
-use Rattle.steps.specs.declared.container.look.LookStage as looks
-use Rattle.steps.specs.declared.container.recover.RecoverStage as recovers
-use Rattle.steps.specs.declared.container.remove.RemoveStage as removes
-use Rattle.steps.specs.declared.container.replace.ReplaceStage as replaces
+use Rattle.steps.specs.declared.container.add.AddStage.{AddStage}
+use Rattle.steps.specs.declared.container.add.AddStage.TheVariants as adds
+use Rattle.steps.specs.declared.container.find.FindStage.{FindStage}
+use Rattle.steps.specs.declared.container.find.FindStage.TheVariants as finds
+use Rattle.steps.specs.declared.container.look.LookStage.{LookStage}
+use Rattle.steps.specs.declared.container.look.LookStage.TheVariants as looks
+use Rattle.steps.specs.declared.container.recover.RecoverStage.{RecoverStage}
+use Rattle.steps.specs.declared.container.recover.RecoverStage.TheVariants as recovers
+use Rattle.steps.specs.declared.container.remove.RemoveStage.{RemoveStage}
+use Rattle.steps.specs.declared.container.remove.RemoveStage.TheVariants as removes
+use Rattle.steps.specs.declared.container.replace.ReplaceStage.{ReplaceStage}
+use Rattle.steps.specs.declared.container.replace.ReplaceStage.TheVariants as replaces
 use Rattle.steps.specs.declared.indices.enums.ReleaseMode.TheVariants.{Default}
-use Rattle.steps.specs.declared.indices.robust.acquire.AcquireStage as acquires
+use Rattle.steps.specs.declared.indices.robust.acquire.AcquireStage.{AcquireStage}
+use Rattle.steps.specs.declared.indices.robust.acquire.AcquireStage.TheVariants as acquires
 use Rattle.model.specs.declared.event.Start.{Start}
 use Rattle.model.specs.declared.event.Start.TheVariants as starts
 use Rattle.model.specs.declared.families.Flight.{Flight}
-use Rattle.model.specs.declared.families.Flight as flights
+use Rattle.model.specs.declared.families.Flight.TheVariants as flights
 use Rattle.model.specs.declared.families.Registry.{Registry}
-use Rattle.model.specs.declared.families.Registry as registries
+use Rattle.model.specs.declared.families.Registry.TheVariants as registries
 use Rattle.model.specs.declared.families.container.calls.ContainerFlight.{ContainerFlight}
-use Rattle.model.specs.declared.families.container.calls.ContainerFlight as calls
-use Rattle.model.specs.declared.turn.Kind as kinds
+use Rattle.model.specs.declared.families.container.calls.ContainerFlight.TheVariants as calls
+use Rattle.model.specs.declared.turn.Kind.TheVariants as kinds
 use Rattle.model.specs.Coding.{Coding}
 use Rattle.model.specs.Families.Container.States.{state_of}
 use Rattle.model.specs.LockFree.{IsDefault}
@@ -45,186 +52,186 @@ module _ (size c : ℕ) where
   abbrev pub behind : ℕ → ℕ → ℕ
   behind each index = (c - (index + 1)) * each
 
-  abbrev pub add_left : ℕ → adds.AddStage → ℕ
-  add_left now (adds.TheVariants.Acquires stage) = acquire_left c now stage + (size - 1 + 5)
-  add_left now (adds.TheVariants.LoadsCount index) = size - 1 + 4
-  add_left now (adds.TheVariants.Hides index count) = size - 1 + 3
-  add_left now (adds.TheVariants.Stores index at) = size - (at + 1) + 2
-  add_left now (adds.TheVariants.AddsCount index) = 1
-  add_left now (adds.TheVariants.AddsChange index) = 0
+  abbrev pub add_left : ℕ → AddStage → ℕ
+  add_left now (adds.Acquires stage) = acquire_left c now stage + (size - 1 + 5)
+  add_left now (adds.LoadsCount index) = size - 1 + 4
+  add_left now (adds.Hides index count) = size - 1 + 3
+  add_left now (adds.Stores index at) = size - (at + 1) + 2
+  add_left now (adds.AddsCount index) = 1
+  add_left now (adds.AddsChange index) = 0
 
-  abbrev pub remove_left : ℕ → removes.RemoveStage → ℕ
-  remove_left now removes.TheVariants.Refuses = 0
-  remove_left now removes.TheVariants.LoadsCount = 5
-  remove_left now (removes.TheVariants.Releases count stage) = release_left c now stage + 2
-  remove_left now (removes.TheVariants.Hides count state) = 1
-  remove_left now (removes.TheVariants.AddsChange state) = 0
+  abbrev pub remove_left : ℕ → RemoveStage → ℕ
+  remove_left now removes.Refuses = 0
+  remove_left now removes.LoadsCount = 5
+  remove_left now (removes.Releases count stage) = release_left c now stage + 2
+  remove_left now (removes.Hides count state) = 1
+  remove_left now (removes.AddsChange state) = 0
 
-  abbrev pub replace_left : replaces.ReplaceStage → ℕ
-  replace_left replaces.TheVariants.Refuses = 0
-  replace_left replaces.TheVariants.LoadsCell = size - 1 + 5
-  replace_left replaces.TheVariants.LoadsCount = size - 1 + 4
-  replace_left (replaces.TheVariants.Hides count) = size - 1 + 3
-  replace_left (replaces.TheVariants.Stores at) = size - (at + 1) + 2
-  replace_left replaces.TheVariants.AddsCount = 1
-  replace_left replaces.TheVariants.AddsChange = 0
+  abbrev pub replace_left : ReplaceStage → ℕ
+  replace_left replaces.Refuses = 0
+  replace_left replaces.LoadsCell = size - 1 + 5
+  replace_left replaces.LoadsCount = size - 1 + 4
+  replace_left (replaces.Hides count) = size - 1 + 3
+  replace_left (replaces.Stores at) = size - (at + 1) + 2
+  replace_left replaces.AddsCount = 1
+  replace_left replaces.AddsChange = 0
 
-  abbrev pub find_left : finds.FindStage → ℕ
-  find_left (finds.TheVariants.LoadsCell index found) = behind (size - 1 + 4) index + (size - 1 + 4)
-  find_left (finds.TheVariants.LoadsCount index found) = behind (size - 1 + 4) index + (size - 1 + 3)
-  find_left (finds.TheVariants.LoadsWord index found count at) = behind (size - 1 + 4) index + (size - (at + 1) + 2)
-  find_left (finds.TheVariants.ChecksCount index found count) = behind (size - 1 + 4) index + 1
-  find_left (finds.TheVariants.Asks index found) = behind (size - 1 + 4) index
+  abbrev pub find_left : FindStage → ℕ
+  find_left (finds.LoadsCell index found) = behind (size - 1 + 4) index + (size - 1 + 4)
+  find_left (finds.LoadsCount index found) = behind (size - 1 + 4) index + (size - 1 + 3)
+  find_left (finds.LoadsWord index found count at) = behind (size - 1 + 4) index + (size - (at + 1) + 2)
+  find_left (finds.ChecksCount index found count) = behind (size - 1 + 4) index + 1
+  find_left (finds.Asks index found) = behind (size - 1 + 4) index
 
-  abbrev pub recover_left : List ℕ → recovers.RecoverStage → ℕ
-  recover_left words recovers.TheVariants.LoadsCounter = behind (size - 1 + 8) 0 + (size - 1 + 10)
-  recover_left words (recovers.TheVariants.LoadsCell index) = behind (size - 1 + 8) index + (size - 1 + 9)
-  recover_left words (recovers.TheVariants.LoadsCount index) = behind (size - 1 + 8) index + (size - 1 + 8)
-  recover_left words (recovers.TheVariants.LoadsWord index count at) =
+  abbrev pub recover_left : List ℕ → RecoverStage → ℕ
+  recover_left words recovers.LoadsCounter = behind (size - 1 + 8) 0 + (size - 1 + 10)
+  recover_left words (recovers.LoadsCell index) = behind (size - 1 + 8) index + (size - 1 + 9)
+  recover_left words (recovers.LoadsCount index) = behind (size - 1 + 8) index + (size - 1 + 8)
+  recover_left words (recovers.LoadsWord index count at) =
       behind (size - 1 + 8) index + (size - (at + 1) + 7 + again_at words index count)
-  recover_left words (recovers.TheVariants.ChecksCount index count) = behind (size - 1 + 8) index + (6 + again_at words index count)
-  recover_left words (recovers.TheVariants.Asks index count) = behind (size - 1 + 8) index + 5
-  recover_left words (recovers.TheVariants.EmptiesCell index count) = behind (size - 1 + 8) index + 5
-  recover_left words (recovers.TheVariants.Hides index count) = behind (size - 1 + 8) index + 4
-  recover_left words (recovers.TheVariants.Raises index raise) = behind (size - 1 + 8) index + (2 + raise_left (get_or words 0 0) raise)
-  recover_left words (recovers.TheVariants.Locks index lock) = 0
-  recover_left words recovers.TheVariants.LoadsCounterAgain = 1
-  recover_left words (recovers.TheVariants.AddsChange state) = 0
+  recover_left words (recovers.ChecksCount index count) = behind (size - 1 + 8) index + (6 + again_at words index count)
+  recover_left words (recovers.Asks index count) = behind (size - 1 + 8) index + 5
+  recover_left words (recovers.EmptiesCell index count) = behind (size - 1 + 8) index + 5
+  recover_left words (recovers.Hides index count) = behind (size - 1 + 8) index + 4
+  recover_left words (recovers.Raises index raise) = behind (size - 1 + 8) index + (2 + raise_left (get_or words 0 0) raise)
+  recover_left words (recovers.Locks index lock) = 0
+  recover_left words recovers.LoadsCounterAgain = 1
+  recover_left words (recovers.AddsChange state) = 0
 
-  abbrev pub look_left : List ℕ → looks.LookStage → ℕ
-  look_left words looks.TheVariants.LoadsChange = behind (size - 1 + 3) 0 + (size - 1 + 3)
-  look_left words (looks.TheVariants.LoadsCount index) = behind (size - 1 + 3) index + (size - 1 + 2)
-  look_left words (looks.TheVariants.LoadsWord index count at) =
+  abbrev pub look_left : List ℕ → LookStage → ℕ
+  look_left words looks.LoadsChange = behind (size - 1 + 3) 0 + (size - 1 + 3)
+  look_left words (looks.LoadsCount index) = behind (size - 1 + 3) index + (size - 1 + 2)
+  look_left words (looks.LoadsWord index count at) =
       behind (size - 1 + 3) index + (size - (at + 1) + 1 + again_at words index count)
-  look_left words (looks.TheVariants.ChecksCount index count) = behind (size - 1 + 3) index + again_at words index count
+  look_left words (looks.ChecksCount index count) = behind (size - 1 + 3) index + again_at words index count
 
   abbrev pub call_left : {T : Type 0} → List ℕ → ContainerFlight T → ℕ
-  call_left words (calls.TheVariants.Add run) = add_left (get_or words 0 0) run.call.stage
-  call_left words (calls.TheVariants.Remove run) = remove_left (get_or words 0 0) run.call.stage
-  call_left words (calls.TheVariants.Replace run) = replace_left run.call.stage
-  call_left words (calls.TheVariants.Find run) = find_left run.call.stage
-  call_left words (calls.TheVariants.Recover run) = recover_left words run.call.stage
-  call_left words (calls.TheVariants.Look which call) = look_left words call.stage
-  call_left words (calls.TheVariants.Count which run) = count_left c (get_or words 0 0) run.call.count
-  call_left words (calls.TheVariants.IsLocked run) = 0
+  call_left words (calls.Add run) = add_left (get_or words 0 0) run.call.stage
+  call_left words (calls.Remove run) = remove_left (get_or words 0 0) run.call.stage
+  call_left words (calls.Replace run) = replace_left run.call.stage
+  call_left words (calls.Find run) = find_left run.call.stage
+  call_left words (calls.Recover run) = recover_left words run.call.stage
+  call_left words (calls.Look which call) = look_left words call.stage
+  call_left words (calls.Count which run) = count_left c (get_or words 0 0) run.call.count
+  call_left words (calls.IsLocked run) = 0
 
 -- ---- how many changes it makes at most before its last step that can add to the steps of others
 
 -- an add raises the counter, and places an element
-abbrev pub add_pays : adds.AddStage → ℕ
-add_pays (adds.TheVariants.Acquires stage) = 2
-add_pays (adds.TheVariants.AddsChange index) = 0
+abbrev pub add_pays : AddStage → ℕ
+add_pays (adds.Acquires stage) = 2
+add_pays (adds.AddsChange index) = 0
 add_pays stage = 1
 
-abbrev pub remove_pays : removes.RemoveStage → ℕ
-remove_pays removes.TheVariants.LoadsCount = 1
-remove_pays (removes.TheVariants.Releases count stage) = 1
+abbrev pub remove_pays : RemoveStage → ℕ
+remove_pays removes.LoadsCount = 1
+remove_pays (removes.Releases count stage) = 1
 remove_pays stage = 0
 
-abbrev pub replace_pays : replaces.ReplaceStage → ℕ
-replace_pays replaces.TheVariants.AddsChange = 0
+abbrev pub replace_pays : ReplaceStage → ℕ
+replace_pays replaces.AddsChange = 0
 replace_pays stage = 1
 
 -- a recovery raises the counter once for each index
-abbrev pub recover_pays : ℕ → recovers.RecoverStage → ℕ
-recover_pays c recovers.TheVariants.LoadsCounter = c - 1 + 1
-recover_pays c (recovers.TheVariants.LoadsCell index) = c - (index + 1) + 1
-recover_pays c (recovers.TheVariants.LoadsCount index) = c - (index + 1) + 1
-recover_pays c (recovers.TheVariants.LoadsWord index count at) = c - (index + 1) + 1
-recover_pays c (recovers.TheVariants.ChecksCount index count) = c - (index + 1) + 1
-recover_pays c (recovers.TheVariants.Asks index count) = c - (index + 1) + 1
-recover_pays c (recovers.TheVariants.EmptiesCell index count) = c - (index + 1) + 1
-recover_pays c (recovers.TheVariants.Hides index count) = c - (index + 1) + 1
-recover_pays c (recovers.TheVariants.Raises index raise) = c - (index + 1) + 1
-recover_pays c (recovers.TheVariants.Locks index lock) = 0
-recover_pays c recovers.TheVariants.LoadsCounterAgain = 0
-recover_pays c (recovers.TheVariants.AddsChange state) = 0
+abbrev pub recover_pays : ℕ → RecoverStage → ℕ
+recover_pays c recovers.LoadsCounter = c - 1 + 1
+recover_pays c (recovers.LoadsCell index) = c - (index + 1) + 1
+recover_pays c (recovers.LoadsCount index) = c - (index + 1) + 1
+recover_pays c (recovers.LoadsWord index count at) = c - (index + 1) + 1
+recover_pays c (recovers.ChecksCount index count) = c - (index + 1) + 1
+recover_pays c (recovers.Asks index count) = c - (index + 1) + 1
+recover_pays c (recovers.EmptiesCell index count) = c - (index + 1) + 1
+recover_pays c (recovers.Hides index count) = c - (index + 1) + 1
+recover_pays c (recovers.Raises index raise) = c - (index + 1) + 1
+recover_pays c (recovers.Locks index lock) = 0
+recover_pays c recovers.LoadsCounterAgain = 0
+recover_pays c (recovers.AddsChange state) = 0
 
 abbrev pub call_pays : {T : Type 0} → ℕ → ContainerFlight T → ℕ
-call_pays c (calls.TheVariants.Add run) = add_pays run.call.stage
-call_pays c (calls.TheVariants.Remove run) = remove_pays run.call.stage
-call_pays c (calls.TheVariants.Replace run) = replace_pays run.call.stage
-call_pays c (calls.TheVariants.Recover run) = recover_pays c run.call.stage
+call_pays c (calls.Add run) = add_pays run.call.stage
+call_pays c (calls.Remove run) = remove_pays run.call.stage
+call_pays c (calls.Replace run) = replace_pays run.call.stage
+call_pays c (calls.Recover run) = recover_pays c run.call.stage
 call_pays c flight = 0
 
 -- ---- where a call stands that does not lock
 
-abbrev pub AcquireStands : ℕ → acquires.AcquireStage → Type 0
-AcquireStands c (acquires.TheVariants.FillsCell counter index) = index < c
+abbrev pub AcquireStands : ℕ → AcquireStage → Type 0
+AcquireStands c (acquires.FillsCell counter index) = index < c
 AcquireStands c stage = Unit {0}
 
-abbrev pub AddStands : ℕ → adds.AddStage → Type 0
-AddStands c (adds.TheVariants.Acquires stage) = AcquireStands c stage
-AddStands c (adds.TheVariants.Hides index count) = is_even count ≡ false
+abbrev pub AddStands : ℕ → AddStage → Type 0
+AddStands c (adds.Acquires stage) = AcquireStands c stage
+AddStands c (adds.Hides index count) = is_even count ≡ false
 AddStands c stage = Unit {0}
 
-abbrev pub RemoveStands : removes.RemoveStage → Type 0
-RemoveStands (removes.TheVariants.Releases count stage) = ReleaseStands stage
-RemoveStands (removes.TheVariants.Hides count state) = is_even count ≡ false
+abbrev pub RemoveStands : RemoveStage → Type 0
+RemoveStands (removes.Releases count stage) = ReleaseStands stage
+RemoveStands (removes.Hides count state) = is_even count ≡ false
 RemoveStands stage = Unit {0}
 
-abbrev pub ReplaceStands : replaces.ReplaceStage → Type 0
-ReplaceStands (replaces.TheVariants.Hides count) = is_even count ≡ false
+abbrev pub ReplaceStands : ReplaceStage → Type 0
+ReplaceStands (replaces.Hides count) = is_even count ≡ false
 ReplaceStands stage = Unit {0}
 
-abbrev pub RecoverStands : ℕ → recovers.RecoverStage → Type 0
-RecoverStands c (recovers.TheVariants.LoadsCell index) = index < c
-RecoverStands c (recovers.TheVariants.LoadsCount index) = index < c
-RecoverStands c (recovers.TheVariants.LoadsWord index count at) = index < c
-RecoverStands c (recovers.TheVariants.ChecksCount index count) = index < c
-RecoverStands c (recovers.TheVariants.Asks index count) = index < c
-RecoverStands c (recovers.TheVariants.EmptiesCell index count) = index < c
-RecoverStands c (recovers.TheVariants.Hides index count) = is_even count ≡ false
-RecoverStands c (recovers.TheVariants.Locks index lock) = ⊥
+abbrev pub RecoverStands : ℕ → RecoverStage → Type 0
+RecoverStands c (recovers.LoadsCell index) = index < c
+RecoverStands c (recovers.LoadsCount index) = index < c
+RecoverStands c (recovers.LoadsWord index count at) = index < c
+RecoverStands c (recovers.ChecksCount index count) = index < c
+RecoverStands c (recovers.Asks index count) = index < c
+RecoverStands c (recovers.EmptiesCell index count) = index < c
+RecoverStands c (recovers.Hides index count) = is_even count ≡ false
+RecoverStands c (recovers.Locks index lock) = ⊥
 RecoverStands c stage = Unit {0}
 
-abbrev pub LookStands : ℕ → looks.LookStage → Type 0
-LookStands c looks.TheVariants.LoadsChange = Unit {0}
-LookStands c (looks.TheVariants.LoadsCount index) = index < c
-LookStands c (looks.TheVariants.LoadsWord index count at) = index < c
-LookStands c (looks.TheVariants.ChecksCount index count) = index < c
+abbrev pub LookStands : ℕ → LookStage → Type 0
+LookStands c looks.LoadsChange = Unit {0}
+LookStands c (looks.LoadsCount index) = index < c
+LookStands c (looks.LoadsWord index count at) = index < c
+LookStands c (looks.ChecksCount index count) = index < c
 
 abbrev pub CallStands : {T : Type 0} → ℕ → ContainerFlight T → Type 0
-CallStands c (calls.TheVariants.Add run) = (run.call.capacity ≡ c) × AddStands c run.call.stage
-CallStands c (calls.TheVariants.Remove run) =
+CallStands c (calls.Add run) = (run.call.capacity ≡ c) × AddStands c run.call.stage
+CallStands c (calls.Remove run) =
     (run.call.capacity ≡ c) × (run.given.mode ≡ Default) × (run.given.index ≤ c) × RemoveStands run.call.stage
-CallStands c (calls.TheVariants.Replace run) = (run.call.capacity ≡ c) × ReplaceStands run.call.stage
-CallStands c (calls.TheVariants.Find run) = run.call.capacity ≡ c
-CallStands c (calls.TheVariants.Recover run) = (run.call.capacity ≡ c) × (run.given.mode ≡ Default) × RecoverStands c run.call.stage
-CallStands c (calls.TheVariants.Look which call) = (call.capacity ≡ c) × LookStands c call.stage
-CallStands c (calls.TheVariants.Count which run) = run.call.capacity ≡ c
-CallStands c (calls.TheVariants.IsLocked run) = Unit {0}
+CallStands c (calls.Replace run) = (run.call.capacity ≡ c) × ReplaceStands run.call.stage
+CallStands c (calls.Find run) = run.call.capacity ≡ c
+CallStands c (calls.Recover run) = (run.call.capacity ≡ c) × (run.given.mode ≡ Default) × RecoverStands c run.call.stage
+CallStands c (calls.Look which call) = (call.capacity ≡ c) × LookStands c call.stage
+CallStands c (calls.Count which run) = run.call.capacity ≡ c
+CallStands c (calls.IsLocked run) = Unit {0}
 
 module _ {T : Type 0} where
   abbrev pub left : ℕ → ℕ → List ℕ → Flight T → ℕ
-  left size c words (flights.TheVariants.Container flight) = call_left size c words flight
+  left size c words (flights.Container flight) = call_left size c words flight
   left size c words flight = 0
 
   abbrev pub pays : ℕ → Flight T → ℕ
-  pays c (flights.TheVariants.Container flight) = call_pays c flight
+  pays c (flights.Container flight) = call_pays c flight
   pays c flight = 0
 
   abbrev pub measure : ℕ → ℕ → WordMeasure T
   measure size c = record { left = left size c; pays = pays c; alone = c * (size + 7) + max 2 size; changes = max 2 c }
 
   abbrev pub At : Coding T → ℕ → Start T → Flight T → Type 0
-  At code c (starts.Container start) (flights.TheVariants.Container flight) = CallStands c flight
+  At code c (starts.Container start) (flights.Container flight) = CallStands c flight
   At code c start flight = ⊥
 
   abbrev pub Kept : Registry T → Type 0
-  Kept (registries.TheVariants.Container dead states) = Unit {0}
+  Kept (registries.Container dead states) = Unit {0}
   Kept kept = ⊥
 
   -- a party that looks has a state
   abbrev pub Known : ℕ → Registry T → Flight T → Type 0
-  Known p (registries.TheVariants.Container dead states) (flights.TheVariants.Container (calls.TheVariants.Look which call)) =
+  Known p (registries.Container dead states) (flights.Container (calls.Look which call)) =
       is_some (state_of p states) ≡ true
   Known p kept flight = Unit {0}
 
   abbrev pub outline : Outline T
   outline =
       record {
-        kind = kinds.TheVariants.Container;
+        kind = kinds.Container;
         Such = IsDefault;
         Kept = Kept;
         At = At;
@@ -236,24 +243,24 @@ module _ {T : Type 0} where
 
 module _ (size c : ℕ) (old new : List ℕ) (same : get_or new 0 0 ≡ get_or old 0 0)
     (fewer : (index count : ℕ) → again_at size c new index count ≤ again_at size c old index count) where
-  recover_fewer : (stage : recovers.RecoverStage) → recover_left size c new stage ≤ recover_left size c old stage
-  recover_fewer (recovers.TheVariants.LoadsWord index count at) = let here = fewer index count in omega arith
-  recover_fewer (recovers.TheVariants.ChecksCount index count) = let here = fewer index count in omega arith
-  recover_fewer (recovers.TheVariants.Raises index raise) = rw same (omega arith)
+  recover_fewer : (stage : RecoverStage) → recover_left size c new stage ≤ recover_left size c old stage
+  recover_fewer (recovers.LoadsWord index count at) = let here = fewer index count in omega arith
+  recover_fewer (recovers.ChecksCount index count) = let here = fewer index count in omega arith
+  recover_fewer (recovers.Raises index raise) = rw same (omega arith)
   recover_fewer stage = omega arith
 
-  look_fewer : (stage : looks.LookStage) → look_left size c new stage ≤ look_left size c old stage
-  look_fewer looks.TheVariants.LoadsChange = omega arith
-  look_fewer (looks.TheVariants.LoadsCount index) = omega arith
-  look_fewer (looks.TheVariants.LoadsWord index count at) = let here = fewer index count in omega arith
-  look_fewer (looks.TheVariants.ChecksCount index count) = let here = fewer index count in omega arith
+  look_fewer : (stage : LookStage) → look_left size c new stage ≤ look_left size c old stage
+  look_fewer looks.LoadsChange = omega arith
+  look_fewer (looks.LoadsCount index) = omega arith
+  look_fewer (looks.LoadsWord index count at) = let here = fewer index count in omega arith
+  look_fewer (looks.ChecksCount index count) = let here = fewer index count in omega arith
 
   pub leaves : {T : Type 0} → LeavesAll (measure {T = T} size c) old new
-  leaves (flights.TheVariants.Container (calls.TheVariants.Add run)) = rw same (omega arith)
-  leaves (flights.TheVariants.Container (calls.TheVariants.Remove run)) = rw same (omega arith)
-  leaves (flights.TheVariants.Container (calls.TheVariants.Recover run)) = recover_fewer run.call.stage
-  leaves (flights.TheVariants.Container (calls.TheVariants.Look which call)) = look_fewer call.stage
-  leaves (flights.TheVariants.Container (calls.TheVariants.Count which run)) = rw same (omega arith)
+  leaves (flights.Container (calls.Add run)) = rw same (omega arith)
+  leaves (flights.Container (calls.Remove run)) = rw same (omega arith)
+  leaves (flights.Container (calls.Recover run)) = recover_fewer run.call.stage
+  leaves (flights.Container (calls.Look which call)) = look_fewer call.stage
+  leaves (flights.Container (calls.Count which run)) = rw same (omega arith)
   leaves flight = omega arith
 
 -- the number behind an odd one is even

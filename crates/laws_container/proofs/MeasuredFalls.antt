@@ -8,19 +8,24 @@ use Rattle.steps.specs.Indices.Robust.Acquire.{acquire_sees}
 use Rattle.steps.specs.Indices.Robust.Parts.{cell_word, empty, locked, greatest}
 use Rattle.steps.specs.Routine.{went_on}
 use Rattle.steps.specs.declared.ask.After.{After}
-use Rattle.steps.specs.declared.container.add.AddStage as adds
-use Rattle.steps.specs.declared.container.remove.RemoveStage as removes
-use Rattle.steps.specs.declared.container.replace.ReplaceStage as replaces
+use Rattle.steps.specs.declared.container.add.AddStage.{AddStage}
+use Rattle.steps.specs.declared.container.add.AddStage.TheVariants as adds
+use Rattle.steps.specs.declared.container.remove.RemoveStage.{RemoveStage}
+use Rattle.steps.specs.declared.container.remove.RemoveStage.TheVariants as removes
+use Rattle.steps.specs.declared.container.replace.ReplaceStage.{ReplaceStage}
+use Rattle.steps.specs.declared.container.replace.ReplaceStage.TheVariants as replaces
 use Rattle.steps.specs.declared.container.state.ContainerState.{ContainerState}
 use Rattle.steps.specs.declared.indices.enums.ReleaseMode.TheVariants.{Default}
-use Rattle.steps.specs.declared.indices.robust.acquire.AcquireStage as acquires
-use Rattle.steps.specs.declared.indices.robust.parts.Raise as raises
-use Rattle.steps.specs.declared.indices.robust.release.ReleaseStage as releases
+use Rattle.steps.specs.declared.indices.robust.acquire.AcquireStage.{AcquireStage}
+use Rattle.steps.specs.declared.indices.robust.acquire.AcquireStage.TheVariants as acquires
+use Rattle.steps.specs.declared.indices.robust.parts.Raise.TheVariants as raises
+use Rattle.steps.specs.declared.indices.robust.release.ReleaseStage.{ReleaseStage}
+use Rattle.steps.specs.declared.indices.robust.release.ReleaseStage.TheVariants as releases
 use Rattle.model.specs.declared.event.Answer.{Answer}
 use Rattle.model.specs.declared.families.Flight.{Flight}
-use Rattle.model.specs.declared.families.Flight as flights
+use Rattle.model.specs.declared.families.Flight.TheVariants as flights
 use Rattle.model.specs.declared.families.container.calls.ContainerFlight.{ContainerFlight}
-use Rattle.model.specs.declared.families.container.calls.ContainerFlight as calls
+use Rattle.model.specs.declared.families.container.calls.ContainerFlight.TheVariants as calls
 use Rattle.model.specs.Coding.{Coding}
 use Rattle.model.specs.Families.{ask_of}
 use Rattle.model.specs.Families.Container.Calls.{want, after, added}
@@ -62,11 +67,11 @@ module _ {T : Type 0} (code : Coding T) (c : ℕ) (words : List ℕ) where
   M = measure code.size c
 
   abbrev pub any_call : After (ContainerFlight T) (Answer T) → After (Flight T) (Answer T)
-  any_call after = as_call flights.TheVariants.Container (λ answer. answer) after
+  any_call after = as_call flights.Container (λ answer. answer) after
 
   abbrev pub ShownBy : Option (ContainerState T) → ContainerFlight T → Type 0
   ShownBy state flight =
-      FallsIn M words (words_after words (ask_of (want code flight))) (step_count (ask_of (want code flight))) (flights.TheVariants.Container flight)
+      FallsIn M words (words_after words (ask_of (want code flight))) (step_count (ask_of (want code flight))) (flights.Container flight)
       (any_call (after code state flight (old_of words (ask_of (want code flight)))))
 
   abbrev now : ℕ
@@ -78,31 +83,31 @@ module _ {T : Type 0} (code : Coding T) (c : ℕ) (words : List ℕ) where
 
     -- ---- an add
 
-    acquire_sees_falls : (new : List ℕ) (value : T) (owner : ℕ) (stage : acquires.AcquireStage) → new ≡ words
+    acquire_sees_falls : (new : List ℕ) (value : T) (owner : ℕ) (stage : AcquireStage) → new ≡ words
         → c - 1 + 3 ≤ acquire_left c now stage
-        → FallsIn M words new 1 (flights.TheVariants.Container (add_at c value owner (adds.TheVariants.Acquires stage)))
-        (any_call (as_call calls.TheVariants.Add added (went_on as_it_is (record { value = value; owner = owner }) tt
-        (add_acquired (record { capacity = c; stage = adds.TheVariants.Acquires stage; of = record {} }) (acquire_sees (inner_acquire c stage) now)))))
+        → FallsIn M words new 1 (flights.Container (add_at c value owner (adds.Acquires stage)))
+        (any_call (as_call calls.Add added (went_on as_it_is (record { value = value; owner = owner }) tt
+        (add_acquired (record { capacity = c; stage = adds.Acquires stage; of = record {} }) (acquire_sees (inner_acquire c stage) now)))))
     acquire_sees_falls new value owner stage same enough = go (now == locked) refl (now == greatest) refl (nat_lt 0 c) refl
       where
         go : (t : Bool) → (now == locked) ≡ t → (u : Bool) → (now == greatest) ≡ u → (v : Bool) → nat_lt 0 c ≡ v
-            → FallsIn M words new 1 (flights.TheVariants.Container (add_at c value owner (adds.TheVariants.Acquires stage)))
-            (any_call (as_call calls.TheVariants.Add added (went_on as_it_is (record { value = value; owner = owner }) tt
-            (add_acquired (record { capacity = c; stage = adds.TheVariants.Acquires stage; of = record {} }) (acquire_sees (inner_acquire c stage) now)))))
+            → FallsIn M words new 1 (flights.Container (add_at c value owner (adds.Acquires stage)))
+            (any_call (as_call calls.Add added (went_on as_it_is (record { value = value; owner = owner }) tt
+            (add_acquired (record { capacity = c; stage = adds.Acquires stage; of = record {} }) (acquire_sees (inner_acquire c stage) now)))))
         go true t u e v f = rw t tt
         go false t true u v f = rw (t, u) tt
         go false t false u true v = let self = same_is now in rw (t, u, v) (inl (same, rw self (omega arith), omega arith))
         go false t false u false v = let self = same_is now in rw (t, u, v) (inl (same, rw self (omega arith), omega arith))
 
-    acquire_falls : (value : T) (owner : ℕ) (stage : acquires.AcquireStage) → AcquireStands c stage
-        → Shown (add_at c value owner (adds.TheVariants.Acquires stage))
-    acquire_falls value owner acquires.TheVariants.LoadsCounter at =
-        acquire_sees_falls _ value owner acquires.TheVariants.LoadsCounter (load_leaves words 0) (omega arith)
-    acquire_falls value owner (acquires.TheVariants.FillsCell counter index) at =
+    acquire_falls : (value : T) (owner : ℕ) (stage : AcquireStage) → AcquireStands c stage
+        → Shown (add_at c value owner (adds.Acquires stage))
+    acquire_falls value owner acquires.LoadsCounter at =
+        acquire_sees_falls _ value owner acquires.LoadsCounter (load_leaves words 0) (omega arith)
+    acquire_falls value owner (acquires.FillsCell counter index) at =
         go (get_or words (cell_word index) 0 == empty) refl (nat_lt (index + 1) c) refl (now == counter) refl
       where
         call : ContainerFlight T
-        call = add_at c value owner (adds.TheVariants.Acquires (acquires.TheVariants.FillsCell counter index))
+        call = add_at c value owner (adds.Acquires (acquires.FillsCell counter index))
 
         go : (t : Bool) → (get_or words (cell_word index) 0 == empty) ≡ t → (u : Bool) → nat_lt (index + 1) c ≡ u
             → (v : Bool) → (now == counter) ≡ v → Shown call
@@ -116,75 +121,75 @@ module _ {T : Type 0} (code : Coding T) (c : ℕ) (words : List ℕ) where
             rw (t, u) (inl (load_leaves words (cell_word index), rw v (omega arith), omega arith))
         go false t false u true v = rw (t, u) (inl (load_leaves words (cell_word index), rw v (omega arith), omega arith))
         go false t false u false v = rw (t, u) (inl (load_leaves words (cell_word index), rw v (omega arith), omega arith))
-    acquire_falls value owner (acquires.TheVariants.ChecksCounter counter) at = go (now == counter) refl
+    acquire_falls value owner (acquires.ChecksCounter counter) at = go (now == counter) refl
       where
-        go : (t : Bool) → (now == counter) ≡ t → Shown (add_at c value owner (adds.TheVariants.Acquires (acquires.TheVariants.ChecksCounter counter)))
+        go : (t : Bool) → (now == counter) ≡ t → Shown (add_at c value owner (adds.Acquires (acquires.ChecksCounter counter)))
         go true t = rw t tt
         go false t =
-            rw t (acquire_sees_falls _ value owner (acquires.TheVariants.ChecksCounter counter) (load_leaves words 0) (rw t (omega arith)))
-    acquire_falls value owner (acquires.TheVariants.Raises index raises.TheVariants.LoadsCounter) at = go (now == locked) refl (now == greatest) refl
+            rw t (acquire_sees_falls _ value owner (acquires.ChecksCounter counter) (load_leaves words 0) (rw t (omega arith)))
+    acquire_falls value owner (acquires.Raises index raises.LoadsCounter) at = go (now == locked) refl (now == greatest) refl
       where
         go : (t : Bool) → (now == locked) ≡ t → (u : Bool) → (now == greatest) ≡ u
-            → Shown (add_at c value owner (adds.TheVariants.Acquires (acquires.TheVariants.Raises index raises.TheVariants.LoadsCounter)))
+            → Shown (add_at c value owner (adds.Acquires (acquires.Raises index raises.LoadsCounter)))
         go true t u e = rw t tt
         go false t true u = rw (t, u) (inl (load_leaves words 0, omega arith, omega arith))
         go false t false u = let self = same_is now in rw (t, u) (inl (load_leaves words 0, rw self (omega arith), omega arith))
-    acquire_falls value owner (acquires.TheVariants.Raises index (raises.TheVariants.ExchangesCounter counter)) at =
+    acquire_falls value owner (acquires.Raises index (raises.ExchangesCounter counter)) at =
         go (now == counter) refl (now == locked) refl (now == greatest) refl
       where
         go : (s : Bool) → (now == counter) ≡ s → (t : Bool) → (now == locked) ≡ t → (u : Bool) → (now == greatest) ≡ u
-            → Shown (add_at c value owner (adds.TheVariants.Acquires (acquires.TheVariants.Raises index (raises.TheVariants.ExchangesCounter counter))))
+            → Shown (add_at c value owner (adds.Acquires (acquires.Raises index (raises.ExchangesCounter counter))))
         go true s t e u f = rw s (inr (rw s (omega arith), inr (omega arith)))
         go false s true t u e = rw (s, t) tt
         go false s false t true u = rw (s, t, u) (inl (load_leaves words 0, rw s (omega arith), omega arith))
         go false s false t false u = let self = same_is now in rw (s, t, u) (inl (load_leaves words 0, rw (self, s) (omega arith), omega arith))
 
-    pub add_falls : (value : T) (owner : ℕ) (stage : adds.AddStage) → AddStands c stage → Shown (add_at c value owner stage)
-    add_falls value owner (adds.TheVariants.Acquires stage) at = acquire_falls value owner stage at
-    add_falls value owner (adds.TheVariants.LoadsCount index) at = go (is_even (get_or words (count_word c index) 0)) refl
+    pub add_falls : (value : T) (owner : ℕ) (stage : AddStage) → AddStands c stage → Shown (add_at c value owner stage)
+    add_falls value owner (adds.Acquires stage) at = acquire_falls value owner stage at
+    add_falls value owner (adds.LoadsCount index) at = go (is_even (get_or words (count_word c index) 0)) refl
       where
-        go : (t : Bool) → is_even (get_or words (count_word c index) 0) ≡ t → Shown (add_at c value owner (adds.TheVariants.LoadsCount index))
+        go : (t : Bool) → is_even (get_or words (count_word c index) 0) ≡ t → Shown (add_at c value owner (adds.LoadsCount index))
         go true t = rw t (inl (load_leaves words (count_word c index), omega arith, omega arith))
         go false t = rw t (inl (load_leaves words (count_word c index), omega arith, omega arith))
-    add_falls value owner (adds.TheVariants.Hides index count) at =
+    add_falls value owner (adds.Hides index count) at =
         inr (omega arith, inl (hide_leaves code.size c words index count at, omega arith))
-    add_falls value owner (adds.TheVariants.Stores index at) stands = go (nat_lt (at + 1) code.size) refl
+    add_falls value owner (adds.Stores index at) stands = go (nat_lt (at + 1) code.size) refl
       where
-        go : (t : Bool) → nat_lt (at + 1) code.size ≡ t → Shown (add_at c value owner (adds.TheVariants.Stores index at))
+        go : (t : Bool) → nat_lt (at + 1) code.size ≡ t → Shown (add_at c value owner (adds.Stores index at))
         go true t =
             let less : at + 1 < code.size = grind (arith, nat_tests) in
             rw t (inr (omega arith, inl (apart_leaves code.size c words _ _ (omega arith) (λ i few e. absurd (omega arith)), omega arith)))
         go false t =
             rw t (inr (omega arith, inl (apart_leaves code.size c words _ _ (omega arith) (λ i few e. absurd (omega arith)), omega arith)))
-    add_falls value owner (adds.TheVariants.AddsCount index) at = inr (omega arith, inr (omega arith))
-    add_falls value owner (adds.TheVariants.AddsChange index) at = tt
+    add_falls value owner (adds.AddsCount index) at = inr (omega arith, inr (omega arith))
+    add_falls value owner (adds.AddsChange index) at = tt
 
     -- ---- a remove
 
-    release_falls : (index owner count : ℕ) (stage : releases.ReleaseStage) → index ≤ c → RemoveStands (removes.TheVariants.Releases count stage)
-        → Shown (remove_at c index owner Default (removes.TheVariants.Releases count stage))
-    release_falls index owner count releases.TheVariants.EmptiesCell within at = go (get_or words (cell_word index) 0 == owner) refl
+    release_falls : (index owner count : ℕ) (stage : ReleaseStage) → index ≤ c → RemoveStands (removes.Releases count stage)
+        → Shown (remove_at c index owner Default (removes.Releases count stage))
+    release_falls index owner count releases.EmptiesCell within at = go (get_or words (cell_word index) 0 == owner) refl
       where
         go : (t : Bool) → (get_or words (cell_word index) 0 == owner) ≡ t
-            → Shown (remove_at c index owner Default (removes.TheVariants.Releases count releases.TheVariants.EmptiesCell))
+            → Shown (remove_at c index owner Default (removes.Releases count releases.EmptiesCell))
         go true t = rw t (inr (omega arith, inl (cell_leaves code.size c words index empty within, omega arith)))
         go false t = rw t tt
-    release_falls index owner count (releases.TheVariants.Raises raises.TheVariants.LoadsCounter) within at =
+    release_falls index owner count (releases.Raises raises.LoadsCounter) within at =
         go (now == locked) refl (now == greatest) refl (is_even count) refl
       where
         go : (t : Bool) → (now == locked) ≡ t → (u : Bool) → (now == greatest) ≡ u → (v : Bool) → is_even count ≡ v
-            → Shown (remove_at c index owner Default (removes.TheVariants.Releases count (releases.TheVariants.Raises raises.TheVariants.LoadsCounter)))
+            → Shown (remove_at c index owner Default (removes.Releases count (releases.Raises raises.LoadsCounter)))
         go true t u e true v = rw (t, v) (inl (load_leaves words 0, omega arith, omega arith))
         go true t u e false v = rw (t, v) (inl (load_leaves words 0, omega arith, omega arith))
         go false t true u true v = rw (t, u, v) (inl (load_leaves words 0, omega arith, omega arith))
         go false t true u false v = rw (t, u, v) (inl (load_leaves words 0, omega arith, omega arith))
         go false t false u v e = let self = same_is now in rw (t, u) (inl (load_leaves words 0, rw self (omega arith), omega arith))
-    release_falls index owner count (releases.TheVariants.Raises (raises.TheVariants.ExchangesCounter counter)) within at =
+    release_falls index owner count (releases.Raises (raises.ExchangesCounter counter)) within at =
         go (now == counter) refl (now == locked) refl (now == greatest) refl (is_even count) refl
       where
         go : (s : Bool) → (now == counter) ≡ s → (t : Bool) → (now == locked) ≡ t → (u : Bool) → (now == greatest) ≡ u → (v : Bool) → is_even count ≡ v
             → Shown (remove_at c index owner Default
-            (removes.TheVariants.Releases count (releases.TheVariants.Raises (raises.TheVariants.ExchangesCounter counter))))
+            (removes.Releases count (releases.Raises (raises.ExchangesCounter counter))))
         go true s t e u f true v = rw (s, v) (inr (rw s (omega arith), inr (omega arith)))
         go true s t e u f false v = rw (s, v) (inr (rw s (omega arith), inr (omega arith)))
         go false s true t u e true v = rw (s, t, v) (inl (load_leaves words 0, rw s (omega arith), omega arith))
@@ -192,39 +197,39 @@ module _ {T : Type 0} (code : Coding T) (c : ℕ) (words : List ℕ) where
         go false s false t true u true v = rw (s, t, u, v) (inl (load_leaves words 0, rw s (omega arith), omega arith))
         go false s false t true u false v = rw (s, t, u, v) (inl (load_leaves words 0, rw s (omega arith), omega arith))
         go false s false t false u v e = let self = same_is now in rw (s, t, u) (inl (load_leaves words 0, rw (self, s) (omega arith), omega arith))
-    release_falls index owner count (releases.TheVariants.Locks lock) within at = absurd at
+    release_falls index owner count (releases.Locks lock) within at = absurd at
 
-    pub remove_falls : (index owner : ℕ) (stage : removes.RemoveStage) → index ≤ c → RemoveStands stage → Shown (remove_at c index owner Default stage)
-    remove_falls index owner removes.TheVariants.Refuses within at = tt
-    remove_falls index owner removes.TheVariants.LoadsCount within at = inl (load_leaves words (count_word c index), omega arith, omega arith)
-    remove_falls index owner (removes.TheVariants.Releases count stage) within at = release_falls index owner count stage within at
-    remove_falls index owner (removes.TheVariants.Hides count end) within at =
+    pub remove_falls : (index owner : ℕ) (stage : RemoveStage) → index ≤ c → RemoveStands stage → Shown (remove_at c index owner Default stage)
+    remove_falls index owner removes.Refuses within at = tt
+    remove_falls index owner removes.LoadsCount within at = inl (load_leaves words (count_word c index), omega arith, omega arith)
+    remove_falls index owner (removes.Releases count stage) within at = release_falls index owner count stage within at
+    remove_falls index owner (removes.Hides count end) within at =
         inr (omega arith, inl (hide_leaves code.size c words index count at, omega arith))
-    remove_falls index owner (removes.TheVariants.AddsChange end) within at = tt
+    remove_falls index owner (removes.AddsChange end) within at = tt
 
     -- ---- a replace
 
-    pub replace_falls : (index : ℕ) (value : T) (owner : ℕ) (stage : replaces.ReplaceStage) → ReplaceStands stage → Shown (replace_at c index value owner stage)
-    replace_falls index value owner replaces.TheVariants.Refuses at = tt
-    replace_falls index value owner replaces.TheVariants.LoadsCell at = go (get_or words (cell_word index) 0 == owner) refl
+    pub replace_falls : (index : ℕ) (value : T) (owner : ℕ) (stage : ReplaceStage) → ReplaceStands stage → Shown (replace_at c index value owner stage)
+    replace_falls index value owner replaces.Refuses at = tt
+    replace_falls index value owner replaces.LoadsCell at = go (get_or words (cell_word index) 0 == owner) refl
       where
-        go : (t : Bool) → (get_or words (cell_word index) 0 == owner) ≡ t → Shown (replace_at c index value owner replaces.TheVariants.LoadsCell)
+        go : (t : Bool) → (get_or words (cell_word index) 0 == owner) ≡ t → Shown (replace_at c index value owner replaces.LoadsCell)
         go true t = rw t (inl (load_leaves words (cell_word index), omega arith, omega arith))
         go false t = rw t tt
-    replace_falls index value owner replaces.TheVariants.LoadsCount at = go (is_even (get_or words (count_word c index) 0)) refl
+    replace_falls index value owner replaces.LoadsCount at = go (is_even (get_or words (count_word c index) 0)) refl
       where
-        go : (t : Bool) → is_even (get_or words (count_word c index) 0) ≡ t → Shown (replace_at c index value owner replaces.TheVariants.LoadsCount)
+        go : (t : Bool) → is_even (get_or words (count_word c index) 0) ≡ t → Shown (replace_at c index value owner replaces.LoadsCount)
         go true t = rw t (inl (load_leaves words (count_word c index), omega arith, omega arith))
         go false t = rw t (inl (load_leaves words (count_word c index), omega arith, omega arith))
-    replace_falls index value owner (replaces.TheVariants.Hides count) at =
+    replace_falls index value owner (replaces.Hides count) at =
         inr (omega arith, inl (hide_leaves code.size c words index count at, omega arith))
-    replace_falls index value owner (replaces.TheVariants.Stores at) stands = go (nat_lt (at + 1) code.size) refl
+    replace_falls index value owner (replaces.Stores at) stands = go (nat_lt (at + 1) code.size) refl
       where
-        go : (t : Bool) → nat_lt (at + 1) code.size ≡ t → Shown (replace_at c index value owner (replaces.TheVariants.Stores at))
+        go : (t : Bool) → nat_lt (at + 1) code.size ≡ t → Shown (replace_at c index value owner (replaces.Stores at))
         go true t =
             let less : at + 1 < code.size = grind (arith, nat_tests) in
             rw t (inr (omega arith, inl (apart_leaves code.size c words _ _ (omega arith) (λ i few e. absurd (omega arith)), omega arith)))
         go false t =
             rw t (inr (omega arith, inl (apart_leaves code.size c words _ _ (omega arith) (λ i few e. absurd (omega arith)), omega arith)))
-    replace_falls index value owner replaces.TheVariants.AddsCount at = inr (omega arith, inr (omega arith))
-    replace_falls index value owner replaces.TheVariants.AddsChange at = tt
+    replace_falls index value owner replaces.AddsCount at = inr (omega arith, inr (omega arith))
+    replace_falls index value owner replaces.AddsChange at = tt

@@ -8,18 +8,22 @@ use Rattle.steps.specs.Container.Look.{look_comes_to}
 use Rattle.steps.specs.Container.Recover.{recover_comes_to}
 use Rattle.steps.specs.Indices.Robust.Parts.{cell_word, empty, locked, greatest}
 use Rattle.steps.specs.Routine.{went_on}
-use Rattle.steps.specs.declared.container.find.FindStage as finds
-use Rattle.steps.specs.declared.container.look.LookStage as looks
-use Rattle.steps.specs.declared.container.recover.RecoverStage as recovers
+use Rattle.steps.specs.declared.container.find.FindStage.{FindStage}
+use Rattle.steps.specs.declared.container.find.FindStage.TheVariants as finds
+use Rattle.steps.specs.declared.container.look.LookStage.{LookStage}
+use Rattle.steps.specs.declared.container.look.LookStage.TheVariants as looks
+use Rattle.steps.specs.declared.container.recover.RecoverStage.{RecoverStage}
+use Rattle.steps.specs.declared.container.recover.RecoverStage.TheVariants as recovers
 use Rattle.steps.specs.declared.container.state.ContainerState.{ContainerState}
 use Rattle.steps.specs.declared.copied.Buffer as buffers
 use Rattle.steps.specs.declared.indices.enums.ReleaseMode.TheVariants.{Default}
-use Rattle.steps.specs.declared.indices.robust.parts.Count as counts
-use Rattle.steps.specs.declared.indices.robust.parts.Raise as raises
-use Rattle.model.specs.declared.event.Answer as answers
-use Rattle.model.specs.declared.families.Flight as flights
+use Rattle.steps.specs.declared.indices.robust.parts.Count.{Count}
+use Rattle.steps.specs.declared.indices.robust.parts.Count.TheVariants as counts
+use Rattle.steps.specs.declared.indices.robust.parts.Raise.TheVariants as raises
+use Rattle.model.specs.declared.event.Answer.TheVariants as answers
+use Rattle.model.specs.declared.families.Flight.TheVariants as flights
 use Rattle.model.specs.declared.families.container.calls.ContainerFlight.{ContainerFlight}
-use Rattle.model.specs.declared.families.container.calls.ContainerFlight as calls
+use Rattle.model.specs.declared.families.container.calls.ContainerFlight.TheVariants as calls
 use Rattle.model.specs.declared.families.container.calls.CountOf.{CountOf}
 use Rattle.model.specs.declared.families.container.calls.LookOf.{LookOf}
 use Rattle.model.specs.Coding.{Coding}
@@ -45,16 +49,16 @@ module _ {T : Type 0} (code : Coding T) (c : ℕ) (words : List ℕ) where
   -- ---- a find
 
   -- it comes to the next index, or to its end
-  pub find_comes : (new : List ℕ) (steps index found owner : ℕ) (was room : buffers.Buffer 128) (stage : finds.FindStage) → new ≡ words
+  pub find_comes : (new : List ℕ) (steps index found owner : ℕ) (was room : buffers.Buffer 128) (stage : FindStage) → new ≡ words
       → behind code.size c (code.size - 1 + 4) index + steps ≤ find_left code.size c stage
-      → FallsIn (M code c words) words new steps (flights.TheVariants.Container (find_at c owner was stage))
-      (any_call code c words (as_call calls.TheVariants.Find answers.TheVariants.Number (went_on as_it_is owner room
+      → FallsIn (M code c words) words new steps (flights.Container (find_at c owner was stage))
+      (any_call code c words (as_call calls.Find answers.Number (went_on as_it_is owner room
       (find_comes_to (record { capacity = c; stage = stage; of = record {} }) (index + 1) found))))
   find_comes new steps index found owner was room stage same enough = go (nat_lt (index + 1) c) refl
     where
       go : (u : Bool) → nat_lt (index + 1) c ≡ u
-          → FallsIn (M code c words) words new steps (flights.TheVariants.Container (find_at c owner was stage))
-          (any_call code c words (as_call calls.TheVariants.Find answers.TheVariants.Number (went_on as_it_is owner room
+          → FallsIn (M code c words) words new steps (flights.Container (find_at c owner was stage))
+          (any_call code c words (as_call calls.Find answers.Number (went_on as_it_is owner room
           (find_comes_to (record { capacity = c; stage = stage; of = record {} }) (index + 1) found))))
       go true u =
           let less : index + 1 < c = grind (arith, nat_tests) in
@@ -62,54 +66,54 @@ module _ {T : Type 0} (code : Coding T) (c : ℕ) (words : List ℕ) where
           rw u (inl (same, omega arith, omega arith))
       go false u = rw u tt
 
-  pub find_falls : (owner : ℕ) (room : buffers.Buffer 128) (stage : finds.FindStage) → There (find_at c owner room stage)
-  find_falls owner room (finds.TheVariants.LoadsCell index found) = go (get_or words (cell_word index) 0 == owner) refl
+  pub find_falls : (owner : ℕ) (room : buffers.Buffer 128) (stage : FindStage) → There (find_at c owner room stage)
+  find_falls owner room (finds.LoadsCell index found) = go (get_or words (cell_word index) 0 == owner) refl
     where
-      go : (t : Bool) → (get_or words (cell_word index) 0 == owner) ≡ t → There (find_at c owner room (finds.TheVariants.LoadsCell index found))
+      go : (t : Bool) → (get_or words (cell_word index) 0 == owner) ≡ t → There (find_at c owner room (finds.LoadsCell index found))
       go true t = rw t (inl (load_leaves words (cell_word index), omega arith, omega arith))
       go false t =
-          rw t (find_comes _ 1 index found owner room room (finds.TheVariants.LoadsCell index found) (load_leaves words (cell_word index)) (omega arith))
-  find_falls owner room (finds.TheVariants.LoadsCount index found) = go (is_even (stands_at index)) refl
+          rw t (find_comes _ 1 index found owner room room (finds.LoadsCell index found) (load_leaves words (cell_word index)) (omega arith))
+  find_falls owner room (finds.LoadsCount index found) = go (is_even (stands_at index)) refl
     where
-      go : (t : Bool) → is_even (stands_at index) ≡ t → There (find_at c owner room (finds.TheVariants.LoadsCount index found))
+      go : (t : Bool) → is_even (stands_at index) ≡ t → There (find_at c owner room (finds.LoadsCount index found))
       go true t =
-          rw t (find_comes _ 1 index found owner room room (finds.TheVariants.LoadsCount index found) (load_leaves words (count_word c index)) (omega arith))
+          rw t (find_comes _ 1 index found owner room room (finds.LoadsCount index found) (load_leaves words (count_word c index)) (omega arith))
       go false t = rw t (inl (load_leaves words (count_word c index), omega arith, omega arith))
-  find_falls owner room (finds.TheVariants.LoadsWord index found count at) = go (nat_lt (at + 1) code.size) refl
+  find_falls owner room (finds.LoadsWord index found count at) = go (nat_lt (at + 1) code.size) refl
     where
-      go : (t : Bool) → nat_lt (at + 1) code.size ≡ t → There (find_at c owner room (finds.TheVariants.LoadsWord index found count at))
+      go : (t : Bool) → nat_lt (at + 1) code.size ≡ t → There (find_at c owner room (finds.LoadsWord index found count at))
       go true t =
           let less : at + 1 < code.size = grind (arith, nat_tests) in
           rw t (inl (load_leaves words _, omega arith, omega arith))
       go false t = rw t (inl (load_leaves words _, omega arith, omega arith))
-  find_falls owner room (finds.TheVariants.ChecksCount index found count) = go (stands_at index == count) refl
+  find_falls owner room (finds.ChecksCount index found count) = go (stands_at index == count) refl
     where
-      go : (t : Bool) → (stands_at index == count) ≡ t → There (find_at c owner room (finds.TheVariants.ChecksCount index found count))
+      go : (t : Bool) → (stands_at index == count) ≡ t → There (find_at c owner room (finds.ChecksCount index found count))
       go true t =
           let same = check_leaves words (count_word c index) count in
           rw t (inl (rw t at same, omega arith, omega arith))
       go false t =
-          rw t (find_comes _ 1 index found owner room room (finds.TheVariants.ChecksCount index found count) (load_leaves words (count_word c index))
+          rw t (find_comes _ 1 index found owner room room (finds.ChecksCount index found count) (load_leaves words (count_word c index))
           (omega arith))
-  find_falls owner room (finds.TheVariants.Asks index found) = tt
+  find_falls owner room (finds.Asks index found) = tt
 
   -- ---- a recovery
 
-  abbrev recovering : ℕ → buffers.Buffer 128 → recovers.RecoverStage → ContainerFlight T
+  abbrev recovering : ℕ → buffers.Buffer 128 → RecoverStage → ContainerFlight T
   recovering owner room stage = recover_at c owner Default room stage
 
   -- it comes to the next index, or to its last steps
-  pub recover_comes : (new : List ℕ) (steps index owner : ℕ) (was room : buffers.Buffer 128) (stage : recovers.RecoverStage) → new ≡ words
+  pub recover_comes : (new : List ℕ) (steps index owner : ℕ) (was room : buffers.Buffer 128) (stage : RecoverStage) → new ≡ words
       → behind code.size c (code.size - 1 + 8) index + 1 + steps ≤ recover_left code.size c words stage → c - (index + 1) ≤ recover_pays c stage
-      → FallsIn (M code c words) words new steps (flights.TheVariants.Container (recovering owner was stage))
-      (any_call code c words (as_call calls.TheVariants.Recover answers.TheVariants.State
+      → FallsIn (M code c words) words new steps (flights.Container (recovering owner was stage))
+      (any_call code c words (as_call calls.Recover answers.State
       (went_on as_it_is (record { owner = owner; mode = Default }) room
       (recover_comes_to (record { capacity = c; stage = stage; of = record {} }) (index + 1)))))
   recover_comes new steps index owner was room stage same enough pays = go (nat_lt (index + 1) c) refl
     where
       go : (u : Bool) → nat_lt (index + 1) c ≡ u
-          → FallsIn (M code c words) words new steps (flights.TheVariants.Container (recovering owner was stage))
-          (any_call code c words (as_call calls.TheVariants.Recover answers.TheVariants.State
+          → FallsIn (M code c words) words new steps (flights.Container (recovering owner was stage))
+          (any_call code c words (as_call calls.Recover answers.State
           (went_on as_it_is (record { owner = owner; mode = Default }) room
           (recover_comes_to (record { capacity = c; stage = stage; of = record {} }) (index + 1)))))
       go true u =
@@ -118,40 +122,40 @@ module _ {T : Type 0} (code : Coding T) (c : ℕ) (words : List ℕ) where
           rw u (inl (same, omega arith, omega arith))
       go false u = rw u (inl (same, omega arith, omega arith))
 
-  pub recover_falls : (owner : ℕ) (room : buffers.Buffer 128) (stage : recovers.RecoverStage) → RecoverStands c stage → There (recovering owner room stage)
-  recover_falls owner room recovers.TheVariants.LoadsCounter at = go (now == locked) refl (nat_lt 0 c) refl
+  pub recover_falls : (owner : ℕ) (room : buffers.Buffer 128) (stage : RecoverStage) → RecoverStands c stage → There (recovering owner room stage)
+  recover_falls owner room recovers.LoadsCounter at = go (now == locked) refl (nat_lt 0 c) refl
     where
-      go : (t : Bool) → (now == locked) ≡ t → (u : Bool) → nat_lt 0 c ≡ u → There (recovering owner room recovers.TheVariants.LoadsCounter)
+      go : (t : Bool) → (now == locked) ≡ t → (u : Bool) → nat_lt 0 c ≡ u → There (recovering owner room recovers.LoadsCounter)
       go true t u e = rw t (inl (load_leaves words 0, omega arith, omega arith))
       go false t true u = rw (t, u) (inl (load_leaves words 0, omega arith, omega arith))
       go false t false u = rw (t, u) (inl (load_leaves words 0, omega arith, omega arith))
-  recover_falls owner room (recovers.TheVariants.LoadsCell index) at = go (get_or words (cell_word index) 0 == owner) refl
+  recover_falls owner room (recovers.LoadsCell index) at = go (get_or words (cell_word index) 0 == owner) refl
     where
-      go : (t : Bool) → (get_or words (cell_word index) 0 == owner) ≡ t → There (recovering owner room (recovers.TheVariants.LoadsCell index))
+      go : (t : Bool) → (get_or words (cell_word index) 0 == owner) ≡ t → There (recovering owner room (recovers.LoadsCell index))
       go true t = rw t (inl (load_leaves words (cell_word index), omega arith, omega arith))
       go false t =
-          rw t (recover_comes _ 1 index owner room room (recovers.TheVariants.LoadsCell index) (load_leaves words (cell_word index))
+          rw t (recover_comes _ 1 index owner room room (recovers.LoadsCell index) (load_leaves words (cell_word index))
           (omega arith) (omega arith))
-  recover_falls owner room (recovers.TheVariants.LoadsCount index) at = go (is_even (stands_at index)) refl (nat_lt index c) refl
+  recover_falls owner room (recovers.LoadsCount index) at = go (is_even (stands_at index)) refl (nat_lt index c) refl
     where
-      go : (t : Bool) → is_even (stands_at index) ≡ t → (u : Bool) → nat_lt index c ≡ u → There (recovering owner room (recovers.TheVariants.LoadsCount index))
+      go : (t : Bool) → is_even (stands_at index) ≡ t → (u : Bool) → nat_lt index c ≡ u → There (recovering owner room (recovers.LoadsCount index))
       go true t u e = rw t (inl (load_leaves words (count_word c index), omega arith, omega arith))
       go false t true u =
           let self = same_is (stands_at index) in
           rw t (inl (load_leaves words (count_word c index), rw (u, self) (omega arith), omega arith))
       go false t false u = rw t (inl (load_leaves words (count_word c index), rw u (omega arith), omega arith))
-  recover_falls owner room (recovers.TheVariants.LoadsWord index count at) stands = go (nat_lt (at + 1) code.size) refl
+  recover_falls owner room (recovers.LoadsWord index count at) stands = go (nat_lt (at + 1) code.size) refl
     where
-      go : (t : Bool) → nat_lt (at + 1) code.size ≡ t → There (recovering owner room (recovers.TheVariants.LoadsWord index count at))
+      go : (t : Bool) → nat_lt (at + 1) code.size ≡ t → There (recovering owner room (recovers.LoadsWord index count at))
       go true t =
           let less : at + 1 < code.size = grind (arith, nat_tests) in
           rw t (inl (load_leaves words _, omega arith, omega arith))
       go false t = rw t (inl (load_leaves words _, omega arith, omega arith))
-  recover_falls owner room (recovers.TheVariants.ChecksCount index count) stands =
+  recover_falls owner room (recovers.ChecksCount index count) stands =
       go (stands_at index == count) refl (is_even (stands_at index)) refl
     where
-      stage : recovers.RecoverStage
-      stage = recovers.TheVariants.ChecksCount index count
+      stage : RecoverStage
+      stage = recovers.ChecksCount index count
 
       inside : nat_lt index c ≡ true
       inside = grind (arith, nat_tests)
@@ -164,34 +168,34 @@ module _ {T : Type 0} (code : Coding T) (c : ℕ) (words : List ℕ) where
       go false t false u =
           let self = same_is (stands_at index) in
           rw (t, u) (inl (load_leaves words (count_word c index), rw (inside, t, u, self) (omega arith), omega arith))
-  recover_falls owner room (recovers.TheVariants.Asks index count) at =
-      recover_comes _ 0 index owner room room (recovers.TheVariants.Asks index count) refl (omega arith) (omega arith)
-  recover_falls owner room (recovers.TheVariants.EmptiesCell index count) at =
+  recover_falls owner room (recovers.Asks index count) at =
+      recover_comes _ 0 index owner room room (recovers.Asks index count) refl (omega arith) (omega arith)
+  recover_falls owner room (recovers.EmptiesCell index count) at =
       go (get_or words (cell_word index) 0 == owner) refl (is_even count) refl
     where
       go : (t : Bool) → (get_or words (cell_word index) 0 == owner) ≡ t → (u : Bool) → is_even count ≡ u
-          → There (recovering owner room (recovers.TheVariants.EmptiesCell index count))
+          → There (recovering owner room (recovers.EmptiesCell index count))
       go true t true u = rw (t, u) (inr (omega arith, inl (cell_leaves code.size c words index empty (omega arith), omega arith)))
       go true t false u = rw (t, u) (inr (omega arith, inl (cell_leaves code.size c words index empty (omega arith), omega arith)))
       go false t u e =
-          rw t (recover_comes _ 1 index owner room room (recovers.TheVariants.EmptiesCell index count) (load_leaves words (cell_word index))
+          rw t (recover_comes _ 1 index owner room room (recovers.EmptiesCell index count) (load_leaves words (cell_word index))
           (omega arith) (omega arith))
-  recover_falls owner room (recovers.TheVariants.Hides index count) at =
+  recover_falls owner room (recovers.Hides index count) at =
       inr (omega arith, inl (hide_leaves code.size c words index count at, omega arith))
-  recover_falls owner room (recovers.TheVariants.Raises index raises.TheVariants.LoadsCounter) at = go (now == locked) refl (now == greatest) refl
+  recover_falls owner room (recovers.Raises index raises.LoadsCounter) at = go (now == locked) refl (now == greatest) refl
     where
-      stage : recovers.RecoverStage
-      stage = recovers.TheVariants.Raises index raises.TheVariants.LoadsCounter
+      stage : RecoverStage
+      stage = recovers.Raises index raises.LoadsCounter
 
       go : (t : Bool) → (now == locked) ≡ t → (u : Bool) → (now == greatest) ≡ u → There (recovering owner room stage)
       go true t u e = rw t (inl (load_leaves words 0, omega arith, omega arith))
       go false t true u = rw (t, u) (recover_comes _ 1 index owner room room stage (load_leaves words 0) (omega arith) (omega arith))
       go false t false u = let self = same_is now in rw (t, u) (inl (load_leaves words 0, rw self (omega arith), omega arith))
-  recover_falls owner room (recovers.TheVariants.Raises index (raises.TheVariants.ExchangesCounter counter)) at =
+  recover_falls owner room (recovers.Raises index (raises.ExchangesCounter counter)) at =
       go (now == counter) refl (now == locked) refl (now == greatest) refl (nat_lt (index + 1) c) refl
     where
-      stage : recovers.RecoverStage
-      stage = recovers.TheVariants.Raises index (raises.TheVariants.ExchangesCounter counter)
+      stage : RecoverStage
+      stage = recovers.Raises index (raises.ExchangesCounter counter)
 
       go : (s : Bool) → (now == counter) ≡ s → (t : Bool) → (now == locked) ≡ t → (u : Bool) → (now == greatest) ≡ u
           → (v : Bool) → nat_lt (index + 1) c ≡ v → There (recovering owner room stage)
@@ -204,28 +208,28 @@ module _ {T : Type 0} (code : Coding T) (c : ℕ) (words : List ℕ) where
       go false s false t true u v e =
           rw (s, t, u) (recover_comes _ 1 index owner room room stage (load_leaves words 0) (rw s (omega arith)) (omega arith))
       go false s false t false u v e = let self = same_is now in rw (s, t, u) (inl (load_leaves words 0, rw (self, s) (omega arith), omega arith))
-  recover_falls owner room (recovers.TheVariants.Locks index lock) at = absurd at
-  recover_falls owner room recovers.TheVariants.LoadsCounterAgain at = go (now == locked)
+  recover_falls owner room (recovers.Locks index lock) at = absurd at
+  recover_falls owner room recovers.LoadsCounterAgain at = go (now == locked)
     where
-      go : (t : Bool) → There (recovering owner room recovers.TheVariants.LoadsCounterAgain)
+      go : (t : Bool) → There (recovering owner room recovers.LoadsCounterAgain)
       go t = inl (load_leaves words 0, omega arith, omega arith)
-  recover_falls owner room (recovers.TheVariants.AddsChange end) at = tt
+  recover_falls owner room (recovers.AddsChange end) at = tt
 
   -- ---- a look
 
   module _ (which : LookOf) (state : ContainerState T) where
-    abbrev Sees : looks.LookStage → Type 0
+    abbrev Sees : LookStage → Type 0
     Sees stage = ShownBy code c words (Some state) (look_at which c stage)
 
     -- it comes to the next index, or to its end
-    look_comes : (new : List ℕ) (steps index : ℕ) (shown : ContainerState T) (stage : looks.LookStage) → new ≡ words
+    look_comes : (new : List ℕ) (steps index : ℕ) (shown : ContainerState T) (stage : LookStage) → new ≡ words
         → behind code.size c (code.size - 1 + 3) index + steps ≤ look_left code.size c words stage + 1
-        → FallsIn (M code c words) words new steps (flights.TheVariants.Container (look_at which c stage))
+        → FallsIn (M code c words) words new steps (flights.Container (look_at which c stage))
         (any_call code c words (look_came which shown (look_comes_to (record { capacity = c; stage = stage; of = record {} }) (index + 1))))
     look_comes new steps index shown stage same enough = go (nat_lt (index + 1) c) refl
       where
         go : (u : Bool) → nat_lt (index + 1) c ≡ u
-            → FallsIn (M code c words) words new steps (flights.TheVariants.Container (look_at which c stage))
+            → FallsIn (M code c words) words new steps (flights.Container (look_at which c stage))
             (any_call code c words (look_came which shown (look_comes_to (record { capacity = c; stage = stage; of = record {} }) (index + 1))))
         go true u =
             let less : index + 1 < c = grind (arith, nat_tests) in
@@ -233,18 +237,18 @@ module _ {T : Type 0} (code : Coding T) (c : ℕ) (words : List ℕ) where
             rw u (inl (same, omega arith, omega arith))
         go false u = rw u tt
 
-    pub look_falls : (stage : looks.LookStage) → LookStands c stage → Sees stage
-    look_falls looks.TheVariants.LoadsChange at = go (get_or words (1 + c) 0 == state.seen.change) refl (nat_lt 0 c) refl
+    pub look_falls : (stage : LookStage) → LookStands c stage → Sees stage
+    look_falls looks.LoadsChange at = go (get_or words (1 + c) 0 == state.seen.change) refl (nat_lt 0 c) refl
       where
-        go : (t : Bool) → (get_or words (1 + c) 0 == state.seen.change) ≡ t → (u : Bool) → nat_lt 0 c ≡ u → Sees looks.TheVariants.LoadsChange
+        go : (t : Bool) → (get_or words (1 + c) 0 == state.seen.change) ≡ t → (u : Bool) → nat_lt 0 c ≡ u → Sees looks.LoadsChange
         go true t u e = rw t tt
         go false t true u = rw (t, u) (inl (load_leaves words (1 + c), omega arith, omega arith))
         go false t false u = rw (t, u) tt
-    look_falls (looks.TheVariants.LoadsCount index) at =
+    look_falls (looks.LoadsCount index) at =
         go (stands_at index == slice_index_or state.seen.counts index 0) refl (is_even (stands_at index)) refl
       where
-        stage : looks.LookStage
-        stage = looks.TheVariants.LoadsCount index
+        stage : LookStage
+        stage = looks.LoadsCount index
 
         inside : nat_lt index c ≡ true
         inside = grind (arith, nat_tests)
@@ -255,17 +259,17 @@ module _ {T : Type 0} (code : Coding T) (c : ℕ) (words : List ℕ) where
         go false t false u =
             let self = same_is (stands_at index) in
             rw (t, u) (inl (load_leaves words (count_word c index), rw (inside, self) (omega arith), omega arith))
-    look_falls (looks.TheVariants.LoadsWord index count at) stands = go (nat_lt (at + 1) code.size) refl
+    look_falls (looks.LoadsWord index count at) stands = go (nat_lt (at + 1) code.size) refl
       where
-        go : (t : Bool) → nat_lt (at + 1) code.size ≡ t → Sees (looks.TheVariants.LoadsWord index count at)
+        go : (t : Bool) → nat_lt (at + 1) code.size ≡ t → Sees (looks.LoadsWord index count at)
         go true t =
             let less : at + 1 < code.size = grind (arith, nat_tests) in
             rw t (inl (load_leaves words _, omega arith, omega arith))
         go false t = rw t (inl (load_leaves words _, omega arith, omega arith))
-    look_falls (looks.TheVariants.ChecksCount index count) at = go (stands_at index == count) refl (is_even (stands_at index)) refl
+    look_falls (looks.ChecksCount index count) at = go (stands_at index == count) refl (is_even (stands_at index)) refl
       where
-        stage : looks.LookStage
-        stage = looks.TheVariants.ChecksCount index count
+        stage : LookStage
+        stage = looks.ChecksCount index count
 
         inside : nat_lt index c ≡ true
         inside = grind (arith, nat_tests)
@@ -281,20 +285,20 @@ module _ {T : Type 0} (code : Coding T) (c : ℕ) (words : List ℕ) where
 
   -- ---- a number of elements
 
-  pub count_falls : (which : CountOf) (count : counts.Count) → There (count_at which c count)
-  count_falls which counts.TheVariants.LoadsCounter = go (now == locked) refl (nat_lt 0 c) refl (now == greatest) refl
+  pub count_falls : (which : CountOf) (count : Count) → There (count_at which c count)
+  count_falls which counts.LoadsCounter = go (now == locked) refl (nat_lt 0 c) refl (now == greatest) refl
     where
       go : (t : Bool) → (now == locked) ≡ t → (u : Bool) → nat_lt 0 c ≡ u → (v : Bool) → (now == greatest) ≡ v
-          → There (count_at which c counts.TheVariants.LoadsCounter)
+          → There (count_at which c counts.LoadsCounter)
       go true t u e v f = rw t tt
       go false t true u v e = let self = same_is now in rw (t, u) (inl (load_leaves words 0, rw self (omega arith), omega arith))
       go false t false u true v = rw (t, u, v) tt
       go false t false u false v = let self = same_is now in rw (t, u, v) (inl (load_leaves words 0, rw self (omega arith), omega arith))
-  count_falls which (counts.TheVariants.LoadsCell counter index filled) =
+  count_falls which (counts.LoadsCell counter index filled) =
       go (nat_lt (index + 1) c) refl (counter == greatest) refl (now == counter) refl
     where
       go : (u : Bool) → nat_lt (index + 1) c ≡ u → (v : Bool) → (counter == greatest) ≡ v → (t : Bool) → (now == counter) ≡ t
-          → There (count_at which c (counts.TheVariants.LoadsCell counter index filled))
+          → There (count_at which c (counts.LoadsCell counter index filled))
       go true u v e true t =
           let less : index + 2 ≤ c = grind (arith, nat_tests) in
           rw u (inl (load_leaves words (cell_word index), rw t (omega arith), omega arith))
@@ -304,8 +308,8 @@ module _ {T : Type 0} (code : Coding T) (c : ℕ) (words : List ℕ) where
       go false u true v t e = rw (u, v) tt
       go false u false v true t = rw (u, v) (inl (load_leaves words (cell_word index), rw t (omega arith), omega arith))
       go false u false v false t = rw (u, v) (inl (load_leaves words (cell_word index), rw t (omega arith), omega arith))
-  count_falls which (counts.TheVariants.ExchangesCounter counter filled) = go (now == counter) refl
+  count_falls which (counts.ExchangesCounter counter filled) = go (now == counter) refl
     where
-      go : (t : Bool) → (now == counter) ≡ t → There (count_at which c (counts.TheVariants.ExchangesCounter counter filled))
+      go : (t : Bool) → (now == counter) ≡ t → There (count_at which c (counts.ExchangesCounter counter filled))
       go true t = rw t tt
       go false t = rw t (inl (load_leaves words 0, rw t (omega arith), omega arith))

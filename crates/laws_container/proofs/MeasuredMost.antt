@@ -1,19 +1,27 @@
 -- No call of a container has more steps left, and none more changes to make, than the measure says.
 use Rattle.std.proofs.Common.{◌≡◌, ℕ, ◌+◌, ◌-◌, ◌*◌, ◌≤◌, ◌==◌, nat_lt, max}
 use Rattle.std.proofs.Common.{List, get_or, sym, subst, arith}
-use Rattle.steps.specs.declared.container.add.AddStage as adds
-use Rattle.steps.specs.declared.container.find.FindStage as finds
-use Rattle.steps.specs.declared.container.look.LookStage as looks
-use Rattle.steps.specs.declared.container.recover.RecoverStage as recovers
-use Rattle.steps.specs.declared.container.remove.RemoveStage as removes
+use Rattle.steps.specs.declared.container.add.AddStage.{AddStage}
+use Rattle.steps.specs.declared.container.add.AddStage.TheVariants as adds
+use Rattle.steps.specs.declared.container.find.FindStage.{FindStage}
+use Rattle.steps.specs.declared.container.find.FindStage.TheVariants as finds
+use Rattle.steps.specs.declared.container.look.LookStage.{LookStage}
+use Rattle.steps.specs.declared.container.look.LookStage.TheVariants as looks
+use Rattle.steps.specs.declared.container.recover.RecoverStage.{RecoverStage}
+use Rattle.steps.specs.declared.container.recover.RecoverStage.TheVariants as recovers
+use Rattle.steps.specs.declared.container.remove.RemoveStage.{RemoveStage}
+use Rattle.steps.specs.declared.container.remove.RemoveStage.TheVariants as removes
 use Rattle.steps.specs.declared.container.replace.ReplaceStage as replaces
-use Rattle.steps.specs.declared.indices.robust.acquire.AcquireStage as acquires
-use Rattle.steps.specs.declared.indices.robust.parts.Count as counts
-use Rattle.steps.specs.declared.indices.robust.release.ReleaseStage as releases
+use Rattle.steps.specs.declared.indices.robust.acquire.AcquireStage.{AcquireStage}
+use Rattle.steps.specs.declared.indices.robust.acquire.AcquireStage.TheVariants as acquires
+use Rattle.steps.specs.declared.indices.robust.parts.Count.{Count}
+use Rattle.steps.specs.declared.indices.robust.parts.Count.TheVariants as counts
+use Rattle.steps.specs.declared.indices.robust.release.ReleaseStage.{ReleaseStage}
+use Rattle.steps.specs.declared.indices.robust.release.ReleaseStage.TheVariants as releases
 use Rattle.model.specs.declared.families.Flight.{Flight}
-use Rattle.model.specs.declared.families.Flight as flights
+use Rattle.model.specs.declared.families.Flight.TheVariants as flights
 use Rattle.model.specs.declared.families.container.calls.ContainerFlight.{ContainerFlight}
-use Rattle.model.specs.declared.families.container.calls.ContainerFlight as calls
+use Rattle.model.specs.declared.families.container.calls.ContainerFlight.TheVariants as calls
 use Rattle.model.proofs.LockFree.Measure.{worth}
 use Rattle.laws_robust.proofs.Measured.{raise_left, acquire_left, count_left, release_left}
 use Rattle.laws_robust.proofs.LockFree.{one_of, raise_most}
@@ -78,76 +86,76 @@ module _ (c size : ℕ) (some : 1 ≤ c) (wide : 1 ≤ size) (words : List ℕ) 
       worth_each : (c - 1) * 8 ≤ (c - 1) * (z + 8)
       worth_each = omega arith
 
-  find_most : (stage : finds.FindStage) → find_left size c stage ≤ alone
-  find_most (finds.TheVariants.LoadsCell index found) = ends_most (z + 4) _ (finds_behind index) (omega arith)
-  find_most (finds.TheVariants.LoadsCount index found) = ends_most (z + 3) _ (finds_behind index) (omega arith)
-  find_most (finds.TheVariants.LoadsWord index found count at) = ends_most (size - (at + 1) + 2) _ (finds_behind index) (omega arith)
-  find_most (finds.TheVariants.ChecksCount index found count) = ends_most 1 _ (finds_behind index) (omega arith)
-  find_most (finds.TheVariants.Asks index found) = let most = ends_most 0 _ (finds_behind index) (omega arith) in omega arith
+  find_most : (stage : FindStage) → find_left size c stage ≤ alone
+  find_most (finds.LoadsCell index found) = ends_most (z + 4) _ (finds_behind index) (omega arith)
+  find_most (finds.LoadsCount index found) = ends_most (z + 3) _ (finds_behind index) (omega arith)
+  find_most (finds.LoadsWord index found count at) = ends_most (size - (at + 1) + 2) _ (finds_behind index) (omega arith)
+  find_most (finds.ChecksCount index found count) = ends_most 1 _ (finds_behind index) (omega arith)
+  find_most (finds.Asks index found) = let most = ends_most 0 _ (finds_behind index) (omega arith) in omega arith
 
-  recover_most : (stage : recovers.RecoverStage) → recover_left size c words stage ≤ alone
-  recover_most recovers.TheVariants.LoadsCounter = let max = two in ends_most (z + 10) _ (recovers_behind 0) (omega arith)
-  recover_most (recovers.TheVariants.LoadsCell index) = let max = two in ends_most (z + 9) _ (recovers_behind index) (omega arith)
-  recover_most (recovers.TheVariants.LoadsCount index) = ends_most (z + 8) _ (recovers_behind index) (omega arith)
-  recover_most (recovers.TheVariants.LoadsWord index count at) =
+  recover_most : (stage : RecoverStage) → recover_left size c words stage ≤ alone
+  recover_most recovers.LoadsCounter = let max = two in ends_most (z + 10) _ (recovers_behind 0) (omega arith)
+  recover_most (recovers.LoadsCell index) = let max = two in ends_most (z + 9) _ (recovers_behind index) (omega arith)
+  recover_most (recovers.LoadsCount index) = ends_most (z + 8) _ (recovers_behind index) (omega arith)
+  recover_most (recovers.LoadsWord index count at) =
       let max = two in let most = again_most index count in
       ends_most (size - (at + 1) + 7 + again_at size c words index count) _ (recovers_behind index) (omega arith)
-  recover_most (recovers.TheVariants.ChecksCount index count) =
+  recover_most (recovers.ChecksCount index count) =
       let max = two in let most = again_most index count in
       ends_most (6 + again_at size c words index count) _ (recovers_behind index) (omega arith)
-  recover_most (recovers.TheVariants.Asks index count) = ends_most 5 _ (recovers_behind index) (omega arith)
-  recover_most (recovers.TheVariants.EmptiesCell index count) = ends_most 5 _ (recovers_behind index) (omega arith)
-  recover_most (recovers.TheVariants.Hides index count) = ends_most 4 _ (recovers_behind index) (omega arith)
-  recover_most (recovers.TheVariants.Raises index raise) =
+  recover_most (recovers.Asks index count) = ends_most 5 _ (recovers_behind index) (omega arith)
+  recover_most (recovers.EmptiesCell index count) = ends_most 5 _ (recovers_behind index) (omega arith)
+  recover_most (recovers.Hides index count) = ends_most 4 _ (recovers_behind index) (omega arith)
+  recover_most (recovers.Raises index raise) =
       let most = raise_most c some (get_or words 0 0) raise in
       ends_most (2 + raise_left (get_or words 0 0) raise) _ (recovers_behind index) (omega arith)
-  recover_most (recovers.TheVariants.Locks index lock) = omega arith
-  recover_most recovers.TheVariants.LoadsCounterAgain = few_most 1 (omega arith)
-  recover_most (recovers.TheVariants.AddsChange end) = omega arith
+  recover_most (recovers.Locks index lock) = omega arith
+  recover_most recovers.LoadsCounterAgain = few_most 1 (omega arith)
+  recover_most (recovers.AddsChange end) = omega arith
 
-  look_most : (stage : looks.LookStage) → look_left size c words stage ≤ alone
-  look_most looks.TheVariants.LoadsChange = ends_most (z + 3) _ (looks_behind 0) (omega arith)
-  look_most (looks.TheVariants.LoadsCount index) = ends_most (z + 2) _ (looks_behind index) (omega arith)
-  look_most (looks.TheVariants.LoadsWord index count at) =
+  look_most : (stage : LookStage) → look_left size c words stage ≤ alone
+  look_most looks.LoadsChange = ends_most (z + 3) _ (looks_behind 0) (omega arith)
+  look_most (looks.LoadsCount index) = ends_most (z + 2) _ (looks_behind index) (omega arith)
+  look_most (looks.LoadsWord index count at) =
       let max = two in let most = again_most index count in
       ends_most (size - (at + 1) + 1 + again_at size c words index count) _ (looks_behind index) (omega arith)
-  look_most (looks.TheVariants.ChecksCount index count) =
+  look_most (looks.ChecksCount index count) =
       let most = again_most index count in
       ends_most (again_at size c words index count) _ (looks_behind index) (omega arith)
 
   -- an acquire and a count alone
-  acquire_few : (now : ℕ) (stage : acquires.AcquireStage) → acquire_left c now stage ≤ 2 * c + 2
-  acquire_few now acquires.TheVariants.LoadsCounter = omega arith
-  acquire_few now (acquires.TheVariants.FillsCell counter index) =
+  acquire_few : (now : ℕ) (stage : AcquireStage) → acquire_left c now stage ≤ 2 * c + 2
+  acquire_few now acquires.LoadsCounter = omega arith
+  acquire_few now (acquires.FillsCell counter index) =
       one_of (now == counter) (c - (index + 1) + 2) (c - (index + 1) + (c - 1) + 4) (2 * c + 2) (omega arith) (omega arith)
-  acquire_few now (acquires.TheVariants.ChecksCounter counter) = one_of _ 0 (c - 1 + 3) (2 * c + 2) (omega arith) (omega arith)
-  acquire_few now (acquires.TheVariants.Raises index raise) = let most = raise_most c some now raise in omega arith
+  acquire_few now (acquires.ChecksCounter counter) = one_of _ 0 (c - 1 + 3) (2 * c + 2) (omega arith) (omega arith)
+  acquire_few now (acquires.Raises index raise) = let most = raise_most c some now raise in omega arith
 
-  count_few : (now : ℕ) (count : counts.Count) → count_left c now count ≤ 2 * c + 2
-  count_few now counts.TheVariants.LoadsCounter = omega arith
-  count_few now (counts.TheVariants.LoadsCell counter index filled) =
+  count_few : (now : ℕ) (count : Count) → count_left c now count ≤ 2 * c + 2
+  count_few now counts.LoadsCounter = omega arith
+  count_few now (counts.LoadsCell counter index filled) =
       one_of (now == counter) (c - (index + 1) + 1) (c - (index + 1) + (c - 1) + 4) (2 * c + 2) (omega arith) (omega arith)
-  count_few now (counts.TheVariants.ExchangesCounter counter filled) = one_of _ 0 (c - 1 + 3) (2 * c + 2) (omega arith) (omega arith)
+  count_few now (counts.ExchangesCounter counter filled) = one_of _ 0 (c - 1 + 3) (2 * c + 2) (omega arith) (omega arith)
 
-  release_few : (now : ℕ) (stage : releases.ReleaseStage) → release_left c now stage ≤ 2
-  release_few now releases.TheVariants.EmptiesCell = omega arith
-  release_few now (releases.TheVariants.Raises raise) = let most = raise_most c some now raise in omega arith
-  release_few now (releases.TheVariants.Locks lock) = omega arith
+  release_few : (now : ℕ) (stage : ReleaseStage) → release_left c now stage ≤ 2
+  release_few now releases.EmptiesCell = omega arith
+  release_few now (releases.Raises raise) = let most = raise_most c some now raise in omega arith
+  release_few now (releases.Locks lock) = omega arith
 
-  add_most : (now : ℕ) (stage : adds.AddStage) → add_left size c now stage ≤ 2 * c + size + 6
-  add_most now (adds.TheVariants.Acquires stage) = let most = acquire_few now stage in omega arith
-  add_most now (adds.TheVariants.LoadsCount index) = omega arith
-  add_most now (adds.TheVariants.Hides index count) = omega arith
-  add_most now (adds.TheVariants.Stores index at) = omega arith
-  add_most now (adds.TheVariants.AddsCount index) = omega arith
-  add_most now (adds.TheVariants.AddsChange index) = omega arith
+  add_most : (now : ℕ) (stage : AddStage) → add_left size c now stage ≤ 2 * c + size + 6
+  add_most now (adds.Acquires stage) = let most = acquire_few now stage in omega arith
+  add_most now (adds.LoadsCount index) = omega arith
+  add_most now (adds.Hides index count) = omega arith
+  add_most now (adds.Stores index at) = omega arith
+  add_most now (adds.AddsCount index) = omega arith
+  add_most now (adds.AddsChange index) = omega arith
 
-  remove_most : (now : ℕ) (stage : removes.RemoveStage) → remove_left size c now stage ≤ 2 * c + size + 6
-  remove_most now (removes.TheVariants.Releases count stage) = let most = release_few now stage in omega arith
-  remove_most now removes.TheVariants.Refuses = omega arith
-  remove_most now removes.TheVariants.LoadsCount = omega arith
-  remove_most now (removes.TheVariants.Hides count end) = omega arith
-  remove_most now (removes.TheVariants.AddsChange end) = omega arith
+  remove_most : (now : ℕ) (stage : RemoveStage) → remove_left size c now stage ≤ 2 * c + size + 6
+  remove_most now (removes.Releases count stage) = let most = release_few now stage in omega arith
+  remove_most now removes.Refuses = omega arith
+  remove_most now removes.LoadsCount = omega arith
+  remove_most now (removes.Hides count end) = omega arith
+  remove_most now (removes.AddsChange end) = omega arith
 
   replace_most : (stage : replaces.ReplaceStage) → replace_left size c stage ≤ 2 * c + size + 6
   replace_most x0 = grind arith
@@ -155,35 +163,35 @@ module _ (c size : ℕ) (some : 1 ≤ c) (wide : 1 ≤ size) (words : List ℕ) 
   two_of : (2 ≤ max 2 c) × (c ≤ max 2 c)
   two_of = (grind arith, grind arith)
 
-  adds_pay : (stage : adds.AddStage) → add_pays stage ≤ 2
+  adds_pay : (stage : AddStage) → add_pays stage ≤ 2
   adds_pay x0 = grind arith
 
-  removes_pay : (stage : removes.RemoveStage) → remove_pays stage ≤ 2
+  removes_pay : (stage : RemoveStage) → remove_pays stage ≤ 2
   removes_pay x0 = grind arith
 
   replaces_pay : (stage : replaces.ReplaceStage) → replace_pays stage ≤ 2
   replaces_pay x0 = grind arith
 
-  recovers_pay : (stage : recovers.RecoverStage) → recover_pays c stage ≤ c
+  recovers_pay : (stage : RecoverStage) → recover_pays c stage ≤ c
   recovers_pay x0 = grind arith
 
   pub most : {T : Type 0} → (flight : Flight T) → (left size c words flight ≤ alone) × (pays c flight ≤ max 2 c)
-  most (flights.TheVariants.Container (calls.TheVariants.Add run)) =
+  most (flights.Container (calls.Add run)) =
       let few = two_of in let pays = adds_pay run.call.stage in
       (few_most _ (add_most (get_or words 0 0) run.call.stage), omega arith)
-  most (flights.TheVariants.Container (calls.TheVariants.Remove run)) =
+  most (flights.Container (calls.Remove run)) =
       let few = two_of in let pays = removes_pay run.call.stage in
       (few_most _ (remove_most (get_or words 0 0) run.call.stage), omega arith)
-  most (flights.TheVariants.Container (calls.TheVariants.Replace run)) =
+  most (flights.Container (calls.Replace run)) =
       let few = two_of in let pays = replaces_pay run.call.stage in
       (few_most _ (replace_most run.call.stage), omega arith)
-  most (flights.TheVariants.Container (calls.TheVariants.Find run)) = (find_most run.call.stage, omega arith)
-  most (flights.TheVariants.Container (calls.TheVariants.Recover run)) =
+  most (flights.Container (calls.Find run)) = (find_most run.call.stage, omega arith)
+  most (flights.Container (calls.Recover run)) =
       let few = two_of in let pays = recovers_pay run.call.stage in
       (recover_most run.call.stage, omega arith)
-  most (flights.TheVariants.Container (calls.TheVariants.Look which call)) = (look_most call.stage, omega arith)
-  most (flights.TheVariants.Container (calls.TheVariants.Count which run)) =
+  most (flights.Container (calls.Look which call)) = (look_most call.stage, omega arith)
+  most (flights.Container (calls.Count which run)) =
       let less = count_few (get_or words 0 0) run.call.count in
       (few_most _ (omega arith), omega arith)
-  most (flights.TheVariants.Container (calls.TheVariants.IsLocked run)) = (omega arith, omega arith)
+  most (flights.Container (calls.IsLocked run)) = (omega arith, omega arith)
   most flight = (omega arith, omega arith)

@@ -7,13 +7,13 @@ use Rattle.laws_container.proofs.Names.{ContainerStart, ContainerFlight, CountOf
 use Rattle.laws_container.proofs.Names.{place_of, want, acts_for_dead, has_died, is_dead, said_is, both_ways}
 use Rattle.laws_container.proofs.Names.{raise_asks_none, count_asks_none, lock_asks_none, count_number, CountAt}
 use Rattle.steps.specs.declared.container.add.Owned.{Owned}
-use Rattle.steps.specs.declared.container.find.FindStage as finds
-use Rattle.steps.specs.declared.container.recover.RecoverStage as recovers
+use Rattle.steps.specs.declared.container.find.FindStage.TheVariants as finds
+use Rattle.steps.specs.declared.container.recover.RecoverStage.TheVariants as recovers
 use Rattle.steps.specs.declared.copied.Buffer as buffers
-use Rattle.model.specs.declared.families.container.ContainerStart as starts
-use Rattle.model.specs.declared.families.container.calls.ContainerFlight as calls
-use Rattle.model.specs.declared.families.container.calls.CountOf as counts
-use Rattle.model.specs.declared.families.container.calls.LookOf as kinds
+use Rattle.model.specs.declared.families.container.ContainerStart.TheVariants as starts
+use Rattle.model.specs.declared.families.container.calls.ContainerFlight.TheVariants as calls
+use Rattle.model.specs.declared.families.container.calls.CountOf.TheVariants as counts
+use Rattle.model.specs.declared.families.container.calls.LookOf.TheVariants as kinds
 use Rattle.laws_container.proofs.Counts.{counts_as}
 use Rattle.laws_container.specs.Gone.{acts_for_gone}
 use Rattle.laws_container.proofs.Invariant.{Scene, Inv, ActsFor}
@@ -33,47 +33,47 @@ module _ {T : Type 0} (scene : Scene T) where
 
   pub record CallSteps : Type 0 where
     pub add : (value : T) (owner : ℕ) → owner < empty → ActsFor scene owner → (stage : AddStage)
-        → IsHere scene (starts.TheVariants.Add value owner) (add_at c value owner stage)
+        → IsHere scene (starts.Add value owner) (add_at c value owner stage)
         → AddAt c code.size (all scene) (done scene) owner stage → AddKnows code c value owner stage (sees_now scene)
-        → steps ≤ add_number c code.size stage backs → StepOf scene (starts.TheVariants.Add value owner) (add_at c value owner stage)
+        → steps ≤ add_number c code.size stage backs → StepOf scene (starts.Add value owner) (add_at c value owner stage)
     pub remove : (index owner : ℕ) (mode : ReleaseMode) → owner < empty → ActsFor scene owner
         → (stage : RemoveStage) → RemoveAt c code.size (all scene) (done scene) index owner mode stage
-        → IsHere scene (starts.TheVariants.Remove index owner mode) (remove_at c (place_of c index) owner mode stage)
+        → IsHere scene (starts.Remove index owner mode) (remove_at c (place_of c index) owner mode stage)
         → RemoveKnows code c (place_of c index) owner mode stage (sees_now scene)
         → steps ≤ remove_number c (place_of c index) owner mode stage backs
-        → StepOf scene (starts.TheVariants.Remove index owner mode) (remove_at c (place_of c index) owner mode stage)
+        → StepOf scene (starts.Remove index owner mode) (remove_at c (place_of c index) owner mode stage)
     pub replace : (index : ℕ) (value : T) (owner : ℕ) → owner < empty → ActsFor scene owner → (stage : ReplaceStage)
         → ReplaceAt c code.size (all scene) (done scene) index stage
-        → IsHere scene (starts.TheVariants.Replace index value owner) (replace_at c (place_of c index) value owner stage)
+        → IsHere scene (starts.Replace index value owner) (replace_at c (place_of c index) value owner stage)
         → ReplacesKnow code c (place_of c index) value owner stage (sees_now scene)
         → steps ≤ replace_number code.size stage
-        → StepOf scene (starts.TheVariants.Replace index value owner) (replace_at c (place_of c index) value owner stage)
+        → StepOf scene (starts.Replace index value owner) (replace_at c (place_of c index) value owner stage)
     pub find : (owner : ℕ) → owner < empty → (room : buffers.Buffer 128) (stage : FindStage)
         → FindAt c code.size (all scene) (done scene) stage
-        → IsHere scene (starts.TheVariants.Find owner) (find_at c owner room stage)
+        → IsHere scene (starts.Find owner) (find_at c owner room stage)
         → Knows code c (find_at c owner room stage) (sees_now scene)
-        → steps ≤ find_number code.size stage → StepOf scene (starts.TheVariants.Find owner) (find_at c owner room stage)
+        → steps ≤ find_number code.size stage → StepOf scene (starts.Find owner) (find_at c owner room stage)
     pub find_decided : (owner : ℕ) → owner < empty → (room : buffers.Buffer 128) (index found : ℕ)
-        → FindAt c code.size (all scene) (done scene) (finds.TheVariants.Asks index found)
-        → IsHere scene (starts.TheVariants.Find owner) (find_at c owner room (finds.TheVariants.Asks index found))
-        → Knows code c (find_at c owner room (finds.TheVariants.Asks index found)) (sees_now scene)
-        → steps ≤ find_number code.size (finds.TheVariants.Asks index found) → (answer : ℕ)
-        → AnswerOf scene (starts.TheVariants.Find owner) (find_at c owner room (finds.TheVariants.Asks index found)) None answer
+        → FindAt c code.size (all scene) (done scene) (finds.Asks index found)
+        → IsHere scene (starts.Find owner) (find_at c owner room (finds.Asks index found))
+        → Knows code c (find_at c owner room (finds.Asks index found)) (sees_now scene)
+        → steps ≤ find_number code.size (finds.Asks index found) → (answer : ℕ)
+        → AnswerOf scene (starts.Find owner) (find_at c owner room (finds.Asks index found)) None answer
     pub recover : (owner : ℕ) (mode : ReleaseMode) → owner < empty
         → (room : buffers.Buffer 128) (stage : RecoverStage)
         → RecoverAt c code.size (all scene) (done scene) owner mode stage
-        → IsHere scene (starts.TheVariants.Recover owner mode) (recover_at c owner mode room stage)
+        → IsHere scene (starts.Recover owner mode) (recover_at c owner mode room stage)
         → Knows code c (recover_at c owner mode room stage) (sees_now scene)
         → steps ≤ recover_number c code.size mode stage backs
-        → StepOf scene (starts.TheVariants.Recover owner mode) (recover_at c owner mode room stage)
+        → StepOf scene (starts.Recover owner mode) (recover_at c owner mode room stage)
     pub recover_decided : (owner : ℕ) (mode : ReleaseMode) → owner < empty
         → (room : buffers.Buffer 128) (index count : ℕ)
-        → RecoverAt c code.size (all scene) (done scene) owner mode (recovers.TheVariants.Asks index count)
-        → IsHere scene (starts.TheVariants.Recover owner mode) (recover_at c owner mode room (recovers.TheVariants.Asks index count))
-        → Knows code c (recover_at c owner mode room (recovers.TheVariants.Asks index count)) (sees_now scene)
-        → steps ≤ recover_number c code.size mode (recovers.TheVariants.Asks index count) backs → (answer : ℕ)
-        → AnswerOf scene (starts.TheVariants.Recover owner mode)
-        (recover_at c owner mode room (recovers.TheVariants.Asks index count)) None answer
+        → RecoverAt c code.size (all scene) (done scene) owner mode (recovers.Asks index count)
+        → IsHere scene (starts.Recover owner mode) (recover_at c owner mode room (recovers.Asks index count))
+        → Knows code c (recover_at c owner mode room (recovers.Asks index count)) (sees_now scene)
+        → steps ≤ recover_number c code.size mode (recovers.Asks index count) backs → (answer : ℕ)
+        → AnswerOf scene (starts.Recover owner mode)
+        (recover_at c owner mode room (recovers.Asks index count)) None answer
     pub look : (which : LookOf) (stage : LookStage) → LookAt c code.size (all scene) (done scene) stage
         → IsHere scene (looks_as which) (look_at which c stage) → Knows code c (look_at which c stage) (sees_now scene)
         → steps ≤ look_number code.size stage backs → StepOf scene (looks_as which) (look_at which c stage)
@@ -81,8 +81,8 @@ module _ {T : Type 0} (scene : Scene T) where
         → IsHere scene (counts_as which) (count_at which c count)
         → Knows code c (count_at which c count) (sees_now scene) → steps ≤ count_number c count + backs * (c + 2)
         → StepOf scene (counts_as which) (count_at which c count)
-    pub lock : all scene ≡ [] → IsHere scene starts.TheVariants.IsLocked lock_at
-        → Knows code c lock_at (sees_now scene) → steps ≤ 0 → StepOf scene starts.TheVariants.IsLocked lock_at
+    pub lock : all scene ≡ [] → IsHere scene starts.IsLocked lock_at
+        → Knows code c lock_at (sees_now scene) → steps ≤ 0 → StepOf scene starts.IsLocked lock_at
 
 -- ---- a call that is no find and no recovery asks no question
 
@@ -115,43 +115,43 @@ module _ {T : Type 0} (scene : Scene T) (inv : Inv scene) (shown : CallSteps sce
       → StepOf scene start flight
 
   pub step_moves : (start : ContainerStart T) (flight : ContainerFlight T) → At c code.size (all scene) (done scene) start flight → Moves start flight
-  step_moves (starts.TheVariants.Add value owner) (calls.TheVariants.Add run) at =
-      subst (Moves (starts.TheVariants.Add value owner))
+  step_moves (starts.Add value owner) (calls.Add run) at =
+      subst (Moves (starts.Add value owner))
       (sym (ap (λ n. add_at n run.given.value run.given.owner run.call.stage) at.0
       ∙ ap (λ (o : Owned T). add_at c o.value o.owner run.call.stage) at.1))
       (λ here alive rightly s k. shown.add value owner at.2 (record { alive = lives owner alive; stays = rightly }) run.call.stage here at.3 k s)
-  step_moves (starts.TheVariants.Remove index owner mode) (calls.TheVariants.Remove run) at =
-      subst (Moves (starts.TheVariants.Remove index owner mode))
+  step_moves (starts.Remove index owner mode) (calls.Remove run) at =
+      subst (Moves (starts.Remove index owner mode))
       (sym (ap (λ n. remove_at n run.given.index run.given.owner run.given.mode run.call.stage) at.0
       ∙ ap (λ (o : GiveBack). remove_at c o.index o.owner o.mode run.call.stage) at.1))
       (λ here alive rightly s k. shown.remove index owner mode at.2 (record { alive = lives owner alive; stays = rightly }) run.call.stage at.3 here k s)
-  step_moves (starts.TheVariants.Replace index value owner) (calls.TheVariants.Replace run) at =
-      subst (Moves (starts.TheVariants.Replace index value owner))
+  step_moves (starts.Replace index value owner) (calls.Replace run) at =
+      subst (Moves (starts.Replace index value owner))
       (sym (ap (λ n. replace_at n run.given.index run.given.value run.given.owner run.call.stage) at.0
       ∙ ap (λ (o : Replacement T). replace_at c o.index o.value o.owner run.call.stage) at.1))
       (λ here alive rightly s k. shown.replace index value owner at.2 (record { alive = lives owner alive; stays = rightly }) run.call.stage at.3 here k s)
-  step_moves (starts.TheVariants.Find owner) (calls.TheVariants.Find run) at =
-      subst (Moves (starts.TheVariants.Find owner))
+  step_moves (starts.Find owner) (calls.Find run) at =
+      subst (Moves (starts.Find owner))
       (sym (ap (λ n. find_at n run.given run.room run.call.stage) at.0 ∙ ap (λ o. find_at c o run.room run.call.stage) at.1))
       (λ here alive rightly s k. shown.find owner at.2 run.room run.call.stage at.3 here k s)
-  step_moves (starts.TheVariants.Recover owner mode) (calls.TheVariants.Recover run) at =
-      subst (Moves (starts.TheVariants.Recover owner mode))
+  step_moves (starts.Recover owner mode) (calls.Recover run) at =
+      subst (Moves (starts.Recover owner mode))
       (sym (ap (λ n. recover_at n run.given.owner run.given.mode run.room run.call.stage) at.0
       ∙ ap (λ (o : DeadOwner). recover_at c o.owner o.mode run.room run.call.stage) at.1))
       (λ here alive rightly s k. shown.recover owner mode at.2 run.room run.call.stage at.3 here k s)
-  step_moves starts.TheVariants.GetState (calls.TheVariants.Look which call) at =
-      subst (Moves starts.TheVariants.GetState) (sym (ap (λ n. look_at which n call.stage) at.0 ∙ ap (λ w. look_at w c call.stage) at.1))
-      (λ here alive rightly s k. shown.look kinds.TheVariants.GetState call.stage at.2 here k s)
-  step_moves starts.TheVariants.UpdateState (calls.TheVariants.Look which call) at =
-      subst (Moves starts.TheVariants.UpdateState) (sym (ap (λ n. look_at which n call.stage) at.0 ∙ ap (λ w. look_at w c call.stage) at.1))
-      (λ here alive rightly s k. shown.look kinds.TheVariants.UpdateState call.stage at.2 here k s)
-  step_moves starts.TheVariants.Len (calls.TheVariants.Count which run) at =
-      subst (Moves starts.TheVariants.Len) (sym (ap (λ n. count_at which n run.call.count) at.0 ∙ ap (λ w. count_at w c run.call.count) at.1))
-      (λ here alive rightly s k. shown.count counts.TheVariants.Len run.call.count at.2 at.3 here k s)
-  step_moves starts.TheVariants.IsEmpty (calls.TheVariants.Count which run) at =
-      subst (Moves starts.TheVariants.IsEmpty) (sym (ap (λ n. count_at which n run.call.count) at.0 ∙ ap (λ w. count_at w c run.call.count) at.1))
-      (λ here alive rightly s k. shown.count counts.TheVariants.IsEmpty run.call.count at.2 at.3 here k s)
-  step_moves starts.TheVariants.IsLocked (calls.TheVariants.IsLocked run) at = λ here alive rightly s k. shown.lock at here k s
+  step_moves starts.GetState (calls.Look which call) at =
+      subst (Moves starts.GetState) (sym (ap (λ n. look_at which n call.stage) at.0 ∙ ap (λ w. look_at w c call.stage) at.1))
+      (λ here alive rightly s k. shown.look kinds.GetState call.stage at.2 here k s)
+  step_moves starts.UpdateState (calls.Look which call) at =
+      subst (Moves starts.UpdateState) (sym (ap (λ n. look_at which n call.stage) at.0 ∙ ap (λ w. look_at w c call.stage) at.1))
+      (λ here alive rightly s k. shown.look kinds.UpdateState call.stage at.2 here k s)
+  step_moves starts.Len (calls.Count which run) at =
+      subst (Moves starts.Len) (sym (ap (λ n. count_at which n run.call.count) at.0 ∙ ap (λ w. count_at w c run.call.count) at.1))
+      (λ here alive rightly s k. shown.count counts.Len run.call.count at.2 at.3 here k s)
+  step_moves starts.IsEmpty (calls.Count which run) at =
+      subst (Moves starts.IsEmpty) (sym (ap (λ n. count_at which n run.call.count) at.0 ∙ ap (λ w. count_at w c run.call.count) at.1))
+      (λ here alive rightly s k. shown.count counts.IsEmpty run.call.count at.2 at.3 here k s)
+  step_moves starts.IsLocked (calls.IsLocked run) at = λ here alive rightly s k. shown.lock at here k s
   step_moves start flight at = absurd at
 
   abbrev Decides : Bool → ContainerStart T → ContainerFlight T → Type 0
@@ -161,33 +161,33 @@ module _ {T : Type 0} (scene : Scene T) (inv : Inv scene) (shown : CallSteps sce
 
   find_decides : (said : Bool) (owner : ℕ) → owner < empty → (room : buffers.Buffer 128) (stage : FindStage)
       → FindAt c code.size (all scene) (done scene) stage
-      → Decides said (starts.TheVariants.Find owner) (find_at c owner room stage)
-  find_decides said owner fits room (finds.TheVariants.LoadsCell index found) at here asks s k = absurd (cc)
-  find_decides said owner fits room (finds.TheVariants.LoadsCount index found) at here asks s k = absurd (cc)
-  find_decides said owner fits room (finds.TheVariants.LoadsWord index found count word) at here asks s k = absurd (cc)
-  find_decides said owner fits room (finds.TheVariants.ChecksCount index found count) at here asks s k = absurd (cc)
-  find_decides said owner fits room (finds.TheVariants.Asks index found) at here asks s k =
+      → Decides said (starts.Find owner) (find_at c owner room stage)
+  find_decides said owner fits room (finds.LoadsCell index found) at here asks s k = absurd (cc)
+  find_decides said owner fits room (finds.LoadsCount index found) at here asks s k = absurd (cc)
+  find_decides said owner fits room (finds.LoadsWord index found count word) at here asks s k = absurd (cc)
+  find_decides said owner fits room (finds.ChecksCount index found count) at here asks s k = absurd (cc)
+  find_decides said owner fits room (finds.Asks index found) at here asks s k =
       shown.find_decided owner fits room index found at here k s (said_is said)
 
   recover_decides : (said : Bool) (owner : ℕ) (mode : ReleaseMode) → owner < empty
       → (room : buffers.Buffer 128) (stage : RecoverStage)
       → RecoverAt c code.size (all scene) (done scene) owner mode stage
-      → Decides said (starts.TheVariants.Recover owner mode) (recover_at c owner mode room stage)
-  recover_decides said owner mode fits room recovers.TheVariants.LoadsCounter at here asks s k = absurd (cc)
-  recover_decides said owner mode fits room (recovers.TheVariants.LoadsCell index) at here asks s k = absurd (cc)
-  recover_decides said owner mode fits room (recovers.TheVariants.LoadsCount index) at here asks s k = absurd (cc)
-  recover_decides said owner mode fits room (recovers.TheVariants.LoadsWord index count word) at here asks s k = absurd (cc)
-  recover_decides said owner mode fits room (recovers.TheVariants.ChecksCount index count) at here asks s k = absurd (cc)
-  recover_decides said owner mode fits room (recovers.TheVariants.Asks index count) at here asks s k =
+      → Decides said (starts.Recover owner mode) (recover_at c owner mode room stage)
+  recover_decides said owner mode fits room recovers.LoadsCounter at here asks s k = absurd (cc)
+  recover_decides said owner mode fits room (recovers.LoadsCell index) at here asks s k = absurd (cc)
+  recover_decides said owner mode fits room (recovers.LoadsCount index) at here asks s k = absurd (cc)
+  recover_decides said owner mode fits room (recovers.LoadsWord index count word) at here asks s k = absurd (cc)
+  recover_decides said owner mode fits room (recovers.ChecksCount index count) at here asks s k = absurd (cc)
+  recover_decides said owner mode fits room (recovers.Asks index count) at here asks s k =
       shown.recover_decided owner mode fits room index count at here k s (said_is said)
-  recover_decides said owner mode fits room (recovers.TheVariants.EmptiesCell index count) at here asks s k = absurd (cc)
-  recover_decides said owner mode fits room (recovers.TheVariants.Hides index count) at here asks s k = absurd (cc)
-  recover_decides said owner mode fits room (recovers.TheVariants.Raises index raise) at here asks s k =
+  recover_decides said owner mode fits room (recovers.EmptiesCell index count) at here asks s k = absurd (cc)
+  recover_decides said owner mode fits room (recovers.Hides index count) at here asks s k = absurd (cc)
+  recover_decides said owner mode fits room (recovers.Raises index raise) at here asks s k =
       both_ways (is_question (raise_want raise)) (raise_asks_none raise) asks
-  recover_decides said owner mode fits room (recovers.TheVariants.Locks index lock) at here asks s k =
+  recover_decides said owner mode fits room (recovers.Locks index lock) at here asks s k =
       both_ways (is_question (lock_want lock)) (lock_asks_none lock) asks
-  recover_decides said owner mode fits room recovers.TheVariants.LoadsCounterAgain at here asks s k = absurd (cc)
-  recover_decides said owner mode fits room (recovers.TheVariants.AddsChange state) at here asks s k = absurd (cc)
+  recover_decides said owner mode fits room recovers.LoadsCounterAgain at here asks s k = absurd (cc)
+  recover_decides said owner mode fits room (recovers.AddsChange state) at here asks s k = absurd (cc)
 
   -- a call that asks none is not decided
   undecided : (start : ContainerStart T) (flight : ContainerFlight T) (said : Bool) → is_question (want code flight) ≡ false → Decides said start flight
@@ -195,29 +195,29 @@ module _ {T : Type 0} (scene : Scene T) (inv : Inv scene) (shown : CallSteps sce
 
   pub decision_moves : (said : Bool) (start : ContainerStart T) (flight : ContainerFlight T)
       → At c code.size (all scene) (done scene) start flight → Decides said start flight
-  decision_moves said (starts.TheVariants.Add value owner) (calls.TheVariants.Add run) at =
-      undecided (starts.TheVariants.Add value owner) (calls.TheVariants.Add run) said (add_asks_none code run.call.capacity run.call.stage run.given)
-  decision_moves said (starts.TheVariants.Remove index owner mode) (calls.TheVariants.Remove run) at =
-      undecided (starts.TheVariants.Remove index owner mode) (calls.TheVariants.Remove run) said (remove_asks_none run.call.capacity run.call.stage run.given)
-  decision_moves said (starts.TheVariants.Replace index value owner) (calls.TheVariants.Replace run) at =
-      undecided (starts.TheVariants.Replace index value owner) (calls.TheVariants.Replace run) said
+  decision_moves said (starts.Add value owner) (calls.Add run) at =
+      undecided (starts.Add value owner) (calls.Add run) said (add_asks_none code run.call.capacity run.call.stage run.given)
+  decision_moves said (starts.Remove index owner mode) (calls.Remove run) at =
+      undecided (starts.Remove index owner mode) (calls.Remove run) said (remove_asks_none run.call.capacity run.call.stage run.given)
+  decision_moves said (starts.Replace index value owner) (calls.Replace run) at =
+      undecided (starts.Replace index value owner) (calls.Replace run) said
       (replace_asks_none code run.call.capacity run.call.stage run.given)
-  decision_moves said (starts.TheVariants.Find owner) (calls.TheVariants.Find run) at =
-      subst (Decides said (starts.TheVariants.Find owner))
+  decision_moves said (starts.Find owner) (calls.Find run) at =
+      subst (Decides said (starts.Find owner))
       (sym (ap (λ n. find_at n run.given run.room run.call.stage) at.0 ∙ ap (λ o. find_at c o run.room run.call.stage) at.1))
       (find_decides said owner at.2 run.room run.call.stage at.3)
-  decision_moves said (starts.TheVariants.Recover owner mode) (calls.TheVariants.Recover run) at =
-      subst (Decides said (starts.TheVariants.Recover owner mode))
+  decision_moves said (starts.Recover owner mode) (calls.Recover run) at =
+      subst (Decides said (starts.Recover owner mode))
       (sym (ap (λ n. recover_at n run.given.owner run.given.mode run.room run.call.stage) at.0
       ∙ ap (λ (o : DeadOwner). recover_at c o.owner o.mode run.room run.call.stage) at.1))
       (recover_decides said owner mode at.2 run.room run.call.stage at.3)
-  decision_moves said starts.TheVariants.GetState (calls.TheVariants.Look which call) at =
-      undecided starts.TheVariants.GetState (calls.TheVariants.Look which call) said (look_asks_none code.size call.capacity call.stage)
-  decision_moves said starts.TheVariants.UpdateState (calls.TheVariants.Look which call) at =
-      undecided starts.TheVariants.UpdateState (calls.TheVariants.Look which call) said (look_asks_none code.size call.capacity call.stage)
-  decision_moves said starts.TheVariants.Len (calls.TheVariants.Count which run) at =
-      undecided starts.TheVariants.Len (calls.TheVariants.Count which run) said (count_asks_none run.call.count)
-  decision_moves said starts.TheVariants.IsEmpty (calls.TheVariants.Count which run) at =
-      undecided starts.TheVariants.IsEmpty (calls.TheVariants.Count which run) said (count_asks_none run.call.count)
-  decision_moves said starts.TheVariants.IsLocked (calls.TheVariants.IsLocked run) at = λ here asks s k. absurd (cc)
+  decision_moves said starts.GetState (calls.Look which call) at =
+      undecided starts.GetState (calls.Look which call) said (look_asks_none code.size call.capacity call.stage)
+  decision_moves said starts.UpdateState (calls.Look which call) at =
+      undecided starts.UpdateState (calls.Look which call) said (look_asks_none code.size call.capacity call.stage)
+  decision_moves said starts.Len (calls.Count which run) at =
+      undecided starts.Len (calls.Count which run) said (count_asks_none run.call.count)
+  decision_moves said starts.IsEmpty (calls.Count which run) at =
+      undecided starts.IsEmpty (calls.Count which run) said (count_asks_none run.call.count)
+  decision_moves said starts.IsLocked (calls.IsLocked run) at = λ here asks s k. absurd (cc)
   decision_moves said start flight at = absurd at

@@ -8,9 +8,9 @@ use Rattle.laws_container.proofs.Names.{first_row, after_turn, unless_refused, T
 use Rattle.laws_container.proofs.Names.{flight_in, Each-nil, row_passed, may_begin, next_passes, Word, IsHonest}
 use Rattle.laws_container.proofs.Names.{open_refusal, attempt_open, run_open, IsReachedOpen, AllLive, all_live_on}
 use Rattle.laws_container.proofs.Names.{counter_of, admitted_is}
-use Rattle.model.specs.declared.families.Flight as flights
+use Rattle.model.specs.declared.families.Flight.TheVariants as flights
 use Rattle.model.specs.declared.families.container.ContainerStart.TheVariants.{Recover}
-use Rattle.model.specs.declared.turn.Kind as kinds
+use Rattle.model.specs.declared.turn.Kind.TheVariants as kinds
 use Rattle.model.specs.declared.turn.Refusal.{Refusal}
 use Rattle.model.specs.declared.event.Event.TheVariants.{Begun}
 use Rattle.model.specs.Families.{kept_after_begin}
@@ -50,7 +50,7 @@ module _ {T : Type 0} (kept : Bool) (code : Coding T) (c : ℕ) where
     rightly : (p : ℕ) (x : Party T) (since : ℕ) (found : party_of p t.world.latest ≡ Some x) (flight : Flight T)
         → (kept ≡ true → is_for_gone t.events (Some flight) ≡ false)
         → IsRightly shown terms code c t s p x since found flight
-    rightly p x since found (flights.TheVariants.Container flight) h = h
+    rightly p x since found (flights.Container flight) h = h
     rightly p x since found flight h = tt
 
     -- a begin
@@ -61,7 +61,7 @@ module _ {T : Type 0} (kept : Bool) (code : Coding T) (c : ℕ) where
     begun p start flight recovers free e =
         let now = kept_now shown terms code c t s in
         let y = party_at_begin start flight t.world.changes in
-        let named : first_of kinds.TheVariants.Container c start now ≡ Some flight = rw (s.kind, s.capacity, s.fit.kept) at e in
+        let named : first_of kinds.Container c start now ≡ Some flight = rw (s.kind, s.capacity, s.fit.kept) at e in
         let kept_same : kept_after_begin t.world.coding t.world.capacity start p t.world.kept ≡ kept_after_begin code c start p now =
         rw (s.coding, s.capacity, s.fit.kept) refl in
         subst (λ kept. frame.Comes (family_by terms code c) t p kept t.world.words y (Begun p start ∷ []) t.world.changes) (sym kept_same)
@@ -181,7 +181,7 @@ module _ {T : Type 0} (code : Coding T) (c : ℕ) where
       let next = attempt_honest t turn (open_refusal t.world turn) refl s honest (not_true (steps_for_gone t turn) both.0) in
       run_honest turns (attempt_open t turn) next.0 next.1 both.1
 
-module _ {T : Type 0} (t : Trace T) (is : t.world.kind ≡ kinds.TheVariants.Container) (r : IsReachedOpen t) where
+module _ {T : Type 0} (t : Trace T) (is : t.world.kind ≡ kinds.Container) (r : IsReachedOpen t) where
   abbrev first : Trace T
   first = opening t.world.coding t.world.kind t.world.capacity t.world.parties
 

@@ -7,12 +7,12 @@ use Rattle.laws_container.proofs.Names.{Container, UnlockedAtLast, is_locked, Is
 use Rattle.laws_container.proofs.Names.{set_acts_of, words_after, held_now, is_gone, counter_of, some_none, is_shut}
 use Rattle.laws_container.proofs.Names.{unlocked, quiet_end, IsWorn, worn_on, none_beyond, through_now, loads_same}
 use Rattle.steps.specs.declared.ask.After.TheVariants.{Done}
-use Rattle.steps.specs.declared.container.recover.RecoverStage as recovers
+use Rattle.steps.specs.declared.container.recover.RecoverStage.TheVariants as recovers
 use Rattle.steps.specs.declared.copied.Buffer as buffers
-use Rattle.steps.specs.declared.indices.enums.ReleaseState as states
-use Rattle.steps.specs.declared.indices.robust.parts.Count as counts
-use Rattle.steps.specs.declared.indices.robust.parts.Lock as parts
-use Rattle.steps.specs.declared.indices.robust.parts.Raise as raises
+use Rattle.steps.specs.declared.indices.enums.ReleaseState.TheVariants as states
+use Rattle.steps.specs.declared.indices.robust.parts.Count.TheVariants as counts
+use Rattle.steps.specs.declared.indices.robust.parts.Lock.TheVariants as parts
+use Rattle.steps.specs.declared.indices.robust.parts.Raise.TheVariants as raises
 use Rattle.model.specs.declared.event.Answer.TheVariants as answers
 use Rattle.model.specs.declared.families.container.ContainerStart.TheVariants.{Recover}
 use Rattle.laws_robust.proofs.Effects as set_effects
@@ -50,9 +50,9 @@ module _ {T : Type 0} (scene : Scene T) (inv : Inv scene) (owner : ℕ) (mode : 
   -- ---- the second look at the counter
 
   module _ (room : buffers.Buffer 128)
-      (here : Here scene inv owner mode fits room recovers.TheVariants.LoadsCounterAgain) (long : IsLong room)
-      (freed : RecoverAt c z (all scene) (done scene) owner mode recovers.TheVariants.LoadsCounterAgain)
-      (k : RecoverKnows code c owner mode room recovers.TheVariants.LoadsCounterAgain (sees_now scene))
+      (here : Here scene inv owner mode fits room recovers.LoadsCounterAgain) (long : IsLong room)
+      (freed : RecoverAt c z (all scene) (done scene) owner mode recovers.LoadsCounterAgain)
+      (k : RecoverKnows code c owner mode room recovers.LoadsCounterAgain (sees_now scene))
       (s : steps ≤ 1 + c * for_index c z mode + backs * for_back c z mode)
       (f : FilledBut (IsWorn scene.terms.by ws) mode p owner NoIndex events) where
     abbrev load_again : Option Ask
@@ -81,33 +81,33 @@ module _ {T : Type 0} (scene : Scene T) (inv : Inv scene) (owner : ℕ) (mode : 
     hidden_again : (state : ReleaseState)
         → HasHidden code c p owner none
         (after scene (words_after ws load_again)
-        (then_at scene inv owner mode fits room recovers.TheVariants.LoadsCounterAgain here room
-        (recovers.TheVariants.AddsChange state) load_again false)
+        (then_at scene inv owner mode fits room recovers.LoadsCounterAgain here room
+        (recovers.AddsChange state) load_again false)
         [])
     hidden_again state =
-        hidden_still scene inv owner mode fits room recovers.TheVariants.LoadsCounterAgain here load_again
-        (then_at scene inv owner mode fits room recovers.TheVariants.LoadsCounterAgain here room
-        (recovers.TheVariants.AddsChange state) load_again false)
+        hidden_still scene inv owner mode fits room recovers.LoadsCounterAgain here load_again
+        (then_at scene inv owner mode fits room recovers.LoadsCounterAgain here room
+        (recovers.AddsChange state) load_again false)
         k.1.hidden
 
-    again_step : StepOf scene (Recover owner mode) (recover_at c owner mode room recovers.TheVariants.LoadsCounterAgain)
+    again_step : StepOf scene (Recover owner mode) (recover_at c owner mode room recovers.LoadsCounterAgain)
     again_step = go (counter_of ws == locked) refl
       where
         go : (b : Bool) → (counter_of ws == locked) ≡ b
             → Becomes scene inv owner mode fits (Some (set_stages.loads 0)) false [] room
-            (recover_ends (first scene inv owner mode fits) (if b then states.TheVariants.Locked else states.TheVariants.Unlocked))
+            (recover_ends (first scene inv owner mode fits) (if b then states.Locked else states.Unlocked))
         go true t =
             let shut : counter_of ws ≡ locked = grind (arith, nat_tests) in
-            calm_on scene inv owner mode fits room recovers.TheVariants.LoadsCounterAgain here long load_again
-            (loads_same ws 0) false paid_again room (recovers.TheVariants.AddsChange states.TheVariants.Locked)
+            calm_on scene inv owner mode fits room recovers.LoadsCounterAgain here long load_again
+            (loads_same ws 0) false paid_again room (recovers.AddsChange states.Locked)
             (omega arith) tt
-            (long, (paid_again, locked_later events [] (is_shut (of_set scene) (inv_of_set scene inv) shut), hidden_again states.TheVariants.Locked), tt)
+            (long, (paid_again, locked_later events [] (is_shut (of_set scene) (inv_of_set scene inv) shut), hidden_again states.Locked), tt)
         go false t =
             let open_now : counter_of ws ≢ locked = grind (arith, nat_tests) in
             let free : is_locked events ≡ false = unlocked (of_set scene) (inv_of_set scene inv) open_now in
             let now : UnlockedAtLast p events = held_now p (λ part. IsUnlocked part × (set_acts_of p part ≡ set_acts_of p events)) events (free, refl) in
-            calm_on scene inv owner mode fits room recovers.TheVariants.LoadsCounterAgain here long load_again
-            (loads_same ws 0) false paid_again room (recovers.TheVariants.AddsChange states.TheVariants.Unlocked)
+            calm_on scene inv owner mode fits room recovers.LoadsCounterAgain here long load_again
+            (loads_same ws 0) false paid_again room (recovers.AddsChange states.Unlocked)
             (omega arith) tt (
               long,
               (
@@ -117,7 +117,7 @@ module _ {T : Type 0} (scene : Scene T) (inv : Inv scene) (owner : ℕ) (mode : 
                     × FilledSinceEachBy (IsWorn scene.terms.by (words_after ws load_again)) mode p owner es)
                     (sym (append-nil events))
                     (k.1.dead, now, recovered, each_again (filled_each p owner (IsWorn scene.terms.by ws) mode events free f)),
-                hidden_again states.TheVariants.Unlocked,
+                hidden_again states.Unlocked,
               ),
               tt,
             )
@@ -125,8 +125,8 @@ module _ {T : Type 0} (scene : Scene T) (inv : Inv scene) (owner : ℕ) (mode : 
   -- ---- the change is counted, and the call ends
 
   module _ (room : buffers.Buffer 128) (state : ReleaseState)
-      (here : Here scene inv owner mode fits room (recovers.TheVariants.AddsChange state))
-      (k : RecoverKnows code c owner mode room (recovers.TheVariants.AddsChange state) (sees_now scene))
+      (here : Here scene inv owner mode fits room (recovers.AddsChange state))
+      (k : RecoverKnows code c owner mode room (recovers.AddsChange state) (sees_now scene))
       (s : steps ≤ 2 + c * for_index c z mode + backs * for_back c z mode) where
     abbrev end_it : Option Ask
     end_it = Some (adds_one (change_word c))
@@ -142,7 +142,7 @@ module _ {T : Type 0} (scene : Scene T) (inv : Inv scene) (owner : ℕ) (mode : 
         (Finished p (Container (Recover owner mode)) (answers.State state))
     answers_right x0 x1 = grind (arith, each_on, worn_on, counter_stays)
 
-    end_step : StepOf scene (Recover owner mode) (recover_at c owner mode room (recovers.TheVariants.AddsChange state))
+    end_step : StepOf scene (Recover owner mode) (recover_at c owner mode room (recovers.AddsChange state))
     end_step =
         let y = party_then scene (Recover owner mode) end_it false (Done (answers.State state)) in
         let es = Finished p (Container (Recover owner mode)) (answers.State state) ∷ [] in
@@ -151,7 +151,7 @@ module _ {T : Type 0} (scene : Scene T) (inv : Inv scene) (owner : ℕ) (mode : 
         let most = most_is c z owner (backs_then scene false) T mode in
         ends scene (Recover owner mode) (answers.State state) end_it false scene.states [] here.span none_lengthens
         (ends_counted scene inv (Recover owner mode)
-        (recover_at c owner mode room (recovers.TheVariants.AddsChange state)) tt here y (words_after ws end_it)
+        (recover_at c owner mode room (recovers.AddsChange state)) tt here y (words_after ws end_it)
         (answers.State state)
         (set_effects.quietly (of_set scene) (inv_of_set scene inv) (words_after ws end_it) es
         (leaves_behind (of_set scene) (inv_of_set scene inv) (words_after ws end_it) (change_word c) _ (omega arith) new)
@@ -172,39 +172,39 @@ module _ {T : Type 0} (scene : Scene T) (inv : Inv scene) (owner : ℕ) (mode : 
       → StepOf scene (Recover owner mode) (recover_at c owner mode room stage)
 
   pub recover_step : (room : buffers.Buffer 128) (stage : RecoverStage) → Moves room stage
-  recover_step room recovers.TheVariants.LoadsCounter at here k s = counter_step scene inv owner mode fits room here k.0 at k.1 s
-  recover_step room (recovers.TheVariants.LoadsCell index) at here k s = cell_step scene inv owner mode fits room index here k.0 at k.1 s k.2
-  recover_step room (recovers.TheVariants.LoadsCount index) at here k s = count_step scene inv owner mode fits room index here k.0 at k.1 s k.2
-  recover_step room (recovers.TheVariants.LoadsWord index count word) at here k s =
+  recover_step room recovers.LoadsCounter at here k s = counter_step scene inv owner mode fits room here k.0 at k.1 s
+  recover_step room (recovers.LoadsCell index) at here k s = cell_step scene inv owner mode fits room index here k.0 at k.1 s k.2
+  recover_step room (recovers.LoadsCount index) at here k s = count_step scene inv owner mode fits room index here k.0 at k.1 s k.2
+  recover_step room (recovers.LoadsWord index count word) at here k s =
       word_step scene inv owner mode fits room index count word here k.0 at k.1 s k.2
-  recover_step room (recovers.TheVariants.ChecksCount index count) at here k s = check_step scene inv owner mode fits room index count here k.0 at k.1 s k.2
-  recover_step room (recovers.TheVariants.Asks index count) at here k s = decided scene inv owner mode fits room index count at here k.0 k.1 s k.2 0
-  recover_step room (recovers.TheVariants.EmptiesCell index count) at here k s = empties_step scene inv owner mode fits room index count here k.0 at k.1 s k.2
-  recover_step room (recovers.TheVariants.Hides index count) at here k s = hides_step scene inv owner mode fits room index count here k.0 at k.1 s k.2
-  recover_step room (recovers.TheVariants.Raises index raises.TheVariants.LoadsCounter) at here k s =
-      (raises_step scene inv owner mode fits) room index raises.TheVariants.LoadsCounter here k.0 at.0 at.1 k.1 s k.2
-  recover_step room (recovers.TheVariants.Raises index (raises.TheVariants.ExchangesCounter number)) at here k s =
-      (raises_step scene inv owner mode fits) room index (raises.TheVariants.ExchangesCounter number) here k.0 at.0 at.1 k.1 s k.2
-  recover_step room (recovers.TheVariants.Locks index (parts.TheVariants.Counts counts.TheVariants.LoadsCounter)) at here k s =
-      (locks_step scene inv owner mode fits) room index (parts.TheVariants.Counts counts.TheVariants.LoadsCounter) here k.0 at.0 at.1 at.2 at.3 k.1 s k.2
-  recover_step room (recovers.TheVariants.Locks index (parts.TheVariants.Counts (counts.TheVariants.LoadsCell number i filled)))
+  recover_step room (recovers.ChecksCount index count) at here k s = check_step scene inv owner mode fits room index count here k.0 at k.1 s k.2
+  recover_step room (recovers.Asks index count) at here k s = decided scene inv owner mode fits room index count at here k.0 k.1 s k.2 0
+  recover_step room (recovers.EmptiesCell index count) at here k s = empties_step scene inv owner mode fits room index count here k.0 at k.1 s k.2
+  recover_step room (recovers.Hides index count) at here k s = hides_step scene inv owner mode fits room index count here k.0 at k.1 s k.2
+  recover_step room (recovers.Raises index raises.LoadsCounter) at here k s =
+      (raises_step scene inv owner mode fits) room index raises.LoadsCounter here k.0 at.0 at.1 k.1 s k.2
+  recover_step room (recovers.Raises index (raises.ExchangesCounter number)) at here k s =
+      (raises_step scene inv owner mode fits) room index (raises.ExchangesCounter number) here k.0 at.0 at.1 k.1 s k.2
+  recover_step room (recovers.Locks index (parts.Counts counts.LoadsCounter)) at here k s =
+      (locks_step scene inv owner mode fits) room index (parts.Counts counts.LoadsCounter) here k.0 at.0 at.1 at.2 at.3 k.1 s k.2
+  recover_step room (recovers.Locks index (parts.Counts (counts.LoadsCell number i filled)))
       at here k s =
       (locks_step scene inv owner mode fits) room index
-      (parts.TheVariants.Counts (counts.TheVariants.LoadsCell number i filled)) here k.0 at.0 at.1 at.2 at.3 k.1 s
+      (parts.Counts (counts.LoadsCell number i filled)) here k.0 at.0 at.1 at.2 at.3 k.1 s
       k.2
-  recover_step room (recovers.TheVariants.Locks index (parts.TheVariants.Counts (counts.TheVariants.ExchangesCounter number filled)))
+  recover_step room (recovers.Locks index (parts.Counts (counts.ExchangesCounter number filled)))
       at here k s =
-      (locks_step scene inv owner mode fits) room index (parts.TheVariants.Counts (counts.TheVariants.ExchangesCounter number filled)) here k.0 at.0
+      (locks_step scene inv owner mode fits) room index (parts.Counts (counts.ExchangesCounter number filled)) here k.0 at.0
       at.1 at.2 at.3 k.1 s k.2
-  recover_step room (recovers.TheVariants.Locks index (parts.TheVariants.ExchangesCounter number)) at here k s =
-      (locks_step scene inv owner mode fits) room index (parts.TheVariants.ExchangesCounter number) here k.0 at.0 at.1 at.2 at.3 k.1 s k.2
-  recover_step room recovers.TheVariants.LoadsCounterAgain at here k s = again_step room here k.0 at k.1 s k.2
-  recover_step room (recovers.TheVariants.AddsChange state) at here k s = end_step room state here k.1 s
+  recover_step room (recovers.Locks index (parts.ExchangesCounter number)) at here k s =
+      (locks_step scene inv owner mode fits) room index (parts.ExchangesCounter number) here k.0 at.0 at.1 at.2 at.3 k.1 s k.2
+  recover_step room recovers.LoadsCounterAgain at here k s = again_step room here k.0 at k.1 s k.2
+  recover_step room (recovers.AddsChange state) at here k s = end_step room state here k.1 s
 
   pub recover_decided : (room : buffers.Buffer 128) (index count : ℕ)
-      → RecoverAt c z (all scene) (done scene) owner mode (recovers.TheVariants.Asks index count)
-      → Here scene inv owner mode fits room (recovers.TheVariants.Asks index count)
-      → Knows code c (recover_at c owner mode room (recovers.TheVariants.Asks index count)) (sees_now scene)
-      → steps ≤ recover_number c z mode (recovers.TheVariants.Asks index count) backs → (answer : ℕ)
-      → AnswerOf scene (Recover owner mode) (recover_at c owner mode room (recovers.TheVariants.Asks index count)) None answer
+      → RecoverAt c z (all scene) (done scene) owner mode (recovers.Asks index count)
+      → Here scene inv owner mode fits room (recovers.Asks index count)
+      → Knows code c (recover_at c owner mode room (recovers.Asks index count)) (sees_now scene)
+      → steps ≤ recover_number c z mode (recovers.Asks index count) backs → (answer : ℕ)
+      → AnswerOf scene (Recover owner mode) (recover_at c owner mode room (recovers.Asks index count)) None answer
   recover_decided room index count at here k s answer = decided scene inv owner mode fits room index count at here k.0 k.1 s k.2 answer

@@ -8,9 +8,9 @@ use Rattle.laws_container.proofs.Names.{WasShown, Sees, HidesOne, acts, cell_of,
 use Rattle.laws_container.proofs.Names.{filled_after, filled_of, IsOneOf, HasJustFreed, flight_of, words_after}
 use Rattle.laws_container.proofs.Names.{step_count, is_gone, cell, was_one, by_latest, at_same, some_none, one_owner}
 use Rattle.laws_container.proofs.Names.{both_ways, filled_by, calm_less, IsWorn, exchanges, exchange_sets, fails_same}
-use Rattle.steps.specs.declared.container.recover.RecoverStage as recovers
+use Rattle.steps.specs.declared.container.recover.RecoverStage.TheVariants as recovers
 use Rattle.steps.specs.declared.copied.Buffer as buffers
-use Rattle.steps.specs.declared.indices.robust.parts.Raise as raises
+use Rattle.steps.specs.declared.indices.robust.parts.Raise.TheVariants as raises
 use Rattle.model.specs.declared.families.container.ContainerStart.TheVariants.{Recover}
 use Rattle.laws_robust.proofs.Effects as set_effects
 use Rattle.laws_robust.proofs.Frees as set_frees
@@ -87,9 +87,9 @@ module _ {T : Type 0} (scene : Scene T) (inv : Inv scene) (owner : ℕ) (mode : 
   -- ---- the exchange of a cell
 
   module _ (room : buffers.Buffer 128) (index count : ℕ)
-      (here : Here scene inv owner mode fits room (recovers.TheVariants.EmptiesCell index count)) (long : IsLong room)
-      (stands : RecoverAt c z (all scene) (done scene) owner mode (recovers.TheVariants.EmptiesCell index count))
-      (k : RecoverKnows code c owner mode room (recovers.TheVariants.EmptiesCell index count) (sees_now scene))
+      (here : Here scene inv owner mode fits room (recovers.EmptiesCell index count)) (long : IsLong room)
+      (stands : RecoverAt c z (all scene) (done scene) owner mode (recovers.EmptiesCell index count))
+      (k : RecoverKnows code c owner mode room (recovers.EmptiesCell index count) (sees_now scene))
       (s : steps ≤ 4 + z + index * for_index c z mode + backs * for_back c z mode)
       (f : FilledBut (IsWorn scene.terms.by ws) mode p owner NoIndex events) where
     abbrev empty_it : Option Ask
@@ -106,7 +106,7 @@ module _ {T : Type 0} (scene : Scene T) (inv : Inv scene) (owner : ℕ) (mode : 
     misses other =
         let same = fails_same ws (cell_word index) owner empty other in
         let wide = index_at_least c z mode in
-        let stage = recovers.TheVariants.EmptiesCell index count in
+        let stage = recovers.EmptiesCell index count in
         let stays = set_effects.stays_same (of_set scene) (inv_of_set scene inv) (words_after ws empty_it) same in
         let goes = (set_effects.quietly (of_set scene) (inv_of_set scene inv) (words_after ws empty_it) [] stays.leaves set_effects.quiet_none tt tt tt).goes in
         comes_to_next scene inv owner mode fits room stage here long empty_it false [] none_lengthens tt
@@ -130,9 +130,9 @@ module _ {T : Type 0} (scene : Scene T) (inv : Inv scene) (owner : ℕ) (mode : 
       stays_count : count_at c (words_after ws empty_it) index ≡ count_in code c (before scene) index
       stays_count =
           rest_set scene inv (Recover owner mode)
-          (recover_at c owner mode room (recovers.TheVariants.EmptiesCell index count)) tt here
-          (then_at scene inv owner mode fits room (recovers.TheVariants.EmptiesCell index count) here room
-          (recovers.TheVariants.Hides index count) empty_it false)
+          (recover_at c owner mode room (recovers.EmptiesCell index count)) tt here
+          (then_at scene inv owner mode fits room (recovers.EmptiesCell index count) here room
+          (recovers.Hides index count) empty_it false)
           (words_after ws empty_it) (cell_word index) empty (let below = stands.0.within in omega arith) new
           (count_word c index) (omega arith)
 
@@ -156,12 +156,12 @@ module _ {T : Type 0} (scene : Scene T) (inv : Inv scene) (owner : ℕ) (mode : 
 
       does : (y : Party T) → owes (flight_of (Some y.doing)) ≡ true → Does scene (words_after ws empty_it) scene.states y freeing
       does y owe =
-          frees scene inv (Recover owner mode) (recover_at c owner mode room (recovers.TheVariants.EmptiesCell index count)) tt here y (words_after ws empty_it)
+          frees scene inv (Recover owner mode) (recover_at c owner mode room (recovers.EmptiesCell index count)) tt here y (words_after ws empty_it)
           (rest_set scene inv (Recover owner mode)
-          (recover_at c owner mode room (recovers.TheVariants.EmptiesCell index count)) tt here y
+          (recover_at c owner mode room (recovers.EmptiesCell index count)) tt here y
           (words_after ws empty_it) (cell_word index) empty (let below = stands.0.within in omega arith) new)
           (wide_set scene inv (Recover owner mode)
-          (recover_at c owner mode room (recovers.TheVariants.EmptiesCell index count)) tt here y
+          (recover_at c owner mode room (recovers.EmptiesCell index count)) tt here y
           (words_after ws empty_it) (cell_word index) empty new)
           index owner set_does (was_well_formed scene (Recover owner mode) tt here.span (words_after ws empty_it) y freeing (refl, tt)) (λ was. owe)
           (subst (FreedBy scene.terms.by p index owner events) (sym here.span) (refl, k.1.dead, was_known))
@@ -171,10 +171,10 @@ module _ {T : Type 0} (scene : Scene T) (inv : Inv scene) (owner : ℕ) (mode : 
           (StillStands code c index count (after scene (words_after ws empty_it) y freeing))
           (then_sees scene empty_it false scene.states y freeing)
       recs_freed y =
-          recs scene inv owner mode fits room (recovers.TheVariants.EmptiesCell index count) here empty_it false y
+          recs scene inv owner mode fits room (recovers.EmptiesCell index count) here empty_it false y
           freeing (refl, tt) tt (λ start w. refl) set_does.goes (index + 1) (index + 1) (λ i. i ≡ index) none none
           none (StillStands code c index count (after scene (words_after ws empty_it) y freeing)) k.1
-          (asked_on scene inv owner mode fits room (recovers.TheVariants.EmptiesCell index count) here empty_it
+          (asked_on scene inv owner mode fits room (recovers.EmptiesCell index count) here empty_it
           false y freeing (refl, tt) tt (λ start w. refl) set_does.goes (index + 1) k.1.asked)
           (λ i said. inl
           (⊎_elim (λ yes. ⊎_elim (λ had. inl had) (λ e. absurd (cc)) (was_one (Yes i owner) (Frees index owner) (all scene) yes))
@@ -197,7 +197,7 @@ module _ {T : Type 0} (scene : Scene T) (inv : Inv scene) (owner : ℕ) (mode : 
 
       fills_freed : (y : Party T) → FilledBut (IsWorn scene.terms.by (words_after ws empty_it)) mode p owner (λ i. i ≡ index) (events ++ freeing)
       fills_freed y =
-          fills_on scene inv owner mode fits room (recovers.TheVariants.EmptiesCell index count) here empty_it false
+          fills_on scene inv owner mode fits room (recovers.EmptiesCell index count) here empty_it false
           y freeing (refl, tt) tt (λ start w. refl) set_does.goes NoIndex (λ i. i ≡ index)
           (λ i was. ⊎_elim (λ had. inl had) (λ e. let same : index ≡ i = cc in inr (sym same))
           (was_one (Frees i owner) (Frees index owner) (all scene) was))
@@ -217,23 +217,23 @@ module _ {T : Type 0} (scene : Scene T) (inv : Inv scene) (owner : ℕ) (mode : 
           → Leads scene (Recover owner mode) empty_it false scene.states freeing
           (as_recover scene inv owner mode fits room
           (if b then recover_raises (first scene inv owner mode fits) index else GoOn
-          (record (first scene inv owner mode fits) { stage = recovers.TheVariants.Hides index count })))
+          (record (first scene inv owner mode fits) { stage = recovers.Hides index count })))
       empties true t =
           let y =
-          then_at scene inv owner mode fits room (recovers.TheVariants.EmptiesCell index count) here room
-          (recovers.TheVariants.Raises index raises.TheVariants.LoadsCounter) empty_it false in
-          go_on scene inv owner mode fits room (recovers.TheVariants.EmptiesCell index count) here room
-          (recovers.TheVariants.Raises index raises.TheVariants.LoadsCounter) empty_it false freeing
+          then_at scene inv owner mode fits room (recovers.EmptiesCell index count) here room
+          (recovers.Raises index raises.LoadsCounter) empty_it false in
+          go_on scene inv owner mode fits room (recovers.EmptiesCell index count) here room
+          (recovers.Raises index raises.LoadsCounter) empty_it false freeing
           (λ start w. refl) (does y refl)
           ((refl, ⊎_elim (λ yes. inl yes.0) (λ shown. inr shown) stands.1), tt) (omega arith)
           (course_freed, record { index = index; owner = owner; latest = record { before = all scene; is = refl } })
           (long, (paid_now, recs_empty t y refl), fills_freed y)
       empties false t =
           let y =
-          then_at scene inv owner mode fits room (recovers.TheVariants.EmptiesCell index count) here room
-          (recovers.TheVariants.Hides index count) empty_it false in
-          go_on scene inv owner mode fits room (recovers.TheVariants.EmptiesCell index count) here room
-          (recovers.TheVariants.Hides index count) empty_it false freeing (λ start w. refl) (does y refl)
+          then_at scene inv owner mode fits room (recovers.EmptiesCell index count) here room
+          (recovers.Hides index count) empty_it false in
+          go_on scene inv owner mode fits room (recovers.EmptiesCell index count) here room
+          (recovers.Hides index count) empty_it false freeing (λ start w. refl) (does y refl)
           ((refl, ⊎_elim (λ yes. inl yes.0) (λ shown. inr shown) stands.1), tt) (omega arith)
           (course_freed, odd_is count t, record { before = all scene; is = refl }) (
             long,
@@ -249,7 +249,7 @@ module _ {T : Type 0} (scene : Scene T) (inv : Inv scene) (owner : ℕ) (mode : 
             fills_freed y,
           )
 
-    pub empties_step : StepOf scene (Recover owner mode) (recover_at c owner mode room (recovers.TheVariants.EmptiesCell index count))
+    pub empties_step : StepOf scene (Recover owner mode) (recover_at c owner mode room (recovers.EmptiesCell index count))
     empties_step = go (cell ws index == owner) refl
       where
         go : (b : Bool) → (cell ws index == owner) ≡ b
@@ -257,7 +257,7 @@ module _ {T : Type 0} (scene : Scene T) (inv : Inv scene) (owner : ℕ) (mode : 
             ((if b then FreedOf p index owner ∷ [] else []) ++ [])
             (as_recover scene inv owner mode fits room
             (if b then (if is_even count then recover_raises (first scene inv owner mode fits) index else GoOn
-            (record (first scene inv owner mode fits) { stage = recovers.TheVariants.Hides index count }))
+            (record (first scene inv owner mode fits) { stage = recovers.Hides index count }))
             else recover_comes_to (first scene inv owner mode fits) (index + 1)))
         go true t = let is : cell ws index ≡ owner = grind (arith, nat_tests) in empties is (is_even count) refl
         go false t = let other : cell ws index ≢ owner = grind (arith, nat_tests) in misses other
@@ -265,9 +265,9 @@ module _ {T : Type 0} (scene : Scene T) (inv : Inv scene) (owner : ℕ) (mode : 
   -- ---- what stands there is hidden
 
   module _ (room : buffers.Buffer 128) (index count : ℕ)
-      (here : Here scene inv owner mode fits room (recovers.TheVariants.Hides index count)) (long : IsLong room)
-      (stands : RecoverAt c z (all scene) (done scene) owner mode (recovers.TheVariants.Hides index count))
-      (k : RecoverKnows code c owner mode room (recovers.TheVariants.Hides index count) (sees_now scene))
+      (here : Here scene inv owner mode fits room (recovers.Hides index count)) (long : IsLong room)
+      (stands : RecoverAt c z (all scene) (done scene) owner mode (recovers.Hides index count))
+      (k : RecoverKnows code c owner mode room (recovers.Hides index count) (sees_now scene))
       (s : steps ≤ 5 + z + index * for_index c z mode + backs * for_back c z mode)
       (f : FilledBut (IsWorn scene.terms.by ws) mode p owner (λ i. i ≡ index) events) where
     abbrev hide_it : Option Ask
@@ -280,7 +280,7 @@ module _ {T : Type 0} (scene : Scene T) (inv : Inv scene) (owner : ℕ) (mode : 
     hiding = Hidden p index ∷ []
 
     abbrev next : RecoverStage
-    next = recovers.TheVariants.Raises index raises.TheVariants.LoadsCounter
+    next = recovers.Raises index raises.LoadsCounter
 
     paid_hide : backs_then scene false + since_then scene hide_it ≤ changes_then scene hide_it
     paid_hide = let paid = k.0 in omega arith
@@ -288,7 +288,7 @@ module _ {T : Type 0} (scene : Scene T) (inv : Inv scene) (owner : ℕ) (mode : 
     just : HasJustFreed (all scene)
     just = record { index = index; owner = owner; latest = stands.2 }
 
-    pub hides_step : StepOf scene (Recover owner mode) (recover_at c owner mode room (recovers.TheVariants.Hides index count))
+    pub hides_step : StepOf scene (Recover owner mode) (recover_at c owner mode room (recovers.Hides index count))
     hides_step = go (count_now == count) refl
       where
         go : (b : Bool) → (count_now == count) ≡ b
@@ -297,16 +297,16 @@ module _ {T : Type 0} (scene : Scene T) (inv : Inv scene) (owner : ℕ) (mode : 
             (as_recover scene inv owner mode fits room (recover_raises (first scene inv owner mode fits) index))
         go true t =
             let is : count_now ≡ count = grind (arith, nat_tests) in
-            let y = then_at scene inv owner mode fits room (recovers.TheVariants.Hides index count) here room next hide_it false in
+            let y = then_at scene inv owner mode fits room (recovers.Hides index count) here room next hide_it false in
             let odd : count_now % 2 ≡ 1 = ap (λ n. n % 2) is ∙ stands.1 in
             let does =
             hides scene inv (Recover owner mode)
-            (recover_at c owner mode room (recovers.TheVariants.Hides index count)) tt here y
+            (recover_at c owner mode room (recovers.Hides index count)) tt here y
             (words_after ws hide_it) index stands.0.within (hides_count scene inv index count stands.0.within is)
             refl odd
             (λ holds q ne o theirs fresh. both_ways (left_of index events) fresh (k.2.left holds is))
             (was_well_formed scene (Recover owner mode) tt here.span (words_after ws hide_it) y hiding (refl, tt)) in
-            go_on scene inv owner mode fits room (recovers.TheVariants.Hides index count) here room next hide_it
+            go_on scene inv owner mode fits room (recovers.Hides index count) here room next hide_it
             false hiding (λ start w. refl) does (stands.2, tt) (omega arith) (
               course_then c z (all scene) [] (done scene) (acts hiding) owner index (index + 1) index (index + 1)
                   stands.0 stands.0.within (omega arith) tt tt
@@ -316,10 +316,10 @@ module _ {T : Type 0} (scene : Scene T) (inv : Inv scene) (owner : ℕ) (mode : 
               long,
               (
                 paid_hide,
-                recs scene inv owner mode fits room (recovers.TheVariants.Hides index count) here hide_it false y
+                recs scene inv owner mode fits room (recovers.Hides index count) here hide_it false y
                     hiding (refl, tt) tt (λ start w. refl) does.set.goes (index + 1) (index + 1) none none none
                     (StillStands code c index count (before scene)) none k.1
-                    (asked_on scene inv owner mode fits room (recovers.TheVariants.Hides index count) here hide_it
+                    (asked_on scene inv owner mode fits room (recovers.Hides index count) here hide_it
                     false y hiding (refl, tt) tt (λ start w. refl) does.set.goes (index + 1) k.1.asked)
                     (λ i said. inl (⊎_elim (λ yes. inl (one_of_none (Yes i owner) (all scene) yes))
                     (λ seen. ⊎_elim (λ had. inr had) (λ e. absurd (cc)) (was_act (Sees i) (HidesOne index) (done scene) seen))
@@ -327,21 +327,21 @@ module _ {T : Type 0} (scene : Scene T) (inv : Inv scene) (owner : ℕ) (mode : 
                     (λ i e. absurd e) (λ i e. absurd e)
                     (hides_it scene (Recover owner mode) tt here.span owner (words_after ws hide_it) y index count k.1.hidden),
               ),
-              fills_on scene inv owner mode fits room (recovers.TheVariants.Hides index count) here hide_it false y
+              fills_on scene inv owner mode fits room (recovers.Hides index count) here hide_it false y
                   hiding (refl, tt) tt (λ start w. refl) does.set.goes (λ i. i ≡ index) (λ i. i ≡ index)
                   (λ i was. inl (one_of_none (Frees i owner) (all scene) was)) (λ i e. e) f,
             )
         go false t =
             let other : count_now ≢ count = grind (arith, nat_tests) in
             let same = fails_same ws (count_word c index) count (one_more count) other in
-            calm_on scene inv owner mode fits room (recovers.TheVariants.Hides index count) here long hide_it same false paid_hide room next (omega arith)
+            calm_on scene inv owner mode fits room (recovers.Hides index count) here long hide_it same false paid_hide room next (omega arith)
             (course_calm scene inv owner mode fits index (index + 1) index (index + 1) stands.0 stands.0.within (omega arith), just_on just) (
               long,
               (
                 paid_hide,
-                calm_recs scene inv owner mode fits room (recovers.TheVariants.Hides index count) here long hide_it same
+                calm_recs scene inv owner mode fits room (recovers.Hides index count) here long hide_it same
                     false paid_hide
-                    (then_at scene inv owner mode fits room (recovers.TheVariants.Hides index count) here room next hide_it false)
+                    (then_at scene inv owner mode fits room (recovers.Hides index count) here room next hide_it false)
                     (index + 1)
                     (rehidden code c owner (index + 1) none (StillStands code c index count (before scene)) none
                     (sees_now scene) k.1 (hidden_other code c p owner index count (before scene) other k.1.hidden)),

@@ -8,11 +8,11 @@ use Rattle.laws_container.proofs.Names.{acts_of, HeldThroughout, StillToFree, Fr
 use Rattle.laws_container.proofs.Names.{filled_of, IsOneOf, as_it_is, BeginsNone, put, flight_of, Stands, Open}
 use Rattle.laws_container.proofs.Names.{as_call, words_after, step_count, AreOwn, AllFollow, IsWorn, worn_on, Goes}
 use Rattle.steps.specs.declared.container.recover.Recover as recover_calls
-use Rattle.steps.specs.declared.container.recover.RecoverStage as recovers
+use Rattle.steps.specs.declared.container.recover.RecoverStage.TheVariants as recovers
 use Rattle.steps.specs.declared.copied.Buffer as buffers
 use Rattle.model.specs.declared.event.Answer.TheVariants as answers
 use Rattle.model.specs.declared.families.container.ContainerStart.TheVariants.{Recover}
-use Rattle.model.specs.declared.families.container.calls.ContainerFlight as calls
+use Rattle.model.specs.declared.families.container.calls.ContainerFlight.TheVariants as calls
 use Rattle.laws_robust.proofs.Effects as set_effects
 use Rattle.laws_container.proofs.Effects.{calmly}
 use Rattle.laws_container.proofs.HiddenKnows.{HasHidden}
@@ -50,11 +50,11 @@ module _ {T : Type 0} (scene : Scene T) (inv : Inv scene) (owner : ℕ) (mode : 
   -- how the call goes on, as a recovery of the kind
   abbrev pub as_recover : buffers.Buffer 128 → After (recover_calls.Recover T (buffers.Buffer 128)) ReleaseState → After (ContainerFlight T) (Answer T)
   as_recover room a =
-      as_call calls.TheVariants.Recover answers.State
+      as_call calls.Recover answers.State
       (went_on as_it_is (record { owner = owner; mode = mode }) room a)
 
   abbrev pub first : recover_calls.Recover T (buffers.Buffer 128)
-  first = record { capacity = c; stage = recovers.TheVariants.LoadsCounter; of = record {} }
+  first = record { capacity = c; stage = recovers.LoadsCounter; of = record {} }
 
   -- the steps up to this index
   abbrev pub Few : Option Ask → Bool → ℕ → ℕ → Type 0
@@ -191,18 +191,18 @@ module _ {T : Type 0} (scene : Scene T) (inv : Inv scene) (owner : ℕ) (mode : 
           go : (b : Bool) → nat_lt (index + 1) c ≡ b
               → ShowsThen scene start ask back scene.states es
               (as_recover room (GoOn
-              (record first { stage = if b then recovers.TheVariants.LoadsCell (index + 1) else recovers.TheVariants.LoadsCounterAgain })))
+              (record first { stage = if b then recovers.LoadsCell (index + 1) else recovers.LoadsCounterAgain })))
           go true t =
               let more : index + 1 < c = grind (arith, nat_tests) in
-              let y = then_at room (recovers.TheVariants.LoadsCell (index + 1)) ask back in
-              go_on room (recovers.TheVariants.LoadsCell (index + 1)) ask back es longer (does y refl) stands few
+              let y = then_at room (recovers.LoadsCell (index + 1)) ask back in
+              go_on room (recovers.LoadsCell (index + 1)) ask back es longer (does y refl) stands few
               (course (index + 1) more) (long, (paid, rec y), fill)
           go false t =
               let last : c ≤ index + 1 = grind (arith, nat_tests) in
               let is : index + 1 ≡ c = omega arith in
               let times : (index + 1) * for_index c z mode ≡ c * for_index c z mode = ap (λ n. n * for_index c z mode) is in
-              let y = then_at room recovers.TheVariants.LoadsCounterAgain ask back in
-              go_on room recovers.TheVariants.LoadsCounterAgain ask back es longer (does y refl) stands
+              let y = then_at room recovers.LoadsCounterAgain ask back in
+              go_on room recovers.LoadsCounterAgain ask back es longer (does y refl) stands
               (omega arith) ((course index below).freed) (
                 long,
                 (paid, subst (λ n. Recovers code c owner n none none (then_sees scene ask back scene.states y es)) is (rec y)),

@@ -10,9 +10,9 @@ use Rattle.laws_container.proofs.Names.{SetAct, Frees, Asks, Yes, set_acts_of, I
 use Rattle.laws_container.proofs.Names.{step_count, held_now, held_later, no_more, IsWorn, counter_of, cell}
 use Rattle.laws_container.proofs.Names.{filled_by, is_shut, unlocked, through_now, loads_same}
 use Rattle.steps.specs.declared.container.recover.Recover as recover_calls
-use Rattle.steps.specs.declared.container.recover.RecoverStage as recovers
+use Rattle.steps.specs.declared.container.recover.RecoverStage.TheVariants as recovers
 use Rattle.steps.specs.declared.copied.Buffer as buffers
-use Rattle.steps.specs.declared.indices.enums.ReleaseState as states
+use Rattle.steps.specs.declared.indices.enums.ReleaseState.TheVariants as states
 use Rattle.model.specs.declared.families.container.ContainerStart.TheVariants.{Recover}
 use Rattle.laws_robust.proofs.Stages as set_stages
 use Rattle.laws_container.proofs.Copies.{copying_first}
@@ -137,9 +137,9 @@ module _ {T : Type 0} (scene : Scene T) (inv : Inv scene) (owner : ℕ) (mode : 
 
   -- ---- the counter
 
-  module _ (room : buffers.Buffer 128) (here : Here room recovers.TheVariants.LoadsCounter) (long : IsLong room)
-      (at : RecoverAt c z (all scene) (done scene) owner mode recovers.TheVariants.LoadsCounter)
-      (k : RecoverKnows code c owner mode room recovers.TheVariants.LoadsCounter (sees_now scene)) (s : steps ≤ 0) where
+  module _ (room : buffers.Buffer 128) (here : Here room recovers.LoadsCounter) (long : IsLong room)
+      (at : RecoverAt c z (all scene) (done scene) owner mode recovers.LoadsCounter)
+      (k : RecoverKnows code c owner mode room recovers.LoadsCounter (sees_now scene)) (s : steps ≤ 0) where
     abbrev load_counter : Option Ask
     load_counter = Some (set_stages.loads 0)
 
@@ -147,7 +147,7 @@ module _ {T : Type 0} (scene : Scene T) (inv : Inv scene) (owner : ℕ) (mode : 
     nothing_freed : HasHidden code c p owner none (before scene)
     nothing_freed holds i was = absurd (no_more was.before (Frees i owner) was.after (sym at.0 ∙ was.is))
 
-    pub counter_step : StepOf scene (Recover owner mode) (recover_at c owner mode room recovers.TheVariants.LoadsCounter)
+    pub counter_step : StepOf scene (Recover owner mode) (recover_at c owner mode room recovers.LoadsCounter)
     counter_step = go (counter_of ws == locked) refl
       where
         paid_on : backs_then scene false + since_then scene (Some (set_stages.loads 0)) ≤ changes_then scene (Some (set_stages.loads 0))
@@ -155,11 +155,11 @@ module _ {T : Type 0} (scene : Scene T) (inv : Inv scene) (owner : ℕ) (mode : 
 
         next : counter_of ws ≢ locked → (b : Bool) → nat_lt 0 c ≡ b
             → Becomes (Some (set_stages.loads 0)) false [] room (GoOn (record (first scene inv owner mode fits) {
-              stage = if b then recovers.TheVariants.LoadsCell 0 else recovers.TheVariants.LoadsCounterAgain;
+              stage = if b then recovers.LoadsCell 0 else recovers.LoadsCounterAgain;
             }))
         next open_now true t =
             let some = inv.good.some in
-            let y = then_at scene inv owner mode fits room recovers.TheVariants.LoadsCounter here room (recovers.TheVariants.LoadsCell 0) load_counter false in
+            let y = then_at scene inv owner mode fits room recovers.LoadsCounter here room (recovers.LoadsCell 0) load_counter false in
             let now : Recovers code c owner 0 none none (sees_now scene) =
             record {
               dead = k.1;
@@ -168,8 +168,8 @@ module _ {T : Type 0} (scene : Scene T) (inv : Inv scene) (owner : ℕ) (mode : 
               gone = k.2;
               hidden = nothing_freed;
             } in
-            calm_on room recovers.TheVariants.LoadsCounter here long load_counter (loads_same ws 0) false paid_on
-            room (recovers.TheVariants.LoadsCell 0) (omega arith)
+            calm_on room recovers.LoadsCounter here long load_counter (loads_same ws 0) false paid_on
+            room (recovers.LoadsCell 0) (omega arith)
             (record {
               within = omega arith;
               seen = subst (λ (d : List (Act T)). AreBelow 0 (seen_in (d ++ []))) (sym at.1) tt;
@@ -177,7 +177,7 @@ module _ {T : Type 0} (scene : Scene T) (inv : Inv scene) (owner : ℕ) (mode : 
               freed = λ i was. let h = one_of_none (Frees i owner) (all scene) was in absurd (no_more h.before (Frees i owner) h.after (sym at.0 ∙ h.is));
             }) (
               long,
-              (paid_on, calm_recs room recovers.TheVariants.LoadsCounter here long load_counter (loads_same ws 0) false paid_on y 0 now),
+              (paid_on, calm_recs room recovers.LoadsCounter here long load_counter (loads_same ws 0) false paid_on y 0 now),
               fill_same scene inv owner mode fits load_counter (loads_same ws 0) NoIndex
                   (filled_none p owner (IsWorn scene.terms.by ws) mode NoIndex events at.0),
             )
@@ -186,19 +186,19 @@ module _ {T : Type 0} (scene : Scene T) (inv : Inv scene) (owner : ℕ) (mode : 
         go : (b : Bool) → (counter_of ws == locked) ≡ b
             → Leads scene (Recover owner mode) (Some (set_stages.loads 0)) false scene.states []
             (as_recover scene inv owner mode fits room
-            (if b then recover_ends (first scene inv owner mode fits) states.TheVariants.Locked else recover_comes_to
+            (if b then recover_ends (first scene inv owner mode fits) states.Locked else recover_comes_to
             (first scene inv owner mode fits) 0))
         go true t =
             let shut : counter_of ws ≡ locked = grind (arith, nat_tests) in
-            calm_on room recovers.TheVariants.LoadsCounter here long load_counter (loads_same ws 0) false paid_on
-            room (recovers.TheVariants.AddsChange states.TheVariants.Locked) (omega arith) tt (
+            calm_on room recovers.LoadsCounter here long load_counter (loads_same ws 0) false paid_on
+            room (recovers.AddsChange states.Locked) (omega arith) tt (
               long,
               (
                 paid_on,
                 locked_later events [] (is_shut (of_set scene) (inv_of_set scene inv) shut),
-                hidden_still scene inv owner mode fits room recovers.TheVariants.LoadsCounter here load_counter
-                    (then_at scene inv owner mode fits room recovers.TheVariants.LoadsCounter here room
-                    (recovers.TheVariants.AddsChange states.TheVariants.Locked) load_counter false)
+                hidden_still scene inv owner mode fits room recovers.LoadsCounter here load_counter
+                    (then_at scene inv owner mode fits room recovers.LoadsCounter here room
+                    (recovers.AddsChange states.Locked) load_counter false)
                     nothing_freed,
               ),
               tt,
@@ -209,9 +209,9 @@ module _ {T : Type 0} (scene : Scene T) (inv : Inv scene) (owner : ℕ) (mode : 
 
   -- ---- a cell
 
-  module _ (room : buffers.Buffer 128) (index : ℕ) (here : Here room (recovers.TheVariants.LoadsCell index))
+  module _ (room : buffers.Buffer 128) (index : ℕ) (here : Here room (recovers.LoadsCell index))
       (long : IsLong room) (course : Course index index)
-      (k : RecoverKnows code c owner mode room (recovers.TheVariants.LoadsCell index) (sees_now scene))
+      (k : RecoverKnows code c owner mode room (recovers.LoadsCell index) (sees_now scene))
       (s : steps ≤ 1 + index * for_index c z mode + backs * for_back c z mode) (f : FilledBut (IsWorn scene.terms.by ws) mode p owner NoIndex events) where
     abbrev load_cell : Option Ask
     load_cell = Some (set_stages.loads (cell_word index))
@@ -224,25 +224,25 @@ module _ {T : Type 0} (scene : Scene T) (inv : Inv scene) (owner : ℕ) (mode : 
         → IsOneOf (Asks index owner) (set_acts_of p (events ++ [])) ⊎ WasShown p index (events ++ [])
     not_to_free x0 x1 = grind (arith, append-nil, through_now)
 
-    pub cell_step : StepOf scene (Recover owner mode) (recover_at c owner mode room (recovers.TheVariants.LoadsCell index))
+    pub cell_step : StepOf scene (Recover owner mode) (recover_at c owner mode room (recovers.LoadsCell index))
     cell_step = go (cell ws index == owner) refl
       where
         go : (b : Bool) → (cell ws index == owner) ≡ b → Leads scene (Recover owner mode) (Some (set_stages.loads (cell_word index))) false scene.states []
             (as_recover scene inv owner mode fits room
-            (if b then GoOn (record (first scene inv owner mode fits) { stage = recovers.TheVariants.LoadsCount index })
+            (if b then GoOn (record (first scene inv owner mode fits) { stage = recovers.LoadsCount index })
             else recover_comes_to (first scene inv owner mode fits) (index + 1)))
         go true t =
             let is : cell ws index ≡ owner = grind (arith, nat_tests) in
             let y =
-            then_at scene inv owner mode fits room (recovers.TheVariants.LoadsCell index) here room
-            (recovers.TheVariants.LoadsCount index) load_cell false in
-            calm_on room (recovers.TheVariants.LoadsCell index) here long load_cell
-            (loads_same ws (cell_word index)) false paid_cell room (recovers.TheVariants.LoadsCount index)
+            then_at scene inv owner mode fits room (recovers.LoadsCell index) here room
+            (recovers.LoadsCount index) load_cell false in
+            calm_on room (recovers.LoadsCell index) here long load_cell
+            (loads_same ws (cell_word index)) false paid_cell room (recovers.LoadsCount index)
             (omega arith) (course_calm index index index index course course.within (omega arith)) (
               long,
               (
                 paid_cell,
-                calm_recs room (recovers.TheVariants.LoadsCell index) here long load_cell (loads_same ws (cell_word index)) false paid_cell y index k.1,
+                calm_recs room (recovers.LoadsCell index) here long load_cell (loads_same ws (cell_word index)) false paid_cell y index k.1,
                 held_later p (IsFilledWith owner index) events [] tt
                     (held_now p (IsFilledWith owner index) events
                     (filled_by (of_set scene) (inv_of_set scene inv) index course.within owner fits is)),
@@ -252,9 +252,9 @@ module _ {T : Type 0} (scene : Scene T) (inv : Inv scene) (owner : ℕ) (mode : 
         go false t =
             let other : cell ws index ≢ owner = grind (arith, nat_tests) in
             let wide = index_at_least c z mode in
-            calm_next room (recovers.TheVariants.LoadsCell index) here long load_cell
+            calm_next room (recovers.LoadsCell index) here long load_cell
             (loads_same ws (cell_word index)) false paid_cell index (omega arith) (inl course)
-            (λ y. calm_recs_more room (recovers.TheVariants.LoadsCell index) here long load_cell
+            (λ y. calm_recs_more room (recovers.LoadsCell index) here long load_cell
             (loads_same ws (cell_word index)) false paid_cell y index k.1 (not_to_free other))
             f
 
@@ -277,13 +277,13 @@ module _ {T : Type 0} (scene : Scene T) (inv : Inv scene) (owner : ℕ) (mode : 
     showing = Shown p index ∷ []
 
     -- nothing stands there
-    is_shown : is_even number ≡ true → Goes ask back showing room (recovers.TheVariants.EmptiesCell index number)
+    is_shown : is_even number ≡ true → Goes ask back showing room (recovers.EmptiesCell index number)
     is_shown even =
-        let y = then_at scene inv owner mode fits room stage here room (recovers.TheVariants.EmptiesCell index number) ask back in
+        let y = then_at scene inv owner mode fits room stage here room (recovers.EmptiesCell index number) ask back in
         let goes = (silent_set scene inv (words_after ws ask) same y showing (tt, tt) (refl, tt)).goes in
         let acts_then : acts_of p (events ++ showing) ≡ done scene ++ Sees index ∷ [] =
         acts_more scene (Recover owner mode) here.span showing (refl, tt) (λ start w. refl) in
-        go_on scene inv owner mode fits room stage here room (recovers.TheVariants.EmptiesCell index number) ask back showing (λ start w. refl)
+        go_on scene inv owner mode fits room stage here room (recovers.EmptiesCell index number) ask back showing (λ start w. refl)
         (reads_does scene inv owner mode fits room stage here (words_after ws ask) same y showing (tt, tt) (refl, tt)
         (record {
           asks = (tt, tt);
@@ -329,11 +329,11 @@ module _ {T : Type 0} (scene : Scene T) (inv : Inv scene) (owner : ℕ) (mode : 
         )
 
     -- it begins a copy
-    is_copied : is_even number ≡ false → Goes ask back [] room (recovers.TheVariants.LoadsWord index number 0)
+    is_copied : is_even number ≡ false → Goes ask back [] room (recovers.LoadsWord index number 0)
     is_copied odd =
         let some = inv.elements.coded.some in
-        let y = then_at scene inv owner mode fits room stage here room (recovers.TheVariants.LoadsWord index number 0) ask back in
-        calm_on room stage here long ask same back paid room (recovers.TheVariants.LoadsWord index number 0)
+        let y = then_at scene inv owner mode fits room stage here room (recovers.LoadsWord index number 0) ask back in
+        calm_on room stage here long ask same back paid room (recovers.LoadsWord index number 0)
         (omega arith)
         (course_calm index index index index course course.within (omega arith), odd_is number odd, omega arith) (
           long,
@@ -355,12 +355,12 @@ module _ {T : Type 0} (scene : Scene T) (inv : Inv scene) (owner : ℕ) (mode : 
     sees_number = grind (arith, is_shown, is_copied)
 
   pub count_step : (room : buffers.Buffer 128) (index : ℕ)
-      (here : Here room (recovers.TheVariants.LoadsCount index)) (long : IsLong room) (course : Course index index)
-      (k : RecoverKnows code c owner mode room (recovers.TheVariants.LoadsCount index) (sees_now scene))
+      (here : Here room (recovers.LoadsCount index)) (long : IsLong room) (course : Course index index)
+      (k : RecoverKnows code c owner mode room (recovers.LoadsCount index) (sees_now scene))
       (s : steps ≤ 2 + index * for_index c z mode + backs * for_back c z mode)
       → FilledBut (IsWorn scene.terms.by ws) mode p owner NoIndex events
-      → StepOf scene (Recover owner mode) (recover_at c owner mode room (recovers.TheVariants.LoadsCount index))
+      → StepOf scene (Recover owner mode) (recover_at c owner mode room (recovers.LoadsCount index))
   count_step room index here long course k s f =
-      sees_number room (recovers.TheVariants.LoadsCount index) index here long course k.1 k.2
+      sees_number room (recovers.LoadsCount index) index here long course k.1 k.2
       (Some (set_stages.loads (count_word c index))) (loads_same ws (count_word c index)) false
       (let paid = k.0 in omega arith) (omega arith) f

@@ -11,7 +11,7 @@ use Rattle.laws_container.proofs.Names.{IsOneOf, asked_in, read_in, kept_at, Ope
 use Rattle.laws_container.proofs.Names.{gone_more, IsWorn, was_one, last_one, loads_same, exchanges, exchange_sets}
 use Rattle.laws_container.proofs.Names.{fails_same}
 use Rattle.steps.specs.declared.container.recover.Recover as recover_calls
-use Rattle.steps.specs.declared.container.recover.RecoverStage as recovers
+use Rattle.steps.specs.declared.container.recover.RecoverStage.TheVariants as recovers
 use Rattle.steps.specs.declared.copied.Buffer as buffers
 use Rattle.model.specs.declared.families.container.ContainerStart.TheVariants.{Recover}
 use Rattle.laws_robust.proofs.Stages as set_stages
@@ -56,9 +56,9 @@ module _ {T : Type 0} (scene : Scene T) (inv : Inv scene) (owner : ℕ) (mode : 
   -- ---- a word of the element
 
   module _ (room : buffers.Buffer 128) (index count at : ℕ)
-      (here : Here room (recovers.TheVariants.LoadsWord index count at)) (long : IsLong room)
-      (stands : RecoverAt c z (all scene) (done scene) owner mode (recovers.TheVariants.LoadsWord index count at))
-      (k : RecoverKnows code c owner mode room (recovers.TheVariants.LoadsWord index count at) (sees_now scene))
+      (here : Here room (recovers.LoadsWord index count at)) (long : IsLong room)
+      (stands : RecoverAt c z (all scene) (done scene) owner mode (recovers.LoadsWord index count at))
+      (k : RecoverKnows code c owner mode room (recovers.LoadsWord index count at) (sees_now scene))
       (s : steps ≤ 3 + at + index * for_index c z mode + backs * for_back c z mode)
       (f : FilledBut (IsWorn scene.terms.by ws) mode p owner NoIndex events) where
     abbrev word : ℕ
@@ -83,28 +83,28 @@ module _ {T : Type 0} (scene : Scene T) (inv : Inv scene) (owner : ℕ) (mode : 
     knows_word : (next : RecoverStage) (n : ℕ) → n ≡ at + 1
         → CheckPaid code c index count
         (then_sees scene load_word false scene.states
-        (then_at scene inv owner mode fits room (recovers.TheVariants.LoadsWord index count at) here room' next load_word false)
+        (then_at scene inv owner mode fits room (recovers.LoadsWord index count at) here room' next load_word false)
         [])
         × Recovers code c owner index none none
         (then_sees scene load_word false scene.states
-        (then_at scene inv owner mode fits room (recovers.TheVariants.LoadsWord index count at) here room' next load_word false)
+        (then_at scene inv owner mode fits room (recovers.LoadsWord index count at) here room' next load_word false)
         [])
         × WasFilled owner index (then_sees scene load_word false scene.states
-        (then_at scene inv owner mode fits room (recovers.TheVariants.LoadsWord index count at) here room' next load_word false)
+        (then_at scene inv owner mode fits room (recovers.LoadsWord index count at) here room' next load_word false)
         [])
         × Copying code c index count room'.words n
         (then_sees scene load_word false scene.states
-        (then_at scene inv owner mode fits room (recovers.TheVariants.LoadsWord index count at) here room' next load_word false)
+        (then_at scene inv owner mode fits room (recovers.LoadsWord index count at) here room' next load_word false)
         [])
         × RecoverCovers code c owner index count
         (after scene (words_after ws load_word)
-        (then_at scene inv owner mode fits room (recovers.TheVariants.LoadsWord index count at) here room' next load_word false)
+        (then_at scene inv owner mode fits room (recovers.LoadsWord index count at) here room' next load_word false)
         [])
     knows_word next n is =
-        let y = then_at scene inv owner mode fits room (recovers.TheVariants.LoadsWord index count at) here room' next load_word false in
+        let y = then_at scene inv owner mode fits room (recovers.LoadsWord index count at) here room' next load_word false in
         let v' = then_sees scene load_word false scene.states y [] in (
           ⊎_elim (λ h. let paid = h.1 in inl (ap (λ w. count_at c w index) same_words ∙ h.0, omega arith)) (λ h. inr (omega arith)) k.0,
-          (calm_recs scene inv owner mode fits) room (recovers.TheVariants.LoadsWord index count at) here long load_word same_words false paid_word y index k.1,
+          (calm_recs scene inv owner mode fits) room (recovers.LoadsWord index count at) here long load_word same_words false paid_word y index k.1,
           held_later p (IsFilledWith owner index) events [] tt k.2,
           subst (λ m. Copying code c index count room'.words m v') (sym is)
               (copying_more code c (sees_now scene) v' index count room.words at stands.2 inv.elements.coded.few
@@ -114,40 +114,40 @@ module _ {T : Type 0} (scene : Scene T) (inv : Inv scene) (owner : ℕ) (mode : 
               (ap (λ w. count_at c w index) same_words) (fold-append (filled_after index) None events []) k.4,
         )
 
-    pub word_step : StepOf scene (Recover owner mode) (recover_at c owner mode room (recovers.TheVariants.LoadsWord index count at))
+    pub word_step : StepOf scene (Recover owner mode) (recover_at c owner mode room (recovers.LoadsWord index count at))
     word_step = go (nat_lt (at + 1) z) refl
       where
         go : (b : Bool) → nat_lt (at + 1) z ≡ b → Leads scene (Recover owner mode) (Some (set_stages.loads (element_word c z index at))) false scene.states []
             (as_recover scene inv owner mode fits room'
-            (if b then GoOn (record (first scene inv owner mode fits) { stage = recovers.TheVariants.LoadsWord index count (at + 1) })
+            (if b then GoOn (record (first scene inv owner mode fits) { stage = recovers.LoadsWord index count (at + 1) })
             else GoOn
-            (record (first scene inv owner mode fits) { stage = recovers.TheVariants.ChecksCount index count })))
+            (record (first scene inv owner mode fits) { stage = recovers.ChecksCount index count })))
         go true t =
             let more : at + 1 < z = grind (arith, nat_tests) in
-            (calm_on scene inv owner mode fits) room (recovers.TheVariants.LoadsWord index count at) here long load_word same_words false
-            paid_word room' (recovers.TheVariants.LoadsWord index count (at + 1)) (omega arith)
+            (calm_on scene inv owner mode fits) room (recovers.LoadsWord index count at) here long load_word same_words false
+            paid_word room' (recovers.LoadsWord index count (at + 1)) (omega arith)
             ((course_calm scene inv owner mode fits) index index index index stands.0 stands.0.within (omega arith), stands.1, more) (
               long_word,
-              knows_word (recovers.TheVariants.LoadsWord index count (at + 1)) (at + 1) refl,
+              knows_word (recovers.LoadsWord index count (at + 1)) (at + 1) refl,
               fill_same scene inv owner mode fits load_word same_words NoIndex f,
             )
         go false t =
             let last : z ≤ at + 1 = grind (arith, nat_tests) in
             let ats = stands.2 in
-            (calm_on scene inv owner mode fits) room (recovers.TheVariants.LoadsWord index count at) here long load_word same_words false
-            paid_word room' (recovers.TheVariants.ChecksCount index count) (omega arith)
+            (calm_on scene inv owner mode fits) room (recovers.LoadsWord index count at) here long load_word same_words false
+            paid_word room' (recovers.ChecksCount index count) (omega arith)
             ((course_calm scene inv owner mode fits) index index index index stands.0 stands.0.within (omega arith), stands.1) (
               long_word,
-              knows_word (recovers.TheVariants.ChecksCount index count) z (omega arith),
+              knows_word (recovers.ChecksCount index count) z (omega arith),
               fill_same scene inv owner mode fits load_word same_words NoIndex f,
             )
 
   -- ---- its (number scene inv owner mode fits) is checked
 
   module _ (room : buffers.Buffer 128) (index count : ℕ)
-      (here : Here room (recovers.TheVariants.ChecksCount index count)) (long : IsLong room)
-      (stands : RecoverAt c z (all scene) (done scene) owner mode (recovers.TheVariants.ChecksCount index count))
-      (k : RecoverKnows code c owner mode room (recovers.TheVariants.ChecksCount index count) (sees_now scene))
+      (here : Here room (recovers.ChecksCount index count)) (long : IsLong room)
+      (stands : RecoverAt c z (all scene) (done scene) owner mode (recovers.ChecksCount index count))
+      (k : RecoverKnows code c owner mode room (recovers.ChecksCount index count) (sees_now scene))
       (s : steps ≤ 3 + z + index * for_index c z mode + backs * for_back c z mode)
       (f : FilledBut (IsWorn scene.terms.by ws) mode p owner NoIndex events) where
     abbrev check_it : Option Ask
@@ -168,14 +168,14 @@ module _ {T : Type 0} (scene : Scene T) (inv : Inv scene) (owner : ℕ) (mode : 
     asking_longer x0 x1 = grind (arith, append_assoc)
 
     -- the copy is whole, and it asks
-    asks : count_now ≡ count → Goes check_it false asking room (recovers.TheVariants.Asks index count)
+    asks : count_now ≡ count → Goes check_it false asking room (recovers.Asks index count)
     asks is =
         let same : words_after ws check_it ≡ ws =
         exchange_sets ws (count_word c index) count count is
         ∙ (ap (set ws (count_word c index)) (sym is) ∙ set-get_or ws (count_word c index) 0) in
         let y =
-        then_at scene inv owner mode fits room (recovers.TheVariants.ChecksCount index count) here room
-        (recovers.TheVariants.Asks index count) check_it false in
+        then_at scene inv owner mode fits room (recovers.ChecksCount index count) here room
+        (recovers.Asks index count) check_it false in
         let goes = (silent_set scene inv (words_after ws check_it) same y asking (tt, (tt, tt)) (refl, (refl, tt))).goes in
         let set_acts_then : set_acts_of p (events ++ asking) ≡ all scene ++ Asks index owner ∷ [] =
         set_acts_more scene (Recover owner mode) here.span asking (refl, (refl, tt)) asking_longer in
@@ -185,9 +185,9 @@ module _ {T : Type 0} (scene : Scene T) (inv : Inv scene) (owner : ℕ) (mode : 
         flat_map-append act (wrote_of p events) (Copied p index value ∷ []) in
         let copy_set_acts : set_acts (wrote_of p events ++ Copied p index value ∷ []) ≡ all scene =
         flat_map-append set_act (wrote_of p events) (Copied p index value ∷ []) ∙ append-nil (all scene) in
-        go_on scene inv owner mode fits room (recovers.TheVariants.ChecksCount index count) here room
-        (recovers.TheVariants.Asks index count) check_it false asking asking_longer
-        (reads_does scene inv owner mode fits room (recovers.TheVariants.ChecksCount index count) here
+        go_on scene inv owner mode fits room (recovers.ChecksCount index count) here room
+        (recovers.Asks index count) check_it false asking asking_longer
+        (reads_does scene inv owner mode fits room (recovers.ChecksCount index count) here
         (words_after ws check_it) same y asking (tt, (tt, tt)) (refl, (refl, tt))
         (record {
           asks = (
@@ -231,9 +231,9 @@ module _ {T : Type 0} (scene : Scene T) (inv : Inv scene) (owner : ℕ) (mode : 
           long,
           (
             ⊎_elim (λ h. let paid = h.1 in omega arith) (λ h. omega arith) k.0,
-            recs scene inv owner mode fits room (recovers.TheVariants.ChecksCount index count) here check_it false y
+            recs scene inv owner mode fits room (recovers.ChecksCount index count) here check_it false y
                 asking (refl, (refl, tt)) tt asking_longer goes index (index + 1) none none none none none k.1
-                (asked_more scene inv owner mode fits room (recovers.TheVariants.ChecksCount index count) here
+                (asked_more scene inv owner mode fits room (recovers.ChecksCount index count) here
                 check_it false y asking (refl, (refl, tt)) tt asking_longer goes index k.1.asked
                 (λ through. inl (subst (IsOneOf (Asks index owner)) (sym set_acts_then) (last_one (Asks index owner) (all scene)))))
                 (λ i said. inl
@@ -252,35 +252,35 @@ module _ {T : Type 0} (scene : Scene T) (inv : Inv scene) (owner : ℕ) (mode : 
                 (refl, (refl, tt)) index count (ap (λ w. count_at c w index) same)
                 (fold-append (filled_after index) None events asking) k.4,
           ),
-          fills_on scene inv owner mode fits room (recovers.TheVariants.ChecksCount index count) here check_it false
+          fills_on scene inv owner mode fits room (recovers.ChecksCount index count) here check_it false
               y asking (refl, (refl, tt)) tt asking_longer goes NoIndex NoIndex
               (λ i was. ⊎_elim (λ had. inl had) (λ e. absurd (cc)) (was_one (Frees i owner) (Asks index owner) (all scene) was))
               (λ i e. e) f,
         )
 
-    pub check_step : StepOf scene (Recover owner mode) (recover_at c owner mode room (recovers.TheVariants.ChecksCount index count))
+    pub check_step : StepOf scene (Recover owner mode) (recover_at c owner mode room (recovers.ChecksCount index count))
     check_step = go (count_now == count) refl
       where
         go : (b : Bool) → (count_now == count) ≡ b → Leads scene (Recover owner mode) (Some (exchanges (count_word c index) count count)) (not b) scene.states
             ((if b then Copied p index (read_in code room) ∷ [] else (if is_even count_now then Shown p index ∷ [] else []))
             ++ (if b then Asked p index owner ∷ [] else []))
             (as_recover scene inv owner mode fits room
-            (if b then GoOn (record (first scene inv owner mode fits) { stage = recovers.TheVariants.Asks index count })
+            (if b then GoOn (record (first scene inv owner mode fits) { stage = recovers.Asks index count })
             else recover_sees (first scene inv owner mode fits) index count_now))
         go true t = let is : count_now ≡ count = grind (arith, nat_tests) in asks is
         go false t =
             let other : count_now ≢ count = grind (arith, nat_tests) in
             let wide = back_at_least c z mode in
-            (sees_number scene inv owner mode fits) room (recovers.TheVariants.ChecksCount index count) index here long stands.0 k.1 k.2
+            (sees_number scene inv owner mode fits) room (recovers.ChecksCount index count) index here long stands.0 k.1 k.2
             check_it (fails_same ws (count_word c index) count count other) true
             (⊎_elim (λ h. absurd (other h.0)) (λ h. omega arith) k.0) (omega arith) f
 
   -- ---- it is told whether to free it
 
   module _ (room : buffers.Buffer 128) (index count : ℕ)
-      (stands : RecoverAt c z (all scene) (done scene) owner mode (recovers.TheVariants.Asks index count))
-      (here : Here room (recovers.TheVariants.Asks index count)) (long : IsLong room)
-      (k : RecoverKnows code c owner mode room (recovers.TheVariants.Asks index count) (sees_now scene))
+      (stands : RecoverAt c z (all scene) (done scene) owner mode (recovers.Asks index count))
+      (here : Here room (recovers.Asks index count)) (long : IsLong room)
+      (k : RecoverKnows code c owner mode room (recovers.Asks index count) (sees_now scene))
       (s : steps ≤ 4 + z + index * for_index c z mode + backs * for_back c z mode)
       (f : FilledBut (IsWorn scene.terms.by ws) mode p owner NoIndex events) where
     abbrev telling : List (Event T)
@@ -289,15 +289,15 @@ module _ {T : Type 0} (scene : Scene T) (inv : Inv scene) (owner : ℕ) (mode : 
     paid_now : backs_then scene false + since_then scene None ≤ changes_then scene None
     paid_now = let paid = k.0 in omega arith
 
-    says_yes : Goes None false telling room (recovers.TheVariants.EmptiesCell index count)
+    says_yes : Goes None false telling room (recovers.EmptiesCell index count)
     says_yes =
         let y =
-        then_at scene inv owner mode fits room (recovers.TheVariants.Asks index count) here room
-        (recovers.TheVariants.EmptiesCell index count) None false in
+        then_at scene inv owner mode fits room (recovers.Asks index count) here room
+        (recovers.EmptiesCell index count) None false in
         let goes = (silent_set scene inv ws refl y telling (tt, tt) (refl, tt)).goes in
-        go_on scene inv owner mode fits room (recovers.TheVariants.Asks index count) here room
-        (recovers.TheVariants.EmptiesCell index count) None false telling (λ start w. refl)
-        (reads_does scene inv owner mode fits room (recovers.TheVariants.Asks index count) here ws refl y telling (tt, tt) (refl, tt)
+        go_on scene inv owner mode fits room (recovers.Asks index count) here room
+        (recovers.EmptiesCell index count) None false telling (λ start w. refl)
+        (reads_does scene inv owner mode fits room (recovers.Asks index count) here ws refl y telling (tt, tt) (refl, tt)
         (record { asks = (k.1.dead, tt); recovers = (tt, tt); answers = (tt, tt); contains = λ holds. (tt, tt); places = λ holds. (tt, tt) }) refl)
         ((refl, stands.2), tt) (omega arith) (
           course_then c z (all scene) (Yes index owner ∷ []) (done scene) [] owner index (index + 1) index
@@ -312,10 +312,10 @@ module _ {T : Type 0} (scene : Scene T) (inv : Inv scene) (owner : ℕ) (mode : 
           long,
           (
             paid_now,
-            recs scene inv owner mode fits room (recovers.TheVariants.Asks index count) here None false y telling
+            recs scene inv owner mode fits room (recovers.Asks index count) here None false y telling
                 (refl, tt) tt (λ start w. refl) goes (index + 1) (index + 1) none (λ i. i ≡ index) (λ i. i ≡ index) none
                 none k.1
-                (asked_on scene inv owner mode fits room (recovers.TheVariants.Asks index count) here None false y
+                (asked_on scene inv owner mode fits room (recovers.Asks index count) here None false y
                 telling (refl, tt) tt (λ start w. refl) goes (index + 1) k.1.asked)
                 (λ i said. ⊎_elim (λ yes. ⊎_elim (λ had. inl (inl had)) (λ e. let is : index ≡ i = cc in inr (sym is))
                 (was_one (Yes i owner) (Yes index owner) (all scene) yes))
@@ -330,7 +330,7 @@ module _ {T : Type 0} (scene : Scene T) (inv : Inv scene) (owner : ℕ) (mode : 
             covers_on scene (Recover owner mode) tt here.span owner ws y telling (refl, tt) index count refl
                 (fold-append (filled_after index) None events telling) k.5,
           ),
-          fills_on scene inv owner mode fits room (recovers.TheVariants.Asks index count) here None false y telling
+          fills_on scene inv owner mode fits room (recovers.Asks index count) here None false y telling
               (refl, tt) tt (λ start w. refl) goes NoIndex NoIndex
               (λ i was. ⊎_elim (λ had. inl had) (λ e. absurd (cc)) (was_one (Frees i owner) (Yes index owner) (all scene) was))
               (λ i e. e) f,
@@ -339,8 +339,8 @@ module _ {T : Type 0} (scene : Scene T) (inv : Inv scene) (owner : ℕ) (mode : 
     says_no : Becomes None false [] room (recover_comes_to (first scene inv owner mode fits) (index + 1))
     says_no =
         let wide = index_at_least c z mode in
-        (calm_next scene inv owner mode fits) room (recovers.TheVariants.Asks index count) here long None refl false paid_now index (omega arith) (inr stands.0)
-        (λ y. (calm_recs scene inv owner mode fits) room (recovers.TheVariants.Asks index count) here long None refl false paid_now y (index + 1) k.1) f
+        (calm_next scene inv owner mode fits) room (recovers.Asks index count) here long None refl false paid_now index (omega arith) (inr stands.0)
+        (λ y. (calm_recs scene inv owner mode fits) room (recovers.Asks index count) here long None refl false paid_now y (index + 1) k.1) f
 
-    pub decided : (answer : ℕ) → AnswerOf scene (Recover owner mode) (recover_at c owner mode room (recovers.TheVariants.Asks index count)) None answer
+    pub decided : (answer : ℕ) → AnswerOf scene (Recover owner mode) (recover_at c owner mode room (recovers.Asks index count)) None answer
     decided x0 = grind (arith, says_yes, says_no)

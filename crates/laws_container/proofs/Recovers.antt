@@ -10,10 +10,10 @@ use Rattle.laws_container.proofs.Names.{HasJustFreed, Stands, Open, old_of, word
 use Rattle.laws_container.proofs.Names.{counter_of, times_below, was_one, is_shut, IsWorn, raise_ask, lock_ask}
 use Rattle.laws_container.proofs.Names.{raise_step, lock_step, IsSaid, raise_number, lock_number, LockAt}
 use Rattle.steps.specs.declared.ask.After.TheVariants.{Done}
-use Rattle.steps.specs.declared.container.recover.RecoverStage as recovers
+use Rattle.steps.specs.declared.container.recover.RecoverStage.TheVariants as recovers
 use Rattle.steps.specs.declared.copied.Buffer as buffers
-use Rattle.steps.specs.declared.indices.enums.ReleaseState as states
-use Rattle.steps.specs.declared.indices.robust.parts.Raise as raises
+use Rattle.steps.specs.declared.indices.enums.ReleaseState.TheVariants as states
+use Rattle.steps.specs.declared.indices.robust.parts.Raise.TheVariants as raises
 use Rattle.model.specs.declared.families.container.ContainerStart.TheVariants.{Recover}
 use Rattle.model.specs.Families.Indices.Robust.Steps.{locked_by}
 use Rattle.laws_robust.proofs.Effects as set_effects
@@ -51,9 +51,9 @@ module _ {T : Type 0} (scene : Scene T) (inv : Inv scene) (owner : ℕ) (mode : 
   -- ---- the raise of the counter
 
   module _ (room : buffers.Buffer 128) (index : ℕ) (raise : Raise)
-      (here : Here scene inv owner mode fits room (recovers.TheVariants.Raises index raise)) (long : IsLong room)
+      (here : Here scene inv owner mode fits room (recovers.Raises index raise)) (long : IsLong room)
       (course : Course scene inv owner mode fits index (index + 1)) (just : HasJustFreed (all scene))
-      (k : RecoverKnows code c owner mode room (recovers.TheVariants.Raises index raise) (sees_now scene))
+      (k : RecoverKnows code c owner mode room (recovers.Raises index raise) (sees_now scene))
       (s : steps ≤ 6 + z + raise_number raise + index * for_index c z mode + backs * for_back c z mode)
       (f : FilledBut (IsWorn scene.terms.by ws) mode p owner (λ i. i ≡ index) events) where
     abbrev raises_to : Option Ask → Bool → After Raise ReleaseState → Type 0
@@ -62,7 +62,7 @@ module _ {T : Type 0} (scene : Scene T) (inv : Inv scene) (owner : ℕ) (mode : 
         (as_recover scene inv owner mode fits room (recover_raised (first scene inv owner mode fits) index mode r))
 
     abbrev this : RecoverStage
-    this = recovers.TheVariants.Raises index raise
+    this = recovers.Raises index raise
 
     -- it locks in the mode for that alone
     by_mode : (m : ReleaseMode) → mode ≡ m → (ask : Option Ask) (back : Bool)
@@ -71,14 +71,14 @@ module _ {T : Type 0} (scene : Scene T) (inv : Inv scene) (owner : ℕ) (mode : 
         → Few scene inv owner mode fits ask back (8 + z) index
         → Leads scene (Recover owner mode) ask back scene.states []
         (as_recover scene inv owner mode fits room
-        (recover_raised (first scene inv owner mode fits) index m (Done states.TheVariants.Unlocked)))
+        (recover_raised (first scene inv owner mode fits) index m (Done states.Unlocked)))
     by_mode Default is ask back stays paid few =
         let wide = index_at_least c z mode in
         stays_next scene inv owner mode fits room this here long ask back stays paid index k.1 (omega arith) course
         (subst (λ m. FilledBut (IsWorn scene.terms.by (words_after ws ask)) m p owner NoIndex (events ++ [])) (sym is) tt)
     by_mode LockIfLastIndex is ask back stays paid few =
-        let y = then_at scene inv owner mode fits room this here room (recovers.TheVariants.Locks index first_lock) ask back in
-        stays_on scene inv owner mode fits room this here long ask back stays paid index k.1 (recovers.TheVariants.Locks index first_lock) (omega arith) (
+        let y = then_at scene inv owner mode fits room this here room (recovers.Locks index first_lock) ask back in
+        stays_on scene inv owner mode fits room this here long ask back stays paid index k.1 (recovers.Locks index first_lock) (omega arith) (
           course_calm scene inv owner mode fits index (index + 1) index (index + 1) course course.within (omega arith),
           just_on scene inv owner mode fits just,
           is,
@@ -99,9 +99,9 @@ module _ {T : Type 0} (scene : Scene T) (inv : Inv scene) (owner : ℕ) (mode : 
         let paid = held_is ask back number held in
         let y =
         then_at scene inv owner mode fits room this here room
-        (recovers.TheVariants.Raises index (raises.TheVariants.ExchangesCounter number)) ask back in
+        (recovers.Raises index (raises.ExchangesCounter number)) ask back in
         stays_on scene inv owner mode fits room this here long ask back stays paid index k.1
-        (recovers.TheVariants.Raises index (raises.TheVariants.ExchangesCounter number)) (omega arith)
+        (recovers.Raises index (raises.ExchangesCounter number)) (omega arith)
         (course_calm scene inv owner mode fits index (index + 1) index (index + 1) course course.within (omega arith), just_on scene inv owner mode fits just) (
           long,
           (
@@ -116,13 +116,13 @@ module _ {T : Type 0} (scene : Scene T) (inv : Inv scene) (owner : ℕ) (mode : 
         let times = times_below c index (for_index c z mode) course.within in
         let stays = set_effects.stays_same (of_set scene) (inv_of_set scene inv) (words_after ws ask) same in
         stays_on scene inv owner mode fits room this here long ask back stays paid index k.1
-        (recovers.TheVariants.AddsChange states.TheVariants.Locked) (omega arith) tt (
+        (recovers.AddsChange states.Locked) (omega arith) tt (
           long,
           (
             paid,
             locked_later events [] (is_shut (of_set scene) (inv_of_set scene inv) shut),
             hidden_still scene inv owner mode fits room this here ask
-                (then_at scene inv owner mode fits room this here room (recovers.TheVariants.AddsChange states.TheVariants.Locked) ask back)
+                (then_at scene inv owner mode fits room this here room (recovers.AddsChange states.Locked) ask back)
                 k.1.hidden,
           ),
           tt,
@@ -142,10 +142,10 @@ module _ {T : Type 0} (scene : Scene T) (inv : Inv scene) (owner : ℕ) (mode : 
   -- ---- the lock
 
   module _ (room : buffers.Buffer 128) (index : ℕ) (lock : Lock)
-      (here : Here scene inv owner mode fits room (recovers.TheVariants.Locks index lock)) (long : IsLong room)
+      (here : Here scene inv owner mode fits room (recovers.Locks index lock)) (long : IsLong room)
       (course : Course scene inv owner mode fits index (index + 1)) (just : HasJustFreed (all scene))
       (may_lock : mode ≡ LockIfLastIndex) (at : LockAt c lock)
-      (k : RecoverKnows code c owner mode room (recovers.TheVariants.Locks index lock) (sees_now scene))
+      (k : RecoverKnows code c owner mode room (recovers.Locks index lock) (sees_now scene))
       (s : steps ≤ 8 + z + lock_number c lock + index * for_index c z mode + backs * for_back c z mode)
       (f : FilledBut (IsWorn scene.terms.by ws) mode p owner (λ i. i ≡ index) events
       × set_knows.LockSays c (FoundFilled p events) lock) where
@@ -155,7 +155,7 @@ module _ {T : Type 0} (scene : Scene T) (inv : Inv scene) (owner : ℕ) (mode : 
         (as_recover scene inv owner mode fits room (recover_locked (first scene inv owner mode fits) index r))
 
     abbrev locks_at : RecoverStage
-    locks_at = recovers.TheVariants.Locks index lock
+    locks_at = recovers.Locks index lock
 
     for_a_back : for_back c z mode ≡ z + c + 4
     for_a_back = ap (for_back c z) may_lock
@@ -185,7 +185,7 @@ module _ {T : Type 0} (scene : Scene T) (inv : Inv scene) (owner : ℕ) (mode : 
         → counter_of ws < greatest → words_after ws ask ≡ set ws 0 locked
         → backs_then scene false + since_then scene ask ≤ changes_then scene ask
         → Few scene inv owner mode fits ask false 1 (index + 1)
-        → locks_to ask false locking (Done states.TheVariants.Locked)
+        → locks_to ask false locking (Done states.Locked)
     locks_set ask nobody less new paid few =
         let set_does = set_locks.locks (of_set scene) (inv_of_set scene inv) (words_after ws ask) [] set_effects.quiet_none tt tt tt nobody less new in
         comes_to_next scene inv owner mode fits room locks_at here long ask false locking (λ start w. refl)
@@ -223,8 +223,8 @@ module _ {T : Type 0} (scene : Scene T) (inv : Inv scene) (owner : ℕ) (mode : 
         (λ next ask back stays next_at held scanned says few.
         let low = few (8 + z + index * for_index c z mode) (for_back c z mode) (omega arith) (omega arith) in
         let paid = lock_paid next ask back held in
-        let y = then_at scene inv owner mode fits room locks_at here room (recovers.TheVariants.Locks index next) ask back in
-        stays_on scene inv owner mode fits room locks_at here long ask back stays paid index k.1 (recovers.TheVariants.Locks index next) (omega arith) (
+        let y = then_at scene inv owner mode fits room locks_at here room (recovers.Locks index next) ask back in
+        stays_on scene inv owner mode fits room locks_at here long ask back stays paid index k.1 (recovers.Locks index next) (omega arith) (
           course_calm scene inv owner mode fits index (index + 1) index (index + 1) course course.within (omega arith),
           just_on scene inv owner mode fits just,
           may_lock,

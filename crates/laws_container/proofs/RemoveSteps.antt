@@ -5,8 +5,8 @@ use Rattle.laws_container.proofs.Names.{ReleaseMode, count_word, empty, Finished
 use Rattle.laws_container.proofs.Names.{ContainerStart, ContainerFlight, place_of, words_after, loads_same}
 use Rattle.laws_container.proofs.Names.{release_at}
 use Rattle.steps.specs.declared.ask.After.TheVariants.{Done}
-use Rattle.steps.specs.declared.container.remove.RemoveStage as removes
-use Rattle.steps.specs.declared.indices.robust.release.ReleaseStage as releases
+use Rattle.steps.specs.declared.container.remove.RemoveStage.TheVariants as removes
+use Rattle.steps.specs.declared.indices.robust.release.ReleaseStage.TheVariants as releases
 use Rattle.model.specs.declared.event.Answer.TheVariants as answers
 use Rattle.model.specs.declared.families.container.ContainerStart.TheVariants.{Remove}
 use Rattle.laws_robust.proofs.Effects as set_effects
@@ -43,8 +43,8 @@ module _ {T : Type 0} (scene : Scene T) (inv : Inv scene) (index owner : ℕ) (m
 
   -- ---- the number is loaded
 
-  module _ (here : Here removes.TheVariants.LoadsCount) (none : all scene ≡ []) (nothing : done scene ≡ [])
-      (k : set_knows.Knows c (release_at c index owner mode releases.TheVariants.EmptiesCell) (set_stages.now (of_set scene)))
+  module _ (here : Here removes.LoadsCount) (none : all scene ≡ []) (nothing : done scene ≡ [])
+      (k : set_knows.Knows c (release_at c index owner mode releases.EmptiesCell) (set_stages.now (of_set scene)))
       (s : steps ≤ 0) where
     abbrev load_it : Option Ask
     load_it = Some (set_stages.loads (count_word c index))
@@ -52,11 +52,11 @@ module _ {T : Type 0} (scene : Scene T) (inv : Inv scene) (index owner : ℕ) (m
     abbrev number : ℕ
     number = count_in code c (before scene) index
 
-    loads_step : StepOf scene start (at_stage removes.TheVariants.LoadsCount)
+    loads_step : StepOf scene start (at_stage removes.LoadsCount)
     loads_step =
-        let next = removes.TheVariants.Releases number releases.TheVariants.EmptiesCell in
+        let next = removes.Releases number releases.EmptiesCell in
         let same = loads_same ws (count_word c index) in
-        (stays_on scene inv index owner mode fits acts below) removes.TheVariants.LoadsCount next here refl load_it false
+        (stays_on scene inv index owner mode fits acts below) removes.LoadsCount next here refl load_it false
         (set_effects.stays_same (of_set scene) (inv_of_set scene inv) (words_after ws load_it) same) (omega arith)
         (below, none, nothing) (
           record { paid = let paid = k.paid in omega arith; scanned = tt; owns = k.owns; says = tt; gone = tt },
@@ -76,16 +76,16 @@ module _ {T : Type 0} (scene : Scene T) (inv : Inv scene) (index owner : ℕ) (m
       → StepOf scene (Remove index owner mode) (remove_at c at owner mode stage)
 
   -- an index that is none of the container
-  past : (at : ℕ) → c ≤ index → all scene ≡ [] → Moves removes.TheVariants.Refuses at
+  past : (at : ℕ) → c ≤ index → all scene ≡ [] → Moves removes.Refuses at
   past at beyond none here paid s =
       let start = Remove index owner mode in
       let y = party_then scene start None false (Done (answers.NotRemoved ContainerHandleNotOwnedByContainer)) in
       let es = Finished p (Container start) (answers.NotRemoved ContainerHandleNotOwnedByContainer) ∷ [] in
       ends scene start (answers.NotRemoved ContainerHandleNotOwnedByContainer) None false scene.states [] here.span none_lengthens
       (silently scene inv scene.words refl y es (tt, tt) (refl, tt) start
-      (remove_at c at owner mode removes.TheVariants.Refuses) tt here
+      (remove_at c at owner mode removes.Refuses) tt here
       (was_well_formed scene start tt here.span scene.words y es (refl, tt))
-      (owes_none scene start (remove_at c at owner mode removes.TheVariants.Refuses) y here refl)
+      (owes_none scene start (remove_at c at owner mode removes.Refuses) y here refl)
       (record {
         asks = (tt, tt);
         recovers = (tt, tt);
@@ -98,16 +98,16 @@ module _ {T : Type 0} (scene : Scene T) (inv : Inv scene) (index owner : ℕ) (m
       (let most = total_is c code.size index owner mode (backs + 0) T in omega arith) (omega arith)
 
   pub remove_step : (stage : RemoveStage) → RemoveAt c code.size (all scene) (done scene) index owner mode stage → Moves stage (place_of c index)
-  remove_step removes.TheVariants.Refuses at = past (place_of c index) at.0 at.1
-  remove_step removes.TheVariants.LoadsCount at =
-      subst (Moves removes.TheVariants.LoadsCount) (sym (place_is c index at.0))
+  remove_step removes.Refuses at = past (place_of c index) at.0 at.1
+  remove_step removes.LoadsCount at =
+      subst (Moves removes.LoadsCount) (sym (place_is c index at.0))
       (λ here k s. loads_step scene inv index owner mode fits acts at.0 here at.1 at.2 k s)
-  remove_step (removes.TheVariants.Releases count stage) at =
-      subst (Moves (removes.TheVariants.Releases count stage)) (sym (place_is c index at.0))
+  remove_step (removes.Releases count stage) at =
+      subst (Moves (removes.Releases count stage)) (sym (place_is c index at.0))
       (λ here k s. release_step scene inv index owner mode fits acts at.0 count stage here at.1 at.2 k.1 k.2 k.0 s)
-  remove_step (removes.TheVariants.Hides count state) at =
-      subst (Moves (removes.TheVariants.Hides count state)) (sym (place_is c index at.0))
+  remove_step (removes.Hides count state) at =
+      subst (Moves (removes.Hides count state)) (sym (place_is c index at.0))
       (λ here k s. hides_step scene inv index owner mode fits acts at.0 count state here at k s)
-  remove_step (removes.TheVariants.AddsChange state) at =
-      subst (Moves (removes.TheVariants.AddsChange state)) (sym (place_is c index at.0))
+  remove_step (removes.AddsChange state) at =
+      subst (Moves (removes.AddsChange state)) (sym (place_is c index at.0))
       (λ here k s. end_step scene inv index owner mode fits acts at.0 state here at.1 k s)

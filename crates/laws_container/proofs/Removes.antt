@@ -16,15 +16,15 @@ use Rattle.laws_container.proofs.Names.{GivesBackRight, IsHonest, IsCalm, lives_
 use Rattle.laws_container.proofs.Names.{release_at, release_number, ReleaseAt}
 use Rattle.steps.specs.declared.ask.After.TheVariants.{Done}
 use Rattle.steps.specs.declared.container.remove.Remove as remove_calls
-use Rattle.steps.specs.declared.container.remove.RemoveStage as removes
-use Rattle.steps.specs.declared.indices.enums.ReleaseState as states
-use Rattle.steps.specs.declared.indices.robust.parts.Raise as raises
+use Rattle.steps.specs.declared.container.remove.RemoveStage.TheVariants as removes
+use Rattle.steps.specs.declared.indices.enums.ReleaseState.TheVariants as states
+use Rattle.steps.specs.declared.indices.robust.parts.Raise.TheVariants as raises
 use Rattle.steps.specs.declared.indices.robust.release.Release as set_calls
-use Rattle.steps.specs.declared.indices.robust.release.ReleaseStage as releases
+use Rattle.steps.specs.declared.indices.robust.release.ReleaseStage.TheVariants as releases
 use Rattle.steps.specs.Indices.Robust.Release.{Released}
 use Rattle.model.specs.declared.event.Answer.TheVariants as answers
 use Rattle.model.specs.declared.families.container.ContainerStart.TheVariants.{Remove}
-use Rattle.model.specs.declared.families.container.calls.ContainerFlight as calls
+use Rattle.model.specs.declared.families.container.calls.ContainerFlight.TheVariants as calls
 use Rattle.laws_robust.proofs.Effects as set_effects
 use Rattle.laws_robust.proofs.HeldRelease.{Caller, Ends, held_step}
 use Rattle.laws_robust.proofs.Invariant as set_invariant
@@ -81,11 +81,11 @@ module _ {T : Type 0} (scene : Scene T) (inv : Inv scene) (index owner : ℕ) (m
 
   abbrev as_remove : After remove_calls.Remove Removed → After (ContainerFlight T) (Answer T)
   as_remove a =
-      as_call calls.TheVariants.Remove removed
+      as_call calls.Remove removed
       (went_on as_it_is (record { index = index; owner = owner; mode = mode }) tt a)
 
   abbrev first : remove_calls.Remove
-  first = record { capacity = c; stage = removes.TheVariants.LoadsCount }
+  first = record { capacity = c; stage = removes.LoadsCount }
 
   abbrev Here : RemoveStage → Type 0
   Here stage = IsHere scene (Remove index owner mode) (remove_at c index owner mode stage)
@@ -151,7 +151,7 @@ module _ {T : Type 0} (scene : Scene T) (inv : Inv scene) (index owner : ℕ) (m
 
   -- ---- the release
 
-  module _ (count : ℕ) (stage : ReleaseStage) (here : Here (removes.TheVariants.Releases count stage))
+  module _ (count : ℕ) (stage : ReleaseStage) (here : Here (removes.Releases count stage))
       (now_at : ReleaseAt c index owner mode (all scene) stage) (nothing : done scene ≡ [])
       (left : ReleaseLeft code c index count stage (sees_now scene))
       (hiding : ReleaseHides code c index owner count stage (sees_now scene)) where
@@ -170,7 +170,7 @@ module _ {T : Type 0} (scene : Scene T) (inv : Inv scene) (index owner : ℕ) (m
         Leads scene start ask back scene.states (did ++ []) (as_remove (remove_released first count a))
 
     abbrev this : RemoveStage
-    this = removes.TheVariants.Releases count stage
+    this = removes.Releases count stage
 
     -- what was left is left still
     left_calm : (next : RemoveStage) (ask : Option Ask) (back : Bool)
@@ -190,8 +190,8 @@ module _ {T : Type 0} (scene : Scene T) (inv : Inv scene) (index owner : ℕ) (m
 
     left_next : (next : ReleaseStage) (ask : Option Ask) (back : Bool)
         → set_effects.Stays (of_set scene) (words_after ws ask) → ReleaseAt c index owner mode (all scene) next
-        → ReleaseLeft code c index count next (SeesCalmly (removes.TheVariants.Releases count next) ask back)
-    left_next releases.TheVariants.EmptiesCell ask back stays at = (below, low stage now_at left)
+        → ReleaseLeft code c index count next (SeesCalmly (removes.Releases count next) ask back)
+    left_next releases.EmptiesCell ask back stays at = (below, low stage now_at left)
       where
         same : count_at c (words_after ws ask) index ≡ count_in code c (before scene) index
         same = stays.others (count_word c index) (omega arith)
@@ -199,13 +199,13 @@ module _ {T : Type 0} (scene : Scene T) (inv : Inv scene) (index owner : ℕ) (m
         low : (s : ReleaseStage) → ReleaseAt c index owner mode (all scene) s
             → ReleaseLeft code c index count s (sees_now scene) → Keeps scene.terms
             → count ≤ count_at c (words_after ws ask) index
-        low releases.TheVariants.EmptiesCell at h kept = let was = h.1 kept in let eq = same in omega arith
-        low (releases.TheVariants.Raises raise) at h kept = let was = h.below kept in let eq = same in omega arith
-        low (releases.TheVariants.Locks lock) at h kept = let was = h.below kept in let eq = same in omega arith
-    left_next (releases.TheVariants.Raises raise) ask back stays at =
-        left_calm (removes.TheVariants.Releases count (releases.TheVariants.Raises raise)) ask back stays (has_left at)
-    left_next (releases.TheVariants.Locks lock) ask back stays at =
-        left_calm (removes.TheVariants.Releases count (releases.TheVariants.Locks lock)) ask back stays (has_left at.2)
+        low releases.EmptiesCell at h kept = let was = h.1 kept in let eq = same in omega arith
+        low (releases.Raises raise) at h kept = let was = h.below kept in let eq = same in omega arith
+        low (releases.Locks lock) at h kept = let was = h.below kept in let eq = same in omega arith
+    left_next (releases.Raises raise) ask back stays at =
+        left_calm (removes.Releases count (releases.Raises raise)) ask back stays (has_left at)
+    left_next (releases.Locks lock) ask back stays at =
+        left_calm (removes.Releases count (releases.Locks lock)) ask back stays (has_left at.2)
 
     -- before it frees, its number is covered
     covers : all scene ≡ [] → RemoveCovers code c p owner index count (before scene)
@@ -217,20 +217,20 @@ module _ {T : Type 0} (scene : Scene T) (inv : Inv scene) (index owner : ℕ) (m
 
     hides_next : (next : ReleaseStage) (ask : Option Ask) (back : Bool)
         → set_effects.Stays (of_set scene) (words_after ws ask) → ReleaseAt c index owner mode (all scene) next
-        → ReleaseHides code c index owner count next (SeesCalmly (removes.TheVariants.Releases count next) ask back)
-    hides_next releases.TheVariants.EmptiesCell ask back stays at =
+        → ReleaseHides code c index owner count next (SeesCalmly (removes.Releases count next) ask back)
+    hides_next releases.EmptiesCell ask back stays at =
         let same : count_at c (words_after ws ask) index ≡ count_in code c (before scene) index = stays.others (count_word c index) (omega arith) in
         λ well_formed lives since. ⊎_elim (λ is. inl (same ∙ is)) (λ even. inr (ap (λ n. n % 2) same ∙ even))
         (covers at (was_well_formed_calmly scene start tt here.span
-        (then_at (removes.TheVariants.Releases count releases.TheVariants.EmptiesCell) ask back) well_formed)
+        (then_at (removes.Releases count releases.EmptiesCell) ask back) well_formed)
         lives since)
-    hides_next (releases.TheVariants.Raises raise) ask back stays at =
+    hides_next (releases.Raises raise) ask back stays at =
         stands_calm scene start tt here.span owner (words_after ws ask)
-        (then_at (removes.TheVariants.Releases count (releases.TheVariants.Raises raise)) ask back) index count
+        (then_at (removes.Releases count (releases.Raises raise)) ask back) index count
         (stays.others (count_word c index) (omega arith)) (stands_still at)
-    hides_next (releases.TheVariants.Locks lock) ask back stays at =
+    hides_next (releases.Locks lock) ask back stays at =
         stands_calm scene start tt here.span owner (words_after ws ask)
-        (then_at (removes.TheVariants.Releases count (releases.TheVariants.Locks lock)) ask back) index count
+        (then_at (removes.Releases count (releases.Locks lock)) ask back) index count
         (stays.others (count_word c index) (omega arith)) (stands_still at.2)
 
     -- nothing stands there under an even number
@@ -261,18 +261,18 @@ module _ {T : Type 0} (scene : Scene T) (inv : Inv scene) (index owner : ℕ) (m
       where
         go : (b : Bool) → is_even count ≡ b
             → Leads scene start ask back scene.states []
-            (as_remove (if b then GoOn (at_remove first (removes.TheVariants.AddsChange state)) else GoOn
-            (at_remove first (removes.TheVariants.Hides count state))))
+            (as_remove (if b then GoOn (at_remove first (removes.AddsChange state)) else GoOn
+            (at_remove first (removes.Hides count state))))
         go true t =
-            stays_on this (removes.TheVariants.AddsChange state) here refl ask back stays (omega arith)
+            stays_on this (removes.AddsChange state) here refl ask back stays (omega arith)
             (below, done_now (words_after ws ask) mode state why freed) (
               paid,
-              says_now (removes.TheVariants.AddsChange state) ask back mode state why,
+              says_now (removes.AddsChange state) ask back mode state why,
               hidden_calm scene start tt here.span owner (words_after ws ask)
-                  (then_at (removes.TheVariants.AddsChange state) ask back) (none_stands freed t),
+                  (then_at (removes.AddsChange state) ask back) (none_stands freed t),
             )
         go false t =
-            stays_on this (removes.TheVariants.Hides count state) here refl ask back stays (omega arith) (
+            stays_on this (removes.Hides count state) here refl ask back stays (omega arith) (
               below,
               done_now (words_after ws ask) mode state why freed,
               subst (IsOneOf (Frees index owner)) (sym freed) (record { before = []; after = []; is = refl }),
@@ -280,10 +280,10 @@ module _ {T : Type 0} (scene : Scene T) (inv : Inv scene) (index owner : ℕ) (m
               odd_is count t,
             ) (
               paid,
-              says_now (removes.TheVariants.Hides count state) ask back mode state why,
-              left_calm (removes.TheVariants.Hides count state) ask back stays (has_left freed),
+              says_now (removes.Hides count state) ask back mode state why,
+              left_calm (removes.Hides count state) ask back stays (has_left freed),
               stands_calm scene start tt here.span owner (words_after ws ask)
-                  (then_at (removes.TheVariants.Hides count state) ask back) index count
+                  (then_at (removes.Hides count state) ask back) index count
                   (stays.others (count_word c index) (omega arith)) (stands_still freed),
             )
 
@@ -293,7 +293,7 @@ module _ {T : Type 0} (scene : Scene T) (inv : Inv scene) (index owner : ℕ) (m
         → words_after ws ask ≡ set ws 0 locked → all scene ≡ Frees index owner ∷ []
         → backs_then scene false + since_then scene ask ≤ changes_then scene ask
         → steps + step_count ask ≤ 1 + release_total c index owner mode (backs_then scene false)
-        → Lead ask false (Locked p ∷ []) (Done (Ok states.TheVariants.Locked))
+        → Lead ask false (Locked p ∷ []) (Done (Ok states.Locked))
     locked_by ask may_lock nobody less new freed paid few = go (is_even count) refl
       where
         set_does : set_invariant.Does (of_set scene) (words_after ws ask) (Locked p ∷ [])
@@ -309,7 +309,7 @@ module _ {T : Type 0} (scene : Scene T) (inv : Inv scene) (index owner : ℕ) (m
         stands : AllFollow (Stands promise c) (Open (Container (Remove index owner mode)) (wrote_of p events)) (Locked p ∷ [])
         stands = grind (arith, promise)
 
-        done_then : HasDone {T = T} (Remove index owner mode) (answers.State states.TheVariants.Locked) (all scene ++ Locks ∷ []) []
+        done_then : HasDone {T = T} (Remove index owner mode) (answers.State states.Locked) (all scene ++ Locks ∷ []) []
         done_then = grind (arith, all, inr)
 
         says : is_locked (events ++ Locked p ∷ []) ≡ true
@@ -345,24 +345,24 @@ module _ {T : Type 0} (scene : Scene T) (inv : Inv scene) (index owner : ℕ) (m
 
         go : (b : Bool) → is_even count ≡ b
             → Leads scene start ask false scene.states (Locked p ∷ [])
-            (as_remove (if b then GoOn (at_remove first (removes.TheVariants.AddsChange states.TheVariants.Locked)) else GoOn
-            (at_remove first (removes.TheVariants.Hides count states.TheVariants.Locked))))
+            (as_remove (if b then GoOn (at_remove first (removes.AddsChange states.Locked)) else GoOn
+            (at_remove first (removes.Hides count states.Locked))))
         go true t =
-            goes_on scene start (at_stage (removes.TheVariants.AddsChange states.TheVariants.Locked)) ask false
+            goes_on scene start (at_stage (removes.AddsChange states.Locked)) ask false
             scene.states (Locked p ∷ []) here.span (λ start w. refl)
-            (does (then_at (removes.TheVariants.AddsChange states.TheVariants.Locked) ask false)) stands
+            (does (then_at (removes.AddsChange states.Locked) ask false)) stands
             (omega arith)
             (refl, given_is, fits, (below, done_then)) (
               paid,
               says,
               hidden_on scene start tt here.span owner (words_after ws ask)
-                  (then_at (removes.TheVariants.AddsChange states.TheVariants.Locked) ask false) (Locked p ∷ [])
+                  (then_at (removes.AddsChange states.Locked) ask false) (Locked p ∷ [])
                   (refl, tt) tt (λ start w. refl) frees_none (none_stands freed t),
             )
         go false t =
-            goes_on scene start (at_stage (removes.TheVariants.Hides count states.TheVariants.Locked)) ask false
+            goes_on scene start (at_stage (removes.Hides count states.Locked)) ask false
             scene.states (Locked p ∷ []) here.span (λ start w. refl)
-            (does (then_at (removes.TheVariants.Hides count states.TheVariants.Locked) ask false)) stands
+            (does (then_at (removes.Hides count states.Locked) ask false)) stands
             (omega arith) (
               refl,
               given_is,
@@ -378,18 +378,18 @@ module _ {T : Type 0} (scene : Scene T) (inv : Inv scene) (index owner : ℕ) (m
             ) (
               paid,
               says,
-              left_then (then_at (removes.TheVariants.Hides count states.TheVariants.Locked) ask false),
-              stands_then (then_at (removes.TheVariants.Hides count states.TheVariants.Locked) ask false),
+              left_then (then_at (removes.Hides count states.Locked) ask false),
+              stands_then (then_at (removes.Hides count states.Locked) ask false),
             )
 
     caller : Caller (of_set scene) (inv_of_set scene inv) index owner mode fits below lives began 1 Lead
     caller =
         record {
           quiet = λ next ask back stays at known few.
-              stays_on this (removes.TheVariants.Releases count next) here refl ask back stays (omega arith)
+              stays_on this (removes.Releases count next) here refl ask back stays (omega arith)
               (below, at, nothing) (known, left_next next ask back stays at, hides_next next ask back stays at);
           freed = λ ask new does none known few.
-              let next = removes.TheVariants.Releases count (releases.TheVariants.Raises raises.TheVariants.LoadsCounter) in
+              let next = removes.Releases count (releases.Raises raises.LoadsCounter) in
               let y = then_at next ask false in
               let es : List (Event T) = FreedOf p index owner ∷ [] in
               let rest = rest_set scene inv start (at_stage this) tt here y (words_after ws ask) (cell_word index) empty (omega arith) new in
@@ -426,5 +426,5 @@ module _ {T : Type 0} (scene : Scene T) (inv : Inv scene) (index owner : ℕ) (m
 
     pub release_step : set_knows.Knows c (release_at c index owner mode stage) (set_stages.now (of_set scene))
         → steps ≤ 1 + release_number c mode stage backs
-        → StepOf scene start (at_stage (removes.TheVariants.Releases count stage))
+        → StepOf scene start (at_stage (removes.Releases count stage))
     release_step k s = held_step (of_set scene) (inv_of_set scene inv) index owner mode fits below lives began 1 Lead caller stage now_at k s

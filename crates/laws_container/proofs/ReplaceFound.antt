@@ -12,10 +12,10 @@ use Rattle.laws_container.proofs.Names.{as_call, words_after, held_later, AreOwn
 use Rattle.laws_container.proofs.Names.{calm_less, gone_less, loads_same, exchanges, fails_same}
 use Rattle.steps.specs.declared.ask.After.TheVariants.{Done}
 use Rattle.steps.specs.declared.container.replace.Replace as replace_calls
-use Rattle.steps.specs.declared.container.replace.ReplaceStage as replaces
+use Rattle.steps.specs.declared.container.replace.ReplaceStage.TheVariants as replaces
 use Rattle.model.specs.declared.event.Answer.TheVariants as answers
 use Rattle.model.specs.declared.families.container.ContainerStart.TheVariants.{Replace}
-use Rattle.model.specs.declared.families.container.calls.ContainerFlight as calls
+use Rattle.model.specs.declared.families.container.calls.ContainerFlight.TheVariants as calls
 use Rattle.laws_robust.proofs.Effects as set_effects
 use Rattle.laws_robust.proofs.Stages as set_stages
 use Rattle.laws_container.proofs.AddWrites.{placed_once}
@@ -57,11 +57,11 @@ module _ {T : Type 0} (scene : Scene T) (inv : Inv scene) (index : ℕ) (value :
 
   abbrev as_replace : After (replace_calls.Replace T) Replaced → After (ContainerFlight T) (Answer T)
   as_replace a =
-      as_call calls.TheVariants.Replace replaced
+      as_call calls.Replace replaced
       (went_on as_it_is (record { index = index; owner = owner; value = value }) tt a)
 
   abbrev first : replace_calls.Replace T
-  first = record { capacity = c; stage = replaces.TheVariants.LoadsCell; of = record {} }
+  first = record { capacity = c; stage = replaces.LoadsCell; of = record {} }
 
   abbrev Here : ReplaceStage → Type 0
   Here stage = IsHere scene (Replace index value owner) (replace_at c index value owner stage)
@@ -138,38 +138,38 @@ module _ {T : Type 0} (scene : Scene T) (inv : Inv scene) (index : ℕ) (value :
 
     -- ---- the number is loaded
 
-    module _ (here : Here replaces.TheVariants.LoadsCount) (nothing : done scene ≡ []) (s : steps ≤ 1) where
+    module _ (here : Here replaces.LoadsCount) (nothing : done scene ≡ []) (s : steps ≤ 1) where
       abbrev load_it : Ask
       load_it = set_stages.loads (count_word c i)
 
       abbrev number : ℕ
       number = count_in code c (before scene) i
 
-      count_step : StepOf scene start (at_stage replaces.TheVariants.LoadsCount)
+      count_step : StepOf scene start (at_stage replaces.LoadsCount)
       count_step = go (is_even number) refl
         where
           go : (b : Bool) → is_even number ≡ b → Leads scene start (Some (set_stages.loads (count_word c i))) false scene.states []
-              (as_replace (if b then GoOn (at_replace first (replaces.TheVariants.Stores 0)) else GoOn (at_replace first (replaces.TheVariants.Hides number))))
+              (as_replace (if b then GoOn (at_replace first (replaces.Stores 0)) else GoOn (at_replace first (replaces.Hides number))))
           go true t =
               let some = inv.elements.coded.some in
-              (calm_step scene inv index value owner fits acts below none_done) replaces.TheVariants.LoadsCount (replaces.TheVariants.Stores 0) load_it
+              (calm_step scene inv index value owner fits acts below none_done) replaces.LoadsCount (replaces.Stores 0) load_it
               (loads_same ws (count_word c i)) here k.filled refl (omega arith)
               (below, none_done, inl nothing, omega arith) (
-                knows_calm replaces.TheVariants.LoadsCount (replaces.TheVariants.Stores 0) here load_it,
-                first_word replaces.TheVariants.LoadsCount (replaces.TheVariants.Stores 0) here load_it
+                knows_calm replaces.LoadsCount (replaces.Stores 0) here load_it,
+                first_word replaces.LoadsCount (replaces.Stores 0) here load_it
                     (loads_same ws (count_word c i)) (λ holds. even_is number t),
               )
           go false t =
-              (calm_step scene inv index value owner fits acts below none_done) replaces.TheVariants.LoadsCount (replaces.TheVariants.Hides number) load_it
+              (calm_step scene inv index value owner fits acts below none_done) replaces.LoadsCount (replaces.Hides number) load_it
               (loads_same ws (count_word c i)) here k.filled refl (omega arith)
               (below, none_done, nothing, odd_is number t) (
-                knows_calm replaces.TheVariants.LoadsCount (replaces.TheVariants.Hides number) here load_it,
+                knows_calm replaces.LoadsCount (replaces.Hides number) here load_it,
                 (λ holds lives. inl (ap (λ w. count_at c w i) (loads_same ws (count_word c i)))),
               )
 
     -- ---- what stands there is hidden
 
-    module _ (count : ℕ) (here : Here (replaces.TheVariants.Hides count)) (nothing : done scene ≡ [])
+    module _ (count : ℕ) (here : Here (replaces.Hides count)) (nothing : done scene ≡ [])
         (odd : count % 2 ≡ 1) (covers : Covers code c owner i count (sees_now scene)) (s : steps ≤ 2) where
       abbrev hide_it : Ask
       hide_it = exchanges (count_word c i) count (one_more count)
@@ -177,28 +177,28 @@ module _ {T : Type 0} (scene : Scene T) (inv : Inv scene) (index : ℕ) (value :
       abbrev now_at : ℕ
       now_at = count_in code c (before scene) i
 
-      hide_step : StepOf scene start (at_stage (replaces.TheVariants.Hides count))
+      hide_step : StepOf scene start (at_stage (replaces.Hides count))
       hide_step = go (now_at == count) refl
         where
           go : (b : Bool) → (now_at == count) ≡ b
               → Leads scene start (Some (exchanges (count_word c i) count (one_more count))) false scene.states
-              ((if b then Hidden p i ∷ [] else []) ++ []) (GoOn (at_stage (replaces.TheVariants.Stores 0)))
+              ((if b then Hidden p i ∷ [] else []) ++ []) (GoOn (at_stage (replaces.Stores 0)))
           go true t =
               let is : now_at ≡ count = grind (arith, nat_tests) in
               let some = inv.elements.coded.some in
               let wide = inv.elements.wide in
-              let y = then_at (replaces.TheVariants.Stores 0) (Some hide_it) in
+              let y = then_at (replaces.Stores 0) (Some hide_it) in
               let es = Hidden p i ∷ [] in
               let new = hides_count scene inv i count below is in
               let now_odd : now_at % 2 ≡ 1 = ap (λ n. n % 2) is ∙ odd in
               let well_formed =
-              (was_going scene inv index value owner fits acts below none_done) (replaces.TheVariants.Hides count)
+              (was_going scene inv index value owner fits acts below none_done) (replaces.Hides count)
               here k.filled (words_after ws (Some hide_it)) y es
               (refl, tt) tt (λ start w. refl) (omega arith) in
               let after : count_at c (words_after ws (Some hide_it)) i ≡ one_more now_at =
               ap (λ w. count_at c w i) new ∙ count_set c code.size ws i (one_more now_at) (omega arith) in
-              goes_on scene start (at_stage (replaces.TheVariants.Stores 0)) (Some hide_it) false scene.states es here.span (λ start w. refl)
-              (hides scene inv start (at_stage (replaces.TheVariants.Hides count)) tt here y
+              goes_on scene start (at_stage (replaces.Stores 0)) (Some hide_it) false scene.states es here.span (λ start w. refl)
+              (hides scene inv start (at_stage (replaces.Hides count)) tt here y
               (words_after ws (Some hide_it)) i below new refl now_odd
               (λ holds q ne o theirs fresh. nobody_else holds q ne o theirs) well_formed)
               ((refl, nothing), tt) (omega arith) (
@@ -208,7 +208,7 @@ module _ {T : Type 0} (scene : Scene T) (inv : Inv scene) (index : ℕ) (value :
                 (below, ap (λ (d : List SetAct). d ++ []) none_done, inr (ap (λ d. d ++ Hides i ∷ []) nothing), omega arith),
               ) (
                 knows_then es (refl, tt) tt (λ start w. refl) (λ o. refl) (λ o. refl)
-                    (replaces.TheVariants.Hides count) (replaces.TheVariants.Stores 0) here hide_it,
+                    (replaces.Hides count) (replaces.Stores 0) here hide_it,
                 record {
                   few = omega arith;
                   has = λ holds lives. record { even = ap (λ n. n % 2) after ∙ omega arith; written = λ j js. absurd (omega arith) };
@@ -218,17 +218,17 @@ module _ {T : Type 0} (scene : Scene T) (inv : Inv scene) (index : ℕ) (value :
               let other : now_at ≢ count = grind (arith, nat_tests) in
               let some = inv.elements.coded.some in
               let same = fails_same ws (count_word c i) count (one_more count) other in
-              (calm_step scene inv index value owner fits acts below none_done) (replaces.TheVariants.Hides count)
-              (replaces.TheVariants.Stores 0) hide_it same here
+              (calm_step scene inv index value owner fits acts below none_done) (replaces.Hides count)
+              (replaces.Stores 0) hide_it same here
               k.filled refl (omega arith) (below, none_done, inl nothing, omega arith) (
-                knows_calm (replaces.TheVariants.Hides count) (replaces.TheVariants.Stores 0) here hide_it,
-                first_word (replaces.TheVariants.Hides count) (replaces.TheVariants.Stores 0) here hide_it same
+                knows_calm (replaces.Hides count) (replaces.Stores 0) here hide_it,
+                first_word (replaces.Hides count) (replaces.Stores 0) here hide_it same
                     (λ holds. ⊎_elim (λ e. absurd (other e)) (λ even. even) (covers holds (acts.stays holds.kept))),
               )
 
     -- ---- a word is stored
 
-    module _ (at : ℕ) (here : Here (replaces.TheVariants.Stores at))
+    module _ (at : ℕ) (here : Here (replaces.Stores at))
         (hidden : MayHaveHidden c code.size (all scene) (done scene) i) (ats : at < code.size)
         (w : Writes code c owner i value at (sees_now scene)) (s : steps ≤ 3 + at) where
       abbrev store_it : Ask
@@ -240,10 +240,10 @@ module _ {T : Type 0} (scene : Scene T) (inv : Inv scene) (index : ℕ) (value :
           → Leads scene start (Some store_it) false scene.states [] (GoOn (at_stage next))
       store_to next owe few stands known =
           goes_calmly scene start (at_stage next) (Some store_it) false scene.states here.span
-          (stores_word scene inv start (at_stage (replaces.TheVariants.Stores at)) tt here
+          (stores_word scene inv start (at_stage (replaces.Stores at)) tt here
           (then_at next (Some store_it)) (words_after ws (Some store_it)) i below at ats value owner mine
           (λ holds. w.has holds (acts.stays holds.kept)) refl
-          ((was_going scene inv index value owner fits acts below none_done) (replaces.TheVariants.Stores at) here k.filled (words_after ws (Some store_it))
+          ((was_going scene inv index value owner fits acts below none_done) (replaces.Stores at) here k.filled (words_after ws (Some store_it))
           (then_at next (Some store_it)) [] tt tt none_lengthens (omega arith))
           (λ was. owe))
           few (refl, (given_is scene inv index value owner fits acts below none_done), fits, stands) known
@@ -254,38 +254,38 @@ module _ {T : Type 0} (scene : Scene T) (inv : Inv scene) (index : ℕ) (value :
             few = omega arith;
             has = λ holds lives.
                 let before_it =
-                (was_calm scene inv index value owner fits acts below none_done) (replaces.TheVariants.Stores at)
+                (was_calm scene inv index value owner fits acts below none_done) (replaces.Stores at)
                 here k.filled (then_at next (Some store_it)) (omega arith) holds in
                 store_writes code c ws events (inv.elements.whole before_it) inv.elements.wide i below value at ats
                 (w.has before_it (acts.stays before_it.kept));
           }
 
-      store_step : StepOf scene start (at_stage (replaces.TheVariants.Stores at))
+      store_step : StepOf scene start (at_stage (replaces.Stores at))
       store_step = go (nat_lt (at + 1) code.size) refl
         where
           go : (b : Bool) → nat_lt (at + 1) code.size ≡ b
               → Leads scene start (Some (stores_to (element_word c code.size i at) (get_or (code.words_of value) at 0)))
               false scene.states []
-              (as_replace (if b then GoOn (at_replace first (replaces.TheVariants.Stores (at + 1))) else GoOn
-              (at_replace first replaces.TheVariants.AddsCount)))
+              (as_replace (if b then GoOn (at_replace first (replaces.Stores (at + 1))) else GoOn
+              (at_replace first replaces.AddsCount)))
           go true t =
               let more : at + 1 < code.size = grind (arith, nat_tests) in
-              store_to (replaces.TheVariants.Stores (at + 1)) refl (omega arith) (below, none_done, hidden, more) (
-                knows_calm (replaces.TheVariants.Stores at) (replaces.TheVariants.Stores (at + 1)) here store_it,
-                one_more_word (replaces.TheVariants.Stores (at + 1)),
+              store_to (replaces.Stores (at + 1)) refl (omega arith) (below, none_done, hidden, more) (
+                knows_calm (replaces.Stores at) (replaces.Stores (at + 1)) here store_it,
+                one_more_word (replaces.Stores (at + 1)),
               )
           go false t =
               let last : code.size ≤ at + 1 = grind (arith, nat_tests) in
               let is : at + 1 ≡ code.size = omega arith in
-              store_to replaces.TheVariants.AddsCount refl (omega arith) (below, none_done, hidden) (
-                knows_calm (replaces.TheVariants.Stores at) replaces.TheVariants.AddsCount here store_it,
-                subst (λ n. Writes code c owner i value n (SeesCalmly replaces.TheVariants.AddsCount store_it)) is
-                    (one_more_word replaces.TheVariants.AddsCount),
+              store_to replaces.AddsCount refl (omega arith) (below, none_done, hidden) (
+                knows_calm (replaces.Stores at) replaces.AddsCount here store_it,
+                subst (λ n. Writes code c owner i value n (SeesCalmly replaces.AddsCount store_it)) is
+                    (one_more_word replaces.AddsCount),
               )
 
     -- ---- the value is placed
 
-    module _ (here : Here replaces.TheVariants.AddsCount)
+    module _ (here : Here replaces.AddsCount)
         (hidden : MayHaveHidden c code.size (all scene) (done scene) i)
         (w : Writes code c owner i value code.size (sees_now scene)) (s : steps ≤ 3 + code.size) where
       abbrev add_it : Ask
@@ -295,31 +295,31 @@ module _ {T : Type 0} (scene : Scene T) (inv : Inv scene) (index : ℕ) (value :
       count_now = count_in code c (before scene) i
 
       abbrev y : Party T
-      y = then_at replaces.TheVariants.AddsChange (Some add_it)
+      y = then_at replaces.AddsChange (Some add_it)
 
       new : words_after ws (Some add_it) ≡ set ws (count_word c i) (one_more count_now)
       new = adds_to_count scene inv i below
 
-      place_step : StepOf scene start (at_stage replaces.TheVariants.AddsCount)
+      place_step : StepOf scene start (at_stage replaces.AddsCount)
       place_step = go (is_even count_now) refl
         where
           go : (b : Bool) → is_even count_now ≡ b
               → Leads scene start (Some (adds_one (count_word c i))) false scene.states
-              ((if b then Placed p i value ∷ [] else []) ++ []) (GoOn (at_stage replaces.TheVariants.AddsChange))
+              ((if b then Placed p i value ∷ [] else []) ++ []) (GoOn (at_stage replaces.AddsChange))
           go true t =
               let es = Placed p i value ∷ [] in
               let well_formed =
-              (was_going scene inv index value owner fits acts below none_done) replaces.TheVariants.AddsCount here
+              (was_going scene inv index value owner fits acts below none_done) replaces.AddsCount here
               k.filled (words_after ws (Some add_it)) y es (refl, tt)
               tt (λ start w. refl) (omega arith) in
-              goes_on scene start (at_stage replaces.TheVariants.AddsChange) (Some add_it) false scene.states es here.span (λ start w. refl)
-              (places_it scene inv start (at_stage replaces.TheVariants.AddsCount) tt here y
+              goes_on scene start (at_stage replaces.AddsChange) (Some add_it) false scene.states es here.span (λ start w. refl)
+              (places_it scene inv start (at_stage replaces.AddsCount) tt here y
               (words_after ws (Some add_it)) i below new refl value owner acts mine
               (λ holds. w.has holds (acts.stays holds.kept)) well_formed)
               ((refl, refl, hidden), tt) (omega arith)
               (refl, (given_is scene inv index value owner fits acts below none_done), fits, (below, ap (λ (d : List SetAct). d ++ []) none_done)) (
-                knows_then es (refl, tt) tt (λ start w. refl) (λ o. refl) (λ o. refl) replaces.TheVariants.AddsCount
-                    replaces.TheVariants.AddsChange here add_it,
+                knows_then es (refl, tt) tt (λ start w. refl) (λ o. refl) (λ o. refl) replaces.AddsCount
+                    replaces.AddsChange here add_it,
                 (λ holds. ap (λ a. places a) (acts_more scene start here.span es (refl, tt) (λ start w. refl)) ∙ placed_once (done scene) i value hidden),
                 (λ holds lives. (
                   fold-append (left_after i) true events es ∙ at_same i i false (left_of i events) refl,
@@ -328,18 +328,18 @@ module _ {T : Type 0} (scene : Scene T) (inv : Inv scene) (index : ℕ) (value :
               )
           go false t =
               let well_formed =
-              (was_going scene inv index value owner fits acts below none_done) replaces.TheVariants.AddsCount here
+              (was_going scene inv index value owner fits acts below none_done) replaces.AddsCount here
               k.filled (words_after ws (Some add_it)) y [] tt tt none_lengthens (omega arith) in
               let ill_formed =
               λ (holds : WellFormed (after scene (words_after ws (Some add_it)) y [])).
               let even = (w.has (well_formed holds) (acts.stays holds.kept)).even in
               let odd = odd_is count_now t in
               absurd {A = ⊥} (omega arith) in
-              goes_calmly scene start (at_stage replaces.TheVariants.AddsChange) (Some add_it) false scene.states here.span
-              (misplaces scene inv start (at_stage replaces.TheVariants.AddsCount) tt here y
+              goes_calmly scene start (at_stage replaces.AddsChange) (Some add_it) false scene.states here.span
+              (misplaces scene inv start (at_stage replaces.AddsCount) tt here y
               (words_after ws (Some add_it)) i below new refl well_formed ill_formed)
               (omega arith) (refl, (given_is scene inv index value owner fits acts below none_done), fits, (below, none_done)) (
-                knows_calm replaces.TheVariants.AddsCount replaces.TheVariants.AddsChange here add_it,
+                knows_calm replaces.AddsCount replaces.AddsChange here add_it,
                 (λ holds. absurd
                     (ill_formed (subst (λ es. IsWellFormedSoFar scene.terms (put p y latest) es) (sym (append-nil events)) holds))),
                 (λ holds lives. absurd
@@ -348,22 +348,22 @@ module _ {T : Type 0} (scene : Scene T) (inv : Inv scene) (index : ℕ) (value :
 
     -- ---- the change is counted, and the call ends
 
-    module _ (here : Here replaces.TheVariants.AddsChange) (placed : HasPlaced code c i value (sees_now scene))
+    module _ (here : Here replaces.AddsChange) (placed : HasPlaced code c i value (sees_now scene))
         (stood : Stood code c owner i (sees_now scene)) (s : steps ≤ 4 + code.size) where
       abbrev end_it : Ask
       end_it = adds_one (change_word c)
 
-      end_step : StepOf scene start (at_stage replaces.TheVariants.AddsChange)
+      end_step : StepOf scene start (at_stage replaces.AddsChange)
       end_step =
           let y = party_then scene start (Some end_it) false (Done answers.Done) in
           let es = Finished p (Container start) answers.Done ∷ [] in
           let well_formed =
           well_formed_before scene.terms p y latest events es (refl, tt)
-          (λ h. (stands_if scene inv index value owner fits acts below none_done) replaces.TheVariants.AddsChange here
+          (λ h. (stands_if scene inv index value owner fits acts below none_done) replaces.AddsChange here
           (λ few. h.replaced events [] (Finished p (Container start) answers.Done) refl)) in
           let new = adds_to_change scene inv in
           ends scene start answers.Done (Some end_it) false scene.states [] here.span none_lengthens
-          (ends_counted scene inv start (at_stage replaces.TheVariants.AddsChange) tt here y (words_after ws (Some end_it)) answers.Done
+          (ends_counted scene inv start (at_stage replaces.AddsChange) tt here y (words_after ws (Some end_it)) answers.Done
           (set_effects.quietly (of_set scene) (inv_of_set scene inv) (words_after ws (Some end_it)) es
           (leaves_behind (of_set scene) (inv_of_set scene inv) (words_after ws (Some end_it)) (change_word c) _ (omega arith) new)
           (quiet_end p (Container start) answers.Done (λ i o. refl) (λ i r. refl))
@@ -388,7 +388,7 @@ module _ {T : Type 0} (scene : Scene T) (inv : Inv scene) (index : ℕ) (value :
       → StepOf scene (Replace index value owner) (replace_at c at value owner stage)
 
   -- an index that is none of the container
-  refuses : (at : ℕ) → c ≤ index → all scene ≡ [] → done scene ≡ [] → Moves replaces.TheVariants.Refuses at
+  refuses : (at : ℕ) → c ≤ index → all scene ≡ [] → done scene ≡ [] → Moves replaces.Refuses at
   refuses at past none_done nothing here paid s =
       let start = Replace index value owner in
       let y = party_then scene start None false (Done (answers.NotRemoved ContainerHandleNotOwnedByContainer)) in
@@ -398,33 +398,33 @@ module _ {T : Type 0} (scene : Scene T) (inv : Inv scene) (index : ℕ) (value :
       (λ h. subst (λ o. StandsWellFormed p o events) (sym here.found)
       (λ index' owner' value' wrote' span few found. let taken = here.taken in absurd (omega arith))) in
       ends scene start (answers.NotRemoved ContainerHandleNotOwnedByContainer) None false scene.states [] here.span none_lengthens
-      (ends_calmly scene inv start (replace_at c at value owner replaces.TheVariants.Refuses) tt here y scene.words
+      (ends_calmly scene inv start (replace_at c at value owner replaces.Refuses) tt here y scene.words
       (answers.NotRemoved ContainerHandleNotOwnedByContainer)
       (set_effects.quietly (of_set scene) (inv_of_set scene inv) scene.words es
       (set_effects.stays_same (of_set scene) (inv_of_set scene inv) scene.words refl).leaves
       (quiet_end p (Container start) (answers.NotRemoved ContainerHandleNotOwnedByContainer)
       (λ i o. refl) (λ i r. refl))
       (refl, tt) (tt, tt) (tt, tt))
-      (inl past) well_formed (λ holds. tt) refl (λ i b. refl) (owes_none scene start (replace_at c at value owner replaces.TheVariants.Refuses) y here refl))
+      (inl past) well_formed (λ holds. tt) refl (λ i b. refl) (owes_none scene start (replace_at c at value owner replaces.Refuses) y here refl))
       ((refl, (none_done, nothing)), tt) (omega arith) (omega arith)
 
   pub replace_step : (stage : ReplaceStage) → ReplaceAt c code.size (all scene) (done scene) index stage → Moves stage (place_of c index)
-  replace_step replaces.TheVariants.Refuses at = refuses (place_of c index) at.0 at.1 at.2
-  replace_step replaces.TheVariants.LoadsCell at =
-      subst (Moves replaces.TheVariants.LoadsCell) (sym (place_is c index at.0))
+  replace_step replaces.Refuses at = refuses (place_of c index) at.0 at.1 at.2
+  replace_step replaces.LoadsCell at =
+      subst (Moves replaces.LoadsCell) (sym (place_is c index at.0))
       (λ here k s. cell_step scene inv index value owner fits acts at.0 at.1 here at.2 k.0 k.1 s)
-  replace_step replaces.TheVariants.LoadsCount at =
-      subst (Moves replaces.TheVariants.LoadsCount) (sym (place_is c index at.0))
+  replace_step replaces.LoadsCount at =
+      subst (Moves replaces.LoadsCount) (sym (place_is c index at.0))
       (λ here k s. count_step scene inv index value owner fits acts at.0 at.1 k here at.2 s)
-  replace_step (replaces.TheVariants.Hides count) at =
-      subst (Moves (replaces.TheVariants.Hides count)) (sym (place_is c index at.0))
+  replace_step (replaces.Hides count) at =
+      subst (Moves (replaces.Hides count)) (sym (place_is c index at.0))
       (λ here k s. hide_step scene inv index value owner fits acts at.0 at.1 k.0 count here at.2 at.3 k.1 s)
-  replace_step (replaces.TheVariants.Stores word) at =
-      subst (Moves (replaces.TheVariants.Stores word)) (sym (place_is c index at.0))
+  replace_step (replaces.Stores word) at =
+      subst (Moves (replaces.Stores word)) (sym (place_is c index at.0))
       (λ here k s. store_step scene inv index value owner fits acts at.0 at.1 k.0 word here at.2 at.3 k.1 s)
-  replace_step replaces.TheVariants.AddsCount at =
-      subst (Moves replaces.TheVariants.AddsCount) (sym (place_is c index at.0))
+  replace_step replaces.AddsCount at =
+      subst (Moves replaces.AddsCount) (sym (place_is c index at.0))
       (λ here k s. place_step scene inv index value owner fits acts at.0 at.1 k.0 here at.2 k.1 s)
-  replace_step replaces.TheVariants.AddsChange at =
-      subst (Moves replaces.TheVariants.AddsChange) (sym (place_is c index at.0))
+  replace_step replaces.AddsChange at =
+      subst (Moves replaces.AddsChange) (sym (place_is c index at.0))
       (λ here k s. end_step scene inv index value owner fits acts at.0 at.1 k.0 here k.1 k.2 s)

@@ -11,10 +11,10 @@ use Rattle.laws_container.proofs.Names.{held_later, party_put_same, AreOwn, span
 use Rattle.laws_container.proofs.Names.{loads_same}
 use Rattle.steps.specs.declared.ask.After.TheVariants.{Done}
 use Rattle.steps.specs.declared.container.replace.Replace as replace_calls
-use Rattle.steps.specs.declared.container.replace.ReplaceStage as replaces
+use Rattle.steps.specs.declared.container.replace.ReplaceStage.TheVariants as replaces
 use Rattle.model.specs.declared.event.Answer.TheVariants as answers
 use Rattle.model.specs.declared.families.container.ContainerStart.TheVariants.{Replace}
-use Rattle.model.specs.declared.families.container.calls.ContainerFlight as calls
+use Rattle.model.specs.declared.families.container.calls.ContainerFlight.TheVariants as calls
 use Rattle.laws_robust.proofs.Effects as set_effects
 use Rattle.laws_robust.proofs.Stages as set_stages
 use Rattle.laws_container.proofs.Invariant.{Scene, Inv, ActsFor, before, after, of_set, inv_of_set, view, wrote_of}
@@ -47,11 +47,11 @@ module _ {T : Type 0} (scene : Scene T) (inv : Inv scene) (index : ℕ) (value :
   -- how the call goes on, as a replace of the kind
   abbrev as_replace : After (replace_calls.Replace T) Replaced → After (ContainerFlight T) (Answer T)
   as_replace a =
-      as_call calls.TheVariants.Replace replaced
+      as_call calls.Replace replaced
       (went_on as_it_is (record { index = index; owner = owner; value = value }) tt a)
 
   abbrev first : replace_calls.Replace T
-  first = record { capacity = c; stage = replaces.TheVariants.LoadsCell; of = record {} }
+  first = record { capacity = c; stage = replaces.LoadsCell; of = record {} }
 
   abbrev Here : ReplaceStage → Type 0
   Here stage = IsHere scene (Replace index value owner) (replace_at c index value owner stage)
@@ -138,7 +138,7 @@ module _ {T : Type 0} (scene : Scene T) (inv : Inv scene) (index : ℕ) (value :
 
   -- ---- its owner is looked for
 
-  module _ (here : Here replaces.TheVariants.LoadsCell) (nothing : done scene ≡ []) (paid : IsPaid (sees_now scene))
+  module _ (here : Here replaces.LoadsCell) (nothing : done scene ≡ []) (paid : IsPaid (sees_now scene))
       (owns : ReplaceOwns scene.terms.by p index owner events) (s : steps ≤ 0) where
     abbrev load_cell : Ask
     load_cell = set_stages.loads (cell_word index)
@@ -150,9 +150,9 @@ module _ {T : Type 0} (scene : Scene T) (inv : Inv scene) (index : ℕ) (value :
         let same = loads_same ws (cell_word index) in
         let well_formed =
         well_formed_before scene.terms p y latest events es (refl, tt)
-        (λ h. stands_if replaces.TheVariants.LoadsCell here (λ few. absurd (omega arith))) in
+        (λ h. stands_if replaces.LoadsCell here (λ few. absurd (omega arith))) in
         ends scene start (answers.NotRemoved ContainerHandleNotOwnedByContainer) (Some load_cell) false scene.states [] here.span none_lengthens
-        (ends_calmly scene inv start (at_stage replaces.TheVariants.LoadsCell) tt here y
+        (ends_calmly scene inv start (at_stage replaces.LoadsCell) tt here y
         (words_after ws (Some load_cell)) (answers.NotRemoved ContainerHandleNotOwnedByContainer)
         (set_effects.quietly (of_set scene) (inv_of_set scene inv) (words_after ws (Some load_cell)) es
         (set_effects.stays_same (of_set scene) (inv_of_set scene inv) (words_after ws (Some load_cell)) same).leaves
@@ -160,28 +160,28 @@ module _ {T : Type 0} (scene : Scene T) (inv : Inv scene) (index : ℕ) (value :
         (answers.NotRemoved ContainerHandleNotOwnedByContainer) (λ i o. refl) (λ i r. refl))
         (refl, tt) (tt, tt) (tt, tt))
         (inr (λ filled. other (inv.good.cells index below ∙ ap cell_of filled))) well_formed (λ holds. tt) same
-        (λ i b. refl) (owes_none scene start (at_stage replaces.TheVariants.LoadsCell) y here refl))
+        (λ i b. refl) (owes_none scene start (at_stage replaces.LoadsCell) y here refl))
         ((refl, (none_done, nothing)), tt) (omega arith) (omega arith)
 
     found_now : cell ws index ≡ owner → HeldSometime p (IsFilledWith owner index) events
     found_now x0 = grind (arith, held_now, filled_by, inv_of_set)
 
-    finds : cell ws index ≡ owner → Leads scene start (Some load_cell) false scene.states [] (GoOn (at_stage replaces.TheVariants.LoadsCount))
+    finds : cell ws index ≡ owner → Leads scene start (Some load_cell) false scene.states [] (GoOn (at_stage replaces.LoadsCount))
     finds is =
-        calm_step replaces.TheVariants.LoadsCell replaces.TheVariants.LoadsCount load_cell
+        calm_step replaces.LoadsCell replaces.LoadsCount load_cell
         (loads_same ws (cell_word index)) here (found_now is) refl (omega arith) (below, none_done, nothing)
         (record {
           paid = omega arith;
           within = below;
           owns = owns;
-          found = found_calm replaces.TheVariants.LoadsCell replaces.TheVariants.LoadsCount here load_cell;
+          found = found_calm replaces.LoadsCell replaces.LoadsCount here load_cell;
           filled = found_now is;
         })
 
-    pub cell_step : StepOf scene start (at_stage replaces.TheVariants.LoadsCell)
+    pub cell_step : StepOf scene start (at_stage replaces.LoadsCell)
     cell_step = go (cell ws index == owner) refl
       where
         go : (b : Bool) → (cell ws index == owner) ≡ b → Leads scene start (Some (set_stages.loads (cell_word index))) false scene.states []
-            (as_replace (if b then GoOn (at_replace first replaces.TheVariants.LoadsCount) else Done (Err ContainerHandleNotOwnedByContainer)))
+            (as_replace (if b then GoOn (at_replace first replaces.LoadsCount) else Done (Err ContainerHandleNotOwnedByContainer)))
         go true t = let is : cell ws index ≡ owner = grind (arith, nat_tests) in finds is
         go false t = let other : cell ws index ≢ owner = grind (arith, nat_tests) in fails other

@@ -6,22 +6,28 @@ use Rattle.steps.specs.Container.Layout.{count_word, is_even}
 use Rattle.steps.specs.Indices.Robust.Parts.{count_want, lock_want, raise_want, cell_word}
 use Rattle.steps.specs.declared.ask.After.{After}
 use Rattle.steps.specs.declared.ask.After.TheVariants.{GoOn, Done}
-use Rattle.steps.specs.declared.container.add.AddStage as adds
-use Rattle.steps.specs.declared.container.look.LookStage as looks
-use Rattle.steps.specs.declared.container.recover.RecoverStage as recovers
-use Rattle.steps.specs.declared.container.remove.RemoveStage as removes
-use Rattle.steps.specs.declared.indices.robust.parts.Count as counts
-use Rattle.steps.specs.declared.indices.robust.parts.Lock as locks
-use Rattle.steps.specs.declared.indices.robust.parts.Raise as raises
+use Rattle.steps.specs.declared.container.add.AddStage.{AddStage}
+use Rattle.steps.specs.declared.container.add.AddStage.TheVariants as adds
+use Rattle.steps.specs.declared.container.look.LookStage.TheVariants as looks
+use Rattle.steps.specs.declared.container.recover.RecoverStage.{RecoverStage}
+use Rattle.steps.specs.declared.container.recover.RecoverStage.TheVariants as recovers
+use Rattle.steps.specs.declared.container.remove.RemoveStage.{RemoveStage}
+use Rattle.steps.specs.declared.container.remove.RemoveStage.TheVariants as removes
+use Rattle.steps.specs.declared.indices.robust.parts.Count.{Count}
+use Rattle.steps.specs.declared.indices.robust.parts.Count.TheVariants as counts
+use Rattle.steps.specs.declared.indices.robust.parts.Lock.{Lock}
+use Rattle.steps.specs.declared.indices.robust.parts.Lock.TheVariants as locks
+use Rattle.steps.specs.declared.indices.robust.parts.Raise.{Raise}
+use Rattle.steps.specs.declared.indices.robust.parts.Raise.TheVariants as raises
 use Rattle.model.specs.declared.event.Answer.{Answer}
 use Rattle.model.specs.declared.event.Start.{Start}
 use Rattle.model.specs.declared.event.Start.TheVariants as starts
 use Rattle.model.specs.declared.families.Flight.{Flight}
-use Rattle.model.specs.declared.families.Flight as flights
+use Rattle.model.specs.declared.families.Flight.TheVariants as flights
 use Rattle.model.specs.declared.families.container.calls.ContainerFlight.{ContainerFlight}
-use Rattle.model.specs.declared.families.container.calls.ContainerFlight as calls
-use Rattle.model.specs.declared.families.container.calls.LookOf as look_of
-use Rattle.model.specs.declared.turn.Kind as kinds
+use Rattle.model.specs.declared.families.container.calls.ContainerFlight.TheVariants as calls
+use Rattle.model.specs.declared.families.container.calls.LookOf.TheVariants as look_of
+use Rattle.model.specs.declared.turn.Kind.TheVariants as kinds
 use Rattle.model.specs.Coding.{Coding}
 use Rattle.model.specs.Families.{ask_of}
 use Rattle.model.specs.Step.{as_call}
@@ -42,31 +48,31 @@ module _ (size c : ℕ) where
   abbrev pub each : ℕ
   each = size - 1 + 8 + (c - 1 + 3)
 
-  abbrev pub remove_own : ℕ → removes.RemoveStage → ℕ
-  remove_own now removes.TheVariants.Refuses = 0
-  remove_own now removes.TheVariants.LoadsCount = c - 1 + 8
-  remove_own now (removes.TheVariants.Releases count stage) = release_left c now stage + 2
-  remove_own now (removes.TheVariants.Hides count state) = 1
-  remove_own now (removes.TheVariants.AddsChange state) = 0
+  abbrev pub remove_own : ℕ → RemoveStage → ℕ
+  remove_own now removes.Refuses = 0
+  remove_own now removes.LoadsCount = c - 1 + 8
+  remove_own now (removes.Releases count stage) = release_left c now stage + 2
+  remove_own now (removes.Hides count state) = 1
+  remove_own now (removes.AddsChange state) = 0
 
-  abbrev pub recover_own : List ℕ → recovers.RecoverStage → ℕ
-  recover_own words recovers.TheVariants.LoadsCounter = behind size c each 0 + (each + 2)
-  recover_own words (recovers.TheVariants.LoadsCell index) = behind size c each index + (each + 1)
-  recover_own words (recovers.TheVariants.LoadsCount index) = behind size c each index + each
-  recover_own words (recovers.TheVariants.LoadsWord index count at) =
+  abbrev pub recover_own : List ℕ → RecoverStage → ℕ
+  recover_own words recovers.LoadsCounter = behind size c each 0 + (each + 2)
+  recover_own words (recovers.LoadsCell index) = behind size c each index + (each + 1)
+  recover_own words (recovers.LoadsCount index) = behind size c each index + each
+  recover_own words (recovers.LoadsWord index count at) =
       behind size c each index + (size - (at + 1) + 7 + (c - 1 + 3) + again_at size c words index count)
-  recover_own words (recovers.TheVariants.ChecksCount index count) = behind size c each index + (6 + (c - 1 + 3) + again_at size c words index count)
-  recover_own words (recovers.TheVariants.Asks index count) = behind size c each index + (5 + (c - 1 + 3))
-  recover_own words (recovers.TheVariants.EmptiesCell index count) = behind size c each index + (5 + (c - 1 + 3))
-  recover_own words (recovers.TheVariants.Hides index count) = behind size c each index + (4 + (c - 1 + 3))
-  recover_own words (recovers.TheVariants.Raises index raise) = behind size c each index + (2 + (c - 1 + 3) + raise_left (get_or words 0 0) raise)
-  recover_own words (recovers.TheVariants.Locks index lock) = behind size c each index + (2 + lock_left c (get_or words 0 0) lock)
-  recover_own words recovers.TheVariants.LoadsCounterAgain = 1
-  recover_own words (recovers.TheVariants.AddsChange state) = 0
+  recover_own words (recovers.ChecksCount index count) = behind size c each index + (6 + (c - 1 + 3) + again_at size c words index count)
+  recover_own words (recovers.Asks index count) = behind size c each index + (5 + (c - 1 + 3))
+  recover_own words (recovers.EmptiesCell index count) = behind size c each index + (5 + (c - 1 + 3))
+  recover_own words (recovers.Hides index count) = behind size c each index + (4 + (c - 1 + 3))
+  recover_own words (recovers.Raises index raise) = behind size c each index + (2 + (c - 1 + 3) + raise_left (get_or words 0 0) raise)
+  recover_own words (recovers.Locks index lock) = behind size c each index + (2 + lock_left c (get_or words 0 0) lock)
+  recover_own words recovers.LoadsCounterAgain = 1
+  recover_own words (recovers.AddsChange state) = 0
 
   abbrev pub call_own : {T : Type 0} → List ℕ → ContainerFlight T → ℕ
-  call_own words (calls.TheVariants.Remove run) = remove_own (get_or words 0 0) run.call.stage
-  call_own words (calls.TheVariants.Recover run) = recover_own words run.call.stage
+  call_own words (calls.Remove run) = remove_own (get_or words 0 0) run.call.stage
+  call_own words (calls.Recover run) = recover_own words run.call.stage
   call_own words flight = call_left size c words flight
 
   -- no call has more
@@ -75,50 +81,50 @@ module _ (size c : ℕ) where
 
 -- how many elements it places at most; an add may raise the counter too
 abbrev pub call_places : {T : Type 0} → ℕ → ContainerFlight T → ℕ
-call_places c (calls.TheVariants.Remove run) = 0
-call_places c (calls.TheVariants.Recover run) = 0
+call_places c (calls.Remove run) = 0
+call_places c (calls.Recover run) = 0
 call_places c flight = call_pays c flight
 
 -- ---- where a call may stand: a counter that it keeps is not that of the lock
 
-abbrev pub AddAt : adds.AddStage → Type 0
-AddAt (adds.TheVariants.Acquires stage) = AcquireAt stage
+abbrev pub AddAt : AddStage → Type 0
+AddAt (adds.Acquires stage) = AcquireAt stage
 AddAt stage = Unit {0}
 
-abbrev pub RemoveAt : removes.RemoveStage → Type 0
-RemoveAt (removes.TheVariants.Releases count stage) = ReleaseAt stage
-RemoveAt (removes.TheVariants.Hides count state) = is_even count ≡ false
+abbrev pub RemoveAt : RemoveStage → Type 0
+RemoveAt (removes.Releases count stage) = ReleaseAt stage
+RemoveAt (removes.Hides count state) = is_even count ≡ false
 RemoveAt stage = Unit {0}
 
-abbrev pub RecoverAt : ℕ → recovers.RecoverStage → Type 0
-RecoverAt c (recovers.TheVariants.LoadsCell index) = index < c
-RecoverAt c (recovers.TheVariants.LoadsCount index) = index < c
-RecoverAt c (recovers.TheVariants.LoadsWord index count at) = index < c
-RecoverAt c (recovers.TheVariants.ChecksCount index count) = index < c
-RecoverAt c (recovers.TheVariants.Asks index count) = index < c
-RecoverAt c (recovers.TheVariants.EmptiesCell index count) = index < c
-RecoverAt c (recovers.TheVariants.Hides index count) = is_even count ≡ false
-RecoverAt c (recovers.TheVariants.Raises index raise) = RaiseAt raise
-RecoverAt c (recovers.TheVariants.Locks index lock) = LockAt lock
+abbrev pub RecoverAt : ℕ → RecoverStage → Type 0
+RecoverAt c (recovers.LoadsCell index) = index < c
+RecoverAt c (recovers.LoadsCount index) = index < c
+RecoverAt c (recovers.LoadsWord index count at) = index < c
+RecoverAt c (recovers.ChecksCount index count) = index < c
+RecoverAt c (recovers.Asks index count) = index < c
+RecoverAt c (recovers.EmptiesCell index count) = index < c
+RecoverAt c (recovers.Hides index count) = is_even count ≡ false
+RecoverAt c (recovers.Raises index raise) = RaiseAt raise
+RecoverAt c (recovers.Locks index lock) = LockAt lock
 RecoverAt c stage = Unit {0}
 
 abbrev pub CallAt : {T : Type 0} → ℕ → ContainerFlight T → Type 0
-CallAt c (calls.TheVariants.Add run) = CallStands c (calls.TheVariants.Add run) × AddAt run.call.stage
-CallAt c (calls.TheVariants.Remove run) = (run.call.capacity ≡ c) × (run.given.index ≤ c) × RemoveAt run.call.stage
-CallAt c (calls.TheVariants.Recover run) = (run.call.capacity ≡ c) × RecoverAt c run.call.stage
-CallAt c (calls.TheVariants.Count which run) = (run.call.capacity ≡ c) × CountAt run.call.count
+CallAt c (calls.Add run) = CallStands c (calls.Add run) × AddAt run.call.stage
+CallAt c (calls.Remove run) = (run.call.capacity ≡ c) × (run.given.index ≤ c) × RemoveAt run.call.stage
+CallAt c (calls.Recover run) = (run.call.capacity ≡ c) × RecoverAt c run.call.stage
+CallAt c (calls.Count which run) = (run.call.capacity ≡ c) × CountAt run.call.count
 CallAt c flight = CallStands c flight
 
 module _ {T : Type 0} where
   abbrev pub own_at : ℕ → ℕ → List ℕ → Flight T → ℕ
-  own_at size c words (flights.TheVariants.Container flight) = call_own size c words flight
+  own_at size c words (flights.Container flight) = call_own size c words flight
   own_at size c words flight = 0
 
   abbrev pub room_left : ℕ → ℕ → List ℕ → Flight T → ℕ
   room_left size c words flight = room (get_or words 0 0) * (owns size c + 1) + own_at size c words flight
 
   abbrev pub places : ℕ → Flight T → ℕ
-  places c (flights.TheVariants.Container flight) = call_places c flight
+  places c (flights.Container flight) = call_places c flight
   places c flight = 0
 
   abbrev pub room_measure : ℕ → ℕ → WordMeasure T
@@ -126,13 +132,13 @@ module _ {T : Type 0} where
       record { left = room_left size c; pays = places c; alone = (2 ^ 64 + 1) * (owns size c + 1); changes = 2 }
 
   abbrev pub AtAny : Coding T → ℕ → Start T → Flight T → Type 0
-  AtAny code c (starts.Container start) (flights.TheVariants.Container flight) = CallAt c flight
+  AtAny code c (starts.Container start) (flights.Container flight) = CallAt c flight
   AtAny code c start flight = ⊥
 
   abbrev pub room_outline : Outline T
   room_outline =
       record {
-        kind = kinds.TheVariants.Container;
+        kind = kinds.Container;
         Such = λ start. Unit {0};
         Kept = Kept;
         At = AtAny;
@@ -146,28 +152,28 @@ module _ {T : Type 0} (size c : ℕ) (old new : List ℕ) (same : get_or new 0 0
   module _ (none : LeavesAll (measure {T = T} size c) old new) where
     fewer : (index count : ℕ) → again_at size c new index count ≤ again_at size c old index count
     fewer index count =
-        let here = none (flights.TheVariants.Container (look_at look_of.TheVariants.GetState c (looks.TheVariants.ChecksCount index count))) in
+        let here = none (flights.Container (look_at look_of.GetState c (looks.ChecksCount index count))) in
         omega arith
 
-    recover_fewer : (stage : recovers.RecoverStage) → recover_own size c new stage ≤ recover_own size c old stage
-    recover_fewer (recovers.TheVariants.LoadsWord index count at) = let here = fewer index count in omega arith
-    recover_fewer (recovers.TheVariants.ChecksCount index count) = let here = fewer index count in omega arith
-    recover_fewer (recovers.TheVariants.Raises index raise) = rw same (omega arith)
-    recover_fewer (recovers.TheVariants.Locks index lock) = rw same (omega arith)
+    recover_fewer : (stage : RecoverStage) → recover_own size c new stage ≤ recover_own size c old stage
+    recover_fewer (recovers.LoadsWord index count at) = let here = fewer index count in omega arith
+    recover_fewer (recovers.ChecksCount index count) = let here = fewer index count in omega arith
+    recover_fewer (recovers.Raises index raise) = rw same (omega arith)
+    recover_fewer (recovers.Locks index lock) = rw same (omega arith)
     recover_fewer stage = omega arith
 
     own_fewer : (flight : ContainerFlight T) → call_own size c new flight ≤ call_own size c old flight
-    own_fewer (calls.TheVariants.Remove run) = rw same (omega arith)
-    own_fewer (calls.TheVariants.Recover run) = recover_fewer run.call.stage
-    own_fewer (calls.TheVariants.Add run) = none (flights.TheVariants.Container (calls.TheVariants.Add run))
-    own_fewer (calls.TheVariants.Replace run) = none (flights.TheVariants.Container (calls.TheVariants.Replace run))
-    own_fewer (calls.TheVariants.Find run) = none (flights.TheVariants.Container (calls.TheVariants.Find run))
-    own_fewer (calls.TheVariants.Look which call) = none (flights.TheVariants.Container (calls.TheVariants.Look which call))
-    own_fewer (calls.TheVariants.Count which run) = none (flights.TheVariants.Container (calls.TheVariants.Count which run))
-    own_fewer (calls.TheVariants.IsLocked run) = none (flights.TheVariants.Container (calls.TheVariants.IsLocked run))
+    own_fewer (calls.Remove run) = rw same (omega arith)
+    own_fewer (calls.Recover run) = recover_fewer run.call.stage
+    own_fewer (calls.Add run) = none (flights.Container (calls.Add run))
+    own_fewer (calls.Replace run) = none (flights.Container (calls.Replace run))
+    own_fewer (calls.Find run) = none (flights.Container (calls.Find run))
+    own_fewer (calls.Look which call) = none (flights.Container (calls.Look which call))
+    own_fewer (calls.Count which run) = none (flights.Container (calls.Count which run))
+    own_fewer (calls.IsLocked run) = none (flights.Container (calls.IsLocked run))
 
     pub room_leaves : LeavesAll (room_measure {T = T} size c) old new
-    room_leaves (flights.TheVariants.Container flight) = let here = own_fewer flight in rw same (omega arith)
+    room_leaves (flights.Container flight) = let here = own_fewer flight in rw same (omega arith)
     room_leaves flight = rw same (omega arith)
 
 module _ {T : Type 0} (size c : ℕ) (words : List ℕ) where
@@ -185,21 +191,21 @@ module _ {T : Type 0} (size c : ℕ) (words : List ℕ) where
       subst (λ ws. (measure {T = T} size c).left ws other ≤ (measure {T = T} size c).left words other)
       (sym (load_leaves words word)) (omega arith)
 
-  pub raise_none : (raise : raises.Raise) → get_or (words_after words (ask_of (raise_want raise))) 0 0 ≡ get_or words 0 0
+  pub raise_none : (raise : Raise) → get_or (words_after words (ask_of (raise_want raise))) 0 0 ≡ get_or words 0 0
       → LeavesAll (measure {T = T} size c) words (words_after words (ask_of (raise_want raise)))
-  raise_none raises.TheVariants.LoadsCounter same = load_none 0
-  raise_none (raises.TheVariants.ExchangesCounter k) same = counter_leaves _ same
+  raise_none raises.LoadsCounter same = load_none 0
+  raise_none (raises.ExchangesCounter k) same = counter_leaves _ same
 
-  pub count_none : (count : counts.Count) → get_or (words_after words (ask_of (count_want count))) 0 0 ≡ get_or words 0 0
+  pub count_none : (count : Count) → get_or (words_after words (ask_of (count_want count))) 0 0 ≡ get_or words 0 0
       → LeavesAll (measure {T = T} size c) words (words_after words (ask_of (count_want count)))
-  count_none counts.TheVariants.LoadsCounter same = load_none 0
-  count_none (counts.TheVariants.LoadsCell k index filled) same = load_none (cell_word index)
-  count_none (counts.TheVariants.ExchangesCounter k filled) same = counter_leaves _ same
+  count_none counts.LoadsCounter same = load_none 0
+  count_none (counts.LoadsCell k index filled) same = load_none (cell_word index)
+  count_none (counts.ExchangesCounter k filled) same = counter_leaves _ same
 
-  pub lock_none : (lock : locks.Lock) → get_or (words_after words (ask_of (lock_want lock))) 0 0 ≡ get_or words 0 0
+  pub lock_none : (lock : Lock) → get_or (words_after words (ask_of (lock_want lock))) 0 0 ≡ get_or words 0 0
       → LeavesAll (measure {T = T} size c) words (words_after words (ask_of (lock_want lock)))
-  lock_none (locks.TheVariants.Counts count) same = count_none count same
-  lock_none (locks.TheVariants.ExchangesCounter k) same = counter_leaves _ same
+  lock_none (locks.Counts count) same = count_none count same
+  lock_none (locks.ExchangesCounter k) same = counter_leaves _ same
 
 -- ---- from steps of its own and moves of the counter to the measure
 
@@ -222,12 +228,12 @@ module _ {T : Type 0} (size c : ℕ) (old new : List ℕ) where
 
     pub to_falls : (steps s : ℕ) (was : ContainerFlight T) (a : After (ContainerFlight T) (Answer T)) → s ≤ steps → steps ≤ 1
         → (get_or new 0 0 ≡ get_or old 0 0 → LeavesAll (measure {T = T} size c) old new) → CallTo steps was a
-        → FallsIn (room_measure size c) old new s (flights.TheVariants.Container was) (as_call flights.TheVariants.Container (λ answer. answer) a)
+        → FallsIn (room_measure size c) old new s (flights.Container was) (as_call flights.Container (λ answer. answer) a)
     to_falls steps s was (GoOn next) low one none (inl h, pays) =
         let all = room_leaves size c old new h.0 (none h.0) in
-        let here = all (flights.TheVariants.Container next) in
+        let here = all (flights.Container next) in
         inr (omega (arith, here, h, low), inl (all, pays))
     to_falls steps s was (GoOn next) low one none (inr h, pays) =
-        let less = moves h (flights.TheVariants.Container was) (flights.TheVariants.Container next) in
+        let less = moves h (flights.Container was) (flights.Container next) in
         inr (omega (arith, less, low, one), inl (moved_by h, pays))
     to_falls steps s was (Done answer) low one none h = tt

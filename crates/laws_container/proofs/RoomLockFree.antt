@@ -4,9 +4,12 @@ use Rattle.std.proofs.Common.{List, length, get_or, refl, sym, subst, arith}
 use Rattle.steps.specs.Indices.Robust.Parts.{lock_want, raise_want}
 use Rattle.steps.specs.declared.ask.After.{After}
 use Rattle.steps.specs.declared.ask.After.TheVariants.{GoOn, Done}
-use Rattle.steps.specs.declared.container.add.AddStage as adds
-use Rattle.steps.specs.declared.container.recover.RecoverStage as recovers
-use Rattle.steps.specs.declared.container.remove.RemoveStage as removes
+use Rattle.steps.specs.declared.container.add.AddStage.{AddStage}
+use Rattle.steps.specs.declared.container.add.AddStage.TheVariants as adds
+use Rattle.steps.specs.declared.container.recover.RecoverStage.{RecoverStage}
+use Rattle.steps.specs.declared.container.recover.RecoverStage.TheVariants as recovers
+use Rattle.steps.specs.declared.container.remove.RemoveStage.{RemoveStage}
+use Rattle.steps.specs.declared.container.remove.RemoveStage.TheVariants as removes
 use Rattle.steps.specs.declared.container.state.ContainerState.{ContainerState}
 use Rattle.steps.specs.declared.copied.Buffer as buffers
 use Rattle.steps.specs.declared.indices.enums.ReleaseMode.{ReleaseMode}
@@ -16,13 +19,13 @@ use Rattle.model.specs.declared.event.Answer.{Answer}
 use Rattle.model.specs.declared.event.Start.{Start}
 use Rattle.model.specs.declared.event.Start.TheVariants as starts
 use Rattle.model.specs.declared.families.Flight.{Flight}
-use Rattle.model.specs.declared.families.Flight as flights
+use Rattle.model.specs.declared.families.Flight.TheVariants as flights
 use Rattle.model.specs.declared.families.Registry.{Registry}
-use Rattle.model.specs.declared.families.Registry as registries
+use Rattle.model.specs.declared.families.Registry.TheVariants as registries
 use Rattle.model.specs.declared.families.container.ContainerStart.{ContainerStart}
 use Rattle.model.specs.declared.families.container.calls.ContainerFlight.{ContainerFlight}
-use Rattle.model.specs.declared.families.container.calls.ContainerFlight as calls
-use Rattle.model.specs.declared.turn.Kind as kinds
+use Rattle.model.specs.declared.families.container.calls.ContainerFlight.TheVariants as calls
+use Rattle.model.specs.declared.turn.Kind.TheVariants as kinds
 use Rattle.model.specs.declared.turn.Refusal.{Refusal}
 use Rattle.model.specs.declared.turn.Turn.{Turn}
 use Rattle.model.specs.Coding.{Coding}
@@ -89,55 +92,55 @@ module _ (c size : ℕ) (some : 1 ≤ c) (wide : 1 ≤ size) (words : List ℕ) 
   few_most : (k : ℕ) → k ≤ each_is + c + max 2 size → k ≤ owns size c
   few_most k end = let all = owns_is in omega arith
 
-  remove_most : (now : ℕ) (stage : removes.RemoveStage) → remove_own size c now stage ≤ owns size c
-  remove_most now removes.TheVariants.Refuses = omega arith
-  remove_most now removes.TheVariants.LoadsCount = let max = two in few_most (c - 1 + 8) (omega arith)
-  remove_most now (removes.TheVariants.Releases count stage) =
+  remove_most : (now : ℕ) (stage : RemoveStage) → remove_own size c now stage ≤ owns size c
+  remove_most now removes.Refuses = omega arith
+  remove_most now removes.LoadsCount = let max = two in few_most (c - 1 + 8) (omega arith)
+  remove_most now (removes.Releases count stage) =
       let max = two in let most = release_most c now stage in
       few_most (release_left c now stage + 2) (omega arith)
-  remove_most now (removes.TheVariants.Hides count state) = few_most 1 (omega arith)
-  remove_most now (removes.TheVariants.AddsChange state) = omega arith
+  remove_most now (removes.Hides count state) = few_most 1 (omega arith)
+  remove_most now (removes.AddsChange state) = omega arith
 
-  recover_most : (stage : recovers.RecoverStage) → recover_own size c words stage ≤ owns size c
-  recover_most recovers.TheVariants.LoadsCounter = let max = two in ends_most (each_is + 2) _ (behind_most 0) (omega arith)
-  recover_most (recovers.TheVariants.LoadsCell index) = let max = two in ends_most (each_is + 1) _ (behind_most index) (omega arith)
-  recover_most (recovers.TheVariants.LoadsCount index) = ends_most each_is _ (behind_most index) (omega arith)
-  recover_most (recovers.TheVariants.LoadsWord index count at) =
+  recover_most : (stage : RecoverStage) → recover_own size c words stage ≤ owns size c
+  recover_most recovers.LoadsCounter = let max = two in ends_most (each_is + 2) _ (behind_most 0) (omega arith)
+  recover_most (recovers.LoadsCell index) = let max = two in ends_most (each_is + 1) _ (behind_most index) (omega arith)
+  recover_most (recovers.LoadsCount index) = ends_most each_is _ (behind_most index) (omega arith)
+  recover_most (recovers.LoadsWord index count at) =
       let max = two in let most = again_most index count in
       ends_most (size - (at + 1) + 7 + (c - 1 + 3) + again_at size c words index count) _ (behind_most index) (omega arith)
-  recover_most (recovers.TheVariants.ChecksCount index count) =
+  recover_most (recovers.ChecksCount index count) =
       let max = two in let most = again_most index count in
       ends_most (6 + (c - 1 + 3) + again_at size c words index count) _ (behind_most index) (omega arith)
-  recover_most (recovers.TheVariants.Asks index count) = ends_most (5 + (c - 1 + 3)) _ (behind_most index) (omega arith)
-  recover_most (recovers.TheVariants.EmptiesCell index count) = ends_most (5 + (c - 1 + 3)) _ (behind_most index) (omega arith)
-  recover_most (recovers.TheVariants.Hides index count) = ends_most (4 + (c - 1 + 3)) _ (behind_most index) (omega arith)
-  recover_most (recovers.TheVariants.Raises index raise) =
+  recover_most (recovers.Asks index count) = ends_most (5 + (c - 1 + 3)) _ (behind_most index) (omega arith)
+  recover_most (recovers.EmptiesCell index count) = ends_most (5 + (c - 1 + 3)) _ (behind_most index) (omega arith)
+  recover_most (recovers.Hides index count) = ends_most (4 + (c - 1 + 3)) _ (behind_most index) (omega arith)
+  recover_most (recovers.Raises index raise) =
       let most = raise_most c (get_or words 0 0) raise in
       ends_most (2 + (c - 1 + 3) + raise_left (get_or words 0 0) raise) _ (behind_most index) (omega arith)
-  recover_most (recovers.TheVariants.Locks index lock) =
+  recover_most (recovers.Locks index lock) =
       let most = lock_most c (get_or words 0 0) lock in
       ends_most (2 + lock_left c (get_or words 0 0) lock) _ (behind_most index) (omega arith)
-  recover_most recovers.TheVariants.LoadsCounterAgain = few_most 1 (omega arith)
-  recover_most (recovers.TheVariants.AddsChange state) = omega arith
+  recover_most recovers.LoadsCounterAgain = few_most 1 (omega arith)
+  recover_most (recovers.AddsChange state) = omega arith
 
   plain_most : {T : Type 0} (flight : ContainerFlight T) → call_left size c words flight ≤ owns size c
   plain_most flight =
-      let most = (default_most c size some wide words (flights.TheVariants.Container flight)).0 in
+      let most = (default_most c size some wide words (flights.Container flight)).0 in
       let less : c * (size + 7) ≤ c * (c + size + 10) = omega arith in
       omega arith
 
   call_most : {T : Type 0} (flight : ContainerFlight T) → call_own size c words flight ≤ owns size c
-  call_most {T} (calls.TheVariants.Remove run) = remove_most (get_or words 0 0) run.call.stage
-  call_most {T} (calls.TheVariants.Recover run) = recover_most run.call.stage
-  call_most {T} (calls.TheVariants.Add run) = plain_most {T = T} (calls.TheVariants.Add run)
-  call_most {T} (calls.TheVariants.Replace run) = plain_most {T = T} (calls.TheVariants.Replace run)
-  call_most {T} (calls.TheVariants.Find run) = plain_most {T = T} (calls.TheVariants.Find run)
-  call_most {T} (calls.TheVariants.Look which call) = plain_most {T = T} (calls.TheVariants.Look which call)
-  call_most {T} (calls.TheVariants.Count which run) = plain_most {T = T} (calls.TheVariants.Count which run)
-  call_most {T} (calls.TheVariants.IsLocked run) = plain_most {T = T} (calls.TheVariants.IsLocked run)
+  call_most {T} (calls.Remove run) = remove_most (get_or words 0 0) run.call.stage
+  call_most {T} (calls.Recover run) = recover_most run.call.stage
+  call_most {T} (calls.Add run) = plain_most {T = T} (calls.Add run)
+  call_most {T} (calls.Replace run) = plain_most {T = T} (calls.Replace run)
+  call_most {T} (calls.Find run) = plain_most {T = T} (calls.Find run)
+  call_most {T} (calls.Look which call) = plain_most {T = T} (calls.Look which call)
+  call_most {T} (calls.Count which run) = plain_most {T = T} (calls.Count which run)
+  call_most {T} (calls.IsLocked run) = plain_most {T = T} (calls.IsLocked run)
 
   own_most : {T : Type 0} (flight : Flight T) → own_at size c words flight ≤ owns size c
-  own_most (flights.TheVariants.Container flight) = call_most flight
+  own_most (flights.Container flight) = call_most flight
   own_most flight = omega arith
 
   two_places : {T : Type 0} (flight : Flight T) → places c flight ≤ 2
@@ -147,8 +150,8 @@ module _ (c size : ℕ) (some : 1 ≤ c) (wide : 1 ≤ size) (words : List ℕ) 
 
 module _ {T : Type 0} where
   abbrev is_plain : ContainerFlight T → Bool
-  is_plain (calls.TheVariants.Remove run) = false
-  is_plain (calls.TheVariants.Recover run) = false
+  is_plain (calls.Remove run) = false
+  is_plain (calls.Recover run) = false
   is_plain flight = true
 
   abbrev PlainAfter : After (ContainerFlight T) (Answer T) → Type 0
@@ -162,18 +165,18 @@ module _ {T : Type 0} where
   module _ (size c : ℕ) where
     plain_is : (words : List ℕ) (flight : ContainerFlight T) → is_plain flight ≡ true
         → (call_own size c words flight ≡ call_left size c words flight) × (call_places c flight ≡ call_pays c flight)
-    plain_is words (calls.TheVariants.Remove run) plain = absurd (cc)
-    plain_is words (calls.TheVariants.Recover run) plain = absurd (cc)
-    plain_is words (calls.TheVariants.Add run) plain = (refl, refl)
-    plain_is words (calls.TheVariants.Replace run) plain = (refl, refl)
-    plain_is words (calls.TheVariants.Find run) plain = (refl, refl)
-    plain_is words (calls.TheVariants.Look which call) plain = (refl, refl)
-    plain_is words (calls.TheVariants.Count which run) plain = (refl, refl)
-    plain_is words (calls.TheVariants.IsLocked run) plain = (refl, refl)
+    plain_is words (calls.Remove run) plain = absurd (cc)
+    plain_is words (calls.Recover run) plain = absurd (cc)
+    plain_is words (calls.Add run) plain = (refl, refl)
+    plain_is words (calls.Replace run) plain = (refl, refl)
+    plain_is words (calls.Find run) plain = (refl, refl)
+    plain_is words (calls.Look which call) plain = (refl, refl)
+    plain_is words (calls.Count which run) plain = (refl, refl)
+    plain_is words (calls.IsLocked run) plain = (refl, refl)
 
     module _ (most : (words : List ℕ) (flight : Flight T) → own_at size c words flight ≤ owns size c) (old new : List ℕ) where
       abbrev Falls : WordMeasure T → ℕ → ContainerFlight T → After (ContainerFlight T) (Answer T) → Type 0
-      Falls M s was a = FallsIn M old new s (flights.TheVariants.Container was) (as_call flights.TheVariants.Container (λ answer. answer) a)
+      Falls M s was a = FallsIn M old new s (flights.Container was) (as_call flights.Container (λ answer. answer) a)
 
       plain_falls : (s : ℕ) → s ≤ 1 → (was : ContainerFlight T) (a : After (ContainerFlight T) (Answer T)) → is_plain was ≡ true → PlainAfter a
           → StaysOrMoves c (get_or old 0 0) (get_or new 0 0) → Falls (measure size c) s was a → Falls (room_measure size c) s was a
@@ -188,7 +191,7 @@ module _ {T : Type 0} where
           let a = plain_is old was plain in let b = plain_is new next then in
           inr (rw same (omega (arith, le, a, b)), inr (omega (arith, pays, a, b)))
       plain_falls s one was (GoOn next) plain then (inr less) h =
-          let down = moves size c old new most less (flights.TheVariants.Container was) (flights.TheVariants.Container next) in
+          let down = moves size c old new most less (flights.Container was) (flights.Container next) in
           let a = plain_is old was plain in let b = plain_is old next then in
           let fewer = no_more h in
           inr (omega (arith, down, one), inl (moved_by size c old new most less, omega (arith, fewer, a, b)))
@@ -210,44 +213,44 @@ module _ {T : Type 0} (code : Coding T) (c : ℕ) (some : 1 ≤ c) (wide : 1 ≤
   -- the counter stays, or has less room
   plain_moves : (words : List ℕ) (there : 0 < length words) (flight : ContainerFlight T) → CallAt c flight → is_plain flight ≡ true
       → StaysOrMoves c (get_or words 0 0) (get_or (then_words code c words flight) 0 0)
-  plain_moves words there (calls.TheVariants.Add run) at plain = go run.call.stage at.1 (container_leaves code words there (calls.TheVariants.Add run))
+  plain_moves words there (calls.Add run) at plain = go run.call.stage at.1 (container_leaves code words there (calls.Add run))
     where
-      go : (stage : adds.AddStage) → AddAt stage
-          → get_or (then_words code c words (calls.TheVariants.Add run)) 0 0 ≡ add_then stage (get_or words 0 0)
-          → StaysOrMoves c (get_or words 0 0) (get_or (then_words code c words (calls.TheVariants.Add run)) 0 0)
-      go (adds.TheVariants.Acquires stage) at is = acquire_moves c (get_or words 0 0) _ stage at is
-      go (adds.TheVariants.LoadsCount index) at is = inl is
-      go (adds.TheVariants.Hides index count) at is = inl is
-      go (adds.TheVariants.Stores index place) at is = inl is
-      go (adds.TheVariants.AddsCount index) at is = inl is
-      go (adds.TheVariants.AddsChange index) at is = inl is
-  plain_moves words there (calls.TheVariants.Count which run) at plain =
-      count_moves c (get_or words 0 0) _ run.call.count at.1 (container_leaves code words there (calls.TheVariants.Count which run))
-  plain_moves words there (calls.TheVariants.Replace run) at plain = inl (container_leaves code words there (calls.TheVariants.Replace run))
-  plain_moves words there (calls.TheVariants.Find run) at plain = inl (container_leaves code words there (calls.TheVariants.Find run))
-  plain_moves words there (calls.TheVariants.Look which call) at plain = inl (container_leaves code words there (calls.TheVariants.Look which call))
-  plain_moves words there (calls.TheVariants.IsLocked run) at plain = inl (container_leaves code words there (calls.TheVariants.IsLocked run))
-  plain_moves words there (calls.TheVariants.Remove run) at plain = absurd (cc)
-  plain_moves words there (calls.TheVariants.Recover run) at plain = absurd (cc)
+      go : (stage : AddStage) → AddAt stage
+          → get_or (then_words code c words (calls.Add run)) 0 0 ≡ add_then stage (get_or words 0 0)
+          → StaysOrMoves c (get_or words 0 0) (get_or (then_words code c words (calls.Add run)) 0 0)
+      go (adds.Acquires stage) at is = acquire_moves c (get_or words 0 0) _ stage at is
+      go (adds.LoadsCount index) at is = inl is
+      go (adds.Hides index count) at is = inl is
+      go (adds.Stores index place) at is = inl is
+      go (adds.AddsCount index) at is = inl is
+      go (adds.AddsChange index) at is = inl is
+  plain_moves words there (calls.Count which run) at plain =
+      count_moves c (get_or words 0 0) _ run.call.count at.1 (container_leaves code words there (calls.Count which run))
+  plain_moves words there (calls.Replace run) at plain = inl (container_leaves code words there (calls.Replace run))
+  plain_moves words there (calls.Find run) at plain = inl (container_leaves code words there (calls.Find run))
+  plain_moves words there (calls.Look which call) at plain = inl (container_leaves code words there (calls.Look which call))
+  plain_moves words there (calls.IsLocked run) at plain = inl (container_leaves code words there (calls.IsLocked run))
+  plain_moves words there (calls.Remove run) at plain = absurd (cc)
+  plain_moves words there (calls.Recover run) at plain = absurd (cc)
 
   -- where it stands by its own measure
   stands : (flight : ContainerFlight T) → CallAt c flight → is_plain flight ≡ true → CallStands c flight
-  stands (calls.TheVariants.Add run) at plain = at.0
-  stands (calls.TheVariants.Count which run) at plain = at.0
-  stands (calls.TheVariants.Replace run) at plain = at
-  stands (calls.TheVariants.Find run) at plain = at
-  stands (calls.TheVariants.Look which call) at plain = at
-  stands (calls.TheVariants.IsLocked run) at plain = at
-  stands (calls.TheVariants.Remove run) at plain = absurd (cc)
-  stands (calls.TheVariants.Recover run) at plain = absurd (cc)
+  stands (calls.Add run) at plain = at.0
+  stands (calls.Count which run) at plain = at.0
+  stands (calls.Replace run) at plain = at
+  stands (calls.Find run) at plain = at
+  stands (calls.Look which call) at plain = at
+  stands (calls.IsLocked run) at plain = at
+  stands (calls.Remove run) at plain = absurd (cc)
+  stands (calls.Recover run) at plain = absurd (cc)
 
   abbrev Shown : List ℕ → Option (ContainerState T) → ContainerFlight T → Type 0
   Shown words state flight =
-      FallsIn M words (words_after words (ask_of (want code flight))) (step_count (ask_of (want code flight))) (flights.TheVariants.Container flight)
-      (as_call flights.TheVariants.Container (λ answer. answer) (after code state flight (old_of words (ask_of (want code flight)))))
+      FallsIn M words (words_after words (ask_of (want code flight))) (step_count (ask_of (want code flight))) (flights.Container flight)
+      (as_call flights.Container (λ answer. answer) (after code state flight (old_of words (ask_of (want code flight)))))
 
   plain_shown : (words : List ℕ) → 0 < length words → (p : ℕ) (dead : List ℕ) (states : List (ℕ × ContainerState T)) (flight : ContainerFlight T)
-      → CallAt c flight → is_plain flight ≡ true → Known p (in_states code c dead states) (flights.TheVariants.Container flight)
+      → CallAt c flight → is_plain flight ≡ true → Known p (in_states code c dead states) (flights.Container flight)
       → Shown words (state_of p states) flight
   plain_shown words there p dead states flight at plain known =
       let ask = ask_of (want code flight) in
@@ -256,15 +259,15 @@ module _ {T : Type 0} (code : Coding T) (c : ℕ) (some : 1 ≤ c) (wide : 1 ≤
       (plain_moves words there flight at plain) (call_falls code c words p dead states flight (stands flight at plain) known)
 
   step_falls : (words : List ℕ) → 0 < length words → (p : ℕ) (dead : List ℕ) (states : List (ℕ × ContainerState T)) (flight : ContainerFlight T)
-      → CallAt c flight → Known p (in_states code c dead states) (flights.TheVariants.Container flight) → Shown words (state_of p states) flight
-  step_falls words there p dead states (calls.TheVariants.Remove run) at known =
+      → CallAt c flight → Known p (in_states code c dead states) (flights.Container flight) → Shown words (state_of p states) flight
+  step_falls words there p dead states (calls.Remove run) at known =
       let flight : ℕ → ContainerFlight T = λ n. remove_at n run.given.index run.given.owner run.given.mode run.call.stage in
       subst (λ n. Shown words (state_of p states) (flight n)) (sym at.0)
       (let owes = remove_owes code c words run.given.mode run.given.index run.given.owner at.1 there run.call.stage at.2 in
       let ask = ask_of (want code (flight c)) in
       to_falls code.size c words (words_after words ask) most_own 1 (step_count ask) (flight c)
       (after code (state_of p states) (flight c) (old_of words ask)) (steps_small ask) (omega arith) owes.1 owes.0)
-  step_falls words there p dead states (calls.TheVariants.Recover run) at known =
+  step_falls words there p dead states (calls.Recover run) at known =
       let flight : ℕ → ContainerFlight T = λ n. recover_at n run.given.owner run.given.mode run.room run.call.stage in
       subst (λ n. Shown words (state_of p states) (flight n)) (sym at.0)
       (let owes = recover_owes code c words run.given.mode run.given.owner run.room there run.call.stage at.1 in
@@ -272,30 +275,30 @@ module _ {T : Type 0} (code : Coding T) (c : ℕ) (some : 1 ≤ c) (wide : 1 ≤
       to_falls code.size c words (words_after words ask) most_own (recover_steps run.call.stage) (step_count ask) (flight c)
       (after code (state_of p states) (flight c) (old_of words ask)) (asks_few run.call.stage) (few_steps run.call.stage) owes.1 owes.0)
     where
-      few_steps : (stage : recovers.RecoverStage) → recover_steps stage ≤ 1
+      few_steps : (stage : RecoverStage) → recover_steps stage ≤ 1
       few_steps x0 = grind arith
 
-      asks_few : (stage : recovers.RecoverStage)
+      asks_few : (stage : RecoverStage)
           → step_count (ask_of (want code (recover_at {T = T} c run.given.owner run.given.mode run.room stage))) ≤ recover_steps stage
       asks_few x0 = grind arith
-  step_falls words there p dead states (calls.TheVariants.Add run) at known = plain_shown words there p dead states (calls.TheVariants.Add run) at refl known
-  step_falls words there p dead states (calls.TheVariants.Replace run) at known =
-      plain_shown words there p dead states (calls.TheVariants.Replace run) at refl known
-  step_falls words there p dead states (calls.TheVariants.Find run) at known = plain_shown words there p dead states (calls.TheVariants.Find run) at refl known
-  step_falls words there p dead states (calls.TheVariants.Look which call) at known =
-      plain_shown words there p dead states (calls.TheVariants.Look which call) at refl known
-  step_falls words there p dead states (calls.TheVariants.Count which run) at known =
-      plain_shown words there p dead states (calls.TheVariants.Count which run) at refl known
-  step_falls words there p dead states (calls.TheVariants.IsLocked run) at known =
-      plain_shown words there p dead states (calls.TheVariants.IsLocked run) at refl known
+  step_falls words there p dead states (calls.Add run) at known = plain_shown words there p dead states (calls.Add run) at refl known
+  step_falls words there p dead states (calls.Replace run) at known =
+      plain_shown words there p dead states (calls.Replace run) at refl known
+  step_falls words there p dead states (calls.Find run) at known = plain_shown words there p dead states (calls.Find run) at refl known
+  step_falls words there p dead states (calls.Look which call) at known =
+      plain_shown words there p dead states (calls.Look which call) at refl known
+  step_falls words there p dead states (calls.Count which run) at known =
+      plain_shown words there p dead states (calls.Count which run) at refl known
+  step_falls words there p dead states (calls.IsLocked run) at known =
+      plain_shown words there p dead states (calls.IsLocked run) at refl known
 
   -- ---- a decision
 
   abbrev Decided : List ℕ → Option (ContainerState T) → ContainerFlight T → Type 0
   Decided words state flight =
       (said : Bool) → is_question (want code flight) ≡ true
-      → FallsIn M words words 0 (flights.TheVariants.Container flight)
-      (as_call flights.TheVariants.Container (λ answer. answer) (after code state flight (number_of said)))
+      → FallsIn M words words 0 (flights.Container flight)
+      (as_call flights.Container (λ answer. answer) (after code state flight (number_of said)))
 
   plain_decides : (words : List ℕ) (state : Option (ContainerState T)) (flight : ContainerFlight T) → CallAt c flight → is_plain flight ≡ true
       → Decided words state flight
@@ -309,55 +312,55 @@ module _ {T : Type 0} (code : Coding T) (c : ℕ) (some : 1 ≤ c) (wide : 1 ≤
   no_lock : (lock : locks.Lock) → is_question (lock_want lock) ≡ false
   no_lock x0 = grind arith
 
-  recover_decides : (words : List ℕ) (mode : ReleaseMode) (owner : ℕ) (room : buffers.Buffer 128) (stage : recovers.RecoverStage)
+  recover_decides : (words : List ℕ) (mode : ReleaseMode) (owner : ℕ) (room : buffers.Buffer 128) (stage : RecoverStage)
       → Decided words None (recover_at c owner mode room stage)
-  recover_decides words mode owner room (recovers.TheVariants.Asks index count) true due =
-      to_falls code.size c words words most_own 0 0 (recover_at c owner mode room (recovers.TheVariants.Asks index count))
-      (after code None (recover_at c owner mode room (recovers.TheVariants.Asks index count)) (number_of true)) (omega arith) (omega arith)
+  recover_decides words mode owner room (recovers.Asks index count) true due =
+      to_falls code.size c words words most_own 0 0 (recover_at c owner mode room (recovers.Asks index count))
+      (after code None (recover_at c owner mode room (recovers.Asks index count)) (number_of true)) (omega arith) (omega arith)
       (λ same other. omega arith) (inl (refl, omega arith), omega arith)
-  recover_decides words mode owner room (recovers.TheVariants.Asks index count) false due =
-      to_falls code.size c words words most_own 0 0 (recover_at c owner mode room (recovers.TheVariants.Asks index count))
-      (after code None (recover_at c owner mode room (recovers.TheVariants.Asks index count)) (number_of false)) (omega arith) (omega arith)
+  recover_decides words mode owner room (recovers.Asks index count) false due =
+      to_falls code.size c words words most_own 0 0 (recover_at c owner mode room (recovers.Asks index count))
+      (after code None (recover_at c owner mode room (recovers.Asks index count)) (number_of false)) (omega arith) (omega arith)
       (λ same other. omega arith)
-      (comes code c words mode owner room words 0 index room (recovers.TheVariants.Asks index count) (inl refl) (omega arith))
-  recover_decides words mode owner room recovers.TheVariants.LoadsCounter said due = absurd (cc)
-  recover_decides words mode owner room (recovers.TheVariants.LoadsCell index) said due = absurd (cc)
-  recover_decides words mode owner room (recovers.TheVariants.LoadsCount index) said due = absurd (cc)
-  recover_decides words mode owner room (recovers.TheVariants.LoadsWord index count at) said due = absurd (cc)
-  recover_decides words mode owner room (recovers.TheVariants.ChecksCount index count) said due = absurd (cc)
-  recover_decides words mode owner room (recovers.TheVariants.EmptiesCell index count) said due = absurd (cc)
-  recover_decides words mode owner room (recovers.TheVariants.Hides index count) said due = absurd (cc)
-  recover_decides words mode owner room (recovers.TheVariants.Raises index raise) said due = let none = no_raise raise in absurd (cc)
-  recover_decides words mode owner room (recovers.TheVariants.Locks index lock) said due = let none = no_lock lock in absurd (cc)
-  recover_decides words mode owner room recovers.TheVariants.LoadsCounterAgain said due = absurd (cc)
-  recover_decides words mode owner room (recovers.TheVariants.AddsChange state) said due = absurd (cc)
+      (comes code c words mode owner room words 0 index room (recovers.Asks index count) (inl refl) (omega arith))
+  recover_decides words mode owner room recovers.LoadsCounter said due = absurd (cc)
+  recover_decides words mode owner room (recovers.LoadsCell index) said due = absurd (cc)
+  recover_decides words mode owner room (recovers.LoadsCount index) said due = absurd (cc)
+  recover_decides words mode owner room (recovers.LoadsWord index count at) said due = absurd (cc)
+  recover_decides words mode owner room (recovers.ChecksCount index count) said due = absurd (cc)
+  recover_decides words mode owner room (recovers.EmptiesCell index count) said due = absurd (cc)
+  recover_decides words mode owner room (recovers.Hides index count) said due = absurd (cc)
+  recover_decides words mode owner room (recovers.Raises index raise) said due = let none = no_raise raise in absurd (cc)
+  recover_decides words mode owner room (recovers.Locks index lock) said due = let none = no_lock lock in absurd (cc)
+  recover_decides words mode owner room recovers.LoadsCounterAgain said due = absurd (cc)
+  recover_decides words mode owner room (recovers.AddsChange state) said due = absurd (cc)
 
   any_decides : (words : List ℕ) (state : Option (ContainerState T)) (flight : ContainerFlight T) → CallAt c flight → Decided words state flight
-  any_decides words state (calls.TheVariants.Remove run) at said due = let asks = never_asks code c (calls.TheVariants.Remove run) due in absurd (cc)
-  any_decides words state (calls.TheVariants.Recover run) at said due =
+  any_decides words state (calls.Remove run) at said due = let asks = never_asks code c (calls.Remove run) due in absurd (cc)
+  any_decides words state (calls.Recover run) at said due =
       subst (λ n. Decided words state (recover_at n run.given.owner run.given.mode run.room run.call.stage)) (sym at.0)
       (λ s d. recover_decides words run.given.mode run.given.owner run.room run.call.stage s d) said due
-  any_decides words state (calls.TheVariants.Add run) at said due = plain_decides words state (calls.TheVariants.Add run) at refl said due
-  any_decides words state (calls.TheVariants.Replace run) at said due = plain_decides words state (calls.TheVariants.Replace run) at refl said due
-  any_decides words state (calls.TheVariants.Find run) at said due = plain_decides words state (calls.TheVariants.Find run) at refl said due
-  any_decides words state (calls.TheVariants.Look which call) at said due = plain_decides words state (calls.TheVariants.Look which call) at refl said due
-  any_decides words state (calls.TheVariants.Count which run) at said due = plain_decides words state (calls.TheVariants.Count which run) at refl said due
-  any_decides words state (calls.TheVariants.IsLocked run) at said due = plain_decides words state (calls.TheVariants.IsLocked run) at refl said due
+  any_decides words state (calls.Add run) at said due = plain_decides words state (calls.Add run) at refl said due
+  any_decides words state (calls.Replace run) at said due = plain_decides words state (calls.Replace run) at refl said due
+  any_decides words state (calls.Find run) at said due = plain_decides words state (calls.Find run) at refl said due
+  any_decides words state (calls.Look which call) at said due = plain_decides words state (calls.Look which call) at refl said due
+  any_decides words state (calls.Count which run) at said due = plain_decides words state (calls.Count which run) at refl said due
+  any_decides words state (calls.IsLocked run) at said due = plain_decides words state (calls.IsLocked run) at refl said due
 
   -- ---- what it owes
 
   falls : (words : List ℕ) (p : ℕ) (kept : Registry T) (start : Start T) (flight : Flight T) → AtAny code c start flight → Kept kept → Known p kept flight
       → 0 < length words → StepFallsBy M code words p kept flight
-  falls words p (registries.TheVariants.Container dead states) (starts.Container start) (flights.TheVariants.Container flight) at held known there =
+  falls words p (registries.Container dead states) (starts.Container start) (flights.Container flight) at held known there =
       step_falls words there p dead states flight at known
-  falls words p kept (starts.Container start) (flights.TheVariants.Container flight) at held known there = absurd held
+  falls words p kept (starts.Container start) (flights.Container flight) at held known there = absurd held
   falls words p kept start flight at held known there = absurd at
 
   decides : (words : List ℕ) (p : ℕ) (kept : Registry T) (start : Start T) (flight : Flight T) (said : Bool) → AtAny code c start flight → Kept kept
       → is_question (want_of code flight) ≡ true → FallsIn M words words 0 flight (goes_of code p flight (number_of said) kept)
-  decides words p (registries.TheVariants.Container dead states) (starts.Container start) (flights.TheVariants.Container flight) said at held due =
+  decides words p (registries.Container dead states) (starts.Container start) (flights.Container flight) said at held due =
       any_decides words (state_of p states) flight at said due
-  decides words p kept (starts.Container start) (flights.TheVariants.Container flight) said at held due = absurd held
+  decides words p kept (starts.Container start) (flights.Container flight) said at held due = absurd held
   decides words p kept start flight said at held due = absurd at
 
   told : (words : List ℕ) (beside : Option (ℕ × ℕ)) (p : ℕ) (start : Start T) (flight : Flight T) (old : ℕ) (kept : Registry T)
@@ -368,27 +371,27 @@ module _ {T : Type 0} (code : Coding T) (c : ℕ) (some : 1 ≤ c) (wide : 1 ≤
       → AtAny code c start flight → Kept kept
       → Kept (step_of code words beside p start flight old kept).kept
       × Lasts room_outline kept (step_of code words beside p start flight old kept).kept
-  stays words beside p (starts.Container start) (flights.TheVariants.Container flight) old (registries.TheVariants.Container dead states) at held =
+  stays words beside p (starts.Container start) (flights.Container flight) old (registries.Container dead states) at held =
       (tt, lasts_by code c dead dead states (states_after code p flight old states) (λ q has. steps_has code c p q flight old states has))
-  stays words beside p (starts.Container start) (flights.TheVariants.Container flight) old kept at held = absurd held
+  stays words beside p (starts.Container start) (flights.Container flight) old kept at held = absurd held
   stays words beside p start flight old kept at held = absurd at
 
   own_after : (start : ContainerStart T) (a : After (ContainerFlight T) (Answer T)) → CallAfter code c a
-      → OwnAfter room_outline code c (starts.Container start) (as_call flights.TheVariants.Container (λ answer. answer) a)
+      → OwnAfter room_outline code c (starts.Container start) (as_call flights.Container (λ answer. answer) a)
   own_after start (GoOn flight) h = h
   own_after start (Done answer) h = tt
 
   goes : (p : ℕ) (start : Start T) (flight : Flight T) (old : ℕ) (kept : Registry T) → AtAny code c start flight → Kept kept → Known p kept flight
       → OwnAfter room_outline code c start (goes_of code p flight old kept) × KnownAfter room_outline p kept (goes_of code p flight old kept)
-  goes p (starts.Container start) (flights.TheVariants.Container flight) old (registries.TheVariants.Container dead states) at held known = (
+  goes p (starts.Container start) (flights.Container flight) old (registries.Container dead states) at held known = (
     own_after start (after code (state_of p states) flight old) (call_at_after code c (state_of p states) flight old at),
     call_known code c p dead states (state_of p states) flight old known,
   )
-  goes p (starts.Container start) (flights.TheVariants.Container flight) old kept at held known = absurd held
+  goes p (starts.Container start) (flights.Container flight) old kept at held known = absurd held
   goes p start flight old kept at held known = absurd at
 
   begins : (start : Start T) (kept : Registry T) (flight : Flight T) → Unit {0} → Kept kept
-      → first_of kinds.TheVariants.Container c start kept ≡ Some flight
+      → first_of kinds.Container c start kept ≡ Some flight
       → AtAny code c start flight × ((p : ℕ) → Kept (kept_after_begin code c start p kept))
   begins x0 x1 x2 x3 x4 x5 = grind (arith, first_at)
 
@@ -420,12 +423,12 @@ module _ {T : Type 0} (code : Coding T) (c : ℕ) (some : 1 ≤ c) (wide : 1 ≤
 -- in every run of a container, whichever rows refuse turns
 pub room_keeps_ending : {T : Type 0} (refuses : World T → Turn T → Option Refusal)
     → ((w : World T) (turn : Turn T) → refuses w turn ≡ None → IsPossible w turn)
-    → KeepsEndingBy refuses kinds.TheVariants.Container (λ start. Unit {0}) room_container_bound
+    → KeepsEndingBy refuses kinds.Container (λ start. Unit {0}) room_container_bound
 room_keeps_ending {T} refuses possible =
     keeps_ending_by (room_outline {T = T}) (λ code c coded admitted. laws code c (admitted_is c admitted).0 coded.some) refuses possible
     room_container_bound (λ code c n. refl)
 
-pub container_keeps_ending : {T : Type 0} → KeepsEnding T kinds.TheVariants.Container room_container_bound
+pub container_keeps_ending : {T : Type 0} → KeepsEnding T kinds.Container room_container_bound
 container_keeps_ending {T} =
     keeps_ending (room_outline {T = T}) (λ code c coded admitted. laws code c (admitted_is c admitted).0 coded.some) (λ start. tt)
     room_container_bound (λ code c n. refl)

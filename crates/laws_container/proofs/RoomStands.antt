@@ -13,13 +13,16 @@ use Rattle.steps.specs.Routine.{went_on}
 use Rattle.steps.specs.declared.ask.After.{After}
 use Rattle.steps.specs.declared.ask.After.TheVariants.{GoOn, Done}
 use Rattle.steps.specs.declared.container.add.Add as adding
-use Rattle.steps.specs.declared.container.add.AddStage as adds
+use Rattle.steps.specs.declared.container.add.AddStage.{AddStage}
+use Rattle.steps.specs.declared.container.add.AddStage.TheVariants as adds
 use Rattle.steps.specs.declared.container.add.Owned.{Owned}
 use Rattle.steps.specs.declared.container.recover.DeadOwner.{DeadOwner}
 use Rattle.steps.specs.declared.container.recover.Recover as recovering
-use Rattle.steps.specs.declared.container.recover.RecoverStage as recovers
+use Rattle.steps.specs.declared.container.recover.RecoverStage.{RecoverStage}
+use Rattle.steps.specs.declared.container.recover.RecoverStage.TheVariants as recovers
 use Rattle.steps.specs.declared.container.remove.Remove as removing
-use Rattle.steps.specs.declared.container.remove.RemoveStage as removes
+use Rattle.steps.specs.declared.container.remove.RemoveStage.{RemoveStage}
+use Rattle.steps.specs.declared.container.remove.RemoveStage.TheVariants as removes
 use Rattle.steps.specs.declared.container.state.ContainerState.{ContainerState}
 use Rattle.steps.specs.declared.copied.Buffer as buffers
 use Rattle.steps.specs.declared.indices.enums.ReleaseMode.{ReleaseMode}
@@ -31,12 +34,12 @@ use Rattle.steps.specs.declared.indices.robust.parts.Raise as raises
 use Rattle.steps.specs.declared.indices.robust.release.GiveBack.{GiveBack}
 use Rattle.steps.specs.declared.indices.robust.release.Release as releasing
 use Rattle.model.specs.declared.event.Answer.{Answer}
-use Rattle.model.specs.declared.event.Answer as answers
+use Rattle.model.specs.declared.event.Answer.TheVariants as answers
 use Rattle.model.specs.declared.families.container.ContainerStart.{ContainerStart}
-use Rattle.model.specs.declared.families.container.ContainerStart as container_starts
-use Rattle.steps.specs.declared.container.replace.ReplaceStage as replaces
+use Rattle.model.specs.declared.families.container.ContainerStart.TheVariants as container_starts
+use Rattle.steps.specs.declared.container.replace.ReplaceStage.TheVariants as replaces
 use Rattle.model.specs.declared.families.container.calls.ContainerFlight.{ContainerFlight}
-use Rattle.model.specs.declared.families.container.calls.ContainerFlight as calls
+use Rattle.model.specs.declared.families.container.calls.ContainerFlight.TheVariants as calls
 use Rattle.model.specs.declared.families.container.calls.CountOf.{CountOf}
 use Rattle.model.specs.Coding.{Coding}
 use Rattle.model.specs.Families.Container.Calls.{first, after, added, removed, counted, place_of}
@@ -62,18 +65,18 @@ module _ {T : Type 0} (code : Coding T) (c : ℕ) where
   acquired_at : (call : adding.Add T) (a : After acquiring.Acquire Acquired) → AcquireThen c a → AddAfter (add_acquired call a)
   acquired_at x0 x1 x2 = grind arith
 
-  add_at_after : (size : ℕ) (call : adding.Add T) (stage : adds.AddStage) (old : ℕ) → call.capacity ≡ c → AddAt stage → AddAfter (add_takes size call stage old)
-  add_at_after size call (adds.TheVariants.Acquires stage) old cap at =
+  add_at_after : (size : ℕ) (call : adding.Add T) (stage : AddStage) (old : ℕ) → call.capacity ≡ c → AddAt stage → AddAfter (add_takes size call stage old)
+  add_at_after size call (adds.Acquires stage) old cap at =
       acquired_at call (acquire_takes (inner_acquire call.capacity stage) stage old) (acquire_then_at c (inner_acquire call.capacity stage) stage old cap at)
-  add_at_after size call (adds.TheVariants.LoadsCount index) old cap at = grind arith
-  add_at_after size call (adds.TheVariants.Hides index count) old cap at = tt
-  add_at_after size call (adds.TheVariants.Stores index place) old cap at = grind arith
-  add_at_after size call (adds.TheVariants.AddsCount index) old cap at = tt
-  add_at_after size call (adds.TheVariants.AddsChange index) old cap at = tt
+  add_at_after size call (adds.LoadsCount index) old cap at = grind arith
+  add_at_after size call (adds.Hides index count) old cap at = tt
+  add_at_after size call (adds.Stores index place) old cap at = grind arith
+  add_at_after size call (adds.AddsCount index) old cap at = tt
+  add_at_after size call (adds.AddsChange index) old cap at = tt
 
   add_both : (given : Owned T) (a : After (adding.Add T) Added)
-      → StandsAfter code c (as_call calls.TheVariants.Add added (went_on as_it_is given tt a)) → AddAfter a
-      → CallAfter (as_call calls.TheVariants.Add added (went_on as_it_is given tt a))
+      → StandsAfter code c (as_call calls.Add added (went_on as_it_is given tt a)) → AddAfter a
+      → CallAfter (as_call calls.Add added (went_on as_it_is given tt a))
   add_both given (GoOn next) stands at = (stands, at)
   add_both given (Done answer) stands at = tt
 
@@ -87,18 +90,18 @@ module _ {T : Type 0} (code : Coding T) (c : ℕ) where
       → RemoveAfter (remove_released call count a)
   released_at x0 x1 x2 x3 x4 = grind arith
 
-  remove_at_after : (call : removing.Remove) (stage : removes.RemoveStage) (given : GiveBack) (old : ℕ) → call.capacity ≡ c → RemoveAt stage
+  remove_at_after : (call : removing.Remove) (stage : RemoveStage) (given : GiveBack) (old : ℕ) → call.capacity ≡ c → RemoveAt stage
       → RemoveAfter (remove_takes call stage given old)
-  remove_at_after call removes.TheVariants.Refuses given old cap at = tt
-  remove_at_after call removes.TheVariants.LoadsCount given old cap at = (cap, tt)
-  remove_at_after call (removes.TheVariants.Releases count stage) given old cap at =
+  remove_at_after call removes.Refuses given old cap at = tt
+  remove_at_after call removes.LoadsCount given old cap at = (cap, tt)
+  remove_at_after call (removes.Releases count stage) given old cap at =
       released_at call count (release_takes (inner_release call.capacity stage) stage given old) cap
       (release_then_at c (inner_release call.capacity stage) stage given old cap at)
-  remove_at_after call (removes.TheVariants.Hides count state) given old cap at = (cap, tt)
-  remove_at_after call (removes.TheVariants.AddsChange state) given old cap at = tt
+  remove_at_after call (removes.Hides count state) given old cap at = (cap, tt)
+  remove_at_after call (removes.AddsChange state) given old cap at = tt
 
   remove_both : (given : GiveBack) → given.index ≤ c → (a : After removing.Remove Removed) → RemoveAfter a
-      → CallAfter (as_call calls.TheVariants.Remove removed (went_on as_it_is given tt a))
+      → CallAfter (as_call calls.Remove removed (went_on as_it_is given tt a))
   remove_both given within (GoOn next) at = (at.0, within, at.1)
   remove_both given within (Done answer) at = tt
 
@@ -120,72 +123,72 @@ module _ {T : Type 0} (code : Coding T) (c : ℕ) where
       → RecoverAfter (recover_locked call index a)
   locked_at x0 x1 x2 x3 x4 = grind (arith, comes_at)
 
-  recover_at_after : (size : ℕ) (call : recovering.Recover T (buffers.Buffer 128)) (stage : recovers.RecoverStage) (given : DeadOwner) (old : ℕ)
+  recover_at_after : (size : ℕ) (call : recovering.Recover T (buffers.Buffer 128)) (stage : RecoverStage) (given : DeadOwner) (old : ℕ)
       → call.capacity ≡ c → RecoverAt c stage → RecoverAfter (recover_takes size call stage given old)
-  recover_at_after size call recovers.TheVariants.LoadsCounter given old cap at = grind (arith, comes_at)
-  recover_at_after size call (recovers.TheVariants.LoadsCell index) given old cap at = grind (arith, comes_at)
-  recover_at_after size call (recovers.TheVariants.LoadsCount index) given old cap at = grind (arith, nat_tests)
-  recover_at_after size call (recovers.TheVariants.LoadsWord index count place) given old cap at = grind (arith, nat_tests)
-  recover_at_after size call (recovers.TheVariants.ChecksCount index count) given old cap at = grind (arith, nat_tests)
-  recover_at_after size call (recovers.TheVariants.Asks index count) given old cap at = grind (arith, comes_at)
-  recover_at_after size call (recovers.TheVariants.EmptiesCell index count) given old cap at = grind (arith, comes_at)
-  recover_at_after size call (recovers.TheVariants.Hides index count) given old cap at = (cap, tt)
-  recover_at_after size call (recovers.TheVariants.Raises index raise) given old cap at =
+  recover_at_after size call recovers.LoadsCounter given old cap at = grind (arith, comes_at)
+  recover_at_after size call (recovers.LoadsCell index) given old cap at = grind (arith, comes_at)
+  recover_at_after size call (recovers.LoadsCount index) given old cap at = grind (arith, nat_tests)
+  recover_at_after size call (recovers.LoadsWord index count place) given old cap at = grind (arith, nat_tests)
+  recover_at_after size call (recovers.ChecksCount index count) given old cap at = grind (arith, nat_tests)
+  recover_at_after size call (recovers.Asks index count) given old cap at = grind (arith, comes_at)
+  recover_at_after size call (recovers.EmptiesCell index count) given old cap at = grind (arith, comes_at)
+  recover_at_after size call (recovers.Hides index count) given old cap at = (cap, tt)
+  recover_at_after size call (recovers.Raises index raise) given old cap at =
       raised_at call index given.mode (raise_after raise old) cap (raise_then_at raise old)
-  recover_at_after size call (recovers.TheVariants.Locks index lock) given old cap at =
+  recover_at_after size call (recovers.Locks index lock) given old cap at =
       locked_at call index (lock_after call.capacity lock old) cap (lock_then_at call.capacity lock old at)
-  recover_at_after size call recovers.TheVariants.LoadsCounterAgain given old cap at = (cap, tt)
-  recover_at_after size call (recovers.TheVariants.AddsChange state) given old cap at = tt
+  recover_at_after size call recovers.LoadsCounterAgain given old cap at = (cap, tt)
+  recover_at_after size call (recovers.AddsChange state) given old cap at = tt
 
   recover_both : (given : DeadOwner) (kept : buffers.Buffer 128) (a : After (recovering.Recover T (buffers.Buffer 128)) ReleaseState) → RecoverAfter a
-      → CallAfter (as_call calls.TheVariants.Recover answers.TheVariants.State (went_on as_it_is given kept a))
+      → CallAfter (as_call calls.Recover answers.State (went_on as_it_is given kept a))
   recover_both given kept (GoOn next) at = at
   recover_both given kept (Done answer) at = tt
 
   -- ---- a number of elements
 
   count_both : (which : CountOf) (a : After counting.BorrowedIndices ℕ) → BorrowThen c a
-      → CallAfter (as_call (calls.TheVariants.Count which) (counted which) (went_on as_it_is tt tt a))
+      → CallAfter (as_call (calls.Count which) (counted which) (went_on as_it_is tt tt a))
   count_both which (GoOn next) at = at
   count_both which (Done answer) at = tt
 
   -- ---- any call
 
   pub call_at_after : (state : Option (ContainerState T)) (flight : ContainerFlight T) (old : ℕ) → CallAt c flight → CallAfter (after code state flight old)
-  call_at_after state (calls.TheVariants.Add run) old at =
-      add_both run.given (add_after code.size run.call old) (call_goes code c state (calls.TheVariants.Add run) old at.0)
+  call_at_after state (calls.Add run) old at =
+      add_both run.given (add_after code.size run.call old) (call_goes code c state (calls.Add run) old at.0)
       (add_at_after code.size run.call run.call.stage old at.0.0 at.1)
-  call_at_after state (calls.TheVariants.Remove run) old at =
+  call_at_after state (calls.Remove run) old at =
       remove_both run.given at.1 (remove_takes run.call run.call.stage run.given old) (remove_at_after run.call run.call.stage run.given old at.0 at.2)
-  call_at_after state (calls.TheVariants.Recover run) old at =
+  call_at_after state (calls.Recover run) old at =
       recover_both run.given _ (recover_takes code.size run.call run.call.stage run.given old)
       (recover_at_after code.size run.call run.call.stage run.given old at.0 at.1)
-  call_at_after state (calls.TheVariants.Count which run) old at =
+  call_at_after state (calls.Count which run) old at =
       count_both which (borrowed_counted run.call (count_after run.call.capacity run.call.count old)) (borrow_then_at c run.call old at.0 at.1)
-  call_at_after state (calls.TheVariants.Replace run) old at = grind (arith, nat_tests)
-  call_at_after state (calls.TheVariants.Find run) old at = grind (arith, nat_tests)
-  call_at_after state (calls.TheVariants.Look which call) old at = grind (arith, nat_tests)
-  call_at_after state (calls.TheVariants.IsLocked run) old at = tt
+  call_at_after state (calls.Replace run) old at = grind (arith, nat_tests)
+  call_at_after state (calls.Find run) old at = grind (arith, nat_tests)
+  call_at_after state (calls.Look which call) old at = grind (arith, nat_tests)
+  call_at_after state (calls.IsLocked run) old at = tt
 
   place_within : (index : ℕ) → place_of c index ≤ c
   place_within x0 = grind (arith, nat_tests)
 
   pub first_at : (start : ContainerStart T) → CallAt c (first c start)
-  first_at (container_starts.TheVariants.Add value owner) = ((refl, tt), tt)
-  first_at (container_starts.TheVariants.Remove index owner mode) = (refl, place_within index, go (nat_lt (place_of c index) c))
+  first_at (container_starts.Add value owner) = ((refl, tt), tt)
+  first_at (container_starts.Remove index owner mode) = (refl, place_within index, go (nat_lt (place_of c index) c))
     where
-      go : (t : Bool) → RemoveAt (cond t removes.TheVariants.LoadsCount removes.TheVariants.Refuses)
+      go : (t : Bool) → RemoveAt (cond t removes.LoadsCount removes.Refuses)
       go true = tt
       go false = tt
-  first_at (container_starts.TheVariants.Replace index value owner) = (refl, go (nat_lt (place_of c index) c))
+  first_at (container_starts.Replace index value owner) = (refl, go (nat_lt (place_of c index) c))
     where
-      go : (t : Bool) → ReplaceStands (cond t replaces.TheVariants.LoadsCell replaces.TheVariants.Refuses)
+      go : (t : Bool) → ReplaceStands (cond t replaces.LoadsCell replaces.Refuses)
       go true = tt
       go false = tt
-  first_at (container_starts.TheVariants.Find owner) = refl
-  first_at (container_starts.TheVariants.Recover owner mode) = (refl, tt)
-  first_at container_starts.TheVariants.GetState = (refl, tt)
-  first_at container_starts.TheVariants.UpdateState = (refl, tt)
-  first_at container_starts.TheVariants.Len = (refl, tt)
-  first_at container_starts.TheVariants.IsEmpty = (refl, tt)
-  first_at container_starts.TheVariants.IsLocked = tt
+  first_at (container_starts.Find owner) = refl
+  first_at (container_starts.Recover owner mode) = (refl, tt)
+  first_at container_starts.GetState = (refl, tt)
+  first_at container_starts.UpdateState = (refl, tt)
+  first_at container_starts.Len = (refl, tt)
+  first_at container_starts.IsEmpty = (refl, tt)
+  first_at container_starts.IsLocked = tt

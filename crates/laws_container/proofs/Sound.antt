@@ -12,10 +12,10 @@ use Rattle.laws_container.proofs.Names.{number_of, party_at_begin}
 use Rattle.laws_container.proofs.Names.{IsReached, Trace, opening}
 use Rattle.laws_container.proofs.Names.{span_of-own, span_of-death, row_passed, MayBegin, MayDie, StandsThere}
 use Rattle.laws_container.proofs.Names.{ComesFrom, GoneBy, Death, admitted_is}
-use Rattle.model.specs.declared.families.Flight as flights
-use Rattle.model.specs.declared.families.Registry as registries
-use Rattle.model.specs.declared.families.container.ContainerStart as starts
-use Rattle.model.specs.declared.turn.Kind as kinds
+use Rattle.model.specs.declared.families.Flight.TheVariants as flights
+use Rattle.model.specs.declared.families.Registry.TheVariants as registries
+use Rattle.model.specs.declared.families.container.ContainerStart.TheVariants as starts
+use Rattle.model.specs.declared.turn.Kind.TheVariants as kinds
 use Rattle.model.specs.Families as families
 use Rattle.model.specs.declared.turn.Turn.{Turn}
 use Rattle.model.proofs.FamilyLaws as laws
@@ -39,12 +39,12 @@ use Rattle.laws_container.proofs.Terms.{Terms, dying, Keeps}
 module _ {T : Type 0} where
   -- where owners die a recovery is of a dead one
   abbrev pub MayRecover : GoneBy → List (Event T) → ContainerStart T → Type 0
-  MayRecover Death events (starts.TheVariants.Recover owner mode) = is_dead owner events ≡ true
+  MayRecover Death events (starts.Recover owner mode) = is_dead owner events ≡ true
   MayRecover by events start = Unit {0}
 
   -- the party's call as it begins
   abbrev pub first_party : ℕ → ℕ → ContainerStart T → Party T
-  first_party c changes start = party_at_begin (Container start) (flights.TheVariants.Container (first c start)) changes
+  first_party c changes start = party_at_begin (Container start) (flights.Container (first c start)) changes
 
   pub record Begins (scene : Scene T) (start : ContainerStart T) : Type 0 where
     pub does : Does scene scene.words (states_at_begin scene.coding scene.capacity start scene.party scene.states)
@@ -87,16 +87,16 @@ pub record Shown (T : Type 0) : Type 0 where
 module _ {T : Type 0} where
   -- a call that begins on the container is one of its own, for an owner that is none of an empty cell
   abbrev pub IsOwn : ℕ → Start T → Flight T → Type 0
-  IsOwn c (Container start) (flights.TheVariants.Container flight) = (first c start ≡ flight) × (names_owner start ≡ true)
+  IsOwn c (Container start) (flights.Container flight) = (first c start ≡ flight) × (names_owner start ≡ true)
   IsOwn c start flight = ⊥
 
   named_own : (c : ℕ) (start : ContainerStart T) (flight : Flight T) (b : Bool) → names_owner start ≡ b
-      → option_map flights.TheVariants.Container (if b then Some (first c start) else None) ≡ Some flight
+      → option_map flights.Container (if b then Some (first c start) else None) ≡ Some flight
       → IsOwn c (Container start) flight
   named_own c start flight b t e = grind arith
 
   pub begins_own : (c : ℕ) (kept : Registry T) (start : Start T) (flight : Flight T)
-      → first_of kinds.TheVariants.Container c start kept ≡ Some flight → IsOwn c start flight
+      → first_of kinds.Container c start kept ≡ Some flight → IsOwn c start flight
   begins_own x0 x1 x2 x3 x4 = grind (arith, named_own)
 
 -- ---- the laws of the family
@@ -124,7 +124,7 @@ module _ {T : Type 0} where
 
 module _ {T : Type 0} (shown : Shown T) (terms : Terms) (code : Coding T) (c : ℕ) (t : Trace T) (s : frame.Sound (family_by terms code c) t) where
   abbrev pub kept_now : Registry T
-  kept_now = registries.TheVariants.Container s.state.dead s.state.states
+  kept_now = registries.Container s.state.dead s.state.states
 
   abbrev pub scene_of : ℕ → Party T → ℕ → Scene T
   scene_of p x since =
@@ -163,13 +163,13 @@ module _ {T : Type 0} (shown : Shown T) (terms : Terms) (code : Coding T) (c : �
       pub knows : Knows code c flight (sees_now (scene_of p x since))
 
     pub is_there : (start : ContainerStart T) (flight : ContainerFlight T)
-        → StandsThere (family_by terms code c) t s p x since (Container start) (flights.TheVariants.Container flight)
+        → StandsThere (family_by terms code c) t s p x since (Container start) (flights.Container flight)
         → IsThere start flight
     is_there start flight h = grind arith
 
     -- the rows that it has passed
     pub passes : (flight : ContainerFlight T) (said : Option Bool)
-        → first_row (going_rows code kept_now (Some (flights.TheVariants.Container flight)) said) ≡ None
+        → first_row (going_rows code kept_now (Some (flights.Container flight)) said) ≡ None
         → acts_for_dead s.state.dead flight ≡ false
     passes x0 x1 x2 = grind (arith, first_row, row_passed)
 
@@ -177,14 +177,14 @@ module _ {T : Type 0} (shown : Shown T) (terms : Terms) (code : Coding T) (c : �
 
     -- where its run keeps to that, the call acts for nobody who is gone
     abbrev pub IsRightly : Flight T → Type 0
-    IsRightly (flights.TheVariants.Container flight) = Keeps terms → acts_for_gone terms.by t.events flight ≡ false
+    IsRightly (flights.Container flight) = Keeps terms → acts_for_gone terms.by t.events flight ≡ false
     IsRightly flight = Unit {0}
 
     pub comes : MayGoOn terms t → (start : Start T) (flight : Flight T) → IsRightly flight
         → first_row (going_rows code kept_now (Some flight) None) ≡ None
         → StandsThere (family_by terms code c) t s p x since start flight
         → ComesFrom (family_by terms code c) t s p x since code s.state.words kept_now start flight
-    comes may (Container start) (flights.TheVariants.Container flight) rightly r h =
+    comes may (Container start) (flights.Container flight) rightly r h =
         let there = is_there start flight h in
         let inv = inv_with may in
         let moves =
@@ -203,7 +203,7 @@ module _ {T : Type 0} (shown : Shown T) (terms : Terms) (code : Coding T) (c : �
     pub decides : MayGoOn terms t → (said : Bool) (start : Start T) (flight : Flight T)
         → is_question (want_of code flight) ≡ true → StandsThere (family_by terms code c) t s p x since start flight
         → DecidesFrom (family_by terms code c) t s p x since code (number_of said) s.state.words kept_now start flight
-    decides may said (Container start) (flights.TheVariants.Container flight) asks h =
+    decides may said (Container start) (flights.Container flight) asks h =
         let there = is_there start flight h in
         let inv = inv_with may in
         let moves =
@@ -244,7 +244,7 @@ module _ {T : Type 0} (shown : Shown T) (terms : Terms) (code : Coding T) (c : �
                 steps = omega arith;
                 at =
                     at_written scene c code.size [] (wrote_of p (t.events ++ Begun p (Container start) ∷ []))
-                    (Container start) (flights.TheVariants.Container (first c start)) (ap wrote_in (span_begun start))
+                    (Container start) (flights.Container (first c start)) (ap wrote_in (span_begun start))
                     b.at;
               };
           knows = b.knows;
@@ -272,7 +272,7 @@ module _ {T : Type 0} (shown : Shown T) (terms : Terms) (code : Coding T) (c : �
 
     pub begin_comes : (start : Start T) (flight : Flight T) → MayRecoverIn start
         → flight_of (doing_of (party_of p t.world.latest)) ≡ None
-        → first_of kinds.TheVariants.Container c start kept_now ≡ Some flight
+        → first_of kinds.Container c start kept_now ≡ Some flight
         → frame.Comes (family_by terms code c) t p (kept_after_begin code c start p kept_now) s.state.words
         (party_at_begin start flight t.world.changes) (Begun p start ∷ []) t.world.changes
     begin_comes x0 x1 x2 x3 x4 = grind (arith, first_of, begins_own, begins_now)
@@ -313,7 +313,7 @@ module _ {T : Type 0} (shown : Shown T) (terms : Terms) (code : Coding T) (c : �
           → (q since backs : ℕ) (flight : Flight T)
           → Knowing code c flight (view terms s.state.words s.state.states t.world.latest t.events q since t.world.changes backs)
           → Knowing code c flight (view terms s.state.words s.state.states t.world.latest (t.events ++ Died o ∷ []) q since t.world.changes backs)
-      knows_then o d q since backs (flights.TheVariants.Container flight) h = d.knows q since t.world.changes backs flight h
+      knows_then o d q since backs (flights.Container flight) h = d.knows q since t.world.changes backs flight h
       knows_then o d q since backs flight h = absurd h
 
 module _ {T : Type 0} (shown : Shown T) where
@@ -348,7 +348,7 @@ module _ {T : Type 0} (shown : Shown T) where
       }
 
   pub opening_sound : (terms : Terms) (code : Coding T) (c parties : ℕ) → IsCoding code → 1 ≤ c → c < 2 ^ 32
-      → frame.Sound (family_by terms code c) (opening code kinds.TheVariants.Container c parties)
+      → frame.Sound (family_by terms code c) (opening code kinds.Container c parties)
   opening_sound terms code c parties coded some few = laws.opening_sound (outline terms) code c (opens terms code c coded some few) parties
 
   pub all_turns : AllTurns (outline dying) May
@@ -359,5 +359,5 @@ module _ {T : Type 0} (shown : Shown T) where
         few = λ code c t turn s small. may_go_on dying code c t s small;
       }
 
-  pub reached_sound : (t : Trace T) → t.world.kind ≡ kinds.TheVariants.Container → IsReached t → frame.Sound (family t.world.coding t.world.capacity) t
+  pub reached_sound : (t : Trace T) → t.world.kind ≡ kinds.Container → IsReached t → frame.Sound (family t.world.coding t.world.capacity) t
   reached_sound = laws.reached_sound (outline dying) May all_turns

@@ -10,10 +10,10 @@ use Rattle.laws_container.proofs.Names.{doing_of, flight_of, Stands, Open, own_a
 use Rattle.laws_container.proofs.Names.{old_of, words_after, change_of, step_count, number_of, party_after, ending_of}
 use Rattle.laws_container.proofs.Names.{one_if, AreOwn, AllFollow, span_of-own, both_ways, is_seen}
 use Rattle.steps.specs.declared.ask.After.TheVariants.{Done}
-use Rattle.model.specs.declared.families.Flight as flights
-use Rattle.model.specs.declared.families.Registry as registries
-use Rattle.model.specs.declared.families.container.ContainerStart as starts
-use Rattle.model.specs.declared.families.container.calls.ContainerFlight as calls
+use Rattle.model.specs.declared.families.Flight.TheVariants as flights
+use Rattle.model.specs.declared.families.Registry.TheVariants as registries
+use Rattle.model.specs.declared.families.container.ContainerStart.TheVariants as starts
+use Rattle.model.specs.declared.families.container.calls.ContainerFlight.TheVariants as calls
 use Rattle.laws_robust.proofs.Invariant as set_invariant
 use Rattle.laws_container.proofs.Invariant.{Scene, Inv, Does, Shows, AreAllRight, before, wrote_of, view}
 use Rattle.laws_container.proofs.Invariant as invariant
@@ -27,7 +27,7 @@ use Rattle.laws_container.proofs.Turns.{WellFormed, owes, flight_owes}
 module _ {T : Type 0} where
   -- a call of the kind as one of any
   abbrev pub any_call : After (ContainerFlight T) (Answer T) → After (Flight T) (Answer T)
-  any_call after = as_call flights.TheVariants.Container (λ answer. answer) after
+  any_call after = as_call flights.Container (λ answer. answer) after
 
   -- events that make a span longer
   abbrev pub Lengthens : List (Event T) → Type 0
@@ -38,11 +38,11 @@ module _ {T : Type 0} where
   none_lengthens start w = ap (λ es. Open (Container start) es) (sym (append-nil w))
 
   abbrev pub NoReplace : ContainerStart T → Type 0
-  NoReplace (starts.TheVariants.Replace index value owner) = ⊥
+  NoReplace (starts.Replace index value owner) = ⊥
   NoReplace start = Unit {0}
 
   abbrev pub NoLook : ContainerFlight T → Type 0
-  NoLook (calls.TheVariants.Look which call) = ⊥
+  NoLook (calls.Look which call) = ⊥
   NoLook flight = Unit {0}
 
 module _ {T : Type 0} (scene : Scene T) where
@@ -77,7 +77,7 @@ module _ {T : Type 0} (scene : Scene T) where
     pub party : Party T
     pub found : party_of p latest ≡ Some party
     pub taken : party.steps ≡ steps
-    pub flies : flight_of (Some party.doing) ≡ Some (flights.TheVariants.Container flight)
+    pub flies : flight_of (Some party.doing) ≡ Some (flights.Container flight)
 
   -- ---- a step
 
@@ -87,7 +87,7 @@ module _ {T : Type 0} (scene : Scene T) where
   abbrev pub party_then : ContainerStart T → Option Ask → Bool → After (ContainerFlight T) (Answer T) → Party T
   party_then start ask back after =
       party_after (party start) since changes (step_count ask) (change_of ws ask)
-      (record { after = any_call after; back = back; wrote = []; kept = registries.TheVariants.Container scene.dead scene.states })
+      (record { after = any_call after; back = back; wrote = []; kept = registries.Container scene.dead scene.states })
 
   abbrev pub since_then : Option Ask → ℕ
   since_then ask = since + change_of ws ask
@@ -245,7 +245,7 @@ module _ {T : Type 0} (scene : Scene T) where
 
   -- ---- the states of the parties, where the call is no look
 
-  no_look : (flight : ContainerFlight T) → NoLook flight → is_looking (Some (flights.TheVariants.Container flight)) ≡ false
+  no_look : (flight : ContainerFlight T) → NoLook flight → is_looking (Some (flights.Container flight)) ≡ false
   no_look flight h = grind arith
 
   module _ (inv : Inv scene) (start : ContainerStart T) (flight : ContainerFlight T) (none : NoLook flight) (here : IsHere start flight) where

@@ -6,19 +6,19 @@ use Rattle.laws_container.proofs.Names.{ContainerFlight, Count, IsLocked, CountO
 use Rattle.laws_container.proofs.Names.{seen_in, HasDone, SetAct, Fills, Grants, Frees, Asks, Yes, IsOneOf, IsLatest}
 use Rattle.laws_container.proofs.Names.{asked_in, HasJustFreed, raise_number, count_number, lock_number}
 use Rattle.laws_container.proofs.Names.{acquire_number, release_number, AcquireAt, CountAt, LockAt, ReleaseAt}
-use Rattle.steps.specs.declared.container.add.AddStage as adds
-use Rattle.steps.specs.declared.container.find.FindStage as finds
-use Rattle.steps.specs.declared.container.look.LookStage as looks
-use Rattle.steps.specs.declared.container.recover.RecoverStage as recovers
-use Rattle.steps.specs.declared.container.remove.RemoveStage as removes
-use Rattle.steps.specs.declared.container.replace.ReplaceStage as replaces
+use Rattle.steps.specs.declared.container.add.AddStage.TheVariants as adds
+use Rattle.steps.specs.declared.container.find.FindStage.TheVariants as finds
+use Rattle.steps.specs.declared.container.look.LookStage.TheVariants as looks
+use Rattle.steps.specs.declared.container.recover.RecoverStage.TheVariants as recovers
+use Rattle.steps.specs.declared.container.remove.RemoveStage.TheVariants as removes
+use Rattle.steps.specs.declared.container.replace.ReplaceStage.TheVariants as replaces
 use Rattle.steps.specs.declared.copied.Buffer as buffers
-use Rattle.model.specs.declared.families.container.ContainerStart as starts
+use Rattle.model.specs.declared.families.container.ContainerStart.TheVariants as starts
 use Rattle.model.specs.declared.families.container.calls.ContainerFlight.TheVariants.{Add, Remove, Replace, Find}
 use Rattle.model.specs.declared.families.container.calls.ContainerFlight.TheVariants.{Recover, Look}
-use Rattle.model.specs.declared.families.container.calls.CountOf as counts
-use Rattle.model.specs.declared.families.container.calls.LookOf as kinds
-use Rattle.model.specs.declared.families.indices.robust.RobustStart as set_starts
+use Rattle.model.specs.declared.families.container.calls.CountOf.TheVariants as counts
+use Rattle.model.specs.declared.families.container.calls.LookOf.TheVariants as kinds
+use Rattle.model.specs.declared.families.indices.robust.RobustStart.TheVariants as set_starts
 use Rattle.model.specs.Families.Indices.Robust.Bounds as set_bounds
 
 -- ---- the calls by their stages
@@ -83,43 +83,43 @@ module _ {T : Type 0} where
 -- ---- how many steps they have taken at most, where a value has z words
 
 abbrev pub add_number : ℕ → ℕ → AddStage → ℕ → ℕ
-add_number c z (adds.TheVariants.Acquires stage) backs = acquire_number c stage backs
-add_number c z (adds.TheVariants.LoadsCount index) backs = c + 3 + backs * (c + 1)
-add_number c z (adds.TheVariants.Hides index count) backs = c + 4 + backs * (c + 1)
-add_number c z (adds.TheVariants.Stores index at) backs = c + 5 + at + backs * (c + 1)
-add_number c z (adds.TheVariants.AddsCount index) backs = c + 5 + z + backs * (c + 1)
-add_number c z (adds.TheVariants.AddsChange index) backs = c + 6 + z + backs * (c + 1)
+add_number c z (adds.Acquires stage) backs = acquire_number c stage backs
+add_number c z (adds.LoadsCount index) backs = c + 3 + backs * (c + 1)
+add_number c z (adds.Hides index count) backs = c + 4 + backs * (c + 1)
+add_number c z (adds.Stores index at) backs = c + 5 + at + backs * (c + 1)
+add_number c z (adds.AddsCount index) backs = c + 5 + z + backs * (c + 1)
+add_number c z (adds.AddsChange index) backs = c + 6 + z + backs * (c + 1)
 
 -- a release, to its end
 abbrev pub release_total : ℕ → ℕ → ℕ → ReleaseMode → ℕ → ℕ
 release_total c index owner mode backs =
-    set_bounds.most_steps c (set_starts.TheVariants.Release index owner mode) backs
+    set_bounds.most_steps c (set_starts.Release index owner mode) backs
 
 abbrev pub remove_number : ℕ → ℕ → ℕ → ReleaseMode → RemoveStage → ℕ → ℕ
-remove_number c index owner mode removes.TheVariants.Refuses backs = 0
-remove_number c index owner mode removes.TheVariants.LoadsCount backs = 0
-remove_number c index owner mode (removes.TheVariants.Releases count stage) backs =
+remove_number c index owner mode removes.Refuses backs = 0
+remove_number c index owner mode removes.LoadsCount backs = 0
+remove_number c index owner mode (removes.Releases count stage) backs =
     1 + release_number c mode stage backs
-remove_number c index owner mode (removes.TheVariants.Hides count state) backs =
+remove_number c index owner mode (removes.Hides count state) backs =
     1 + release_total c index owner mode backs
-remove_number c index owner mode (removes.TheVariants.AddsChange state) backs =
+remove_number c index owner mode (removes.AddsChange state) backs =
     2 + release_total c index owner mode backs
 
 abbrev pub replace_number : ℕ → ReplaceStage → ℕ
-replace_number z replaces.TheVariants.Refuses = 0
-replace_number z replaces.TheVariants.LoadsCell = 0
-replace_number z replaces.TheVariants.LoadsCount = 1
-replace_number z (replaces.TheVariants.Hides count) = 2
-replace_number z (replaces.TheVariants.Stores at) = 3 + at
-replace_number z replaces.TheVariants.AddsCount = 3 + z
-replace_number z replaces.TheVariants.AddsChange = 4 + z
+replace_number z replaces.Refuses = 0
+replace_number z replaces.LoadsCell = 0
+replace_number z replaces.LoadsCount = 1
+replace_number z (replaces.Hides count) = 2
+replace_number z (replaces.Stores at) = 3 + at
+replace_number z replaces.AddsCount = 3 + z
+replace_number z replaces.AddsChange = 4 + z
 
 abbrev pub find_number : ℕ → FindStage → ℕ
-find_number z (finds.TheVariants.LoadsCell index found) = index * (z + 3)
-find_number z (finds.TheVariants.LoadsCount index found) = 1 + index * (z + 3)
-find_number z (finds.TheVariants.LoadsWord index found count at) = 2 + at + index * (z + 3)
-find_number z (finds.TheVariants.ChecksCount index found count) = 2 + z + index * (z + 3)
-find_number z (finds.TheVariants.Asks index found) = 3 + z + index * (z + 3)
+find_number z (finds.LoadsCell index found) = index * (z + 3)
+find_number z (finds.LoadsCount index found) = 1 + index * (z + 3)
+find_number z (finds.LoadsWord index found count at) = 2 + at + index * (z + 3)
+find_number z (finds.ChecksCount index found count) = 2 + z + index * (z + 3)
+find_number z (finds.Asks index found) = 3 + z + index * (z + 3)
 
 -- what a turn back takes a recovery, and an index
 abbrev pub for_back : ℕ → ℕ → ReleaseMode → ℕ
@@ -131,36 +131,36 @@ for_index c z Default = z + 7
 for_index c z LockIfLastIndex = z + c + 10
 
 abbrev pub recover_number : ℕ → ℕ → ReleaseMode → RecoverStage → ℕ → ℕ
-recover_number c z mode recovers.TheVariants.LoadsCounter backs = 0
-recover_number c z mode (recovers.TheVariants.LoadsCell index) backs =
+recover_number c z mode recovers.LoadsCounter backs = 0
+recover_number c z mode (recovers.LoadsCell index) backs =
     1 + index * for_index c z mode + backs * for_back c z mode
-recover_number c z mode (recovers.TheVariants.LoadsCount index) backs =
+recover_number c z mode (recovers.LoadsCount index) backs =
     2 + index * for_index c z mode + backs * for_back c z mode
-recover_number c z mode (recovers.TheVariants.LoadsWord index count at) backs =
+recover_number c z mode (recovers.LoadsWord index count at) backs =
     3 + at + index * for_index c z mode + backs * for_back c z mode
-recover_number c z mode (recovers.TheVariants.ChecksCount index count) backs =
+recover_number c z mode (recovers.ChecksCount index count) backs =
     3 + z + index * for_index c z mode + backs * for_back c z mode
-recover_number c z mode (recovers.TheVariants.Asks index count) backs =
+recover_number c z mode (recovers.Asks index count) backs =
     4 + z + index * for_index c z mode + backs * for_back c z mode
-recover_number c z mode (recovers.TheVariants.EmptiesCell index count) backs =
+recover_number c z mode (recovers.EmptiesCell index count) backs =
     4 + z + index * for_index c z mode + backs * for_back c z mode
-recover_number c z mode (recovers.TheVariants.Hides index count) backs =
+recover_number c z mode (recovers.Hides index count) backs =
     5 + z + index * for_index c z mode + backs * for_back c z mode
-recover_number c z mode (recovers.TheVariants.Raises index raise) backs =
+recover_number c z mode (recovers.Raises index raise) backs =
     6 + z + raise_number raise + index * for_index c z mode + backs * for_back c z mode
-recover_number c z mode (recovers.TheVariants.Locks index lock) backs =
+recover_number c z mode (recovers.Locks index lock) backs =
     8 + z + lock_number c lock + index * for_index c z mode + backs * for_back c z mode
-recover_number c z mode recovers.TheVariants.LoadsCounterAgain backs =
+recover_number c z mode recovers.LoadsCounterAgain backs =
     1 + c * for_index c z mode + backs * for_back c z mode
-recover_number c z mode (recovers.TheVariants.AddsChange state) backs =
+recover_number c z mode (recovers.AddsChange state) backs =
     2 + c * for_index c z mode + backs * for_back c z mode
 
 abbrev pub look_number : ℕ → LookStage → ℕ → ℕ
-look_number z looks.TheVariants.LoadsChange backs = 0
-look_number z (looks.TheVariants.LoadsCount index) backs = 1 + index * (z + 2) + backs * (z + 1)
-look_number z (looks.TheVariants.LoadsWord index count at) backs =
+look_number z looks.LoadsChange backs = 0
+look_number z (looks.LoadsCount index) backs = 1 + index * (z + 2) + backs * (z + 1)
+look_number z (looks.LoadsWord index count at) backs =
     2 + at + index * (z + 2) + backs * (z + 1)
-look_number z (looks.TheVariants.ChecksCount index count) backs =
+look_number z (looks.ChecksCount index count) backs =
     2 + z + index * (z + 2) + backs * (z + 1)
 
 abbrev pub number_of : {T : Type 0} → ℕ → ℕ → ContainerFlight T → ℕ → ℕ
@@ -189,51 +189,51 @@ module _ {T : Type 0} (c z : ℕ) (all : List SetAct) (done : List (Act T)) wher
   IsGranted owner index = (index < c) × (all ≡ Fills index owner ∷ Grants index owner ∷ [])
 
   abbrev pub AddAt : ℕ → AddStage → Type 0
-  AddAt owner (adds.TheVariants.Acquires stage) = AcquireAt c owner all stage × (done ≡ [])
-  AddAt owner (adds.TheVariants.LoadsCount index) = IsGranted owner index × (done ≡ [])
-  AddAt owner (adds.TheVariants.Hides index count) =
+  AddAt owner (adds.Acquires stage) = AcquireAt c owner all stage × (done ≡ [])
+  AddAt owner (adds.LoadsCount index) = IsGranted owner index × (done ≡ [])
+  AddAt owner (adds.Hides index count) =
       IsGranted owner index × (done ≡ []) × (count % 2 ≡ 1)
-  AddAt owner (adds.TheVariants.Stores index at) =
+  AddAt owner (adds.Stores index at) =
       IsGranted owner index × MayHaveHidden index × (at < z)
-  AddAt owner (adds.TheVariants.AddsCount index) = IsGranted owner index × MayHaveHidden index
-  AddAt owner (adds.TheVariants.AddsChange index) = IsGranted owner index
+  AddAt owner (adds.AddsCount index) = IsGranted owner index × MayHaveHidden index
+  AddAt owner (adds.AddsChange index) = IsGranted owner index
 
   abbrev pub RemoveAt : ℕ → ℕ → ReleaseMode → RemoveStage → Type 0
-  RemoveAt index owner mode removes.TheVariants.Refuses = (c ≤ index) × (all ≡ [])
-  RemoveAt index owner mode removes.TheVariants.LoadsCount =
+  RemoveAt index owner mode removes.Refuses = (c ≤ index) × (all ≡ [])
+  RemoveAt index owner mode removes.LoadsCount =
       (index < c) × (all ≡ []) × (done ≡ [])
-  RemoveAt index owner mode (removes.TheVariants.Releases count stage) =
+  RemoveAt index owner mode (removes.Releases count stage) =
       (index < c) × ReleaseAt c index owner mode all stage × (done ≡ [])
-  RemoveAt index owner mode (removes.TheVariants.Hides count state) =
-      (index < c) × HasDone {T = T} (starts.TheVariants.Remove index owner mode) (State state) all []
+  RemoveAt index owner mode (removes.Hides count state) =
+      (index < c) × HasDone {T = T} (starts.Remove index owner mode) (State state) all []
       × IsOneOf (Frees index owner) all × (done ≡ []) × (count % 2 ≡ 1)
-  RemoveAt index owner mode (removes.TheVariants.AddsChange state) =
-      (index < c) × HasDone {T = T} (starts.TheVariants.Remove index owner mode) (State state) all []
+  RemoveAt index owner mode (removes.AddsChange state) =
+      (index < c) × HasDone {T = T} (starts.Remove index owner mode) (State state) all []
 
   abbrev pub ReplaceAt : ℕ → ReplaceStage → Type 0
-  ReplaceAt index replaces.TheVariants.Refuses = (c ≤ index) × (all ≡ []) × (done ≡ [])
-  ReplaceAt index replaces.TheVariants.LoadsCell = (index < c) × (all ≡ []) × (done ≡ [])
-  ReplaceAt index replaces.TheVariants.LoadsCount = (index < c) × (all ≡ []) × (done ≡ [])
-  ReplaceAt index (replaces.TheVariants.Hides count) =
+  ReplaceAt index replaces.Refuses = (c ≤ index) × (all ≡ []) × (done ≡ [])
+  ReplaceAt index replaces.LoadsCell = (index < c) × (all ≡ []) × (done ≡ [])
+  ReplaceAt index replaces.LoadsCount = (index < c) × (all ≡ []) × (done ≡ [])
+  ReplaceAt index (replaces.Hides count) =
       (index < c) × (all ≡ []) × (done ≡ []) × (count % 2 ≡ 1)
-  ReplaceAt index (replaces.TheVariants.Stores at) =
+  ReplaceAt index (replaces.Stores at) =
       (index < c) × (all ≡ []) × MayHaveHidden index × (at < z)
-  ReplaceAt index replaces.TheVariants.AddsCount = (index < c) × (all ≡ []) × MayHaveHidden index
-  ReplaceAt index replaces.TheVariants.AddsChange = (index < c) × (all ≡ [])
+  ReplaceAt index replaces.AddsCount = (index < c) × (all ≡ []) × MayHaveHidden index
+  ReplaceAt index replaces.AddsChange = (index < c) × (all ≡ [])
 
   -- a copy of the element at an index, of which so many words are read under this number
   abbrev pub CopiesAt : ℕ → ℕ → ℕ → Type 0
   CopiesAt index count at = (index < c) × AreBelow index (seen_in done) × (count % 2 ≡ 1)
 
   abbrev pub FindAt : FindStage → Type 0
-  FindAt (finds.TheVariants.LoadsCell index found) =
+  FindAt (finds.LoadsCell index found) =
       (all ≡ []) × (index < c) × AreBelow index (seen_in done)
-  FindAt (finds.TheVariants.LoadsCount index found) =
+  FindAt (finds.LoadsCount index found) =
       (all ≡ []) × (index < c) × AreBelow index (seen_in done)
-  FindAt (finds.TheVariants.LoadsWord index found count at) =
+  FindAt (finds.LoadsWord index found count at) =
       (all ≡ []) × CopiesAt index count at × (at < z)
-  FindAt (finds.TheVariants.ChecksCount index found count) = (all ≡ []) × CopiesAt index count z
-  FindAt (finds.TheVariants.Asks index found) =
+  FindAt (finds.ChecksCount index found count) = (all ≡ []) × CopiesAt index count z
+  FindAt (finds.Asks index found) =
       (all ≡ []) × (index < c) × AreBelow (index + 1) (seen_in done)
 
   -- it was asked about, or shown to be nothing
@@ -248,66 +248,66 @@ module _ {T : Type 0} (c z : ℕ) (all : List SetAct) (done : List (Act T)) wher
     pub freed : (i : ℕ) → IsOneOf (Frees i owner) all → AskedOrShown owner i
 
   abbrev pub RecoverAt : ℕ → ReleaseMode → RecoverStage → Type 0
-  RecoverAt owner mode recovers.TheVariants.LoadsCounter = (all ≡ []) × (done ≡ [])
-  RecoverAt owner mode (recovers.TheVariants.LoadsCell index) = IsInCourse owner index index
-  RecoverAt owner mode (recovers.TheVariants.LoadsCount index) = IsInCourse owner index index
-  RecoverAt owner mode (recovers.TheVariants.LoadsWord index count at) =
+  RecoverAt owner mode recovers.LoadsCounter = (all ≡ []) × (done ≡ [])
+  RecoverAt owner mode (recovers.LoadsCell index) = IsInCourse owner index index
+  RecoverAt owner mode (recovers.LoadsCount index) = IsInCourse owner index index
+  RecoverAt owner mode (recovers.LoadsWord index count at) =
       IsInCourse owner index index × (count % 2 ≡ 1) × (at < z)
-  RecoverAt owner mode (recovers.TheVariants.ChecksCount index count) =
+  RecoverAt owner mode (recovers.ChecksCount index count) =
       IsInCourse owner index index × (count % 2 ≡ 1)
-  RecoverAt owner mode (recovers.TheVariants.Asks index count) =
+  RecoverAt owner mode (recovers.Asks index count) =
       IsInCourse owner index (index + 1) × (count % 2 ≡ 1) × IsLatest (Asks index owner) all
-  RecoverAt owner mode (recovers.TheVariants.EmptiesCell index count) =
+  RecoverAt owner mode (recovers.EmptiesCell index count) =
       IsInCourse owner index (index + 1)
       × ((IsLatest (Yes index owner) all × IsOneOf (Asks index owner) all)
       ⊎ IsLatest (Sees index) done)
-  RecoverAt owner mode (recovers.TheVariants.Hides index count) =
+  RecoverAt owner mode (recovers.Hides index count) =
       IsInCourse owner index (index + 1) × (count % 2 ≡ 1) × IsLatest (Frees index owner) all
-  RecoverAt owner mode (recovers.TheVariants.Raises index raise) =
+  RecoverAt owner mode (recovers.Raises index raise) =
       IsInCourse owner index (index + 1) × HasJustFreed all
-  RecoverAt owner mode (recovers.TheVariants.Locks index lock) =
+  RecoverAt owner mode (recovers.Locks index lock) =
       IsInCourse owner index (index + 1) × HasJustFreed all × (mode ≡ LockIfLastIndex) × LockAt c lock
-  RecoverAt owner mode recovers.TheVariants.LoadsCounterAgain =
+  RecoverAt owner mode recovers.LoadsCounterAgain =
       (i : ℕ) → IsOneOf (Frees i owner) all → AskedOrShown owner i
-  RecoverAt owner mode (recovers.TheVariants.AddsChange state) = Unit {0}
+  RecoverAt owner mode (recovers.AddsChange state) = Unit {0}
 
   abbrev pub LookAt : LookStage → Type 0
-  LookAt looks.TheVariants.LoadsChange = (all ≡ []) × (done ≡ [])
-  LookAt (looks.TheVariants.LoadsCount index) =
+  LookAt looks.LoadsChange = (all ≡ []) × (done ≡ [])
+  LookAt (looks.LoadsCount index) =
       (all ≡ []) × (index < c) × AreBelow index (seen_in done)
-  LookAt (looks.TheVariants.LoadsWord index count at) =
+  LookAt (looks.LoadsWord index count at) =
       (all ≡ []) × CopiesAt index count at × (at < z)
-  LookAt (looks.TheVariants.ChecksCount index count) = (all ≡ []) × CopiesAt index count z
+  LookAt (looks.ChecksCount index count) = (all ≡ []) × CopiesAt index count z
 
   -- where a call of this name stands
   abbrev pub At : ContainerStart T → ContainerFlight T → Type 0
-  At (starts.TheVariants.Add value owner) (Add run) =
+  At (starts.Add value owner) (Add run) =
       (run.call.capacity ≡ c) × (run.given ≡ record { value = value; owner = owner })
       × (owner < empty) × AddAt owner run.call.stage
-  At (starts.TheVariants.Remove index owner mode) (Remove run) =
+  At (starts.Remove index owner mode) (Remove run) =
       (run.call.capacity ≡ c)
       × (run.given ≡ record { index = place_of c index; owner = owner; mode = mode })
       × (owner < empty) × RemoveAt index owner mode run.call.stage
-  At (starts.TheVariants.Replace index value owner) (Replace run) =
+  At (starts.Replace index value owner) (Replace run) =
       (run.call.capacity ≡ c)
       × (run.given ≡ record { index = place_of c index; owner = owner; value = value })
       × (owner < empty) × ReplaceAt index run.call.stage
-  At (starts.TheVariants.Find owner) (Find run) =
+  At (starts.Find owner) (Find run) =
       (run.call.capacity ≡ c) × (run.given ≡ owner) × (owner < empty) × FindAt run.call.stage
-  At (starts.TheVariants.Recover owner mode) (Recover run) =
+  At (starts.Recover owner mode) (Recover run) =
       (run.call.capacity ≡ c) × (run.given ≡ record { owner = owner; mode = mode })
       × (owner < empty) × RecoverAt owner mode run.call.stage
-  At starts.TheVariants.GetState (Look which call) =
-      (call.capacity ≡ c) × (which ≡ kinds.TheVariants.GetState) × LookAt call.stage
-  At starts.TheVariants.UpdateState (Look which call) =
-      (call.capacity ≡ c) × (which ≡ kinds.TheVariants.UpdateState) × LookAt call.stage
-  At starts.TheVariants.Len (Count which run) =
-      (run.call.capacity ≡ c) × (which ≡ counts.TheVariants.Len) × CountAt c run.call.count
+  At starts.GetState (Look which call) =
+      (call.capacity ≡ c) × (which ≡ kinds.GetState) × LookAt call.stage
+  At starts.UpdateState (Look which call) =
+      (call.capacity ≡ c) × (which ≡ kinds.UpdateState) × LookAt call.stage
+  At starts.Len (Count which run) =
+      (run.call.capacity ≡ c) × (which ≡ counts.Len) × CountAt c run.call.count
       × (all ≡ [])
-  At starts.TheVariants.IsEmpty (Count which run) =
-      (run.call.capacity ≡ c) × (which ≡ counts.TheVariants.IsEmpty) × CountAt c run.call.count
+  At starts.IsEmpty (Count which run) =
+      (run.call.capacity ≡ c) × (which ≡ counts.IsEmpty) × CountAt c run.call.count
       × (all ≡ [])
-  At starts.TheVariants.IsLocked (IsLocked run) = all ≡ []
+  At starts.IsLocked (IsLocked run) = all ≡ []
   At start flight = ⊥
 
 -- an index of the container is placed as it is, and any other at its end

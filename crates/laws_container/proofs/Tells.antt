@@ -16,11 +16,11 @@ use Rattle.laws_container.proofs.Names.{after_turn, Trace, flight_in, row_passed
 use Rattle.laws_container.proofs.Names.{both_ways, through_now}
 use Rattle.steps.specs.declared.ask.After.TheVariants.{Done}
 use Rattle.steps.specs.declared.container.find.Find as find_calls
-use Rattle.steps.specs.declared.container.find.FindStage as finds
+use Rattle.steps.specs.declared.container.find.FindStage.TheVariants as finds
 use Rattle.steps.specs.declared.copied.Buffer as buffers
-use Rattle.model.specs.declared.families.Flight as flights
+use Rattle.model.specs.declared.families.Flight.TheVariants as flights
 use Rattle.model.specs.declared.families.container.ContainerStart.TheVariants.{Find}
-use Rattle.model.specs.declared.families.container.calls.ContainerFlight as calls
+use Rattle.model.specs.declared.families.container.calls.ContainerFlight.TheVariants as calls
 use Rattle.model.proofs.Frame as frame
 use Rattle.laws_robust.proofs.Tells.{IsEnd, ends_alone}
 use Rattle.laws_container.proofs.Finds.{nothing_stands, none_counts, found_none, found_past}
@@ -51,7 +51,7 @@ module _ {T : Type 0} (scene : Scene T) (inv : Inv scene) (owner : ℕ) (fits : 
   whole_of bound number h = record { count = h.count; copied = λ index less chosen through. h.copied index less chosen through }
 
   abbrev as_find : buffers.Buffer 128 → After (find_calls.Find T (buffers.Buffer 128)) ℕ → After (Flight T) (Answer T)
-  as_find room r = any_call (as_call calls.TheVariants.Find Number (went_on as_it_is owner room r))
+  as_find room r = any_call (as_call calls.Find Number (went_on as_it_is owner room r))
 
   done_is : (room : buffers.Buffer 128) (number : ℕ) (r : After (find_calls.Find T (buffers.Buffer 128)) ℕ)
       → answer_in (as_find room r) ≡ Some (Number number) → r ≡ Done number
@@ -66,7 +66,7 @@ module _ {T : Type 0} (scene : Scene T) (inv : Inv scene) (owner : ℕ) (fits : 
   comes_is stage k found number e = go (nat_lt (k + 1) c) refl e
     where
       go : (b : Bool) → nat_lt (k + 1) c ≡ b
-          → (if b then GoOn (at_find (at_stage stage) (finds.TheVariants.LoadsCell (k + 1) found)) else Done found) ≡ Done number
+          → (if b then GoOn (at_find (at_stage stage) (finds.LoadsCell (k + 1) found)) else Done found) ≡ Done number
           → (c ≤ k + 1) × (found ≡ number)
       go true t e = absurd (cc)
       go false t e = (grind (arith, nat_tests), cc)
@@ -83,33 +83,33 @@ module _ {T : Type 0} (scene : Scene T) (inv : Inv scene) (owner : ℕ) (fits : 
 
   stage_tells : (number : ℕ) (due : Bool) (room : buffers.Buffer 128) (stage : FindStage)
       → FindAt c code.size (all scene) (done scene) stage → Tells number due (find_at c owner room stage)
-  stage_tells number due room (finds.TheVariants.LoadsCell k found) at here h asks answer loads told e = go (answer == owner) refl (done_is _ number _ e)
+  stage_tells number due room (finds.LoadsCell k found) at here h asks answer loads told e = go (answer == owner) refl (done_is _ number _ e)
     where
       go : (b : Bool) → (answer == owner) ≡ b
-          → (if b then GoOn (at_find (at_stage (finds.TheVariants.LoadsCell k found)) (finds.TheVariants.LoadsCount k (one_more found)))
-          else find_comes_to (at_stage (finds.TheVariants.LoadsCell k found)) (k + 1) found)
+          → (if b then GoOn (at_find (at_stage (finds.LoadsCell k found)) (finds.LoadsCount k (one_more found)))
+          else find_comes_to (at_stage (finds.LoadsCell k found)) (k + 1) found)
           ≡ Done number
           → Has c number
       go true t r = absurd (cc)
       go false t r =
           let is : answer ≡ cell scene.words k = loads (sym asks) in
           let other : cell scene.words k ≢ owner = grind (arith, nat_tests) in
-          ended k found number at.1 (comes_is (finds.TheVariants.LoadsCell k found) k found number r)
+          ended k found number at.1 (comes_is (finds.LoadsCell k found) k found number r)
           (record {
             count = none_counts scene inv owner fits k found at.1 other h.1.1;
             whole = λ well_formed. whole_of (k + 1) found (found_none scene inv owner fits k found at.1 other h.1.2 well_formed);
           })
-  stage_tells number due room (finds.TheVariants.LoadsCount k found) at here h asks answer loads told e = go (is_even answer) refl (done_is _ number _ e)
+  stage_tells number due room (finds.LoadsCount k found) at here h asks answer loads told e = go (is_even answer) refl (done_is _ number _ e)
     where
       go : (b : Bool) → is_even answer ≡ b
-          → (if b then find_comes_to (at_stage (finds.TheVariants.LoadsCount k found)) (k + 1) found else GoOn
-          (at_find (at_stage (finds.TheVariants.LoadsCount k found)) (finds.TheVariants.LoadsWord k found answer 0)))
+          → (if b then find_comes_to (at_stage (finds.LoadsCount k found)) (k + 1) found else GoOn
+          (at_find (at_stage (finds.LoadsCount k found)) (finds.LoadsWord k found answer 0)))
           ≡ Done number
           → Has c number
       go true t r =
           let is : answer ≡ count_in code c (before scene) k = loads (sym asks) in
           let even : is_even (count_in code c (before scene) k) ≡ true = subst (λ n. is_even n ≡ true) is t in
-          ended k found number at.1 (comes_is (finds.TheVariants.LoadsCount k found) k found number r)
+          ended k found number at.1 (comes_is (finds.LoadsCount k found) k found number r)
           (record {
             count = h.1.0.1;
             whole = λ well_formed. whole_of (k + 1) found
@@ -121,41 +121,41 @@ module _ {T : Type 0} (scene : Scene T) (inv : Inv scene) (owner : ℕ) (fits : 
                 h.1.0.2 well_formed);
           })
       go false t r = absurd (cc)
-  stage_tells number due room (finds.TheVariants.LoadsWord k found count word) at here h asks answer loads told e =
+  stage_tells number due room (finds.LoadsWord k found count word) at here h asks answer loads told e =
       go (nat_lt (word + 1) code.size) (done_is _ number _ e)
     where
       go : (b : Bool)
           → (if b then GoOn
-          (at_find (at_stage (finds.TheVariants.LoadsWord k found count word)) (finds.TheVariants.LoadsWord k found count (word + 1)))
+          (at_find (at_stage (finds.LoadsWord k found count word)) (finds.LoadsWord k found count (word + 1)))
           else GoOn
-          (at_find (at_stage (finds.TheVariants.LoadsWord k found count word)) (finds.TheVariants.ChecksCount k found count)))
+          (at_find (at_stage (finds.LoadsWord k found count word)) (finds.ChecksCount k found count)))
           ≡ Done number
           → Has c number
       go true r = absurd (cc)
       go false r = absurd (cc)
-  stage_tells number due room (finds.TheVariants.ChecksCount k found count) at here h asks answer loads told e =
+  stage_tells number due room (finds.ChecksCount k found count) at here h asks answer loads told e =
       go (answer == count) refl (done_is _ number _ e)
     where
       go : (b : Bool) → (answer == count) ≡ b
-          → (if b then GoOn (at_find (at_stage (finds.TheVariants.ChecksCount k found count)) (finds.TheVariants.Asks k found))
-          else find_comes_to (at_stage (finds.TheVariants.ChecksCount k found count)) (k + 1) found)
+          → (if b then GoOn (at_find (at_stage (finds.ChecksCount k found count)) (finds.Asks k found))
+          else find_comes_to (at_stage (finds.ChecksCount k found count)) (k + 1) found)
           ≡ Done number
           → Has c number
       go true t r = absurd (cc)
       go false t r =
           let is : answer ≡ count_in code c (before scene) k = loads (sym asks) in
           let other : count_in code c (before scene) k ≢ count = grind (arith, nat_tests) in
-          ended k found number at.1.0 (comes_is (finds.TheVariants.ChecksCount k found count) k found number r)
+          ended k found number at.1.0 (comes_is (finds.ChecksCount k found count) k found number r)
           (record {
             count = h.1.0.1;
             whole =
                 λ well_formed. whole_of (k + 1) found
                 (found_past scene inv owner fits k found (λ holds through. other (h.1.1 holds through)) h.1.0.2 well_formed);
           })
-  stage_tells number due room (finds.TheVariants.Asks k found) at here h asks answer loads told e = go (answer == 0) refl (done_is _ number _ e)
+  stage_tells number due room (finds.Asks k found) at here h asks answer loads told e = go (answer == 0) refl (done_is _ number _ e)
     where
       go : (b : Bool) → (answer == 0) ≡ b
-          → (if b then Done found else find_comes_to (at_stage (finds.TheVariants.Asks k found)) (k + 1) found) ≡ Done number
+          → (if b then Done found else find_comes_to (at_stage (finds.Asks k found)) (k + 1) found) ≡ Done number
           → Has c number
       go x0 x1 x2 = grind (arith, ended, comes_is, whole_of, nat_tests)
 
@@ -163,7 +163,7 @@ module _ {T : Type 0} (scene : Scene T) (inv : Inv scene) (owner : ℕ) (fits : 
   abbrev Stops : ℕ → ℕ → T → ContainerFlight T → Type 0
   Stops number index value flight =
       Knows code c flight (sees_now scene)
-      → question_in code (Some (flights.TheVariants.Container flight)) ≡ Some (index, value)
+      → question_in code (Some (flights.Container flight)) ≡ Some (index, value)
       → answer_in (any_call (after code (state_of p scene.states) flight 0)) ≡ Some (Number number)
       → Has (index + 1) number
 
@@ -175,13 +175,13 @@ module _ {T : Type 0} (scene : Scene T) (inv : Inv scene) (owner : ℕ) where
 
   -- the owner of a find is one
   owner_fits : (flight : ContainerFlight T) → At c code.size (all scene) (done scene) (Find owner) flight → owner < empty
-  owner_fits (calls.TheVariants.Find run) at = at.2
+  owner_fits (calls.Find run) at = at.2
   owner_fits flight at = absurd at
 
   find_tells : (number : ℕ) (due : Bool) (flight : ContainerFlight T)
       → (at : At c code.size (all scene) (done scene) (Find owner) flight) → (fits : owner < empty)
       → Tells scene inv owner fits number due flight
-  find_tells number due (calls.TheVariants.Find run) at fits =
+  find_tells number due (calls.Find run) at fits =
       subst (Tells scene inv owner fits number due)
       (sym (ap (λ n. find_at n run.given run.room run.call.stage) at.0 ∙ ap (λ o. find_at c o run.room run.call.stage) at.1))
       (stage_tells scene inv owner fits number due run.room run.call.stage at.3)
@@ -190,7 +190,7 @@ module _ {T : Type 0} (scene : Scene T) (inv : Inv scene) (owner : ℕ) where
   find_stops : (number index : ℕ) (value : T) (flight : ContainerFlight T)
       → At c code.size (all scene) (done scene) (Find owner) flight → (fits : owner < empty)
       → Stops scene inv owner fits number index value flight
-  find_stops number index value (calls.TheVariants.Find run) at fits =
+  find_stops number index value (calls.Find run) at fits =
       subst (Stops scene inv owner fits number index value)
       (sym (ap (λ n. find_at n run.given run.room run.call.stage) at.0 ∙ ap (λ o. find_at c o run.room run.call.stage) at.1))
       (stage_stops scene inv owner fits number index value run.room run.call.stage)
@@ -216,7 +216,7 @@ module _ {T : Type 0} (shown : Shown T) (terms : Terms) (code : Coding T) (c : �
   end_of flight = answer_in (any_call (after code (state_of q s.state.states) flight answer))
 
   wrote_end : (start : ContainerStart T) (flight : ContainerFlight T)
-      → Wrote code (kept_now shown terms code c t s) (Container start) (flights.TheVariants.Container flight)
+      → Wrote code (kept_now shown terms code c t s) (Container start) (flights.Container flight)
       → IsEnd q p (Container start) (Container (Find owner)) (end_of flight) (Number number)
   wrote_end start flight e =
       ends_alone turn q p (effects code q (state_of q s.state.states) flight answer ++ questions q flight answer)
@@ -250,10 +250,10 @@ module _ {T : Type 0} (shown : Shown T) (terms : Terms) (code : Coding T) (c : �
       → StandsThere (family_by terms code c) t s q x since start flight → is_question (want_of code flight) ≡ due
       → (due ≡ false → answer ≡ old_of s.state.words (ask_of (want_of code flight)))
       → Wrote code (kept_now shown terms code c t s) start flight → Ends c
-  counted due told (Container start) (flights.TheVariants.Container flight) h asks loads e =
+  counted due told (Container start) (flights.Container flight) h asks loads e =
       let end = wrote_end start flight e in
       let name = find_name start owner end.name in
-      let stands = subst (λ a. StandsThere (family_by terms code c) t s q x since (Container a) (flights.TheVariants.Container flight)) name h in
+      let stands = subst (λ a. StandsThere (family_by terms code c) t s q x since (Container a) (flights.Container flight)) name h in
       let there = is_there shown terms code c t s q x since found (Find owner) flight stands in
       let scene = scene_of shown terms code c t s q x since in
       let fits = owner_fits scene (inv_with shown terms code c t s q x since found may) owner flight there.at in
@@ -266,10 +266,10 @@ module _ {T : Type 0} (shown : Shown T) (terms : Terms) (code : Coding T) (c : �
       → StandsThere (family_by terms code c) t s q x since start flight
       → question_in code (Some flight) ≡ Some (index, value) → Wrote code (kept_now shown terms code c t s) start flight
       → Ends (index + 1)
-  stopped index value zero (Container start) (flights.TheVariants.Container flight) h asks e =
+  stopped index value zero (Container start) (flights.Container flight) h asks e =
       let end = wrote_end start flight e in
       let name = find_name start owner end.name in
-      let stands = subst (λ a. StandsThere (family_by terms code c) t s q x since (Container a) (flights.TheVariants.Container flight)) name h in
+      let stands = subst (λ a. StandsThere (family_by terms code c) t s q x since (Container a) (flights.Container flight)) name h in
       let there = is_there shown terms code c t s q x since found (Find owner) flight stands in
       let scene = scene_of shown terms code c t s q x since in
       let fits = owner_fits scene (inv_with shown terms code c t s q x since found may) owner flight there.at in

@@ -3,11 +3,11 @@ use Rattle.laws_container.proofs.Names.{◌≡◌, ◌⊎◌, ℕ, ◌%◌, ◌<
 use Rattle.laws_container.proofs.Names.{Event, Flight, ContainerFlight, Party, AddStage, RemoveStage, ReplaceStage}
 use Rattle.laws_container.proofs.Names.{Coding, WasAlone, contents_of, announced_of, filled_of, party_of, doing_of}
 use Rattle.laws_container.proofs.Names.{flight_of, is_gone}
-use Rattle.model.specs.declared.families.Flight as flights
-use Rattle.model.specs.declared.families.container.calls.ContainerFlight as calls
-use Rattle.steps.specs.declared.container.add.AddStage as adds
-use Rattle.steps.specs.declared.container.remove.RemoveStage as removes
-use Rattle.steps.specs.declared.container.replace.ReplaceStage as replaces
+use Rattle.model.specs.declared.families.Flight.TheVariants as flights
+use Rattle.model.specs.declared.families.container.calls.ContainerFlight.TheVariants as calls
+use Rattle.steps.specs.declared.container.add.AddStage.TheVariants as adds
+use Rattle.steps.specs.declared.container.remove.RemoveStage.TheVariants as removes
+use Rattle.steps.specs.declared.container.replace.ReplaceStage.TheVariants as replaces
 use Rattle.laws_container.proofs.Core.{change_at, count_at, datum_at}
 use Rattle.laws_container.proofs.Left.{left_of}
 use Rattle.laws_container.proofs.WellFormed.{IsWellFormedSoFar}
@@ -17,29 +17,29 @@ use Rattle.laws_container.proofs.Writers.{IsWriter}
 -- ---- a call that has changed an element, and ends no more before it has counted the change
 
 abbrev pub add_owes : AddStage → Bool
-add_owes (adds.TheVariants.Acquires stage) = false
+add_owes (adds.Acquires stage) = false
 add_owes stage = true
 
 abbrev pub remove_owes : RemoveStage → Bool
-remove_owes (removes.TheVariants.Hides count state) = true
-remove_owes (removes.TheVariants.AddsChange state) = true
+remove_owes (removes.Hides count state) = true
+remove_owes (removes.AddsChange state) = true
 remove_owes stage = false
 
 abbrev pub replace_owes : ReplaceStage → Bool
-replace_owes replaces.TheVariants.Refuses = false
-replace_owes replaces.TheVariants.LoadsCell = false
+replace_owes replaces.Refuses = false
+replace_owes replaces.LoadsCell = false
 replace_owes stage = true
 
 module _ {T : Type 0} where
   abbrev pub flight_owes : ContainerFlight T → Bool
-  flight_owes (calls.TheVariants.Add run) = add_owes run.call.stage
-  flight_owes (calls.TheVariants.Remove run) = remove_owes run.call.stage
-  flight_owes (calls.TheVariants.Replace run) = replace_owes run.call.stage
-  flight_owes (calls.TheVariants.Recover run) = true
+  flight_owes (calls.Add run) = add_owes run.call.stage
+  flight_owes (calls.Remove run) = remove_owes run.call.stage
+  flight_owes (calls.Replace run) = replace_owes run.call.stage
+  flight_owes (calls.Recover run) = true
   flight_owes flight = false
 
   abbrev pub owes : Option (Flight T) → Bool
-  owes (Some (flights.TheVariants.Container flight)) = flight_owes flight
+  owes (Some (flights.Container flight)) = flight_owes flight
   owes flight = false
 
   pub record Owing (latest : List (ℕ × Party T)) : Type 0 where

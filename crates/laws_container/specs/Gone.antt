@@ -11,7 +11,7 @@ use Rattle.model.specs.declared.event.Event.TheVariants.{FreedOf, Asked, Told, F
 use Rattle.model.specs.declared.event.Start.TheVariants.{Container}
 use Rattle.model.specs.declared.families.container.ContainerStart.TheVariants.{Add, Remove, Recover}
 use Rattle.model.specs.declared.families.container.calls.ContainerFlight.{ContainerFlight}
-use Rattle.model.specs.declared.families.container.calls.ContainerFlight as flights
+use Rattle.model.specs.declared.families.container.calls.ContainerFlight.TheVariants as flights
 use Rattle.model.specs.Families.Container.Promises.{WasShown, AnswersRight}
 use Rattle.model.specs.Families.Container.Recoveries.{UnlockedAtLast}
 use Rattle.model.specs.Families.Indices.Robust.Promises.{IsFilled, IsFilledWith, IsUnlocked, HeldThroughout, FilledSinceFreed, StillToFree}
@@ -79,7 +79,7 @@ module _ {T : Type 0} where
 
   -- the call adds, removes or replaces for an owner who is gone
   abbrev pub acts_for_gone : GoneBy → List (Event T) → ContainerFlight T → Bool
-  acts_for_gone by events (flights.TheVariants.Add run) = is_gone by run.given.owner events
-  acts_for_gone by events (flights.TheVariants.Remove run) = is_gone by run.given.owner events
-  acts_for_gone by events (flights.TheVariants.Replace run) = is_gone by run.given.owner events
+  acts_for_gone by events (flights.Add run) = is_gone by run.given.owner events
+  acts_for_gone by events (flights.Remove run) = is_gone by run.given.owner events
+  acts_for_gone by events (flights.Replace run) = is_gone by run.given.owner events
   acts_for_gone by events flight = false

@@ -3,7 +3,7 @@ use Rattle.std.specs.Prelude.{◌≡◌, ℕ, ◌-◌, ◌^◌, ◌<◌, ◌==�
 use Rattle.steps.specs.Indices.Robust.Parts.{cell_word, locked, greatest}
 use Rattle.model.specs.declared.event.Event.{Event}
 use Rattle.model.specs.declared.families.Flight.{Flight}
-use Rattle.model.specs.declared.families.Flight as flights
+use Rattle.model.specs.declared.families.Flight.TheVariants as flights
 use Rattle.model.specs.declared.turn.Turn.{Turn}
 use Rattle.model.specs.declared.turn.Turn.TheVariants.{Next}
 use Rattle.model.specs.Families.Container.Looks.{ShowsCopies}
@@ -22,7 +22,7 @@ module _ {T : Type 0} where
   -- ---- a faithful run: nobody takes a step for an owner who is gone
 
   abbrev pub is_for_gone : List (Event T) → Option (Flight T) → Bool
-  is_for_gone events (Some (flights.TheVariants.Container flight)) = acts_for_gone Word events flight
+  is_for_gone events (Some (flights.Container flight)) = acts_for_gone Word events flight
   is_for_gone events flight = false
 
   abbrev pub steps_for_gone : Trace T → Turn T → Bool

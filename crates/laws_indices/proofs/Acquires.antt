@@ -7,9 +7,9 @@ use Rattle.laws_indices.proofs.Names.{flag, has_flag, proposed, borrowed, locked
 use Rattle.laws_indices.proofs.Names.{Indices, words_after, Scene, Inv}
 use Rattle.steps.specs.declared.ask.Op.TheVariants.{Load, Or, Exchange}
 use Rattle.steps.specs.declared.indices.enums.UniqueIndexSetAcquireFailure.{UniqueIndexSetAcquireFailure}
-use Rattle.steps.specs.declared.indices.enums.UniqueIndexSetAcquireFailure as failures
+use Rattle.steps.specs.declared.indices.enums.UniqueIndexSetAcquireFailure.TheVariants as failures
 use Rattle.steps.specs.declared.indices.unique.Acquire as calls
-use Rattle.steps.specs.declared.indices.unique.AcquireStage as acquires
+use Rattle.steps.specs.declared.indices.unique.AcquireStage.TheVariants as acquires
 use Rattle.steps.specs.Indices.Unique.{Acquired, at_acquire, acquire_sees, head_taken, first_claim}
 use Rattle.steps.specs.Picks.{by_test, by_eq}
 use Rattle.steps.specs.Routine.{went_on}
@@ -74,17 +74,17 @@ module _ {T : Type 0} (scene : Scene T IndexSet) (inv : Inv outline scene) where
 
     pub sees : Does stage ask back (acquire_sees (call_at stage) (head_of ws))
     sees =
-        by_test (Does stage ask back) (says_locked (head_of ws)) (Done (Err failures.TheVariants.IsLocked)) _
-        (λ t. fails failures.TheVariants.IsLocked (inv.holds.lock ∙ t))
+        by_test (Does stage ask back) (says_locked (head_of ws)) (Done (Err failures.IsLocked)) _
+        (λ t. fails failures.IsLocked (inv.holds.lock ∙ t))
         (λ t.
         let unlocked : borrowed (head_of ws) ≢ locked = grind (arith, nat_tests) in
-        by_eq (Does stage ask back) (borrowed (head_of ws)) c (Done (Err failures.TheVariants.OutOfIndices)) _
-        (λ full. fails failures.TheVariants.OutOfIndices (out_of unlocked full))
+        by_eq (Does stage ask back) (borrowed (head_of ws)) c (Done (Err failures.OutOfIndices)) _
+        (λ full. fails failures.OutOfIndices (out_of unlocked full))
         (λ less. by_test (Does stage ask back) (nat_lt (proposed (head_of ws)) c)
-        (GoOn (at_acquire (call_at stage) (acquires.TheVariants.LoadsNext (head_of ws))))
-        (GoOn (at_acquire (call_at stage) (acquires.TheVariants.ExchangesHead (head_of ws) (proposed (head_of ws)))))
-        (λ own. goes_to (acquires.TheVariants.LoadsNext (head_of ws)) refl (unlocked, less) low (inl (ap head_of same, omega arith)))
-        (λ none. goes_to (acquires.TheVariants.ExchangesHead (head_of ws) (proposed (head_of ws))) refl
+        (GoOn (at_acquire (call_at stage) (acquires.LoadsNext (head_of ws))))
+        (GoOn (at_acquire (call_at stage) (acquires.ExchangesHead (head_of ws) (proposed (head_of ws)))))
+        (λ own. goes_to (acquires.LoadsNext (head_of ws)) refl (unlocked, less) low (inl (ap head_of same, omega arith)))
+        (λ none. goes_to (acquires.ExchangesHead (head_of ws) (proposed (head_of ws))) refl
         (unlocked, less) (omega arith) (inl (ap head_of same, omega arith)))))
 
   -- ---- the load of the head
@@ -92,22 +92,22 @@ module _ {T : Type 0} (scene : Scene T IndexSet) (inv : Inv outline scene) where
   abbrev loads : ℕ → Ask
   loads word = record { word = word; op = Load }
 
-  loads_head : IsHere scene (acquire_at c acquires.TheVariants.LoadsHead) → IsPaid since changes backs → steps ≤ 0
-      → StepOf scene Acquire (acquire_at c acquires.TheVariants.LoadsHead)
+  loads_head : IsHere scene (acquire_at c acquires.LoadsHead) → IsPaid since changes backs → steps ≤ 0
+      → StepOf scene Acquire (acquire_at c acquires.LoadsHead)
   loads_head here paid s =
-      sees acquires.TheVariants.LoadsHead here refl (loads 0) false (set-get_or ws 0 0) (omega arith) (omega arith)
+      sees acquires.LoadsHead here refl (loads 0) false (set-get_or ws 0 0) (omega arith) (omega arith)
 
   -- ---- the load of the next index
 
   loads_next : (head : ℕ) → IsOpen c head → PaidUnless (head_of ws ≡ head) since changes backs
-      → steps ≤ 1 + backs * max 2 c → StepOf scene Acquire (acquire_at c (acquires.TheVariants.LoadsNext head))
+      → steps ≤ 1 + backs * max 2 c → StepOf scene Acquire (acquire_at c (acquires.LoadsNext head))
   loads_next x0 x1 x2 x3 = grind (arith, next_word, set-get_or, goes_on, false, busy, g, head_of, unless_then)
 
   -- ---- the exchange of the head
 
   module _ (head next : ℕ) (open_head : IsOpen c head) (knows : PaidUnless (head_of ws ≡ head) since changes backs) (s : steps ≤ 2 + backs * max 2 c) where
     abbrev exchanging : AcquireStage
-    exchanging = acquires.TheVariants.ExchangesHead head next
+    exchanging = acquires.ExchangesHead head next
 
     abbrev exchange : Ask
     exchange = record { word = 0; op = Exchange head (head_taken head next) }
@@ -138,11 +138,11 @@ module _ {T : Type 0} (scene : Scene T IndexSet) (inv : Inv outline scene) where
       exchange_succeeds : Does exchanging exchange false (GoOn (at_acquire (call_at exchanging) (first_claim c head)))
       exchange_succeeds =
           by_test (λ stage. Does exchanging exchange false (GoOn (at_acquire (call_at exchanging) stage)))
-          (nat_lt (proposed head) c) (acquires.TheVariants.Claims (proposed head)) (acquires.TheVariants.Scans 0)
+          (nat_lt (proposed head) c) (acquires.Claims (proposed head)) (acquires.Scans 0)
           (λ own. let below : proposed head < c = grind (arith, nat_tests) in
-          goes_to_claim (acquires.TheVariants.Claims (proposed head)) refl below (omega arith) (omega arith))
+          goes_to_claim (acquires.Claims (proposed head)) refl below (omega arith) (omega arith))
           (λ none. let some = g.some in
-          goes_to_claim (acquires.TheVariants.Scans 0) refl (omega arith) (omega arith)
+          goes_to_claim (acquires.Scans 0) refl (omega arith) (omega arith)
           (inl (λ i below. absurd (omega arith), omega arith)))
 
     pub exchanges : IsHere scene (acquire_at c exchanging) → StepOf scene Acquire (acquire_at c exchanging)
@@ -204,22 +204,22 @@ module _ {T : Type 0} (scene : Scene T IndexSet) (inv : Inv outline scene) where
         (λ busy' e. let is : busy scene ≡ busy' = omega arith in claims_again c ws hs i below busy' stood (subst (λ n. Good c ws hs n) is g))
         refl refl refl (ap says_locked head_same) tt low (refl, at) knows
 
-  claims_proposed : (i : ℕ) → i < c → IsHere scene (acquire_at c (acquires.TheVariants.Claims i))
+  claims_proposed : (i : ℕ) → i < c → IsHere scene (acquire_at c (acquires.Claims i))
       → IsPaid since changes backs → steps ≤ 3 + backs * max 2 c
-      → StepOf scene Acquire (acquire_at c (acquires.TheVariants.Claims i))
+      → StepOf scene Acquire (acquire_at c (acquires.Claims i))
   claims_proposed i below here paid s =
-      let stage : AcquireStage = acquires.TheVariants.Claims i in
+      let stage : AcquireStage = acquires.Claims i in
       let some = g.some in
       by_test (Does stage (claim stage i below here refl paid) false) (has_flag (get_or ws (flag_word c i) 0) i)
-      (GoOn (at_acquire (call_at stage) (acquires.TheVariants.Scans 0))) (Done (Ok i))
-      (λ stood. tries_on stage i below here refl paid stood false (acquires.TheVariants.Scans 0) refl (omega arith)
+      (GoOn (at_acquire (call_at stage) (acquires.Scans 0))) (Done (Ok i))
+      (λ stood. tries_on stage i below here refl paid stood false (acquires.Scans 0) refl (omega arith)
       (omega arith) (inl (λ j less. absurd (omega arith), omega arith)))
       (λ clear. claim_succeeds stage i below here refl paid clear (omega arith))
 
-  module _ (i : ℕ) (below : i < c) (here : IsHere scene (acquire_at c (acquires.TheVariants.Scans i)))
+  module _ (i : ℕ) (below : i < c) (here : IsHere scene (acquire_at c (acquires.Scans i)))
       (knows : PaidUnless (AllClaimed c ws i) since changes backs) (s : steps ≤ 4 + i + backs * max 2 c) where
     abbrev scanning : AcquireStage
-    scanning = acquires.TheVariants.Scans i
+    scanning = acquires.Scans i
 
     abbrev scan : Ask
     scan = record { word = flag_word c i; op = Or (flag i) }
@@ -233,14 +233,14 @@ module _ {T : Type 0} (scene : Scene T IndexSet) (inv : Inv outline scene) where
     one_more : is_claimed c ws i ≡ true → AllClaimed c ws i → AllClaimed c ws (i + 1)
     one_more x0 x1 x2 x3 = grind arith
 
-    scans_on : is_claimed c ws i ≡ true → i + 1 < c → Does scanning scan false (GoOn (at_acquire (call_at scanning) (acquires.TheVariants.Scans (i + 1))))
+    scans_on : is_claimed c ws i ≡ true → i + 1 < c → Does scanning scan false (GoOn (at_acquire (call_at scanning) (acquires.Scans (i + 1))))
     scans_on stood more =
-        tries_on scanning i below here refl scan_paid stood false (acquires.TheVariants.Scans (i + 1)) refl more (omega arith)
+        tries_on scanning i below here refl scan_paid stood false (acquires.Scans (i + 1)) refl more (omega arith)
         (unless_then scene (Some scan) (AllClaimed c ws i) (AllClaimed c flags_then (i + 1))
         (λ all j less. still_claimed c ws hs i below (busy scene) j g (one_more stood all j less)) knows)
 
     -- some flag was free at each moment, so another party has changed a word
-    scans_again : is_claimed c ws i ≡ true → c ≤ i + 1 → Does scanning scan true (GoOn (at_acquire (call_at scanning) (acquires.TheVariants.Scans 0)))
+    scans_again : is_claimed c ws i ≡ true → c ≤ i + 1 → Does scanning scan true (GoOn (at_acquire (call_at scanning) (acquires.Scans 0)))
     scans_again stood last =
         let end : i + 1 ≡ c = omega arith in
         let some = g.some in
@@ -248,7 +248,7 @@ module _ {T : Type 0} (scene : Scene T IndexSet) (inv : Inv outline scene) where
         ⊎_elim (λ k. absurd (some_free c ws hs (busy scene) g (at_work scanning i below here refl scan_paid)
         (subst (AllClaimed c ws) end (one_more stood k.0))))
         (λ k. k) knows in
-        tries_on scanning i below here refl scan_paid stood true (acquires.TheVariants.Scans 0) refl (omega arith)
+        tries_on scanning i below here refl scan_paid stood true (acquires.Scans 0) refl (omega arith)
         (omega arith) (inl (λ j less. absurd (omega arith), omega arith))
 
     pub scans : StepOf scene Acquire (acquire_at c scanning)
@@ -258,21 +258,21 @@ module _ {T : Type 0} (scene : Scene T IndexSet) (inv : Inv outline scene) where
         go true t true u =
             let more : i + 1 < c = grind (arith, nat_tests) in
             let goes : after {T = T} (acquire_at c scanning) (get_or ws (flag_word c i) 0)
-            ≡ GoOn (acquire_at c (acquires.TheVariants.Scans (i + 1))) =
+            ≡ GoOn (acquire_at c (acquires.Scans (i + 1))) =
             rw (t, u) refl in
             let back : goes_back (acquire_at c scanning) (get_or ws (flag_word c i) 0) ≡ false = rw (t, u) refl in
             subst (λ a. Comes scene Acquire (acquire_at c scanning) (Some scan) (goes_back (acquire_at c scanning) (get_or ws (flag_word c i) 0)) a) (sym goes)
             (subst
-            (λ b. Comes scene Acquire (acquire_at c scanning) (Some scan) b (GoOn (acquire_at c (acquires.TheVariants.Scans (i + 1)))))
+            (λ b. Comes scene Acquire (acquire_at c scanning) (Some scan) b (GoOn (acquire_at c (acquires.Scans (i + 1)))))
             (sym back) (scans_on t more))
         go true t false u =
             let last : c ≤ i + 1 = grind (arith, nat_tests) in
             let goes : after {T = T} (acquire_at c scanning) (get_or ws (flag_word c i) 0)
-            ≡ GoOn (acquire_at c (acquires.TheVariants.Scans 0)) =
+            ≡ GoOn (acquire_at c (acquires.Scans 0)) =
             rw (t, u) refl in
             let back : goes_back (acquire_at c scanning) (get_or ws (flag_word c i) 0) ≡ true = rw (t, u) refl in
             subst (λ a. Comes scene Acquire (acquire_at c scanning) (Some scan) (goes_back (acquire_at c scanning) (get_or ws (flag_word c i) 0)) a) (sym goes)
-            (subst (λ b. Comes scene Acquire (acquire_at c scanning) (Some scan) b (GoOn (acquire_at c (acquires.TheVariants.Scans 0))))
+            (subst (λ b. Comes scene Acquire (acquire_at c scanning) (Some scan) b (GoOn (acquire_at c (acquires.Scans 0))))
             (sym back) (scans_again t last))
         go false t d u =
             let goes : after {T = T} (acquire_at c scanning) (get_or ws (flag_word c i) 0) ≡ Done (Index i) = rw t refl in
@@ -286,8 +286,8 @@ module _ {T : Type 0} (scene : Scene T IndexSet) (inv : Inv outline scene) where
   pub acquire_step : (stage : AcquireStage) → IsHere scene (acquire_at c stage) → AcquireAt c stage
       → AcquireKnows c ws since changes backs stage → steps ≤ acquire_number c stage backs
       → StepOf scene Acquire (acquire_at c stage)
-  acquire_step acquires.TheVariants.LoadsHead here at knows s = loads_head here knows s
-  acquire_step (acquires.TheVariants.LoadsNext head) here at knows s = loads_next head at knows s
-  acquire_step (acquires.TheVariants.ExchangesHead head next) here at knows s = exchanges head next at knows s here
-  acquire_step (acquires.TheVariants.Claims i) here at knows s = claims_proposed i at here knows s
-  acquire_step (acquires.TheVariants.Scans i) here at knows s = scans i at here knows s
+  acquire_step acquires.LoadsHead here at knows s = loads_head here knows s
+  acquire_step (acquires.LoadsNext head) here at knows s = loads_next head at knows s
+  acquire_step (acquires.ExchangesHead head next) here at knows s = exchanges head next at knows s here
+  acquire_step (acquires.Claims i) here at knows s = claims_proposed i at here knows s
+  acquire_step (acquires.Scans i) here at knows s = scans i at here knows s

@@ -7,11 +7,11 @@ use Rattle.laws_indices.proofs.Names.{IndexFlight, Party, Coding, CountsRight, G
 use Rattle.laws_indices.proofs.Names.{doing_of, flight_of, Scene}
 use Rattle.steps.specs.declared.indices.enums.UniqueIndexSetAcquireFailure.TheVariants.{OutOfIndices}
 use Rattle.model.specs.declared.event.Answer.TheVariants.{Number}
-use Rattle.model.specs.declared.event.Start as any_starts
-use Rattle.model.specs.declared.families.Flight as flights
-use Rattle.model.specs.declared.families.Registry as registries
+use Rattle.model.specs.declared.event.Start.TheVariants as any_starts
+use Rattle.model.specs.declared.families.Flight.TheVariants as flights
+use Rattle.model.specs.declared.families.Registry.TheVariants as registries
 use Rattle.model.specs.declared.families.indices.IndexStart.TheVariants.{Acquire, BorrowedIndices}
-use Rattle.model.specs.declared.turn.Kind as kinds
+use Rattle.model.specs.declared.turn.Kind.TheVariants as kinds
 use Rattle.model.specs.Families.Indices.Promises.{HoldsRight, AnswersRight, promise}
 use Rattle.model.specs.Families.Indices.Reading.{holder_after, holder_of, locked_after, is_locked, Tally, tally_after, tally_of, in_use}
 use Rattle.model.specs.Reading.{Each}
@@ -41,7 +41,7 @@ module _ {T : Type 0} where
   -- ---- what the calls under way count for
 
   abbrev pub of_any : (IndexFlight → ℕ) → Flight T → ℕ
-  of_any weight (flights.TheVariants.Indices flight) = weight flight
+  of_any weight (flights.Indices flight) = weight flight
   of_any weight flight = 0
 
   abbrev pub all_counted : List (ℕ × Party T) → ℕ → ℕ
@@ -56,9 +56,9 @@ module _ {T : Type 0} where
   -- An answer says what is promised of it. Beside that, who finds none left finds no lock, and a number of borrowed
   -- indices is at most the capacity.
   abbrev pub AnswersFew : ℕ → List (Event T) → Event T → Type 0
-  AnswersFew c before (Finished p (any_starts.TheVariants.Indices Acquire) (NoIndex OutOfIndices)) =
+  AnswersFew c before (Finished p (any_starts.Indices Acquire) (NoIndex OutOfIndices)) =
       (c + 1 ≤ in_use (tally_of before)) × (is_locked before ≡ false)
-  AnswersFew c before (Finished p (any_starts.TheVariants.Indices BorrowedIndices) (Number number)) = CountsRight before number × (number ≤ c)
+  AnswersFew c before (Finished p (any_starts.Indices BorrowedIndices) (Number number)) = CountsRight before number × (number ≤ c)
   AnswersFew c before e = AnswersRight c before e
 
   -- what is so of the set, of the latest calls and of the events
@@ -75,19 +75,19 @@ module _ {T : Type 0} where
   -- ---- the family of the unique index set
 
   abbrev pub any_wrote : ℕ → Flight T → List (Event T)
-  any_wrote p (flights.TheVariants.Indices flight) = flight_wrote p flight
+  any_wrote p (flights.Indices flight) = flight_wrote p flight
   any_wrote p flight = []
 
   abbrev number : ℕ → Flight T → ℕ → ℕ
-  number c (flights.TheVariants.Indices flight) backs = number_of c flight backs
+  number c (flights.Indices flight) backs = number_of c flight backs
   number c flight backs = 0
 
   abbrev pub FlightAt : ℕ → List (Option ℕ) → ℕ → Start T → Flight T → Type 0
-  FlightAt c holders p (any_starts.TheVariants.Indices start) (flights.TheVariants.Indices flight) = At c holders p start flight
+  FlightAt c holders p (any_starts.Indices start) (flights.Indices flight) = At c holders p start flight
   FlightAt c holders p start flight = ⊥
 
   abbrev pub Knowing : ℕ → List ℕ → ℕ → ℕ → ℕ → Flight T → Type 0
-  Knowing c words since changes backs (flights.TheVariants.Indices flight) = FlightKnows c words since changes backs flight
+  Knowing c words since changes backs (flights.Indices flight) = FlightKnows c words since changes backs flight
   Knowing c words since changes backs flight = ⊥
 
   abbrev pub set_then : Scene T IndexSet → List ℕ → List (Option ℕ) → IndexSet
@@ -119,12 +119,12 @@ module _ {T : Type 0} where
   abbrev pub outline : Outline T
   outline =
       record {
-        kind = kinds.TheVariants.Indices;
+        kind = kinds.Indices;
         no_loan = refl;
         promise = promise;
         State = IndexSet;
         words = λ s. s.words;
-        kept = λ s. registries.TheVariants.Indices s.holders;
+        kept = λ s. registries.Indices s.holders;
         Holds = λ code c s latest events turns. Holds c s latest events;
         written = λ c s p flight. any_wrote p flight;
         number = λ code c. number c;

@@ -3,9 +3,9 @@ use Rattle.std.proofs.Common.{◌≡◌, ◌≢◌, ℕ, ◌+◌, ◌*◌, ◌<�
 use Rattle.std.specs.Prelude.{max}
 use Rattle.laws_indices.proofs.Names.{LockIfLastIndex, Default, AcquireStage, ReleaseStage, borrowed, locked, Event}
 use Rattle.laws_indices.proofs.Names.{Freed, IndexStart, IndexFlight}
-use Rattle.steps.specs.declared.indices.unique.AcquireStage as acquires
-use Rattle.steps.specs.declared.indices.unique.ReleaseStage as releases
-use Rattle.model.specs.declared.families.indices.IndexStart as starts
+use Rattle.steps.specs.declared.indices.unique.AcquireStage.TheVariants as acquires
+use Rattle.steps.specs.declared.indices.unique.ReleaseStage.TheVariants as releases
+use Rattle.model.specs.declared.families.indices.IndexStart.TheVariants as starts
 use Rattle.model.specs.declared.families.indices.calls.IndexFlight.TheVariants.{Acquire, ReleaseDefault, ReleaseLock, BorrowedIndices, IsLocked}
 use Rattle.laws_indices.proofs.Core.{head_of, holder, is_claimed}
 
@@ -37,19 +37,19 @@ lock_at c index stage =
 
 -- an acquire is counted in the head from its exchange to its claim
 abbrev pub acquire_counts : AcquireStage → ℕ
-acquire_counts acquires.TheVariants.LoadsHead = 0
-acquire_counts (acquires.TheVariants.LoadsNext head) = 0
-acquire_counts (acquires.TheVariants.ExchangesHead head next) = 0
-acquire_counts (acquires.TheVariants.Claims index) = 1
-acquire_counts (acquires.TheVariants.Scans index) = 1
+acquire_counts acquires.LoadsHead = 0
+acquire_counts (acquires.LoadsNext head) = 0
+acquire_counts (acquires.ExchangesHead head next) = 0
+acquire_counts (acquires.Claims index) = 1
+acquire_counts (acquires.Scans index) = 1
 
 -- a release is counted there from its clear to its end
 abbrev pub release_counts : ReleaseStage → ℕ
-release_counts releases.TheVariants.ClearsFlag = 0
-release_counts releases.TheVariants.LoadsHead = 1
-release_counts (releases.TheVariants.StoresNext head) = 1
-release_counts (releases.TheVariants.ExchangesHead head) = 1
-release_counts releases.TheVariants.Subtracts = 1
+release_counts releases.ClearsFlag = 0
+release_counts releases.LoadsHead = 1
+release_counts (releases.StoresNext head) = 1
+release_counts (releases.ExchangesHead head) = 1
+release_counts releases.Subtracts = 1
 
 abbrev pub counts : IndexFlight → ℕ
 counts (Acquire run) = acquire_counts run.call.stage
@@ -77,11 +77,11 @@ gives (IsLocked run) = 0
 
 module _ {T : Type 0} where
   abbrev pub release_wrote : ℕ → ℕ → ReleaseStage → List (Event T)
-  release_wrote p index releases.TheVariants.ClearsFlag = []
-  release_wrote p index releases.TheVariants.LoadsHead = Freed p index ∷ []
-  release_wrote p index (releases.TheVariants.StoresNext head) = Freed p index ∷ []
-  release_wrote p index (releases.TheVariants.ExchangesHead head) = Freed p index ∷ []
-  release_wrote p index releases.TheVariants.Subtracts = Freed p index ∷ []
+  release_wrote p index releases.ClearsFlag = []
+  release_wrote p index releases.LoadsHead = Freed p index ∷ []
+  release_wrote p index (releases.StoresNext head) = Freed p index ∷ []
+  release_wrote p index (releases.ExchangesHead head) = Freed p index ∷ []
+  release_wrote p index releases.Subtracts = Freed p index ∷ []
 
   abbrev pub flight_wrote : ℕ → IndexFlight → List (Event T)
   flight_wrote p (Acquire run) = []
@@ -91,18 +91,18 @@ module _ {T : Type 0} where
   flight_wrote p (IsLocked run) = []
 
 abbrev pub acquire_number : ℕ → AcquireStage → ℕ → ℕ
-acquire_number c acquires.TheVariants.LoadsHead backs = 0
-acquire_number c (acquires.TheVariants.LoadsNext head) backs = 1 + backs * max 2 c
-acquire_number c (acquires.TheVariants.ExchangesHead head next) backs = 2 + backs * max 2 c
-acquire_number c (acquires.TheVariants.Claims index) backs = 3 + backs * max 2 c
-acquire_number c (acquires.TheVariants.Scans index) backs = 4 + index + backs * max 2 c
+acquire_number c acquires.LoadsHead backs = 0
+acquire_number c (acquires.LoadsNext head) backs = 1 + backs * max 2 c
+acquire_number c (acquires.ExchangesHead head next) backs = 2 + backs * max 2 c
+acquire_number c (acquires.Claims index) backs = 3 + backs * max 2 c
+acquire_number c (acquires.Scans index) backs = 4 + index + backs * max 2 c
 
 abbrev pub release_number : ReleaseStage → ℕ → ℕ
-release_number releases.TheVariants.ClearsFlag backs = 0
-release_number releases.TheVariants.LoadsHead backs = 1
-release_number (releases.TheVariants.StoresNext head) backs = 2 + backs * 2
-release_number (releases.TheVariants.ExchangesHead head) backs = 3 + backs * 2
-release_number releases.TheVariants.Subtracts backs = 4
+release_number releases.ClearsFlag backs = 0
+release_number releases.LoadsHead backs = 1
+release_number (releases.StoresNext head) backs = 2 + backs * 2
+release_number (releases.ExchangesHead head) backs = 3 + backs * 2
+release_number releases.Subtracts backs = 4
 
 abbrev pub number_of : ℕ → IndexFlight → ℕ → ℕ
 number_of c (Acquire run) backs = acquire_number c run.call.stage backs
@@ -118,32 +118,32 @@ abbrev pub IsOpen : ℕ → ℕ → Type 0
 IsOpen c head = (borrowed head ≢ locked) × (borrowed head ≢ c)
 
 abbrev pub AcquireAt : ℕ → AcquireStage → Type 0
-AcquireAt c acquires.TheVariants.LoadsHead = Unit {0}
-AcquireAt c (acquires.TheVariants.LoadsNext head) = IsOpen c head
-AcquireAt c (acquires.TheVariants.ExchangesHead head next) = IsOpen c head
-AcquireAt c (acquires.TheVariants.Claims index) = index < c
-AcquireAt c (acquires.TheVariants.Scans index) = index < c
+AcquireAt c acquires.LoadsHead = Unit {0}
+AcquireAt c (acquires.LoadsNext head) = IsOpen c head
+AcquireAt c (acquires.ExchangesHead head next) = IsOpen c head
+AcquireAt c (acquires.Claims index) = index < c
+AcquireAt c (acquires.Scans index) = index < c
 
 -- before it clears the flag, the party of a release holds the index
 abbrev pub ReleaseAt : List (Option ℕ) → ℕ → ℕ → ReleaseStage → Type 0
-ReleaseAt holders p index releases.TheVariants.ClearsFlag = holder holders index ≡ Some p
-ReleaseAt holders p index releases.TheVariants.LoadsHead = Unit {0}
-ReleaseAt holders p index (releases.TheVariants.StoresNext head) = Unit {0}
-ReleaseAt holders p index (releases.TheVariants.ExchangesHead head) = Unit {0}
-ReleaseAt holders p index releases.TheVariants.Subtracts = Unit {0}
+ReleaseAt holders p index releases.ClearsFlag = holder holders index ≡ Some p
+ReleaseAt holders p index releases.LoadsHead = Unit {0}
+ReleaseAt holders p index (releases.StoresNext head) = Unit {0}
+ReleaseAt holders p index (releases.ExchangesHead head) = Unit {0}
+ReleaseAt holders p index releases.Subtracts = Unit {0}
 
 -- where a call under way stands
 abbrev pub At : ℕ → List (Option ℕ) → ℕ → IndexStart → IndexFlight → Type 0
-At c holders p starts.TheVariants.Acquire (Acquire run) =
+At c holders p starts.Acquire (Acquire run) =
     (run.call.capacity ≡ c) × AcquireAt c run.call.stage
-At c holders p (starts.TheVariants.Release index Default) (ReleaseDefault run) =
+At c holders p (starts.Release index Default) (ReleaseDefault run) =
     (run.call.capacity ≡ c) × (run.given ≡ index) × (index < c)
     × ReleaseAt holders p index run.call.stage
-At c holders p (starts.TheVariants.Release index LockIfLastIndex) (ReleaseLock run) =
+At c holders p (starts.Release index LockIfLastIndex) (ReleaseLock run) =
     (run.call.capacity ≡ c) × (run.given ≡ index) × (index < c)
     × ReleaseAt holders p index run.call.stage
-At c holders p starts.TheVariants.BorrowedIndices (BorrowedIndices run) = Unit {0}
-At c holders p starts.TheVariants.IsLocked (IsLocked run) = Unit {0}
+At c holders p starts.BorrowedIndices (BorrowedIndices run) = Unit {0}
+At c holders p starts.IsLocked (IsLocked run) = Unit {0}
 At c holders p start flight = ⊥
 
 -- ---- what they know of the counts
@@ -161,24 +161,24 @@ abbrev pub AllClaimed : ℕ → List ℕ → ℕ → Type 0
 AllClaimed c words index = (i : ℕ) → i < index → is_claimed c words i ≡ true
 
 abbrev pub AcquireKnows : ℕ → List ℕ → ℕ → ℕ → ℕ → AcquireStage → Type 0
-AcquireKnows c words since changes backs acquires.TheVariants.LoadsHead = IsPaid since changes backs
-AcquireKnows c words since changes backs (acquires.TheVariants.LoadsNext head) =
+AcquireKnows c words since changes backs acquires.LoadsHead = IsPaid since changes backs
+AcquireKnows c words since changes backs (acquires.LoadsNext head) =
     PaidUnless (head_of words ≡ head) since changes backs
-AcquireKnows c words since changes backs (acquires.TheVariants.ExchangesHead head next) =
+AcquireKnows c words since changes backs (acquires.ExchangesHead head next) =
     PaidUnless (head_of words ≡ head) since changes backs
-AcquireKnows c words since changes backs (acquires.TheVariants.Claims index) =
+AcquireKnows c words since changes backs (acquires.Claims index) =
     IsPaid since changes backs
-AcquireKnows c words since changes backs (acquires.TheVariants.Scans index) =
+AcquireKnows c words since changes backs (acquires.Scans index) =
     PaidUnless (AllClaimed c words index) since changes backs
 
 abbrev pub LockKnows : List ℕ → ℕ → ℕ → ℕ → ReleaseStage → Type 0
-LockKnows words since changes backs releases.TheVariants.ClearsFlag = IsPaid since changes backs
-LockKnows words since changes backs releases.TheVariants.LoadsHead = IsPaid since changes backs
-LockKnows words since changes backs (releases.TheVariants.StoresNext head) =
+LockKnows words since changes backs releases.ClearsFlag = IsPaid since changes backs
+LockKnows words since changes backs releases.LoadsHead = IsPaid since changes backs
+LockKnows words since changes backs (releases.StoresNext head) =
     PaidUnless (head_of words ≡ head) since changes backs
-LockKnows words since changes backs (releases.TheVariants.ExchangesHead head) =
+LockKnows words since changes backs (releases.ExchangesHead head) =
     PaidUnless (head_of words ≡ head) since changes backs
-LockKnows words since changes backs releases.TheVariants.Subtracts = ⊥
+LockKnows words since changes backs releases.Subtracts = ⊥
 
 -- a call without a loop has not turned back
 abbrev pub FlightKnows : ℕ → List ℕ → ℕ → ℕ → ℕ → IndexFlight → Type 0

@@ -10,13 +10,13 @@ use Rattle.steps.specs.Indices.Unique.{acquire_sees, head_taken, Acquired}
 use Rattle.steps.specs.Routine.{went_on}
 use Rattle.steps.specs.declared.ask.After.{After}
 use Rattle.steps.specs.declared.indices.unique.Acquire as acquiring
-use Rattle.steps.specs.declared.indices.unique.AcquireStage as acquires
-use Rattle.steps.specs.declared.indices.unique.ReleaseStage as releases
+use Rattle.steps.specs.declared.indices.unique.AcquireStage.TheVariants as acquires
+use Rattle.steps.specs.declared.indices.unique.ReleaseStage.TheVariants as releases
 use Rattle.model.specs.declared.event.Answer.{Answer}
-use Rattle.model.specs.declared.families.Flight as flights
-use Rattle.model.specs.declared.families.indices.IndexStart as starts
-use Rattle.model.specs.declared.families.indices.calls.IndexFlight as calls
-use Rattle.model.specs.declared.turn.Kind as kinds
+use Rattle.model.specs.declared.families.Flight.TheVariants as flights
+use Rattle.model.specs.declared.families.indices.IndexStart.TheVariants as starts
+use Rattle.model.specs.declared.families.indices.calls.IndexFlight.TheVariants as calls
+use Rattle.model.specs.declared.turn.Kind.TheVariants as kinds
 use Rattle.model.specs.Families.{want_of, ask_of, after_of, is_question}
 use Rattle.model.specs.Families.Indices.Calls.{acquire_answer}
 use Rattle.model.specs.Families.Queues.Calls.{as_it_is}
@@ -46,53 +46,53 @@ module _ (c : ℕ) where
   scans words i = min (c - 1) (scan c words i)
 
   abbrev acquire_left : List ℕ → AcquireStage → ℕ
-  acquire_left words acquires.TheVariants.LoadsHead = c + 3
-  acquire_left words (acquires.TheVariants.LoadsNext head) = cond (head_of words == head) (c + 2) (c + 4)
-  acquire_left words (acquires.TheVariants.ExchangesHead head next) = cond (head_of words == head) (c + 1) (c + 3)
-  acquire_left words (acquires.TheVariants.Claims i) = cond (is_claimed c words i) (scans words 0 + 1) 0
-  acquire_left words (acquires.TheVariants.Scans i) = scans words i
+  acquire_left words acquires.LoadsHead = c + 3
+  acquire_left words (acquires.LoadsNext head) = cond (head_of words == head) (c + 2) (c + 4)
+  acquire_left words (acquires.ExchangesHead head next) = cond (head_of words == head) (c + 1) (c + 3)
+  acquire_left words (acquires.Claims i) = cond (is_claimed c words i) (scans words 0 + 1) 0
+  acquire_left words (acquires.Scans i) = scans words i
 
 -- ---- how many changes it makes at most before its last step that can add to the steps of others
 
 -- an acquire moves the head
 abbrev acquire_pays : AcquireStage → ℕ
-acquire_pays (acquires.TheVariants.Claims i) = 0
-acquire_pays (acquires.TheVariants.Scans i) = 0
+acquire_pays (acquires.Claims i) = 0
+acquire_pays (acquires.Scans i) = 0
 acquire_pays stage = 1
 
 abbrev default_left : ReleaseStage → ℕ
-default_left releases.TheVariants.ClearsFlag = 4
-default_left releases.TheVariants.LoadsHead = 3
-default_left (releases.TheVariants.StoresNext head) = 2
-default_left (releases.TheVariants.ExchangesHead head) = 1
-default_left releases.TheVariants.Subtracts = 0
+default_left releases.ClearsFlag = 4
+default_left releases.LoadsHead = 3
+default_left (releases.StoresNext head) = 2
+default_left (releases.ExchangesHead head) = 1
+default_left releases.Subtracts = 0
 
 -- one that may lock goes on from the head found
 abbrev lock_left : ℕ → ReleaseStage → ℕ
-lock_left now releases.TheVariants.ClearsFlag = 3
-lock_left now releases.TheVariants.LoadsHead = 2
-lock_left now (releases.TheVariants.StoresNext head) = cond (now == head) 1 3
-lock_left now (releases.TheVariants.ExchangesHead head) = cond (now == head) 0 2
-lock_left now releases.TheVariants.Subtracts = 0
+lock_left now releases.ClearsFlag = 3
+lock_left now releases.LoadsHead = 2
+lock_left now (releases.StoresNext head) = cond (now == head) 1 3
+lock_left now (releases.ExchangesHead head) = cond (now == head) 0 2
+lock_left now releases.Subtracts = 0
 
 abbrev call_left : ℕ → List ℕ → IndexFlight → ℕ
-call_left c words (calls.TheVariants.Acquire run) = acquire_left c words run.call.stage
-call_left c words (calls.TheVariants.ReleaseDefault run) = default_left run.call.stage
-call_left c words (calls.TheVariants.ReleaseLock run) = lock_left (head_of words) run.call.stage
-call_left c words (calls.TheVariants.BorrowedIndices run) = 0
-call_left c words (calls.TheVariants.IsLocked run) = 0
+call_left c words (calls.Acquire run) = acquire_left c words run.call.stage
+call_left c words (calls.ReleaseDefault run) = default_left run.call.stage
+call_left c words (calls.ReleaseLock run) = lock_left (head_of words) run.call.stage
+call_left c words (calls.BorrowedIndices run) = 0
+call_left c words (calls.IsLocked run) = 0
 
 abbrev call_pays : IndexFlight → ℕ
-call_pays (calls.TheVariants.Acquire run) = acquire_pays run.call.stage
+call_pays (calls.Acquire run) = acquire_pays run.call.stage
 call_pays flight = 0
 
 module _ {T : Type 0} where
   abbrev left : ℕ → List ℕ → Flight T → ℕ
-  left c words (flights.TheVariants.Indices flight) = call_left c words flight
+  left c words (flights.Indices flight) = call_left c words flight
   left c words flight = 0
 
   abbrev pays : Flight T → ℕ
-  pays (flights.TheVariants.Indices flight) = call_pays flight
+  pays (flights.Indices flight) = call_pays flight
   pays flight = 0
 
   abbrev measure : ℕ → WordMeasure T
@@ -105,25 +105,25 @@ module _ (c : ℕ) (old new : List ℕ) (same : head_of new ≡ head_of old) (fe
   scans_fewer i = let fewer = scan_fewer c old new fewer i in grind arith
 
   acquire_fewer : (stage : AcquireStage) → acquire_left c new stage ≤ acquire_left c old stage
-  acquire_fewer acquires.TheVariants.LoadsHead = omega arith
-  acquire_fewer (acquires.TheVariants.LoadsNext head) = rw same (omega arith)
-  acquire_fewer (acquires.TheVariants.ExchangesHead head next) = rw same (omega arith)
-  acquire_fewer (acquires.TheVariants.Claims i) = go (is_claimed c new i) refl
+  acquire_fewer acquires.LoadsHead = omega arith
+  acquire_fewer (acquires.LoadsNext head) = rw same (omega arith)
+  acquire_fewer (acquires.ExchangesHead head next) = rw same (omega arith)
+  acquire_fewer (acquires.Claims i) = go (is_claimed c new i) refl
     where
-      go : (t : Bool) → is_claimed c new i ≡ t → cond t (scans c new 0 + 1) 0 ≤ acquire_left c old (acquires.TheVariants.Claims i)
+      go : (t : Bool) → is_claimed c new i ≡ t → cond t (scans c new 0 + 1) 0 ≤ acquire_left c old (acquires.Claims i)
       go true t =
           let stood = fewer i t in
           let rest = scans_fewer 0 in
           rw stood (omega arith)
       go false t = omega arith
-  acquire_fewer (acquires.TheVariants.Scans i) = scans_fewer i
+  acquire_fewer (acquires.Scans i) = scans_fewer i
 
   leaves : {T : Type 0} → LeavesAll (measure {T = T} c) old new
-  leaves (flights.TheVariants.Indices (calls.TheVariants.Acquire run)) = acquire_fewer run.call.stage
-  leaves (flights.TheVariants.Indices (calls.TheVariants.ReleaseDefault run)) = omega arith
-  leaves (flights.TheVariants.Indices (calls.TheVariants.ReleaseLock run)) = rw same (omega arith)
-  leaves (flights.TheVariants.Indices (calls.TheVariants.BorrowedIndices run)) = omega arith
-  leaves (flights.TheVariants.Indices (calls.TheVariants.IsLocked run)) = omega arith
+  leaves (flights.Indices (calls.Acquire run)) = acquire_fewer run.call.stage
+  leaves (flights.Indices (calls.ReleaseDefault run)) = omega arith
+  leaves (flights.Indices (calls.ReleaseLock run)) = rw same (omega arith)
+  leaves (flights.Indices (calls.BorrowedIndices run)) = omega arith
+  leaves (flights.Indices (calls.IsLocked run)) = omega arith
   leaves flight = omega arith
 
 -- ---- each step falls
@@ -133,7 +133,7 @@ module _ {T : Type 0} (code : Coding T) (c : ℕ) (words : List ℕ) where
   M = measure c
 
   abbrev Shown : IndexFlight → Type 0
-  Shown flight = StepFalls M code words (flights.TheVariants.Indices flight)
+  Shown flight = StepFalls M code words (flights.Indices flight)
 
   abbrev now : ℕ
   now = head_of words
@@ -142,8 +142,8 @@ module _ {T : Type 0} (code : Coding T) (c : ℕ) (words : List ℕ) where
 
   abbrev as_acquire : After acquiring.Acquire Acquired → After (Flight T) (Answer T)
   as_acquire after =
-      as_call flights.TheVariants.Indices (λ answer. answer)
-      (as_call calls.TheVariants.Acquire acquire_answer (went_on as_it_is tt tt after))
+      as_call flights.Indices (λ answer. answer)
+      (as_call calls.Acquire acquire_answer (went_on as_it_is tt tt after))
 
   -- a head was found, in words that stay
   sees_falls : (new : List ℕ) (was : Flight T) (stage : AcquireStage) → new ≡ words → c + 3 ≤ left c words was → 1 ≤ pays was
@@ -157,7 +157,7 @@ module _ {T : Type 0} (code : Coding T) (c : ℕ) (words : List ℕ) where
       go false t false u true v = let self = same_is now in rw (t, u, v) (inl (same, rw self (omega arith), one))
       go false t false u false v = let self = same_is now in rw (t, u, v) (inl (same, rw self (omega arith), one))
 
-  claims_most : 1 ≤ c → (new : List ℕ) (i : ℕ) → acquire_left c new (acquires.TheVariants.Claims i) ≤ c
+  claims_most : 1 ≤ c → (new : List ℕ) (i : ℕ) → acquire_left c new (acquires.Claims i) ≤ c
   claims_most some new i = go (is_claimed c new i)
     where
       go : (t : Bool) → cond t (scans c new 0 + 1) 0 ≤ c
@@ -167,18 +167,18 @@ module _ {T : Type 0} (code : Coding T) (c : ℕ) (words : List ℕ) where
   scans_most : 1 ≤ c → (new : List ℕ) (i : ℕ) → scans c new i + 1 ≤ c
   scans_most x0 x1 x2 = grind arith
 
-  exchange_falls : 1 ≤ c → (head next : ℕ) → Shown (acquire_at c (acquires.TheVariants.ExchangesHead head next))
+  exchange_falls : 1 ≤ c → (head next : ℕ) → Shown (acquire_at c (acquires.ExchangesHead head next))
   exchange_falls some head next = go (now == head) refl (nat_lt (proposed head) c) refl
     where
       stage : AcquireStage
-      stage = acquires.TheVariants.ExchangesHead head next
+      stage = acquires.ExchangesHead head next
 
       go : (t : Bool) → (now == head) ≡ t → (u : Bool) → nat_lt (proposed head) c ≡ u → Shown (acquire_at c stage)
       go true t true u = let most = claims_most some (set words 0 (head_taken head next)) (proposed head) in
           rw (t, u) (inr (rw t (omega arith), inr (omega arith)))
       go true t false u = let most = scans_most some (set words 0 (head_taken head next)) 0 in rw (t, u) (inr (rw t (omega arith), inr (omega arith)))
       go false t u e =
-          rw t (sees_falls _ (flights.TheVariants.Indices (acquire_at c stage)) stage (load_leaves words 0) (rw t (omega arith)) (omega arith))
+          rw t (sees_falls _ (flights.Indices (acquire_at c stage)) stage (load_leaves words 0) (rw t (omega arith)) (omega arith))
 
   -- what a claim of a flag that stands leaves
   module _ (holders : List (Option ℕ)) (busy_calls : ℕ) (g : Good c words holders busy_calls) (i : ℕ)
@@ -201,7 +201,7 @@ module _ {T : Type 0} (code : Coding T) (c : ℕ) (words : List ℕ) where
             let within = flag_within c i below in
             sym (claim_leaves c words i (omega arith) j ne) ∙ t
 
-    claims_fall : Shown (acquire_at c (acquires.TheVariants.Claims i))
+    claims_fall : Shown (acquire_at c (acquires.Claims i))
     claims_fall =
         let rest = scans_fewer c words tried tried_head tried_fewer 0 in
         rw stood (inr (rw stood (omega arith), inl (leaves c words tried tried_head tried_fewer, omega arith)))
@@ -210,13 +210,13 @@ module _ {T : Type 0} (code : Coding T) (c : ℕ) (words : List ℕ) where
       one_on : (next here : ℕ) → next + 1 ≤ here → here ≤ c - 1 → min (c - 1) next + 1 ≤ min (c - 1) here
       one_on x0 x1 x2 x3 = grind arith
 
-      scans_fall : Shown (acquire_at c (acquires.TheVariants.Scans i))
+      scans_fall : Shown (acquire_at c (acquires.Scans i))
       scans_fall = go (nat_lt (i + 1) c) refl
         where
           most : scan c words i ≤ c - 1
           most = scan_few c words free i below
 
-          go : (t : Bool) → nat_lt (i + 1) c ≡ t → Shown (acquire_at c (acquires.TheVariants.Scans i))
+          go : (t : Bool) → nat_lt (i + 1) c ≡ t → Shown (acquire_at c (acquires.Scans i))
           go true t =
               let more : i + 1 < c = grind (arith, nat_tests) in
               let rest = scans_fewer c words tried tried_head tried_fewer (i + 1) in
@@ -230,23 +230,23 @@ module _ {T : Type 0} (code : Coding T) (c : ℕ) (words : List ℕ) where
 
   acquire_falls : (holders : List (Option ℕ)) (busy_calls : ℕ) → Good c words holders busy_calls → (stage : AcquireStage) → AcquireAt c stage
       → counts (acquire_at c stage) ≤ busy_calls → Shown (acquire_at c stage)
-  acquire_falls holders busy_calls g acquires.TheVariants.LoadsHead at heavy =
-      sees_falls _ (flights.TheVariants.Indices (acquire_at c acquires.TheVariants.LoadsHead)) acquires.TheVariants.LoadsHead (load_leaves words 0)
+  acquire_falls holders busy_calls g acquires.LoadsHead at heavy =
+      sees_falls _ (flights.Indices (acquire_at c acquires.LoadsHead)) acquires.LoadsHead (load_leaves words 0)
       (omega arith) (omega arith)
-  acquire_falls holders busy_calls g (acquires.TheVariants.LoadsNext head) at heavy = go (now == head) refl
+  acquire_falls holders busy_calls g (acquires.LoadsNext head) at heavy = go (now == head) refl
     where
-      go : (t : Bool) → (now == head) ≡ t → Shown (acquire_at c (acquires.TheVariants.LoadsNext head))
+      go : (t : Bool) → (now == head) ≡ t → Shown (acquire_at c (acquires.LoadsNext head))
       go true t = inl (load_leaves words (next_word (proposed head)), rw t (omega arith), omega arith)
       go false t = inl (load_leaves words (next_word (proposed head)), rw t (omega arith), omega arith)
-  acquire_falls holders busy_calls g (acquires.TheVariants.ExchangesHead head next) at heavy = exchange_falls g.some head next
-  acquire_falls holders busy_calls g (acquires.TheVariants.Claims i) at heavy = go (is_claimed c words i) refl
+  acquire_falls holders busy_calls g (acquires.ExchangesHead head next) at heavy = exchange_falls g.some head next
+  acquire_falls holders busy_calls g (acquires.Claims i) at heavy = go (is_claimed c words i) refl
     where
-      go : (t : Bool) → is_claimed c words i ≡ t → Shown (acquire_at c (acquires.TheVariants.Claims i))
+      go : (t : Bool) → is_claimed c words i ≡ t → Shown (acquire_at c (acquires.Claims i))
       go true t = claims_fall holders busy_calls g i at t
       go false t = rw t tt
-  acquire_falls holders busy_calls g (acquires.TheVariants.Scans i) at heavy = go (is_claimed c words i) refl
+  acquire_falls holders busy_calls g (acquires.Scans i) at heavy = go (is_claimed c words i) refl
     where
-      go : (t : Bool) → is_claimed c words i ≡ t → Shown (acquire_at c (acquires.TheVariants.Scans i))
+      go : (t : Bool) → is_claimed c words i ≡ t → Shown (acquire_at c (acquires.Scans i))
       go true t = scans_fall holders busy_calls g i at t (some_free c words holders busy_calls g heavy)
       go false t = rw t tt
 
@@ -284,49 +284,49 @@ module _ {T : Type 0} (code : Coding T) (c : ℕ) (words : List ℕ) where
     stored_fewer head j t = sym (claims_stay c words (next_word index) (proposed head) j (omega arith)) ∙ t
 
     default_falls : (stage : ReleaseStage) → Shown (default_at c index stage)
-    default_falls releases.TheVariants.ClearsFlag = inr (omega arith, inl (leaves c words cleared cleared_head cleared_fewer, omega arith))
-    default_falls releases.TheVariants.LoadsHead = inl (load_leaves words 0, omega arith, omega arith)
-    default_falls (releases.TheVariants.StoresNext head) =
+    default_falls releases.ClearsFlag = inr (omega arith, inl (leaves c words cleared cleared_head cleared_fewer, omega arith))
+    default_falls releases.LoadsHead = inl (load_leaves words 0, omega arith, omega arith)
+    default_falls (releases.StoresNext head) =
         inr (omega arith, inl (leaves c words (stored head) (stored_head head) (stored_fewer head), omega arith))
-    default_falls (releases.TheVariants.ExchangesHead head) = go (now == head) refl
+    default_falls (releases.ExchangesHead head) = go (now == head) refl
       where
-        go : (t : Bool) → (now == head) ≡ t → Shown (default_at c index (releases.TheVariants.ExchangesHead head))
+        go : (t : Bool) → (now == head) ≡ t → Shown (default_at c index (releases.ExchangesHead head))
         go true t = rw t tt
         go false t = rw t (inl (load_leaves words 0, omega arith, omega arith))
-    default_falls releases.TheVariants.Subtracts = tt
+    default_falls releases.Subtracts = tt
 
     lock_falls : (stage : ReleaseStage) → Shown (lock_at c index stage)
-    lock_falls releases.TheVariants.ClearsFlag = inr (omega arith, inl (leaves c words cleared cleared_head cleared_fewer, omega arith))
-    lock_falls releases.TheVariants.LoadsHead = let self = same_is now in inl (load_leaves words 0, rw self (omega arith), omega arith)
-    lock_falls (releases.TheVariants.StoresNext head) = go (now == head) refl
+    lock_falls releases.ClearsFlag = inr (omega arith, inl (leaves c words cleared cleared_head cleared_fewer, omega arith))
+    lock_falls releases.LoadsHead = let self = same_is now in inl (load_leaves words 0, rw self (omega arith), omega arith)
+    lock_falls (releases.StoresNext head) = go (now == head) refl
       where
-        go : (t : Bool) → (now == head) ≡ t → Shown (lock_at c index (releases.TheVariants.StoresNext head))
+        go : (t : Bool) → (now == head) ≡ t → Shown (lock_at c index (releases.StoresNext head))
         go true t =
             let same = stored_head head in
             inr (rw (same, t) (omega arith), inl (leaves c words (stored head) same (stored_fewer head), omega arith))
         go false t =
             let same = stored_head head in
             inr (rw (same, t) (omega arith), inl (leaves c words (stored head) same (stored_fewer head), omega arith))
-    lock_falls (releases.TheVariants.ExchangesHead head) = go (now == head) refl
+    lock_falls (releases.ExchangesHead head) = go (now == head) refl
       where
-        go : (t : Bool) → (now == head) ≡ t → Shown (lock_at c index (releases.TheVariants.ExchangesHead head))
+        go : (t : Bool) → (now == head) ≡ t → Shown (lock_at c index (releases.ExchangesHead head))
         go true t = rw t tt
         go false t = let self = same_is now in rw t (inl (load_leaves words 0, rw (self, t) (omega arith), omega arith))
-    lock_falls releases.TheVariants.Subtracts = tt
+    lock_falls releases.Subtracts = tt
 
   call_falls : (holders : List (Option ℕ)) (busy_calls p : ℕ) → Good c words holders busy_calls → (start : IndexStart) (flight : IndexFlight)
       → At c holders p start flight → counts flight ≤ busy_calls → Shown flight
-  call_falls holders busy_calls p g starts.TheVariants.Acquire (calls.TheVariants.Acquire run) at heavy =
+  call_falls holders busy_calls p g starts.Acquire (calls.Acquire run) at heavy =
       subst (λ n. counts (acquire_at n run.call.stage) ≤ busy_calls → Shown (acquire_at n run.call.stage)) (sym at.0)
       (λ h. acquire_falls holders busy_calls g run.call.stage at.1 h) heavy
-  call_falls holders busy_calls p g (starts.TheVariants.Release index Default) (calls.TheVariants.ReleaseDefault run) at heavy =
+  call_falls holders busy_calls p g (starts.Release index Default) (calls.ReleaseDefault run) at heavy =
       subst (λ n. Shown (default_at n run.given run.call.stage)) (sym at.0)
       (subst (λ i. Shown (default_at c i run.call.stage)) (sym at.1) (default_falls holders busy_calls g index at.2 run.call.stage))
-  call_falls holders busy_calls p g (starts.TheVariants.Release index LockIfLastIndex) (calls.TheVariants.ReleaseLock run) at heavy =
+  call_falls holders busy_calls p g (starts.Release index LockIfLastIndex) (calls.ReleaseLock run) at heavy =
       subst (λ n. Shown (lock_at n run.given run.call.stage)) (sym at.0)
       (subst (λ i. Shown (lock_at c i run.call.stage)) (sym at.1) (lock_falls holders busy_calls g index at.2 run.call.stage))
-  call_falls holders busy_calls p g starts.TheVariants.BorrowedIndices (calls.TheVariants.BorrowedIndices run) at heavy = tt
-  call_falls holders busy_calls p g starts.TheVariants.IsLocked (calls.TheVariants.IsLocked run) at heavy = tt
+  call_falls holders busy_calls p g starts.BorrowedIndices (calls.BorrowedIndices run) at heavy = tt
+  call_falls holders busy_calls p g starts.IsLocked (calls.IsLocked run) at heavy = tt
   call_falls holders busy_calls p g start flight at heavy = absurd at
 
 -- ---- no call has more left
@@ -340,18 +340,18 @@ module _ (c : ℕ) (some : 1 ≤ c) (words : List ℕ) where
   scans_low x0 = grind arith
 
   acquire_most : (stage : AcquireStage) → acquire_left c words stage ≤ c + 4
-  acquire_most acquires.TheVariants.LoadsHead = omega arith
-  acquire_most (acquires.TheVariants.LoadsNext head) = one_of _ (c + 2) (c + 4) (c + 4) (omega arith) (omega arith)
-  acquire_most (acquires.TheVariants.ExchangesHead head next) = one_of _ (c + 1) (c + 3) (c + 4) (omega arith) (omega arith)
-  acquire_most (acquires.TheVariants.Claims i) = let low = scans_low 0 in one_of _ (scans c words 0 + 1) 0 (c + 4) (omega arith) (omega arith)
-  acquire_most (acquires.TheVariants.Scans i) = let low = scans_low i in omega arith
+  acquire_most acquires.LoadsHead = omega arith
+  acquire_most (acquires.LoadsNext head) = one_of _ (c + 2) (c + 4) (c + 4) (omega arith) (omega arith)
+  acquire_most (acquires.ExchangesHead head next) = one_of _ (c + 1) (c + 3) (c + 4) (omega arith) (omega arith)
+  acquire_most (acquires.Claims i) = let low = scans_low 0 in one_of _ (scans c words 0 + 1) 0 (c + 4) (omega arith) (omega arith)
+  acquire_most (acquires.Scans i) = let low = scans_low i in omega arith
 
   most : {T : Type 0} → (flight : Flight T) → (left c words flight ≤ c + 4) × (pays flight ≤ 1)
-  most (flights.TheVariants.Indices (calls.TheVariants.Acquire run)) = (acquire_most run.call.stage, grind arith)
-  most (flights.TheVariants.Indices (calls.TheVariants.ReleaseDefault run)) = (grind arith, omega arith)
-  most (flights.TheVariants.Indices (calls.TheVariants.ReleaseLock run)) = (grind arith, omega arith)
-  most (flights.TheVariants.Indices (calls.TheVariants.BorrowedIndices run)) = (omega arith, omega arith)
-  most (flights.TheVariants.Indices (calls.TheVariants.IsLocked run)) = (omega arith, omega arith)
+  most (flights.Indices (calls.Acquire run)) = (acquire_most run.call.stage, grind arith)
+  most (flights.Indices (calls.ReleaseDefault run)) = (grind arith, omega arith)
+  most (flights.Indices (calls.ReleaseLock run)) = (grind arith, omega arith)
+  most (flights.Indices (calls.BorrowedIndices run)) = (omega arith, omega arith)
+  most (flights.Indices (calls.IsLocked run)) = (omega arith, omega arith)
   most flight = (omega arith, omega arith)
 
 -- ---- of each machine that turns have reached
@@ -366,9 +366,9 @@ module _ {T : Type 0} (t : Trace T) (s : Sound (family t.world.coding t.world.ca
       → party_of p t.world.latest ≡ Some x → x.doing ≡ Going flight since → flight_of (doing_of (party_of p t.world.latest)) ≡ Some flight
       → FallsBy (of_words (measure t.world.capacity)) t.world p x flight (ask_of (want_of t.world.coding flight))
       (old_of t.world.words (ask_of (want_of t.world.coding flight)))
-  flight_falls (Indices start) (flights.TheVariants.Indices flight) at found doing is next e =
+  flight_falls (Indices start) (flights.Indices flight) at found doing is next e =
       let w = t.world in
-      let any : Flight T = flights.TheVariants.Indices flight in
+      let any : Flight T = flights.Indices flight in
       let heavy =
       busy_here (scene_of outline w.coding w.capacity t s p x.steps x.backs since) flight
       (record { seat = s.holds.bounded p x found; under = is }) in
@@ -384,7 +384,7 @@ module _ {T : Type 0} where
       → FlightAt c holders p start flight → is_question (want_of code flight) ≡ false
   never_asks x0 x1 x2 x3 x4 x5 x6 = grind arith
 
-  laws : FramedLaws kinds.TheVariants.Indices (family {T = T}) (λ c. of_words (measure c))
+  laws : FramedLaws kinds.Indices (family {T = T}) (λ c. of_words (measure c))
   laws =
       record {
         sound = reached_on_sound;
@@ -400,6 +400,6 @@ module _ {T : Type 0} where
             absurd (cc));
       }
 
-  pub indices_keep_ending : KeepsEnding T kinds.TheVariants.Indices (λ n capacity size. stretch n 1 (capacity + 4))
+  pub indices_keep_ending : KeepsEnding T kinds.Indices (λ n capacity size. stretch n 1 (capacity + 4))
   indices_keep_ending =
-      framed_keep_ending kinds.TheVariants.Indices family (λ c. of_words (measure c)) laws (λ n capacity size. stretch n 1 (capacity + 4)) (λ c n size. refl)
+      framed_keep_ending kinds.Indices family (λ c. of_words (measure c)) laws (λ n capacity size. stretch n 1 (capacity + 4)) (λ c n size. refl)

@@ -4,7 +4,7 @@ use Rattle.laws_indices.proofs.Names.{nat_tests, set-get_or, Ask, borrowed, lock
 use Rattle.laws_indices.proofs.Names.{CountsRight, words_after, Scene, Inv}
 use Rattle.steps.specs.declared.ask.Op.TheVariants.{Load}
 use Rattle.steps.specs.Indices.Unique.{borrowed_number}
-use Rattle.model.specs.declared.families.indices.IndexStart as starts
+use Rattle.model.specs.declared.families.indices.IndexStart.TheVariants as starts
 use Rattle.model.specs.declared.families.indices.calls.IndexFlight.TheVariants.{BorrowedIndices, IsLocked}
 use Rattle.model.specs.Families.Indices.Reading.{is_locked, Tally, tally_of, in_use}
 use Rattle.laws_indices.proofs.Core.{head_of, Good}
@@ -63,8 +63,8 @@ module _ {T : Type 0} (scene : Scene T IndexSet) (inv : Inv outline scene) (stra
   counts_few : borrowed_number (head_of ws) ≤ c
   counts_few = grind arith
 
-  pub counts_step : IsHere scene borrowed_at → StepOf scene starts.TheVariants.BorrowedIndices borrowed_at
+  pub counts_step : IsHere scene borrowed_at → StepOf scene starts.BorrowedIndices borrowed_at
   counts_step x0 = grind (arith, ends, head_of, false, good_same, told, counts_so, counts_few, same)
 
-  pub looks_step : StepOf scene starts.TheVariants.IsLocked locked_at
+  pub looks_step : StepOf scene starts.IsLocked locked_at
   looks_step = grind (arith, ends, head_of, false, good_same, told, same)

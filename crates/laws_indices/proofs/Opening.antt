@@ -6,7 +6,7 @@ use Rattle.std.proofs.lemmas.List.FromFn.{length-range_with_len}
 use Rattle.std.specs.List.{range_with_len}
 use Rattle.laws_indices.proofs.Names.{flag_word, has_flag, locked}
 use Rattle.steps.proofs.Flags.Words.{none_stands}
-use Rattle.model.specs.declared.turn.Kind as kinds
+use Rattle.model.specs.declared.turn.Kind.TheVariants as kinds
 use Rattle.model.specs.Families.Indices.Opening.{opening_words, flag_words}
 use Rattle.model.specs.World.{capacity_error}
 use Rattle.laws_indices.proofs.Core.{size, holder, one_held, held_below, Good}
@@ -41,5 +41,5 @@ none_held c = sum_none (λ i. one_held (holder (replicate c None) i)) c (λ i be
 pub opening_good : (c : ℕ) → 1 ≤ c → c < locked → Good c (opening_words c) (replicate c None) 0
 opening_good x0 x1 x2 = grind (arith, none_held, opening_long, length-replicate, has_flag, opening_flag, none_stands, is_some, nobody_holds, inl)
 
-pub admitted_is : (c : ℕ) → capacity_error kinds.TheVariants.Indices c ≡ None → (1 ≤ c) × (c < locked)
+pub admitted_is : (c : ℕ) → capacity_error kinds.Indices c ≡ None → (1 ≤ c) × (c < locked)
 admitted_is x0 x1 = grind arith

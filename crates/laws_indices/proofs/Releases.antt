@@ -6,7 +6,7 @@ use Rattle.laws_indices.proofs.Names.{ReleaseStage, next_word, flag_word, flag, 
 use Rattle.laws_indices.proofs.Names.{Answer, State, IndexStart, IndexFlight, words_after, Scene, Inv}
 use Rattle.steps.specs.declared.ask.Op.TheVariants.{Load, Store, Sub, And, Exchange}
 use Rattle.steps.specs.declared.indices.enums.ReleaseState.TheVariants.{Locked, Unlocked}
-use Rattle.steps.specs.declared.indices.unique.ReleaseStage as releases
+use Rattle.steps.specs.declared.indices.unique.ReleaseStage.TheVariants as releases
 use Rattle.steps.specs.Indices.Unique.{head_given_back, head_locked, head_released}
 use Rattle.model.specs.declared.families.indices.IndexStart.TheVariants.{Release}
 use Rattle.model.specs.Families.Indices.Calls.{after, goes_back}
@@ -117,34 +117,34 @@ module _ {T : Type 0} (scene : Scene T IndexSet) (inv : Inv outline scene) (inde
     default_works = let mine = busy_here scene (default stage) here in omega arith
 
   module _ (straight : backs ≡ 0) where
-    default_clears : holder hs index ≡ Some p → steps ≤ 0 → StepOf scene started (default releases.TheVariants.ClearsFlag)
+    default_clears : holder hs index ≡ Some p → steps ≤ 0 → StepOf scene started (default releases.ClearsFlag)
     default_clears holds s =
-        frees_index scene inv index Default (default releases.TheVariants.ClearsFlag)
-        (default releases.TheVariants.LoadsHead) (Some clear) below holds
+        frees_index scene inv index Default (default releases.ClearsFlag)
+        (default releases.LoadsHead) (Some clear) below holds
         (λ busy' e. good_freed holds busy' (omega arith)) refl refl refl refl refl clear_head (omega arith)
         (omega arith) (refl, refl, below, tt) (omega arith)
 
-    default_loads : steps ≤ 1 → StepOf scene started (default releases.TheVariants.LoadsHead)
+    default_loads : steps ≤ 1 → StepOf scene started (default releases.LoadsHead)
     default_loads x0 = grind (arith, goes_on, head_of, false, good_same, loads_same)
 
-    default_stores : (head : ℕ) → steps ≤ 2 → StepOf scene started (default (releases.TheVariants.StoresNext head))
+    default_stores : (head : ℕ) → steps ≤ 2 → StepOf scene started (default (releases.StoresNext head))
     default_stores head s =
-        goes_on scene inv started (default (releases.TheVariants.StoresNext head))
-        (default (releases.TheVariants.ExchangesHead head)) (Some (store head)) false
+        goes_on scene inv started (default (releases.StoresNext head))
+        (default (releases.ExchangesHead head)) (Some (store head)) false
         (λ busy' e. good_stored head busy' (omega arith)) refl refl refl (ap says_locked (store_head head))
         (omega arith) (omega arith) (refl, refl, below, tt) (omega arith)
 
-    default_exchanges : (head : ℕ) → IsHere scene (default (releases.TheVariants.ExchangesHead head)) → steps ≤ 3
-        → StepOf scene started (default (releases.TheVariants.ExchangesHead head))
+    default_exchanges : (head : ℕ) → IsHere scene (default (releases.ExchangesHead head)) → steps ≤ 3
+        → StepOf scene started (default (releases.ExchangesHead head))
     default_exchanges head here s = go (head_of ws == head) refl
       where
         stage : IndexFlight
-        stage = default (releases.TheVariants.ExchangesHead head)
+        stage = default (releases.ExchangesHead head)
 
         works : 1 ≤ busy scene
-        works = default_works (releases.TheVariants.ExchangesHead head) here refl
+        works = default_works (releases.ExchangesHead head) here refl
 
-        go : (b : Bool) → (head_of ws == head) ≡ b → StepOf scene started (default (releases.TheVariants.ExchangesHead head))
+        go : (b : Bool) → (head_of ws == head) ≡ b → StepOf scene started (default (releases.ExchangesHead head))
         go true t =
             let is : head_of ws ≡ head = grind (arith, nat_tests) in
             let goes : after {T = T} stage (head_of ws) ≡ Done (State Unlocked) = rw t refl in
@@ -155,30 +155,30 @@ module _ {T : Type 0} (scene : Scene T IndexSet) (inv : Inv outline scene) (inde
             (λ busy' e. good_given (exchange false head) new busy' (omega arith)) told refl tt
             (given_open works (exchange false head) new) (omega arith) (omega arith) (omega arith))
         go false t =
-            let goes : after {T = T} stage (head_of ws) ≡ GoOn (default releases.TheVariants.Subtracts) = rw t refl in
+            let goes : after {T = T} stage (head_of ws) ≡ GoOn (default releases.Subtracts) = rw t refl in
             let same : words_after ws (Some (exchange false head)) ≡ ws = rw t (set-get_or ws 0 0) in
             subst (λ a. Comes scene started stage (Some (exchange false head)) false a) (sym goes)
-            (goes_on scene inv started stage (default releases.TheVariants.Subtracts) (Some (exchange false head))
+            (goes_on scene inv started stage (default releases.Subtracts) (Some (exchange false head))
             false (λ busy' e. good_same (exchange false head) busy' same (omega arith)) refl refl refl
             (ap (λ w. says_locked (head_of w)) same) (omega arith) (omega arith) (refl, refl, below, tt)
             (omega arith))
 
-    default_subtracts : IsHere scene (default releases.TheVariants.Subtracts) → steps ≤ 4 → StepOf scene started (default releases.TheVariants.Subtracts)
+    default_subtracts : IsHere scene (default releases.Subtracts) → steps ≤ 4 → StepOf scene started (default releases.Subtracts)
     default_subtracts here s =
-        let works = default_works releases.TheVariants.Subtracts here refl in
+        let works = default_works releases.Subtracts here refl in
         let x : ℕ = (head_of ws + (2 ^ 64 - 1)) % 2 ^ 64 in
-        ends scene inv started (default releases.TheVariants.Subtracts) (State Unlocked) (Some subtract) false
+        ends scene inv started (default releases.Subtracts) (State Unlocked) (Some subtract) false
         (λ busy' e. subtracts c ws hs busy' (one_less busy' (omega arith))) told refl tt
         (still_open works subtract x refl (less_number (head_of ws) (some_number works).0)) (omega arith)
         (omega arith) (omega arith)
 
     pub default_step : (stage : ReleaseStage) → IsHere scene (default stage) → ReleaseAt hs p index stage
         → steps ≤ release_number stage 0 → StepOf scene started (default stage)
-    default_step releases.TheVariants.ClearsFlag here at s = default_clears at s
-    default_step releases.TheVariants.LoadsHead here at s = default_loads s
-    default_step (releases.TheVariants.StoresNext head) here at s = default_stores head s
-    default_step (releases.TheVariants.ExchangesHead head) here at s = default_exchanges head here s
-    default_step releases.TheVariants.Subtracts here at s = default_subtracts here s
+    default_step releases.ClearsFlag here at s = default_clears at s
+    default_step releases.LoadsHead here at s = default_loads s
+    default_step (releases.StoresNext head) here at s = default_stores head s
+    default_step (releases.ExchangesHead head) here at s = default_exchanges head here s
+    default_step releases.Subtracts here at s = default_subtracts here s
 
   -- ---- in mode LockIfLastIndex
 
@@ -188,29 +188,29 @@ module _ {T : Type 0} (scene : Scene T IndexSet) (inv : Inv outline scene) (inde
   abbrev started_lock : IndexStart
   started_lock = Release index LockIfLastIndex
 
-  lock_clears : holder hs index ≡ Some p → IsPaid since changes backs → steps ≤ 0 → StepOf scene started_lock (locking releases.TheVariants.ClearsFlag)
+  lock_clears : holder hs index ≡ Some p → IsPaid since changes backs → steps ≤ 0 → StepOf scene started_lock (locking releases.ClearsFlag)
   lock_clears holds paid s =
-      frees_index scene inv index LockIfLastIndex (locking releases.TheVariants.ClearsFlag)
-      (locking releases.TheVariants.LoadsHead) (Some clear) below holds
+      frees_index scene inv index LockIfLastIndex (locking releases.ClearsFlag)
+      (locking releases.LoadsHead) (Some clear) below holds
       (λ busy' e. good_freed holds busy' (omega arith)) refl refl refl refl refl clear_head tt (omega arith)
       (refl, refl, below, tt) (omega arith)
 
-  lock_loads : IsPaid since changes backs → steps ≤ 1 → StepOf scene started_lock (locking releases.TheVariants.LoadsHead)
+  lock_loads : IsPaid since changes backs → steps ≤ 1 → StepOf scene started_lock (locking releases.LoadsHead)
   lock_loads x0 x1 = grind (arith, goes_on, head_of, false, good_same, loads_same, inl)
 
   lock_stores : (head : ℕ) → PaidUnless (head_of ws ≡ head) since changes backs → steps ≤ 2 + backs * 2
-      → StepOf scene started_lock (locking (releases.TheVariants.StoresNext head))
+      → StepOf scene started_lock (locking (releases.StoresNext head))
   lock_stores head knows s =
-      goes_on scene inv started_lock (locking (releases.TheVariants.StoresNext head))
-      (locking (releases.TheVariants.ExchangesHead head)) (Some (store head)) false
+      goes_on scene inv started_lock (locking (releases.StoresNext head))
+      (locking (releases.ExchangesHead head)) (Some (store head)) false
       (λ busy' e. good_stored head busy' (omega arith)) refl refl refl (ap says_locked (store_head head)) tt
       (omega arith) (refl, refl, below, tt)
       (unless_then scene (Some (store head)) (head_of ws ≡ head) (head_of (words_after ws (Some (store head))) ≡ head) (λ e. store_head head ∙ e) knows)
 
-  module _ (head : ℕ) (here : IsHere scene (locking (releases.TheVariants.ExchangesHead head)))
+  module _ (head : ℕ) (here : IsHere scene (locking (releases.ExchangesHead head)))
       (knows : PaidUnless (head_of ws ≡ head) since changes backs) (s : steps ≤ 3 + backs * 2) where
     abbrev exchanging : IndexFlight
-    exchanging = locking (releases.TheVariants.ExchangesHead head)
+    exchanging = locking (releases.ExchangesHead head)
 
     works : 1 ≤ busy scene
     works = let mine = busy_here scene exchanging here in omega arith
@@ -248,7 +248,7 @@ module _ {T : Type 0} (scene : Scene T IndexSet) (inv : Inv outline scene) (inde
 
     -- the head has moved
     goes_back_to : words_after ws (Some (exchange true head)) ≡ ws → head_of ws ≢ head
-        → Does true (GoOn (locking (releases.TheVariants.StoresNext (head_of ws))))
+        → Does true (GoOn (locking (releases.StoresNext (head_of ws))))
     goes_back_to x0 x1 = grind arith
 
     lock_exchanges : StepOf scene started_lock exchanging
@@ -275,17 +275,17 @@ module _ {T : Type 0} (scene : Scene T IndexSet) (inv : Inv outline scene) (inde
             (subst (λ b. Does b (Done (State Unlocked))) (sym back) (leaves_set new (λ e. more (ap borrowed (sym is) ∙ e))))
         go false t d u =
             let other : head_of ws ≢ head = grind (arith, nat_tests) in
-            let goes : after {T = T} exchanging (head_of ws) ≡ GoOn (locking (releases.TheVariants.StoresNext (head_of ws))) = rw t refl in
+            let goes : after {T = T} exchanging (head_of ws) ≡ GoOn (locking (releases.StoresNext (head_of ws))) = rw t refl in
             let back : goes_back exchanging (head_of ws) ≡ true = rw t refl in
             let same : words_after ws (Some (exchange true head)) ≡ ws = rw t (set-get_or ws 0 0) in
             subst (λ a. Does (goes_back exchanging (head_of ws)) a) (sym goes)
-            (subst (λ b. Does b (GoOn (locking (releases.TheVariants.StoresNext (head_of ws))))) (sym back) (goes_back_to same other))
+            (subst (λ b. Does b (GoOn (locking (releases.StoresNext (head_of ws))))) (sym back) (goes_back_to same other))
 
   pub lock_step : (stage : ReleaseStage) → IsHere scene (locking stage) → ReleaseAt hs p index stage
       → LockKnows ws since changes backs stage → steps ≤ release_number stage backs
       → StepOf scene started_lock (locking stage)
-  lock_step releases.TheVariants.ClearsFlag here at knows s = lock_clears at knows s
-  lock_step releases.TheVariants.LoadsHead here at knows s = lock_loads knows s
-  lock_step (releases.TheVariants.StoresNext head) here at knows s = lock_stores head knows s
-  lock_step (releases.TheVariants.ExchangesHead head) here at knows s = lock_exchanges head here knows s
-  lock_step releases.TheVariants.Subtracts here at knows s = absurd knows
+  lock_step releases.ClearsFlag here at knows s = lock_clears at knows s
+  lock_step releases.LoadsHead here at knows s = lock_loads knows s
+  lock_step (releases.StoresNext head) here at knows s = lock_stores head knows s
+  lock_step (releases.ExchangesHead head) here at knows s = lock_exchanges head here knows s
+  lock_step releases.Subtracts here at knows s = absurd knows

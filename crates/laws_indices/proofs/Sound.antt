@@ -3,9 +3,9 @@
 use Rattle.std.proofs.Common.{◌≡◌, ℕ, ◌<◌, ◌≤◌, false, Option, None, List, replicate, refl, sym, arith}
 use Rattle.std.specs.List.{AllByRecursion}
 use Rattle.laws_indices.proofs.Names.{locked, Answer, Start, Indices, Flight, Coding, Trace}
-use Rattle.model.specs.declared.families.Flight as flights
-use Rattle.model.specs.declared.families.Registry as registries
-use Rattle.model.specs.declared.turn.Kind as kinds
+use Rattle.model.specs.declared.families.Flight.TheVariants as flights
+use Rattle.model.specs.declared.families.Registry.TheVariants as registries
+use Rattle.model.specs.declared.turn.Kind.TheVariants as kinds
 use Rattle.model.specs.declared.turn.Turn.{Turn}
 use Rattle.model.specs.declared.turn.Turn.TheVariants.{Next}
 use Rattle.model.specs.Families.Indices.Opening.{opening_words}
@@ -40,8 +40,8 @@ module _ {T : Type 0} where
 
   writes : (c : ℕ) (t : Trace T) (p : ℕ) (words : List ℕ) (holders : List (Option ℕ)) (start : Start T) (flight : Flight T)
       → FlightAt c holders p start flight
-      → laws.Writes outline t (Next p) (step_from t p t.world.coding words (registries.TheVariants.Indices holders) start flight)
-  writes c t p words holders (Indices start) (flights.TheVariants.Indices flight) at = laws.only_effects outline t (Next p) _ (all_effects p _ _)
+      → laws.Writes outline t (Next p) (step_from t p t.world.coding words (registries.Indices holders) start flight)
+  writes c t p words holders (Indices start) (flights.Indices flight) at = laws.only_effects outline t (Next p) _ (all_effects p _ _)
   writes c t p words holders start flight at = absurd at
 
   opens : (code : Coding T) (c : ℕ) → 1 ≤ c → c < locked → Opens outline code c
@@ -105,7 +105,7 @@ module _ {T : Type 0} where
       }
 
   -- what is proved of every run of the unique index set
-  pub index_keeps : Keeps T kinds.TheVariants.Indices
+  pub index_keeps : Keeps T kinds.Indices
   index_keeps = laws.keeps outline May all_turns (λ code c coded admitted. owed code c)
 
   -- a step writes down in order, and its call goes on as its table says
@@ -113,10 +113,10 @@ module _ {T : Type 0} where
   orders_of code c = laws.orders outline code c (owed code c)
 
   -- what holds of every run where neither turns nor parties have a bound
-  pub reached_on_sound : (t : Trace T) → t.world.kind ≡ kinds.TheVariants.Indices → IsReachedOn t → frame.Sound (family t.world.coding t.world.capacity) t
+  pub reached_on_sound : (t : Trace T) → t.world.kind ≡ kinds.Indices → IsReachedOn t → frame.Sound (family t.world.coding t.world.capacity) t
   reached_on_sound = laws.reached_on_sound outline all_turns
 
-  pub kept_on : (t : Trace T) → t.world.kind ≡ kinds.TheVariants.Indices → IsReachedOn t → IsKept t
+  pub kept_on : (t : Trace T) → t.world.kind ≡ kinds.Indices → IsReachedOn t → IsKept t
   kept_on t is r =
       let s = reached_on_sound t is r in
       laws.kept_by outline May all_turns (λ code c coded admitted. owed code c) t is r.coded r.admitted s (set_kept t.world.coding t.world.capacity t s)

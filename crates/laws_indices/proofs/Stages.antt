@@ -9,10 +9,10 @@ use Rattle.laws_indices.proofs.Names.{Indices, Flight, IndexStart, IndexFlight, 
 use Rattle.laws_indices.proofs.Names.{flight_of, words_after, Scene, Inv}
 use Rattle.steps.specs.Ask.{written}
 use Rattle.steps.specs.declared.indices.enums.ReleaseMode.{ReleaseMode}
-use Rattle.steps.specs.declared.indices.enums.ReleaseState as states
+use Rattle.steps.specs.declared.indices.enums.ReleaseState.TheVariants as states
 use Rattle.model.specs.declared.event.Event.TheVariants.{Claimed, Locked}
-use Rattle.model.specs.declared.families.Flight as flights
-use Rattle.model.specs.declared.families.Registry as registries
+use Rattle.model.specs.declared.families.Flight.TheVariants as flights
+use Rattle.model.specs.declared.families.Registry.TheVariants as registries
 use Rattle.model.specs.declared.families.indices.IndexStart.TheVariants.{Acquire, Release}
 use Rattle.model.specs.Families.{ask_of}
 use Rattle.model.specs.Families.Indices.Bounds.{most_steps}
@@ -83,7 +83,7 @@ module _ {T : Type 0} where
 
   -- a call of the set as one of any family
   abbrev pub any_call : After IndexFlight (Answer T) → After (Flight T) (Answer T)
-  any_call after = as_call flights.TheVariants.Indices (λ answer. answer) after
+  any_call after = as_call flights.Indices (λ answer. answer) after
 
 module _ {T : Type 0} (scene : Scene T IndexSet) where
   open scene use {capacity as c, party as p, latest as latest, events as events}
@@ -102,7 +102,7 @@ module _ {T : Type 0} (scene : Scene T IndexSet) where
   -- the party has this call under way
   pub record IsHere (flight : IndexFlight) : Type 0 where
     pub seat : p < scene.state.seats
-    pub under : flight_of (doing_of (party_of p latest)) ≡ Some (flights.TheVariants.Indices flight)
+    pub under : flight_of (doing_of (party_of p latest)) ≡ Some (flights.Indices flight)
 
   module _ (flight : IndexFlight) (here : IsHere flight) where
     weighs : (weight : IndexFlight → ℕ) → weight_at (of_any weight) latest p ≡ weight flight
@@ -131,7 +131,7 @@ module _ {T : Type 0} (scene : Scene T IndexSet) where
   abbrev pub party_then : IndexStart → Option Ask → Bool → After IndexFlight (Answer T) → Party T
   party_then start ask back after =
       families.party_then outline scene (Indices start) ask
-      (record { after = any_call after; back = back; wrote = []; kept = registries.TheVariants.Indices holders })
+      (record { after = any_call after; back = back; wrote = []; kept = registries.Indices holders })
 
   -- how often words have changed then
   abbrev pub changes_then : Option Ask → ℕ
@@ -154,7 +154,7 @@ module _ {T : Type 0} (scene : Scene T IndexSet) where
   -- a step after which the call is this, which leaves these holders and writes these events
   abbrev pub Leaves : List (Option ℕ) → List (Event T) → IndexStart → IndexFlight → Option Ask → Bool → After IndexFlight (Answer T) → Type 0
   Leaves holders' es start flight ask back after =
-      families.ShowsFrom outline scene (Some (flights.TheVariants.Indices flight)) (set_then scene (words_after words ask) holders')
+      families.ShowsFrom outline scene (Some (flights.Indices flight)) (set_then scene (words_after words ask) holders')
       (Open (Indices start) (flight_wrote p flight)) (party_then start ask back after) es (changes_then ask)
 
   -- what the step does, before the end of its call
@@ -306,8 +306,8 @@ module _ {T : Type 0} (scene : Scene T IndexSet) where
         → counted_in (words_after words ask) ≡ locked
         → scene.steps + step_count ask ≤ most_steps c (Release index LockIfLastIndex) (backs_then false)
         → IsPaid scene.since scene.changes scene.backs
-        → Leaves holders (Locked p ∷ Finished p (Indices (Release index LockIfLastIndex)) (State states.TheVariants.Locked) ∷ [])
-        (Release index LockIfLastIndex) flight ask false (Done (State states.TheVariants.Locked))
+        → Leaves holders (Locked p ∷ Finished p (Indices (Release index LockIfLastIndex)) (State states.Locked) ∷ [])
+        (Release index LockIfLastIndex) flight ask false (Done (State states.Locked))
     locks_set index flight ask none unlocked good zero one wrote shut steps paid =
         record {
           preserves =
@@ -325,6 +325,6 @@ module _ {T : Type 0} (scene : Scene T IndexSet) where
               };
           own = (refl, (refl, tt));
           stands = rw wrote (refl, ((refl, refl), tt));
-          here = rw wrote (record { answer = State states.TheVariants.Locked; wrote = Freed p index ∷ Locked p ∷ []; span = refl; steps = steps });
+          here = rw wrote (record { answer = State states.Locked; wrote = Freed p index ∷ Locked p ∷ []; span = refl; steps = steps });
           knows = omega arith;
         }

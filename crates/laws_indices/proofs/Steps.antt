@@ -2,11 +2,11 @@
 use Rattle.std.proofs.Common.{◌≡◌, ℕ, ◌≤◌, Option, Some, None, List, refl, sym, subst, arith}
 use Rattle.laws_indices.proofs.Names.{LockIfLastIndex, Default, AcquireStage, ReleaseStage, Start, Indices, Flight}
 use Rattle.laws_indices.proofs.Names.{IndexStart, IndexFlight, Party, Coding, party_of, Trace, Scene, Inv}
-use Rattle.model.specs.declared.families.Flight as flights
-use Rattle.model.specs.declared.families.Registry as registries
-use Rattle.model.specs.declared.families.indices.IndexStart as starts
-use Rattle.model.specs.declared.families.indices.calls.IndexFlight as calls
-use Rattle.model.specs.declared.turn.Kind as kinds
+use Rattle.model.specs.declared.families.Flight.TheVariants as flights
+use Rattle.model.specs.declared.families.Registry.TheVariants as registries
+use Rattle.model.specs.declared.families.indices.IndexStart.TheVariants as starts
+use Rattle.model.specs.declared.families.indices.calls.IndexFlight.TheVariants as calls
+use Rattle.model.specs.declared.turn.Kind.TheVariants as kinds
 use Rattle.model.specs.Families.{begin_of, first_of}
 use Rattle.model.specs.Rows.{first_row}
 use Rattle.model.proofs.Family as families
@@ -30,36 +30,36 @@ module _ {T : Type 0} (scene : Scene T IndexSet) (inv : Inv outline scene) where
 
   -- the call has this capacity and this index
   acquire_moves : (n : ℕ) (stage : AcquireStage) → n ≡ c
-      → (IsHere scene (acquire_at c stage) → StepOf scene starts.TheVariants.Acquire (acquire_at c stage))
-      → IsHere scene (acquire_at n stage) → StepOf scene starts.TheVariants.Acquire (acquire_at n stage)
+      → (IsHere scene (acquire_at c stage) → StepOf scene starts.Acquire (acquire_at c stage))
+      → IsHere scene (acquire_at n stage) → StepOf scene starts.Acquire (acquire_at n stage)
   acquire_moves n stage e moves =
-      subst (λ m. IsHere scene (acquire_at m stage) → StepOf scene starts.TheVariants.Acquire (acquire_at m stage)) (sym e) moves
+      subst (λ m. IsHere scene (acquire_at m stage) → StepOf scene starts.Acquire (acquire_at m stage)) (sym e) moves
 
   default_moves : (n i index : ℕ) (stage : ReleaseStage) → n ≡ c → i ≡ index
-      → (IsHere scene (default_at c index stage) → StepOf scene (starts.TheVariants.Release index Default) (default_at c index stage))
+      → (IsHere scene (default_at c index stage) → StepOf scene (starts.Release index Default) (default_at c index stage))
       → IsHere scene (default_at n i stage)
-      → StepOf scene (starts.TheVariants.Release index Default) (default_at n i stage)
+      → StepOf scene (starts.Release index Default) (default_at n i stage)
   default_moves x0 x1 x2 x3 x4 x5 x6 = grind arith
 
   lock_moves : (n i index : ℕ) (stage : ReleaseStage) → n ≡ c → i ≡ index
-      → (IsHere scene (lock_at c index stage) → StepOf scene (starts.TheVariants.Release index LockIfLastIndex) (lock_at c index stage))
+      → (IsHere scene (lock_at c index stage) → StepOf scene (starts.Release index LockIfLastIndex) (lock_at c index stage))
       → IsHere scene (lock_at n i stage)
-      → StepOf scene (starts.TheVariants.Release index LockIfLastIndex) (lock_at n i stage)
+      → StepOf scene (starts.Release index LockIfLastIndex) (lock_at n i stage)
   lock_moves n i index stage e f moves =
-      subst (λ m. IsHere scene (lock_at m i stage) → StepOf scene (starts.TheVariants.Release index LockIfLastIndex) (lock_at m i stage)) (sym e)
-      (subst (λ j. IsHere scene (lock_at c j stage) → StepOf scene (starts.TheVariants.Release index LockIfLastIndex) (lock_at c j stage)) (sym f) moves)
+      subst (λ m. IsHere scene (lock_at m i stage) → StepOf scene (starts.Release index LockIfLastIndex) (lock_at m i stage)) (sym e)
+      (subst (λ j. IsHere scene (lock_at c j stage) → StepOf scene (starts.Release index LockIfLastIndex) (lock_at c j stage)) (sym f) moves)
 
   pub step_moves : (start : IndexStart) (flight : IndexFlight) → IsHere scene flight → At c hs p start flight
       → scene.steps ≤ number_of c flight scene.backs
       → FlightKnows c scene.state.words scene.since scene.changes scene.backs flight → StepOf scene start flight
-  step_moves starts.TheVariants.Acquire (calls.TheVariants.Acquire run) here at s k =
+  step_moves starts.Acquire (calls.Acquire run) here at s k =
       acquire_moves run.call.capacity run.call.stage at.0 (λ h. acquire_step scene inv run.call.stage h at.1 k s) here
-  step_moves (starts.TheVariants.Release index Default) (calls.TheVariants.ReleaseDefault run) here at s k =
+  step_moves (starts.Release index Default) (calls.ReleaseDefault run) here at s k =
       default_moves run.call.capacity run.given index run.call.stage at.0 at.1 (λ h. default_step scene inv index at.2 k run.call.stage h at.3 s) here
-  step_moves (starts.TheVariants.Release index LockIfLastIndex) (calls.TheVariants.ReleaseLock run) here at s k =
+  step_moves (starts.Release index LockIfLastIndex) (calls.ReleaseLock run) here at s k =
       lock_moves run.call.capacity run.given index run.call.stage at.0 at.1 (λ h. lock_step scene inv index at.2 run.call.stage h at.3 k s) here
-  step_moves starts.TheVariants.BorrowedIndices (calls.TheVariants.BorrowedIndices run) here at s k = counts_step scene inv k s here
-  step_moves starts.TheVariants.IsLocked (calls.TheVariants.IsLocked run) here at s k = looks_step scene inv k s
+  step_moves starts.BorrowedIndices (calls.BorrowedIndices run) here at s k = counts_step scene inv k s here
+  step_moves starts.IsLocked (calls.IsLocked run) here at s k = looks_step scene inv k s
   step_moves start flight here at s k = absurd at
 
 -- ---- what a step and a begin show
@@ -67,7 +67,7 @@ module _ {T : Type 0} (scene : Scene T IndexSet) (inv : Inv outline scene) where
 module _ {T : Type 0} (code : Coding T) (c : ℕ) (t : Trace T) (s : frame.Sound (family code c) t) (p : ℕ) where
   pub step_shows : (x : Party T) (since : ℕ) → party_of p t.world.latest ≡ Some x → (start : Start T) (flight : Flight T)
       → StandsThere (family code c) t s p x since start flight → families.StepOf outline (scene_of outline code c t s p x.steps x.backs since) start flight
-  step_shows x since found (Indices start) (flights.TheVariants.Indices flight) here =
+  step_shows x since found (Indices start) (flights.Indices flight) here =
       let moves =
       step_moves (scene_of outline code c t s p x.steps x.backs since) (inv_of outline code c t s p x.steps x.backs since) start flight
       (record { seat = s.holds.bounded p x found; under = here.found }) here.at here.steps here.knows in
@@ -75,8 +75,8 @@ module _ {T : Type 0} (code : Coding T) (c : ℕ) (t : Trace T) (s : frame.Sound
   step_shows x since found start flight here = absurd here.at
 
   pub begin_shows : (start : Start T) (flight : Flight T)
-      → first_of kinds.TheVariants.Indices c start (registries.TheVariants.Indices s.state.holders) ≡ Some flight
-      → first_row ((begin_of kinds.TheVariants.Indices c start).rows (registries.TheVariants.Indices s.state.holders) p) ≡ None
+      → first_of kinds.Indices c start (registries.Indices s.state.holders) ≡ Some flight
+      → first_row ((begin_of kinds.Indices c start).rows (registries.Indices s.state.holders) p) ≡ None
       → families.Begins outline (scene_of outline code c t s p 0 0 t.world.changes) start flight
   begin_shows start flight e rows =
       let light : of_any counts flight ≡ 0 = grind arith in

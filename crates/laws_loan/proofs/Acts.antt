@@ -10,12 +10,14 @@ use Rattle.laws_loan.proofs.Names.{release_effect, take_back_effect, give_back_e
 use Rattle.laws_loan.proofs.Names.{room_made, effects_of, waiting, ask_in, IsParty, IsEffectOf, IsAct, ActsRight}
 use Rattle.laws_loan.proofs.Names.{old_of, Trace, KnowsOverflowPush, KnowsBacks}
 use Rattle.std.proofs.Common.{arith}
-use Rattle.steps.specs.declared.queues.overflow.PopStage as overflow_pops
-use Rattle.steps.specs.declared.queues.overflow.PushStage as overflow_pushes
+use Rattle.steps.specs.declared.queues.overflow.PopStage.{PopStage}
+use Rattle.steps.specs.declared.queues.overflow.PopStage.TheVariants as overflow_pops
+use Rattle.steps.specs.declared.queues.overflow.PushStage.{PushStage}
+use Rattle.steps.specs.declared.queues.overflow.PushStage.TheVariants as overflow_pushes
 use Rattle.steps.specs.declared.queues.ring.PushStage as pushes
 use Rattle.steps.specs.Queues.Overflow.{push_asks}
 use Rattle.steps.specs.Queues.Ring.{word_at}
-use Rattle.model.specs.declared.event.Answer as answers
+use Rattle.model.specs.declared.event.Answer.TheVariants as answers
 use Rattle.model.specs.declared.families.loan.LoanStart.TheVariants as calls
 use Rattle.model.specs.declared.families.loan.effects.Effect.TheVariants as effects
 use Rattle.model.specs.Families.Loan.Steps.{acts, claimed}
@@ -52,10 +54,10 @@ module _ {T : Type 0} where
   acts_of p effects.Quiet = []
   acts_of p effects.Claims = []
   acts_of p (effects.Publishes index) = []
-  acts_of p (effects.PublishesAndActs index) = acts p (calls.Send index) answers.TheVariants.PoppedNone ∷ []
-  acts_of p (effects.TakesOut index oldest) = acts p (calls.Send index) (answers.TheVariants.PoppedIndex oldest) ∷ []
-  acts_of p effects.FindsNone = acts p calls.Receive answers.TheVariants.PoppedNone ∷ []
-  acts_of p (effects.Receives oldest push) = acts p calls.Receive (answers.TheVariants.PoppedIndex oldest) ∷ room_made push
+  acts_of p (effects.PublishesAndActs index) = acts p (calls.Send index) answers.PoppedNone ∷ []
+  acts_of p (effects.TakesOut index oldest) = acts p (calls.Send index) (answers.PoppedIndex oldest) ∷ []
+  acts_of p effects.FindsNone = acts p calls.Receive answers.PoppedNone ∷ []
+  acts_of p (effects.Receives oldest push) = acts p calls.Receive (answers.PoppedIndex oldest) ∷ room_made push
   acts_of p (effects.HandsOut oldest) = []
   acts_of p (effects.Returns index) = []
   acts_of p (effects.TakesBack index) = []
@@ -120,12 +122,12 @@ module _ {T : Type 0} (code : Coding T) (slots queue : ℕ) (t : Trace T)
 
   -- the next write position is stored
   writes_on : (write read index : ℕ) → write ≡ k.submission.write
-      → asked ≡ ask_of (shifted (submission_word slots) (push_asks queue (overflow_pushes.TheVariants.StoresWrite write read) index))
+      → asked ≡ ask_of (shifted (submission_word slots) (push_asks queue (overflow_pushes.StoresWrite write read) index))
       → AddsOne (submission_word t.world.capacity) t.world.words asked
   writes_on write read index same asks =
-      by_words submission_word (ask_of (shifted (submission_word slots) (push_asks queue (overflow_pushes.TheVariants.StoresWrite write read) index))) asks
+      by_words submission_word (ask_of (shifted (submission_word slots) (push_asks queue (overflow_pushes.StoresWrite write read) index))) asks
       (subst (λ n. AddsOne (submission_word slots) (words_in k)
-      (ask_of (shifted (submission_word slots) (push_asks queue (overflow_pushes.TheVariants.StoresWrite n read) index))))
+      (ask_of (shifted (submission_word slots) (push_asks queue (overflow_pushes.StoresWrite n read) index))))
       (sym same)
       (adds_write slots queue k busy s.holds.parts reached read index))
 
@@ -155,26 +157,26 @@ module _ {T : Type 0} (code : Coding T) (slots queue : ℕ) (t : Trace T)
 
   -- ---- a send
 
-  pub send_right : (index : ℕ) (stage : overflow_pushes.PushStage)
+  pub send_right : (index : ℕ) (stage : PushStage)
       → KnowsOverflowPush queue k.submission index stage → Acting (pushes_at slots queue stage index)
-  send_right index overflow_pushes.TheVariants.HandsBack known asks = tt
-  send_right index overflow_pushes.TheVariants.LoadsWrite known asks = tt
-  send_right index (overflow_pushes.TheVariants.LoadsRead write) known asks = tt
-  send_right index (overflow_pushes.TheVariants.StoresCell write read) known asks = tt
-  send_right index (overflow_pushes.TheVariants.StoresWrite write read) known asks =
+  send_right index overflow_pushes.HandsBack known asks = tt
+  send_right index overflow_pushes.LoadsWrite known asks = tt
+  send_right index (overflow_pushes.LoadsRead write) known asks = tt
+  send_right index (overflow_pushes.StoresCell write read) known asks = tt
+  send_right index (overflow_pushes.StoresWrite write read) known asks =
       go (distance write read == queue && (read_in (submission_word slots) (words_in k) == read))
     where
       go : (full : Bool) → Right (acts_of p (if full then effects.Publishes index else effects.PublishesAndActs index))
       go true = tt
       go false = (inl (refl, writes_on write read index known.1 asks), tt)
-  send_right index (overflow_pushes.TheVariants.MovesRead read) known asks = go (moved read == read) refl
+  send_right index (overflow_pushes.MovesRead read) known asks = go (moved read == read) refl
     where
       go : (b : Bool) → (moved read == read) ≡ b
           → Right
           (acts_of p (if b then effects.TakesOut index (sent_at (submission_word slots) queue (words_in k) read) else effects.Quiet))
       go true e = ((refl, moves_on read e asks), tt)
       go false e = tt
-  send_right index (overflow_pushes.TheVariants.LoadsCell read) known asks = tt
+  send_right index (overflow_pushes.LoadsCell read) known asks = tt
 
   -- ---- a receive
 
@@ -188,11 +190,11 @@ module _ {T : Type 0} (code : Coding T) (slots queue : ℕ) (t : Trace T)
       subst (λ es. waiting es ≡ []) s.holds.same
       (waiting_is k.events (items k.submission.waiting) s.holds.told.book ∙ ap items none)
 
-  pub receive_right : p ≢ 0 → (since changes backs : ℕ) (stage : overflow_pops.PopStage) (room : OneWord)
+  pub receive_right : p ≢ 0 → (since changes backs : ℕ) (stage : PopStage) (room : OneWord)
       → KnowsBacks k.submission since changes backs stage → Acting (receive_at slots queue p stage room)
-  receive_right other since changes backs overflow_pops.TheVariants.FindsNone room known asks = tt
-  receive_right other since changes backs overflow_pops.TheVariants.LoadsRead room known asks = tt
-  receive_right other since changes backs (overflow_pops.TheVariants.LoadsWrite read) room known asks = go (old == read) refl
+  receive_right other since changes backs overflow_pops.FindsNone room known asks = tt
+  receive_right other since changes backs overflow_pops.LoadsRead room known asks = tt
+  receive_right other since changes backs (overflow_pops.LoadsWrite read) room known asks = go (old == read) refl
     where
       old : ℕ
       old = old_of (words_in k) (ask_of (shifted (submission_word slots) (load 0)))
@@ -205,8 +207,8 @@ module _ {T : Type 0} (code : Coding T) (slots queue : ℕ) (t : Trace T)
 
       go : (b : Bool) → (old == read) ≡ b → Right (acts_of p (if b then effects.FindsNone else effects.Quiet))
       go x0 x1 = grind (arith, found, at_first, none_waits, nat_tests)
-  receive_right other since changes backs (overflow_pops.TheVariants.LoadsCell read) room known asks = tt
-  receive_right other since changes backs (overflow_pops.TheVariants.MovesRead read) room known asks = go (moved read == read) refl
+  receive_right other since changes backs (overflow_pops.LoadsCell read) room known asks = tt
+  receive_right other since changes backs (overflow_pops.MovesRead read) room known asks = go (moved read == read) refl
     where
       go : (b : Bool) → (moved read == read) ≡ b
           → Right

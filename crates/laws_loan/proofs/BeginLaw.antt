@@ -7,15 +7,15 @@ use Rattle.laws_loan.proofs.Names.{give_back_of, reclaim_of, has_died, call_rows
 use Rattle.laws_loan.proofs.Names.{lacks_role, lacks_index, reclaims_early, fresh, holds, span_of, first_row, IsShut}
 use Rattle.laws_loan.proofs.Names.{party_at_begin, Trace, MayBegin}
 use Rattle.std.proofs.Common.{arith}
-use Rattle.steps.specs.declared.loan.reclaim.ReclaimStage as reclaims
-use Rattle.steps.specs.declared.loan.send.SendStage as sends
-use Rattle.steps.specs.declared.queues.overflow.PopStage as overflow_pops
-use Rattle.steps.specs.declared.queues.overflow.PushStage as overflow_pushes
+use Rattle.steps.specs.declared.loan.reclaim.ReclaimStage.TheVariants as reclaims
+use Rattle.steps.specs.declared.loan.send.SendStage.TheVariants as sends
+use Rattle.steps.specs.declared.queues.overflow.PopStage.TheVariants as overflow_pops
+use Rattle.steps.specs.declared.queues.overflow.PushStage.TheVariants as overflow_pushes
 use Rattle.model.specs.declared.event.Start.TheVariants as starts
-use Rattle.model.specs.declared.families.Flight as flights
-use Rattle.model.specs.declared.families.Registry as registries
+use Rattle.model.specs.declared.families.Flight.TheVariants as flights
+use Rattle.model.specs.declared.families.Registry.TheVariants as registries
 use Rattle.model.specs.declared.families.loan.LoanStart.TheVariants as calls
-use Rattle.model.specs.declared.turn.Kind as kinds
+use Rattle.model.specs.declared.turn.Kind.TheVariants as kinds
 use Rattle.model.specs.declared.turn.Refusal.TheVariants.{BadIndex, NoRole, NotHeld, OwnerIsDead, OwnerLives}
 use Rattle.model.specs.Parties.{party_of}
 use Rattle.model.proofs.Frame as frame
@@ -37,21 +37,21 @@ module _ (slots queue : ℕ) (some : 1 ≤ queue) where
   loads_first = grind (arith, nat_tests)
 
   send_is : (index : ℕ) → send_of slots queue index ≡ Send (record {
-    call = record { slots = slots; queue = queue; stage = sends.TheVariants.Pushes overflow_pushes.TheVariants.LoadsWrite };
+    call = record { slots = slots; queue = queue; stage = sends.Pushes overflow_pushes.LoadsWrite };
     given = index;
     room = tt;
   })
   send_is index = rw loads_first refl
 
   receive_is : (p : ℕ) → receive_of slots queue p ≡ Receive p (record {
-    call = record { base = submission_word slots; call = record { capacity = queue; stage = overflow_pops.TheVariants.LoadsRead } };
+    call = record { base = submission_word slots; call = record { capacity = queue; stage = overflow_pops.LoadsRead } };
     given = tt;
     room = fresh;
   })
   receive_is p = rw loads_first refl
 
   reclaim_is : reclaim_of slots queue
-      ≡ Reclaim (record { slots = slots; queue = queue; stage = reclaims.TheVariants.Drains overflow_pops.TheVariants.LoadsRead })
+      ≡ Reclaim (record { slots = slots; queue = queue; stage = reclaims.Drains overflow_pops.LoadsRead })
   reclaim_is = rw loads_first refl
 
 module _ {T : Type 0} (code : Coding T) (slots queue : ℕ) (s : Channel T) (latest : List (ℕ × Party T))
@@ -125,11 +125,11 @@ module _ {T : Type 0} (code : Coding T) (slots queue : ℕ) (s : Channel T) (lat
 
 -- a call that begins on a loan channel is one of its own
 abbrev pub IsOwn : {T : Type 0} → ℕ → Book → Start T → Flight T → Type 0
-IsOwn slots book (starts.Loan start) (flights.TheVariants.Loan flight) = first slots book start ≡ flight
+IsOwn slots book (starts.Loan start) (flights.Loan flight) = first slots book start ≡ flight
 IsOwn slots book start flight = ⊥
 
 pub begins_own : {T : Type 0} (slots : ℕ) (book : Book) (start : Start T) (flight : Flight T)
-    → first_of kinds.TheVariants.Loan slots start (registries.TheVariants.Loan book) ≡ Some flight
+    → first_of kinds.Loan slots start (registries.Loan book) ≡ Some flight
     → IsOwn slots book start flight
 begins_own x0 x1 x2 x3 x4 = grind arith
 
@@ -141,7 +141,7 @@ module _ {T : Type 0} (code : Coding T) (slots queue : ℕ) where
       → MayBegin t.world p start → first_of t.world.kind t.world.capacity start t.world.kept ≡ Some flight
       → frame.Comes channel t p (kept_after_begin t.world.coding t.world.capacity start p t.world.kept)
       t.world.words (party_at_begin start flight t.world.changes) (Begun p start ∷ []) t.world.changes
-  begin_comes t p (starts.Loan start) (flights.TheVariants.Loan flight) sound may e =
+  begin_comes t p (starts.Loan start) (flights.Loan flight) sound may e =
       let w = t.world in
       let s = sound.state in
       let is = kept_is w.kept w.words s sound.fit in
@@ -149,23 +149,23 @@ module _ {T : Type 0} (code : Coding T) (slots queue : ℕ) where
       let h : HoldsNow slots queue s w.latest s.events w.turns = subst (λ es. HoldsNow slots queue s w.latest es w.turns) (sym same) sound.holds in
       let inv : frame.Inv channel s w.latest s.events w.changes = subst (λ es. frame.Inv channel s w.latest es w.changes) (sym same) sound.inv in
       let over : IsShut (span_of p s.events) = frame.shut channel s p (party_of p w.latest) (span_of p s.events) may.free (inv.calls p) in
-      let rows : first_row (kept_rows {T = T} w.capacity start (registries.TheVariants.Loan s.book) p) ≡ None =
+      let rows : first_row (kept_rows {T = T} w.capacity start (registries.Loan s.book) p) ≡ None =
       subst (λ kept. first_row (kept_rows {T = T} w.capacity start kept p) ≡ None) is.kept may.rows in
       let passed : first_row (call_rows slots s.book p start) ≡ None = subst (λ n. first_row (call_rows n s.book p start) ≡ None) sound.capacity rows in
-      let named : first_of {T = T} kinds.TheVariants.Loan w.capacity (starts.Loan start) (registries.TheVariants.Loan s.book)
-      ≡ Some (flights.TheVariants.Loan flight) =
-      subst (λ kept. first_of {T = T} kinds.TheVariants.Loan w.capacity (starts.Loan start) kept ≡ Some (flights.TheVariants.Loan flight)) is.kept
-      (subst (λ kind. first_of {T = T} kind w.capacity (starts.Loan start) w.kept ≡ Some (flights.TheVariants.Loan flight)) sound.kind e)
+      let named : first_of {T = T} kinds.Loan w.capacity (starts.Loan start) (registries.Loan s.book)
+      ≡ Some (flights.Loan flight) =
+      subst (λ kept. first_of {T = T} kinds.Loan w.capacity (starts.Loan start) kept ≡ Some (flights.Loan flight)) is.kept
+      (subst (λ kind. first_of {T = T} kind w.capacity (starts.Loan start) w.kept ≡ Some (flights.Loan flight)) sound.kind e)
       in
       let own : first slots s.book start ≡ flight =
       subst (λ n. first n s.book start ≡ flight) sound.capacity
-      (begins_own w.capacity s.book (starts.Loan start) (flights.TheVariants.Loan flight) named) in
+      (begins_own w.capacity s.book (starts.Loan start) (flights.Loan flight) named) in
       let known =
       subst (λ f. IsFirst code slots queue s w.latest w.turns w.changes p start f) own
       (first_is code slots queue s w.latest w.turns w.changes h p over start passed) in
       let then_state = after code slots queue s w.latest w.turns w.changes p start flight in
       subst (λ kept. frame.Comes channel t p (kept_after_begin w.coding w.capacity (starts.Loan start) p kept) w.words
-      (party_at_begin (starts.Loan start) (flights.TheVariants.Loan flight) w.changes)
+      (party_at_begin (starts.Loan start) (flights.Loan flight) w.changes)
       (Begun p (starts.Loan start) ∷ []) w.changes)
       (sym is.kept)
       (record {
@@ -182,8 +182,8 @@ module _ {T : Type 0} (code : Coding T) (slots queue : ℕ) where
       let w = t.world in
       let s = sound.state in
       let is = kept_is w.kept w.words s sound.fit in
-      let named : first_of kinds.TheVariants.Loan w.capacity start (registries.TheVariants.Loan s.book) ≡ Some flight =
-      subst (λ kept. first_of kinds.TheVariants.Loan w.capacity start kept ≡ Some flight) is.kept
+      let named : first_of kinds.Loan w.capacity start (registries.Loan s.book) ≡ Some flight =
+      subst (λ kept. first_of kinds.Loan w.capacity start kept ≡ Some flight) is.kept
       (subst (λ kind. first_of kind w.capacity start w.kept ≡ Some flight) sound.kind e)
       in
       absurd (begins_own w.capacity s.book start flight named)

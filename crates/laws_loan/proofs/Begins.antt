@@ -7,7 +7,7 @@ use Rattle.laws_loan.proofs.Names.{reclaims_after, put, doing_of, flight_of, Spa
 use Rattle.laws_loan.proofs.Names.{party_at_begin, party_put_same, party_put_other, span_of-own, span_of-other}
 use Rattle.std.proofs.Common.{arith}
 use Rattle.model.specs.declared.event.Start.TheVariants as starts
-use Rattle.model.specs.declared.families.Flight as flights
+use Rattle.model.specs.declared.families.Flight.TheVariants as flights
 use Rattle.model.specs.Parties.{party_of}
 use Rattle.model.proofs.Frame as frame
 use Rattle.laws_loan.proofs.Channel.{Channel, Holds}
@@ -41,7 +41,7 @@ module _ {T : Type 0} (code : Coding T) (slots queue : ℕ) (s : Channel T) (lat
   after = record s { book = book_then; events = events_then }
 
   abbrev pub began : Party T
-  began = party_at_begin (starts.Loan start) (flights.TheVariants.Loan flight) changes
+  began = party_at_begin (starts.Loan start) (flights.Loan flight) changes
 
   -- what a begin shows of its call: its party may begin it, and what it moves nobody has in passing
   pub record IsFirst : Type 0 where
@@ -51,7 +51,7 @@ module _ {T : Type 0} (code : Coding T) (slots queue : ℕ) (s : Channel T) (lat
     pub receiver_stays : book_then.receiver ≡ s.book.receiver
     pub dead_stay : book_then.dead ≡ s.book.dead
     pub light : counts flight ≡ 0
-    pub calm : hung {T = T} s.submission.read (Some (flights.TheVariants.Loan flight)) ≡ None
+    pub calm : hung {T = T} s.submission.read (Some (flights.Loan flight)) ≡ None
     pub moves : MovesRight slots s.events begun
     pub begins : BeginsRight s.events begun
     pub reclaiming : reclaims_after (is_reclaiming s.events) begun ≡ reclaims_in (span_of 0 events_then)
@@ -73,7 +73,7 @@ module _ {T : Type 0} (code : Coding T) (slots queue : ℕ) (s : Channel T) (lat
     theirs_stays q ne = span_of-other p q s.events (begun ∷ []) ne (refl, tt)
 
     -- what is read of the sender's call is as it was: none was under way, or it is another party's
-    weighs_same : {A : Type 0} (f : Option (Flight T) → A) → f (Some (flights.TheVariants.Loan flight)) ≡ f None
+    weighs_same : {A : Type 0} (f : Option (Flight T) → A) → f (Some (flights.Loan flight)) ≡ f None
         → f (sends_at (put p began latest)) ≡ f (sends_at latest)
     weighs_same {A} f e = ⊎_elim mine other (cases_eq p 0)
       where

@@ -6,7 +6,7 @@ use Rattle.laws_loan.proofs.Names.{Book, opening_words, opening_book, opening_ke
 use Rattle.laws_loan.proofs.Names.{words_of_index, Core, layout}
 use Rattle.std.proofs.Common.{arith}
 use Rattle.steps.specs.declared.loan.places.Place.TheVariants as places
-use Rattle.model.specs.declared.families.Registry as registries
+use Rattle.model.specs.declared.families.Registry.TheVariants as registries
 use Rattle.model.specs.declared.families.queues.Roles.{Roles}
 use Rattle.model.specs.Families.Indices.Opening as index_opening
 use Rattle.model.proofs.Family as families
@@ -33,13 +33,13 @@ abbrev pub words_in : {T : Type 0} → Channel T → List ℕ
 words_in s = s.set ++ (layout no_roles s.submission ++ layout no_roles s.completion)
 
 abbrev pub Represents : {T : Type 0} → Registry T → List ℕ → Channel T → Type 0
-Represents (registries.TheVariants.Loan book) words s = (book ≡ s.book) × (words ≡ words_in s)
+Represents (registries.Loan book) words s = (book ≡ s.book) × (words ≡ words_in s)
 Represents kept words s = ⊥
 
 pub kept_is : {T : Type 0} (kept : Registry T) (words : List ℕ) (s : Channel T) → Represents kept words s
-    → families.Represents kept words (registries.TheVariants.Loan s.book) (words_in s)
-kept_is (registries.TheVariants.Loan book) words s fit =
-    record { kept = ap (λ (b : Book). registries.TheVariants.Loan b) fit.0; words = fit.1 }
+    → families.Represents kept words (registries.Loan s.book) (words_in s)
+kept_is (registries.Loan book) words s fit =
+    record { kept = ap (λ (b : Book). registries.Loan b) fit.0; words = fit.1 }
 kept_is kept words s fit = absurd fit
 
 -- ---- what holds between two turns

@@ -4,7 +4,8 @@ use Rattle.laws_loan.proofs.Names.{[], ◌∷◌, length, get_or, refl, ap, ◌�
 use Rattle.laws_loan.proofs.Names.{GoOn, Push, after_position, words_of_index, words_after, change_of, Core}
 use Rattle.laws_loan.proofs.Names.{Holds, filled, taken, fills, one_filled, front, set_at, layout}
 use Rattle.std.proofs.Common.{arith}
-use Rattle.steps.specs.declared.queues.ring.PushStage as pushes
+use Rattle.steps.specs.declared.queues.ring.PushStage.{PushStage}
+use Rattle.steps.specs.declared.queues.ring.PushStage.TheVariants as pushes
 use Rattle.steps.specs.Queues.Ring.{cell_word, push_takes, word_at}
 use Rattle.laws_queues.proofs.Queues.Core.{Good, published, publishes, takes}
 use Rattle.laws_loan.proofs.Channel.{no_roles}
@@ -39,17 +40,17 @@ module _ (slots : ℕ) (some : 1 ≤ slots) (few : slots < 2 ^ 24) (k : Core ℕ
 
   -- ---- a push
 
-  abbrev pub push_at : pushes.PushStage → Push ℕ
+  abbrev pub push_at : PushStage → Push ℕ
   push_at stage = record { capacity = slots; stage = stage; of = record {} }
 
-  pub loads_write : push_takes 1 (push_at pushes.TheVariants.LoadsWrite) pushes.TheVariants.LoadsWrite k.write
-      ≡ GoOn (push_at (pushes.TheVariants.LoadsRead k.write))
+  pub loads_write : push_takes 1 (push_at pushes.LoadsWrite) pushes.LoadsWrite k.write
+      ≡ GoOn (push_at (pushes.LoadsRead k.write))
   loads_write = let t : (k.write == 2 ^ 64 - 1) ≡ false = grind (arith, nat_tests) in rw t refl
 
   -- it finds room
   pub loads_read : length k.waiting < slots
-      → push_takes 1 (push_at (pushes.TheVariants.LoadsRead k.write)) (pushes.TheVariants.LoadsRead k.write) k.read
-      ≡ GoOn (push_at (pushes.TheVariants.StoresCell k.write (cell_word slots 1 k.write) 0))
+      → push_takes 1 (push_at (pushes.LoadsRead k.write)) (pushes.LoadsRead k.write) k.read
+      ≡ GoOn (push_at (pushes.StoresCell k.write (cell_word slots 1 k.write) 0))
   loads_read x0 = grind arith
 
   module _ (v : ℕ) (room : length k.waiting < slots) where

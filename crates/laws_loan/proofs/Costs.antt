@@ -13,13 +13,16 @@ use Rattle.steps.specs.Queues.Overflow as overflow
 use Rattle.steps.specs.Queues.Ring.{pop_asks, distance, word_at}
 use Rattle.steps.specs.declared.ask.After.TheVariants.{Done}
 use Rattle.steps.specs.declared.ask.Op.TheVariants.{Load}
-use Rattle.steps.specs.declared.indices.unique.AcquireStage as acquires
-use Rattle.steps.specs.declared.indices.unique.ReleaseStage as releases
-use Rattle.steps.specs.declared.loan.send.SendStage as sends
-use Rattle.steps.specs.declared.loan.take_back.TakeBackStage as take_backs
-use Rattle.steps.specs.declared.queues.overflow.PushStage as overflow_pushes
-use Rattle.steps.specs.declared.queues.ring.PopStage as pops
-use Rattle.model.specs.declared.families.Flight as flights
+use Rattle.steps.specs.declared.indices.unique.AcquireStage.TheVariants as acquires
+use Rattle.steps.specs.declared.indices.unique.ReleaseStage.TheVariants as releases
+use Rattle.steps.specs.declared.loan.send.SendStage.{SendStage}
+use Rattle.steps.specs.declared.loan.send.SendStage.TheVariants as sends
+use Rattle.steps.specs.declared.loan.take_back.TakeBackStage.TheVariants as take_backs
+use Rattle.steps.specs.declared.queues.overflow.PushStage.{PushStage}
+use Rattle.steps.specs.declared.queues.overflow.PushStage.TheVariants as overflow_pushes
+use Rattle.steps.specs.declared.queues.ring.PopStage.{PopStage}
+use Rattle.steps.specs.declared.queues.ring.PopStage.TheVariants as pops
+use Rattle.model.specs.declared.families.Flight.TheVariants as flights
 use Rattle.model.proofs.LockFree.Falls.{load_leaves}
 use Rattle.laws_loan.proofs.Channel.{Channel}
 use Rattle.laws_loan.proofs.Knows.{GivesAt, SendAt, TakeBackAt}
@@ -46,35 +49,35 @@ module _ (slots queue : ℕ) (some : 1 ≤ slots) (few : slots < locked) (fits :
   low_flag index below e = let within = flag_within slots index below in absurd (omega arith)
 
   pub acquire_keeps : (ws : List ℕ) (stage : AcquireStage) → TakesAt slots ws stage → Stays (ask_of (acquire_asks slots stage))
-  acquire_keeps ws acquires.TheVariants.LoadsHead at = loads 0
-  acquire_keeps ws (acquires.TheVariants.LoadsNext head) at = loads _
-  acquire_keeps ws (acquires.TheVariants.ExchangesHead head next) at = other_word 0 _ (λ e. absurd (omega arith))
-  acquire_keeps ws (acquires.TheVariants.Claims i) at = other_word (flag_word slots i) _ (low_flag i at)
-  acquire_keeps ws (acquires.TheVariants.Scans i) at = other_word (flag_word slots i) _ (low_flag i at.0)
+  acquire_keeps ws acquires.LoadsHead at = loads 0
+  acquire_keeps ws (acquires.LoadsNext head) at = loads _
+  acquire_keeps ws (acquires.ExchangesHead head next) at = other_word 0 _ (λ e. absurd (omega arith))
+  acquire_keeps ws (acquires.Claims i) at = other_word (flag_word slots i) _ (low_flag i at)
+  acquire_keeps ws (acquires.Scans i) at = other_word (flag_word slots i) _ (low_flag i at.0)
 
   pub release_keeps : (index : ℕ) → index < slots → (stage : ReleaseStage) → Stays (ask_of (back_asks slots index stage))
-  release_keeps index below releases.TheVariants.ClearsFlag = other_word (flag_word slots index) _ (low_flag index below)
-  release_keeps index below releases.TheVariants.LoadsHead = loads 0
-  release_keeps index below (releases.TheVariants.StoresNext head) = other_word (next_word index) _ (λ e. absurd (omega arith))
-  release_keeps index below (releases.TheVariants.ExchangesHead head) = other_word 0 _ (λ e. absurd (omega arith))
-  release_keeps index below releases.TheVariants.Subtracts = other_word 0 _ (λ e. absurd (omega arith))
+  release_keeps index below releases.ClearsFlag = other_word (flag_word slots index) _ (low_flag index below)
+  release_keeps index below releases.LoadsHead = loads 0
+  release_keeps index below (releases.StoresNext head) = other_word (next_word index) _ (λ e. absurd (omega arith))
+  release_keeps index below (releases.ExchangesHead head) = other_word 0 _ (λ e. absurd (omega arith))
+  release_keeps index below releases.Subtracts = other_word 0 _ (λ e. absurd (omega arith))
 
-  pub pop_keeps_read : (stage : pops.PopStage) → Stays (ask_of (shifted (completion_word slots queue) (pop_asks stage)))
-  pop_keeps_read pops.TheVariants.LoadsRead = loads _
-  pop_keeps_read (pops.TheVariants.LoadsWrite read) = loads _
-  pop_keeps_read (pops.TheVariants.LoadsCell read cell at) = loads _
-  pop_keeps_read (pops.TheVariants.StoresRead read) = other_word _ _ (λ e. absurd (omega arith))
+  pub pop_keeps_read : (stage : PopStage) → Stays (ask_of (shifted (completion_word slots queue) (pop_asks stage)))
+  pop_keeps_read pops.LoadsRead = loads _
+  pop_keeps_read (pops.LoadsWrite read) = loads _
+  pop_keeps_read (pops.LoadsCell read cell at) = loads _
+  pop_keeps_read (pops.StoresRead read) = other_word _ _ (λ e. absurd (omega arith))
 
   cell_is_other : (write : ℕ) → word_at (submission_word slots) (overflow.cell_word queue write) ≢ read_word slots
   cell_is_other write e = absurd (omega arith)
 
 -- a release is of an index of the set
 pub gives_below : {T : Type 0} (slots queue : ℕ) (s : Channel T) (index : ℕ) (stage : ReleaseStage) → GivesAt slots queue s index stage → index < slots
-gives_below slots queue s index releases.TheVariants.ClearsFlag at = at.0
-gives_below slots queue s index releases.TheVariants.LoadsHead at = at
-gives_below slots queue s index (releases.TheVariants.StoresNext head) at = at
-gives_below slots queue s index (releases.TheVariants.ExchangesHead head) at = at
-gives_below slots queue s index releases.TheVariants.Subtracts at = at
+gives_below slots queue s index releases.ClearsFlag at = at.0
+gives_below slots queue s index releases.LoadsHead at = at
+gives_below slots queue s index (releases.StoresNext head) at = at
+gives_below slots queue s index (releases.ExchangesHead head) at = at
+gives_below slots queue s index releases.Subtracts at = at
 
 -- ---- a step of the sender
 
@@ -88,63 +91,63 @@ module _ (T : Type 0) (slots queue : ℕ) (some : 1 ≤ slots) (few : slots < lo
   AllCosts was ask (Done answer) = Unit {0}
 
   abbrev pub goes : List Place → LoanFlight → After (Flight T) (Answer T)
-  goes places flight = as_call flights.TheVariants.Loan (λ answer. answer) (after places flight (old_of words (ask_of (want flight))))
+  goes places flight = as_call flights.Loan (λ answer. answer) (after places flight (old_of words (ask_of (want flight))))
 
   abbrev pub CallCosts : List Place → LoanFlight → Type 0
-  CallCosts places flight = AllCosts (flights.TheVariants.Loan flight) (ask_of (want flight)) (goes places flight)
+  CallCosts places flight = AllCosts (flights.Loan flight) (ask_of (want flight)) (goes places flight)
 
-  push_costs : (places : List Place) (index : ℕ) (stage : overflow_pushes.PushStage)
-      → CallCosts places (send_at slots queue index (sends.TheVariants.Pushes stage))
-  push_costs places index overflow_pushes.TheVariants.HandsBack = inr (omega arith)
-  push_costs places index overflow_pushes.TheVariants.LoadsWrite = go (old_of words (ask_of (send_asks slots queue stage index)) == 2 ^ 64 - 1) refl
+  push_costs : (places : List Place) (index : ℕ) (stage : PushStage)
+      → CallCosts places (send_at slots queue index (sends.Pushes stage))
+  push_costs places index overflow_pushes.HandsBack = inr (omega arith)
+  push_costs places index overflow_pushes.LoadsWrite = go (old_of words (ask_of (send_asks slots queue stage index)) == 2 ^ 64 - 1) refl
     where
-      stage : sends.SendStage
-      stage = sends.TheVariants.Pushes overflow_pushes.TheVariants.LoadsWrite
+      stage : SendStage
+      stage = sends.Pushes overflow_pushes.LoadsWrite
 
       go : (t : Bool) → (old_of words (ask_of (send_asks slots queue stage index)) == 2 ^ 64 - 1) ≡ t → CallCosts places (send_at slots queue index stage)
       go true t = rw t (inr (omega arith))
       go false t = rw t (inl (loads slots queue some few fits words _, omega arith))
-  push_costs places index (overflow_pushes.TheVariants.LoadsRead write) = inl (loads slots queue some few fits words _, omega arith)
-  push_costs places index (overflow_pushes.TheVariants.StoresCell write read) =
+  push_costs places index (overflow_pushes.LoadsRead write) = inl (loads slots queue some few fits words _, omega arith)
+  push_costs places index (overflow_pushes.StoresCell write read) =
       inl (other_word slots queue some few fits words _ _ (cell_is_other slots queue some few fits words write), omega arith)
-  push_costs places index (overflow_pushes.TheVariants.StoresWrite write read) = go (distance write read == queue) refl
+  push_costs places index (overflow_pushes.StoresWrite write read) = go (distance write read == queue) refl
     where
-      stage : sends.SendStage
-      stage = sends.TheVariants.Pushes (overflow_pushes.TheVariants.StoresWrite write read)
+      stage : SendStage
+      stage = sends.Pushes (overflow_pushes.StoresWrite write read)
 
       go : (t : Bool) → (distance write read == queue) ≡ t → CallCosts places (send_at slots queue index stage)
       go true t = rw t (inl (other_word slots queue some few fits words _ _ (λ e. absurd (omega arith)), omega arith))
       go false t = rw t tt
-  push_costs places index (overflow_pushes.TheVariants.MovesRead read) = go (old_of words (ask_of (send_asks slots queue stage index)) == read) refl
+  push_costs places index (overflow_pushes.MovesRead read) = go (old_of words (ask_of (send_asks slots queue stage index)) == read) refl
     where
-      stage : sends.SendStage
-      stage = sends.TheVariants.Pushes (overflow_pushes.TheVariants.MovesRead read)
+      stage : SendStage
+      stage = sends.Pushes (overflow_pushes.MovesRead read)
 
       go : (t : Bool) → (old_of words (ask_of (send_asks slots queue stage index)) == read) ≡ t → CallCosts places (send_at slots queue index stage)
       go true t = rw t (inr (omega arith))
       go false t = rw t tt
-  push_costs places index (overflow_pushes.TheVariants.LoadsCell read) = inl (loads slots queue some few fits words _, omega arith)
+  push_costs places index (overflow_pushes.LoadsCell read) = inl (loads slots queue some few fits words _, omega arith)
 
-  pub send_costs_so : (places : List Place) (s : Channel T) (index given : ℕ) (stage : sends.SendStage) → SendAt slots queue s index stage
+  pub send_costs_so : (places : List Place) (s : Channel T) (index given : ℕ) (stage : SendStage) → SendAt slots queue s index stage
       → CallCosts places (send_at slots queue given stage)
-  send_costs_so places s index given (sends.TheVariants.Pushes stage) at = push_costs places given stage
-  send_costs_so places s index given (sends.TheVariants.Releases oldest stage) at =
+  send_costs_so places s index given (sends.Pushes stage) at = push_costs places given stage
+  send_costs_so places s index given (sends.Releases oldest stage) at =
       go (back_takes slots stage (old_of words (ask_of (back_asks slots oldest stage)))) refl
     where
       go : (a : After (Release DefaultMode) ReleaseState) → back_takes slots stage (old_of words (ask_of (back_asks slots oldest stage))) ≡ a
-          → CallCosts places (send_at slots queue given (sends.TheVariants.Releases oldest stage))
+          → CallCosts places (send_at slots queue given (sends.Releases oldest stage))
       go (GoOn release) e =
           rw e (inl (release_keeps slots queue some few fits words oldest (gives_below slots queue s oldest stage at) stage, omega arith))
       go (Done state) e = rw e tt
 
   -- any other call of the sender's that leaves the read position
   pub any_costs : (was : LoanFlight) (a : After LoanFlight (Answer T)) → Keeps slots words (ask_of (want was))
-      → allowance {T = T} slots (flights.TheVariants.Loan was) ≡ most_sending slots
-      → AllCosts (flights.TheVariants.Loan was) (ask_of (want was)) (as_call flights.TheVariants.Loan (λ answer. answer) a)
-  any_costs was (GoOn next) keeps is = let most = allowance_most {T = T} slots (flights.TheVariants.Loan next) in inl (keeps, omega arith)
+      → allowance {T = T} slots (flights.Loan was) ≡ most_sending slots
+      → AllCosts (flights.Loan was) (ask_of (want was)) (as_call flights.Loan (λ answer. answer) a)
+  any_costs was (GoOn next) keeps is = let most = allowance_most {T = T} slots (flights.Loan next) in inl (keeps, omega arith)
   any_costs was (Done answer) keeps is = tt
 
   pub take_back_keeps : (s : Channel T) (stage : TakeBackStage) → TakeBackAt slots queue s stage → Keeps slots words (ask_of (take_back_asks slots queue stage))
-  take_back_keeps s (take_backs.TheVariants.Pops stage found) at = pop_keeps_read slots queue some few fits words stage
-  take_back_keeps s (take_backs.TheVariants.Releases index stage) at =
+  take_back_keeps s (take_backs.Pops stage found) at = pop_keeps_read slots queue some few fits words stage
+  take_back_keeps s (take_backs.Releases index stage) at =
       release_keeps slots queue some few fits words index (gives_below slots queue s index stage at) stage

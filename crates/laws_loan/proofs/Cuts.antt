@@ -6,11 +6,11 @@ use Rattle.laws_loan.proofs.Names.{set-append_right, shifted, Ask, Want, ask_of,
 use Rattle.std.proofs.Common.{arith}
 use Rattle.steps.specs.Ask.{written}
 use Rattle.steps.specs.Queues.Ring.{word_at}
-use Rattle.steps.specs.declared.ask.Want as wants
+use Rattle.steps.specs.declared.ask.Want.TheVariants as wants
 
 -- an operation on one of these words
 abbrev pub IsOn : List ℕ → Want (Unit {0}) → Type 0
-IsOn ws (wants.TheVariants.Ask ask) = ask.word < length ws
+IsOn ws (wants.Ask ask) = ask.word < length ws
 IsOn ws want = Unit {0}
 
 -- ---- a part behind others
@@ -41,33 +41,33 @@ module _ (xs ws zs : List ℕ) (few : length xs + length ws < 2 ^ 64) where
   shifted_words x0 x1 = grind (arith, set, word_at, length, written, read, stored)
 
   ask_change : (ask : Ask) → ask.word < length ws
-      → change_of (xs ++ (ws ++ zs)) (ask_of (shifted (length xs) (wants.TheVariants.Ask ask))) ≡ change_of ws (ask_of (wants.TheVariants.Ask ask))
+      → change_of (xs ++ (ws ++ zs)) (ask_of (shifted (length xs) (wants.Ask ask))) ≡ change_of ws (ask_of (wants.Ask ask))
   ask_change ask below =
       let new = written ask.op (get_or ws ask.word 0) in
       let long : length (set ws ask.word new) ≡ length ws = length-set ws ask.word new in
       let within : ask.word < length (set ws ask.word new) = omega arith in
       let room : length xs + length (set ws ask.word new) < 2 ^ 64 = omega arith in
       let word = word_at (length xs) ask.word in
-      let after : get_or (words_after (xs ++ (ws ++ zs)) (ask_of (shifted (length xs) (wants.TheVariants.Ask ask)))) word 0
+      let after : get_or (words_after (xs ++ (ws ++ zs)) (ask_of (shifted (length xs) (wants.Ask ask)))) word 0
       ≡ get_or (set ws ask.word new) ask.word 0 =
-      ap (λ l. get_or l word 0) (shifted_words (wants.TheVariants.Ask ask) below) ∙ read xs (set ws ask.word new) zs ask.word room within
+      ap (λ l. get_or l word 0) (shifted_words (wants.Ask ask) below) ∙ read xs (set ws ask.word new) zs ask.word room within
       in
       ap (λ n. if n == get_or (xs ++ (ws ++ zs)) word 0 then 0 else 1) after
       ∙ ap (λ n. if get_or (set ws ask.word new) ask.word 0 == n then 0 else 1) (read xs ws zs ask.word few below)
 
   pub shifted_change : (want : Want (Unit {0})) → IsOn ws want → change_of (xs ++ (ws ++ zs)) (ask_of (shifted (length xs) want)) ≡ change_of ws (ask_of want)
-  shifted_change (wants.TheVariants.Ask ask) below = ask_change ask below
+  shifted_change (wants.Ask ask) below = ask_change ask below
   shifted_change want on = refl
 
 -- ---- the first part
 
 module _ (ws zs : List ℕ) where
   pub first_old : (want : Want (Unit {0})) → IsOn ws want → old_of (ws ++ zs) (ask_of want) ≡ old_of ws (ask_of want)
-  first_old (wants.TheVariants.Ask ask) below = get_or_append_left ws zs 0 ask.word below
+  first_old (wants.Ask ask) below = get_or_append_left ws zs 0 ask.word below
   first_old want on = refl
 
   pub first_words : (want : Want (Unit {0})) → IsOn ws want → words_after (ws ++ zs) (ask_of want) ≡ words_after ws (ask_of want) ++ zs
-  first_words (wants.TheVariants.Ask ask) below =
+  first_words (wants.Ask ask) below =
       ap (λ old. set (ws ++ zs) ask.word (written ask.op old)) (get_or_append_left ws zs 0 ask.word below)
       ∙ set-append_left ws zs ask.word (written ask.op (get_or ws ask.word 0)) below
   first_words want on = refl

@@ -8,12 +8,12 @@ use Rattle.laws_loan.proofs.Names.{Waiting, spot_of, receiver_after, takes_back,
 use Rattle.laws_loan.proofs.Names.{words_of_index, hands_out, handed_out, Open, span_of, old_of, words_after}
 use Rattle.laws_loan.proofs.Names.{change_of, step_count, oldest, pop_front, Core, taken, layout}
 use Rattle.std.proofs.Common.{arith}
-use Rattle.steps.specs.declared.loan.reclaim.ReclaimStage as reclaims
+use Rattle.steps.specs.declared.loan.reclaim.ReclaimStage.TheVariants as reclaims
 use Rattle.steps.specs.declared.queues.overflow.PopStage.{PopStage}
-use Rattle.steps.specs.declared.queues.overflow.PopStage as pops
-use Rattle.steps.specs.declared.queues.ring.PopStage as ring_pops
+use Rattle.steps.specs.declared.queues.overflow.PopStage.TheVariants as pops
+use Rattle.steps.specs.declared.queues.ring.PopStage.TheVariants as ring_pops
 use Rattle.steps.specs.Queues.Overflow.{cell_word, pop_asks}
-use Rattle.model.specs.declared.families.Flight as flights
+use Rattle.model.specs.declared.families.Flight.TheVariants as flights
 use Rattle.model.specs.declared.families.loan.effects.Effect.TheVariants as effects
 use Rattle.model.specs.Families.Loan.Reading.{frees}
 use Rattle.laws_loan.proofs.Channel.{Channel, no_roles, words_in}
@@ -32,12 +32,12 @@ use Rattle.laws_loan.proofs.Table.{waiting_away, hands_it_out}
 use Rattle.laws_loan.proofs.Told.{items, Tells}
 
 abbrev drains : PopStage → ReclaimStage
-drains stage = reclaims.TheVariants.Drains stage
+drains stage = reclaims.Drains stage
 
 module _ {T : Type 0} (code : Coding T) (slots queue : ℕ) (s : Channel T) (latest : List (ℕ × Party T))
     (turns changes since : ℕ) (x : Party T) (wrote : List (Event T)) (h : HoldsNow slots queue s latest s.events turns)
     (small : turns < 2 ^ 64 - 2) (under : ReclaimStage)
-    (here : sends_at latest ≡ Some (flights.TheVariants.Loan (reclaim_at slots queue under)))
+    (here : sends_at latest ≡ Some (flights.Loan (reclaim_at slots queue under)))
     (idle : reclaim_counts under ≡ 0)
     (from : span_of 0 s.events ≡ Open (start code slots queue s latest turns changes since x wrote) wrote)
     (known : ReclaimAt slots queue s wrote under) (straight : x.backs ≡ 0) where
@@ -92,20 +92,20 @@ module _ {T : Type 0} (code : Coding T) (slots queue : ℕ) (s : Channel T) (lat
       after_it (words_are now s.submission on words) counted stands few
 
   abbrev load_of_write : PopStage
-  load_of_write = pops.TheVariants.LoadsWrite s.submission.read
+  load_of_write = pops.LoadsWrite s.submission.read
 
   abbrev load_of_cell : PopStage
-  load_of_cell = pops.TheVariants.LoadsCell s.submission.read
+  load_of_cell = pops.LoadsCell s.submission.read
 
   abbrev moves : PopStage
-  moves = pops.TheVariants.MovesRead s.submission.read
+  moves = pops.MovesRead s.submission.read
 
   module _ (most : length (handed_out wrote) + length s.submission.waiting ≤ slots) (none_taken : taken_back wrote ≡ []) (none_freed : freed wrote ≡ []) where
-    loads_read : x.steps ≤ 4 * length (handed_out wrote) → Does_at pops.TheVariants.LoadsRead
+    loads_read : x.steps ≤ 4 * length (handed_out wrote) → Does_at pops.LoadsRead
     loads_read few =
         let on : 1 < length queued = (let all = wide in omega arith) in
-        loads pops.TheVariants.LoadsRead (drains load_of_write) on refl refl (refl, most, none_taken, none_freed) (omega arith) refl
-        (ap (then_of pops.TheVariants.LoadsRead) (old_is pops.TheVariants.LoadsRead on)) refl
+        loads pops.LoadsRead (drains load_of_write) on refl refl (refl, most, none_taken, none_freed) (omega arith) refl
+        (ap (then_of pops.LoadsRead) (old_is pops.LoadsRead on)) refl
 
     -- nothing waits, or something does
     loads_write : x.steps ≤ 4 * length (handed_out wrote) + 1 → Does_at load_of_write
@@ -121,7 +121,7 @@ module _ {T : Type 0} (code : Coding T) (slots queue : ℕ) (s : Channel T) (lat
             let empty : s.submission.waiting ≡ [] = nil_from_length s.submission.waiting (omega arith) in
             let none : length (taken_back wrote) ≡ 0 = ap length none_taken in
             let within = h.parts.completion.few in
-            loads load_of_write (reclaims.TheVariants.Empties ring_pops.TheVariants.LoadsRead) on refl refl
+            loads load_of_write (reclaims.Empties ring_pops.LoadsRead) on refl refl
             (tt, (omega arith), none_freed, empty) (omega arith) refl
             (ap (then_of load_of_write) (old_is load_of_write on) ∙ (rw e refl)) refl
         go false e =
@@ -160,7 +160,7 @@ module _ {T : Type 0} (code : Coding T) (slots queue : ℕ) (s : Channel T) (lat
 
       leads : x.steps ≤ 4 * length (handed_out wrote) + 3
           → steps.Leads code slots queue s latest turns changes since x wrote h under here idle from known straight
-          (drains moves) k s.completion (hands ∷ []) (drains pops.TheVariants.LoadsRead)
+          (drains moves) k s.completion (hands ∷ []) (drains pops.LoadsRead)
       leads few =
           let change : change_of (words_in s) (asks moves) ≡ 1 =
           submission_change slots queue s (counted_for (sends_at latest)) h.parts (pop_asks queue moves) on_moves
@@ -198,22 +198,22 @@ module _ {T : Type 0} (code : Coding T) (slots queue : ℕ) (s : Channel T) (lat
         (submission.cell_on queue h.parts.some h.parts.few s.submission h.parts.submission low_write s.submission.read)
         ∙ submission.cell_is queue h.parts.some h.parts.few s.submission h.parts.submission low_write s.submission.read
         in
-        let is_after : then_of moves (value moves) ≡ GoOn (reclaim_at slots queue (drains pops.TheVariants.LoadsRead)) =
+        let is_after : then_of moves (value moves) ≡ GoOn (reclaim_at slots queue (drains pops.LoadsRead)) =
         ap (then_of moves) found ∙ (rw t refl) in
         let is_effect : effect_of moves (value moves) ≡ effects.HandsOut u = ap (effect_of moves) found ∙ (rw (t, place) refl) in
         let s_out : Channel T =
         steps.s_on code slots queue s latest turns changes since x wrote h under here idle from known straight
         (drains moves) (k u front.0 front.1) s.completion (hands u front.0 front.1 ∷ [])
-        (drains pops.TheVariants.LoadsRead) in
+        (drains pops.LoadsRead) in
         record {
           channel_then = s_out;
           stays = ap (λ v. not (v == s.submission.read)) found ∙ ap not t;
           step =
               subst (λ a. To s_out moves a (effect_of moves (value moves))) (sym is_after)
-              (subst (λ e. To s_out moves (GoOn (reclaim_at slots queue (drains pops.TheVariants.LoadsRead))) e) (sym is_effect) (
+              (subst (λ e. To s_out moves (GoOn (reclaim_at slots queue (drains pops.LoadsRead))) e) (sym is_effect) (
                 steps.leads_on code slots queue s latest turns changes since x wrote h under here idle from known
                     straight (drains moves) (k u front.0 front.1) s.completion (hands u front.0 front.1 ∷ [])
-                    (drains pops.TheVariants.LoadsRead) (leads u front.0 front.1 few),
+                    (drains pops.LoadsRead) (leads u front.0 front.1 few),
                 refl,
               ));
         }

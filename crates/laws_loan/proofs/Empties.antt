@@ -9,12 +9,12 @@ use Rattle.laws_loan.proofs.Names.{receiver_after, takes_back, taken_back, freed
 use Rattle.laws_loan.proofs.Names.{span_of, as_call, old_of, words_after, step_count, Core, taken, layout}
 use Rattle.std.proofs.Common.{arith}
 use Rattle.steps.specs.declared.ask.After.TheVariants.{Done}
-use Rattle.steps.specs.declared.indices.unique.ReleaseStage as releases
-use Rattle.steps.specs.declared.loan.reclaim.ReclaimStage as reclaims
+use Rattle.steps.specs.declared.indices.unique.ReleaseStage.TheVariants as releases
+use Rattle.steps.specs.declared.loan.reclaim.ReclaimStage.TheVariants as reclaims
 use Rattle.steps.specs.declared.queues.ring.PopStage.{PopStage}
-use Rattle.steps.specs.declared.queues.ring.PopStage as pops
+use Rattle.steps.specs.declared.queues.ring.PopStage.TheVariants as pops
 use Rattle.steps.specs.Queues.Ring.{cell_word, word_at, pop_asks}
-use Rattle.model.specs.declared.families.Flight as flights
+use Rattle.model.specs.declared.families.Flight.TheVariants as flights
 use Rattle.model.specs.declared.families.loan.LoanStart.TheVariants as calls
 use Rattle.model.specs.declared.families.loan.effects.Effect.TheVariants as effects
 use Rattle.model.specs.Families.Loan.Reading.{frees}
@@ -40,12 +40,12 @@ use Rattle.laws_loan.proofs.Told.{silent_tells}
 use Rattle.laws_loan.proofs.Waits.{cell_place}
 
 abbrev empties : PopStage → ReclaimStage
-empties stage = reclaims.TheVariants.Empties stage
+empties stage = reclaims.Empties stage
 
 module _ {T : Type 0} (code : Coding T) (slots queue : ℕ) (s : Channel T) (latest : List (ℕ × Party T))
     (turns changes since : ℕ) (x : Party T) (wrote : List (Event T)) (h : HoldsNow slots queue s latest s.events turns)
     (small : turns < 2 ^ 64 - 2) (under : ReclaimStage)
-    (here : sends_at latest ≡ Some (flights.TheVariants.Loan (reclaim_at slots queue under)))
+    (here : sends_at latest ≡ Some (flights.Loan (reclaim_at slots queue under)))
     (idle : reclaim_counts under ≡ 0)
     (from : span_of 0 s.events ≡ Open (start code slots queue s latest turns changes since x wrote) wrote)
     (known : ReclaimAt slots queue s wrote under) (straight : x.backs ≡ 0) where
@@ -109,20 +109,20 @@ module _ {T : Type 0} (code : Coding T) (slots queue : ℕ) (s : Channel T) (lat
       after_it (words_are now s.completion on words) counted stands less
 
   abbrev load_of_write : PopStage
-  load_of_write = pops.TheVariants.LoadsWrite s.completion.read
+  load_of_write = pops.LoadsWrite s.completion.read
 
   abbrev load_of_cell : PopStage
-  load_of_cell = pops.TheVariants.LoadsCell s.completion.read (cell_word slots 1 s.completion.read) 0
+  load_of_cell = pops.LoadsCell s.completion.read (cell_word slots 1 s.completion.read) 0
 
   abbrev store_of_read : PopStage
-  store_of_read = pops.TheVariants.StoresRead s.completion.read
+  store_of_read = pops.StoresRead s.completion.read
 
   module _ (most : length (taken_back wrote) + length s.completion.waiting ≤ slots) (none_freed : freed wrote ≡ []) (drained : s.submission.waiting ≡ []) where
-    loads_read : x.steps ≤ 4 * (slots + 1) + 4 * length (taken_back wrote) → Does_at pops.TheVariants.LoadsRead
+    loads_read : x.steps ≤ 4 * (slots + 1) + 4 * length (taken_back wrote) → Does_at pops.LoadsRead
     loads_read less =
         let on : 1 < length queued = (let all = long in omega arith) in
-        loads pops.TheVariants.LoadsRead (empties load_of_write) on refl refl (refl, most, none_freed, drained) (omega arith) refl
-        (ap (then_of pops.TheVariants.LoadsRead) (old_is pops.TheVariants.LoadsRead on)) refl
+        loads pops.LoadsRead (empties load_of_write) on refl refl (refl, most, none_freed, drained) (omega arith) refl
+        (ap (then_of pops.LoadsRead) (old_is pops.LoadsRead on)) refl
 
     loads_cell : s.completion.read < s.completion.write → x.steps ≤ 4 * (slots + 1) + 4 * length (taken_back wrote) + 2 → Does_at load_of_cell
     loads_cell ahead less =
@@ -166,7 +166,7 @@ module _ {T : Type 0} (code : Coding T) (slots queue : ℕ) (s : Channel T) (lat
             channel_then = s_still;
             step = (
               steps.goes_still code slots queue s latest turns changes since x wrote h under here idle from known straight
-                  (empties load_of_write) (reclaims.TheVariants.Releases 0 index releases.TheVariants.ClearsFlag)
+                  (empties load_of_write) (reclaims.Releases 0 index releases.ClearsFlag)
                   (words_are load_of_write s.completion on_write refl) refl (
                     first.2,
                     first.1,
@@ -227,7 +227,7 @@ module _ {T : Type 0} (code : Coding T) (slots queue : ℕ) (s : Channel T) (lat
 
       leads : x.steps ≤ 4 * (slots + 1) + 4 * length (taken_back wrote) + 3
           → steps.Leads code slots queue s latest turns changes since x wrote h under here idle from known straight
-          (empties store_of_read) s.submission m (takes ∷ []) (empties pops.TheVariants.LoadsRead)
+          (empties store_of_read) s.submission m (takes ∷ []) (empties pops.LoadsRead)
       leads less =
           let on : 1 < length queued = (let all = long in omega arith) in
           let shorter : length s.completion.waiting ≡ suc (length rest) = ap length first in
@@ -269,15 +269,15 @@ module _ {T : Type 0} (code : Coding T) (slots queue : ℕ) (s : Channel T) (lat
         let s_out : Channel T =
         steps.s_on code slots queue s latest turns changes since x wrote h under here idle from known straight
         (empties store_of_read) s.submission (m v rest front.2) (takes v rest front.2 ∷ [])
-        (empties pops.TheVariants.LoadsRead) in
+        (empties pops.LoadsRead) in
         record {
           channel_then = s_out;
           stays = refl;
           step =
-              subst (λ e. To s_out store_of_read (GoOn (reclaim_at slots queue (empties pops.TheVariants.LoadsRead))) e) (sym is_effect) (
+              subst (λ e. To s_out store_of_read (GoOn (reclaim_at slots queue (empties pops.LoadsRead))) e) (sym is_effect) (
                 steps.leads_on code slots queue s latest turns changes since x wrote h under here idle from known
                     straight (empties store_of_read) s.submission (m v rest front.2) (takes v rest front.2 ∷ [])
-                    (empties pops.TheVariants.LoadsRead) (leads v rest front.2 less),
+                    (empties pops.LoadsRead) (leads v rest front.2 less),
                 refl,
               );
         }

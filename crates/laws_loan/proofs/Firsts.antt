@@ -7,12 +7,12 @@ use Rattle.laws_loan.proofs.Names.{give_back_of, asks_for, taken_from, BeginsRig
 use Rattle.laws_loan.proofs.Names.{receiver_of, reclaims_after, fresh, holds, Open, span_of, span_of-own}
 use Rattle.laws_loan.proofs.Names.{span_of-other, IsShut}
 use Rattle.std.proofs.Common.{arith}
-use Rattle.steps.specs.declared.loan.reclaim.ReclaimStage as reclaims
-use Rattle.steps.specs.declared.loan.send.SendStage as sends
-use Rattle.steps.specs.declared.queues.overflow.PopStage as overflow_pops
-use Rattle.steps.specs.declared.queues.overflow.PushStage as overflow_pushes
+use Rattle.steps.specs.declared.loan.reclaim.ReclaimStage.TheVariants as reclaims
+use Rattle.steps.specs.declared.loan.send.SendStage.TheVariants as sends
+use Rattle.steps.specs.declared.queues.overflow.PopStage.TheVariants as overflow_pops
+use Rattle.steps.specs.declared.queues.overflow.PushStage.TheVariants as overflow_pushes
 use Rattle.model.specs.declared.event.Start.TheVariants as starts
-use Rattle.model.specs.declared.families.Flight as flights
+use Rattle.model.specs.declared.families.Flight.TheVariants as flights
 use Rattle.model.specs.declared.families.loan.LoanStart.TheVariants as calls
 use Rattle.model.specs.Families.Loan.Promises.{ComesFrom}
 use Rattle.laws_loan.proofs.Begins.{IsFirst, shut_none}
@@ -62,7 +62,7 @@ module _ {T : Type 0} (code : Coding T) (slots queue : ℕ) (s : Channel T) (lat
 
       -- so much of its begin is the same for each of them
       asks_none : (flight : LoanFlight) → asks_for start ≡ None → counts flight ≡ 0
-          → hung {T = T} s.submission.read (Some (flights.TheVariants.Loan flight)) ≡ None → BeginsRight s.events begun
+          → hung {T = T} s.submission.read (Some (flights.Loan flight)) ≡ None → BeginsRight s.events begun
           → reclaims_after (is_reclaiming s.events) begun ≡ reclaims_in (span_of 0 (s.events ++ begun ∷ []))
           → At slots queue (began None) p [] start flight → FlightKnows slots queue (began None) changes changes 0 flight
           → First p start flight
@@ -91,7 +91,7 @@ module _ {T : Type 0} (code : Coding T) (slots queue : ℕ) (s : Channel T) (lat
           (cases_eq index i)
 
       asks_one : (flight : LoanFlight) → asks_for start ≡ Some index → counts flight ≡ 0
-          → hung {T = T} s.submission.read (Some (flights.TheVariants.Loan flight)) ≡ None → BeginsRight s.events begun
+          → hung {T = T} s.submission.read (Some (flights.Loan flight)) ≡ None → BeginsRight s.events begun
           → reclaims_after (is_reclaiming s.events) begun ≡ reclaims_in (span_of 0 (s.events ++ begun ∷ []))
           → index < slots → Carries {T = T} index (Open (starts.Loan start) [])
           → Placed slots s.claims s.submission.waiting s.completion.waiting (taken_from s.book (Some index)) (s.events ++ begun ∷ [])
@@ -140,7 +140,7 @@ module _ {T : Type 0} (code : Coding T) (slots queue : ℕ) (s : Channel T) (lat
       abbrev pub send_at : LoanFlight
       send_at =
           Send (record {
-            call = record { slots = slots; queue = queue; stage = sends.TheVariants.Pushes overflow_pushes.TheVariants.LoadsWrite };
+            call = record { slots = slots; queue = queue; stage = sends.Pushes overflow_pushes.LoadsWrite };
             given = index;
             room = tt;
           })
@@ -152,7 +152,7 @@ module _ {T : Type 0} (code : Coding T) (slots queue : ℕ) (s : Channel T) (lat
           (refl, refl, refl, refl, refl, (some, (below, now_passes 0 (calls.Send index) index refl has))) refl
 
     abbrev pub reclaim_at : LoanFlight
-    reclaim_at = Reclaim (record { slots = slots; queue = queue; stage = reclaims.TheVariants.Drains overflow_pops.TheVariants.LoadsRead })
+    reclaim_at = Reclaim (record { slots = slots; queue = queue; stage = reclaims.Drains overflow_pops.LoadsRead })
 
     pub reclaim_first : IsShut (span_of 0 s.events) → has_died s.book.receiver s.book.dead ≡ true → First 0 calls.Reclaim reclaim_at
     reclaim_first shut dead =
@@ -189,7 +189,7 @@ module _ {T : Type 0} (code : Coding T) (slots queue : ℕ) (s : Channel T) (lat
     receive_at =
         Receive p
         (record {
-          call = record { base = submission_word slots; call = record { capacity = queue; stage = overflow_pops.TheVariants.LoadsRead } };
+          call = record { base = submission_word slots; call = record { capacity = queue; stage = overflow_pops.LoadsRead } };
           given = tt;
           room = fresh;
         })

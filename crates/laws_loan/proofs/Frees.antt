@@ -8,10 +8,10 @@ use Rattle.laws_loan.proofs.Names.{book_after, Open, span_of, old_of, words_afte
 use Rattle.laws_loan.proofs.Names.{release_number, ReleaseAt, append-nil}
 use Rattle.std.proofs.Common.{arith, get_or-set_same, get_or-set_other}
 use Rattle.steps.specs.declared.ask.After.TheVariants.{Done}
-use Rattle.steps.specs.declared.indices.unique.ReleaseStage as releases
+use Rattle.steps.specs.declared.indices.unique.ReleaseStage.TheVariants as releases
 use Rattle.steps.specs.declared.loan.places.Place.TheVariants as places
 use Rattle.model.specs.declared.event.Start.TheVariants as starts
-use Rattle.model.specs.declared.families.Flight as flights
+use Rattle.model.specs.declared.families.Flight.TheVariants as flights
 use Rattle.model.specs.declared.families.loan.LoanStart.TheVariants as calls
 use Rattle.model.specs.Families.Loan.Reading.{frees, claims}
 use Rattle.model.specs.Families.Queues.Reading.{publishes}
@@ -60,7 +60,7 @@ module _ {T : Type 0} (code : Coding T) (slots queue : ℕ) (s : Channel T) (lat
     (wrote : List (Event T))
     (from : span_of 0 s.events ≡ Open (starts.Loan calls.Reclaim) wrote) (straight : x.backs ≡ 0) where
   abbrev Here : ReleaseStage → Type 0
-  Here stage = sends_at latest ≡ Some (flights.TheVariants.Loan (frees_at slots queue number index stage))
+  Here stage = sends_at latest ≡ Some (flights.Loan (frees_at slots queue number index stage))
 
   abbrev Known : ReleaseStage → Type 0
   Known stage = ReclaimAt slots queue s wrote (Releases number index stage)
@@ -87,7 +87,7 @@ module _ {T : Type 0} (code : Coding T) (slots queue : ℕ) (s : Channel T) (lat
 
   -- ---- the clear of the flag
 
-  module _ (here : Here releases.TheVariants.ClearsFlag) (at : Known releases.TheVariants.ClearsFlag) (few : x.steps ≤ 8 * (slots + 1) + 5 * number) where
+  module _ (here : Here releases.ClearsFlag) (at : Known releases.ClearsFlag) (few : x.steps ≤ 8 * (slots + 1) + 5 * number) where
     abbrev freed_es : List (Event T)
     freed_es = Freed 0 index ∷ []
 
@@ -95,10 +95,10 @@ module _ {T : Type 0} (code : Coding T) (slots queue : ℕ) (s : Channel T) (lat
     wrote_then = wrote ++ freed_es
 
     abbrev clears_ask : Option Ask
-    clears_ask = ask_of (back_asks slots index releases.TheVariants.ClearsFlag)
+    clears_ask = ask_of (back_asks slots index releases.ClearsFlag)
 
     abbrev y_freed : Party T
-    y_freed = party_then s x since changes calls.Reclaim clears_ask false (GoOn (frees_at slots queue number index releases.TheVariants.LoadsHead))
+    y_freed = party_then s x since changes calls.Reclaim clears_ask false (GoOn (frees_at slots queue number index releases.LoadsHead))
 
     abbrev book_freed : Book
     book_freed = book_after {T = T} s.book (Freed 0 index)
@@ -139,7 +139,7 @@ module _ {T : Type 0} (code : Coding T) (slots queue : ℕ) (s : Channel T) (lat
 
     shows_freed : Shows slots queue s s_freed 0 y_freed latest turns freed_es
     shows_freed =
-        let step = steps_set releases.TheVariants.ClearsFlag here at in
+        let step = steps_set releases.ClearsFlag here at in
         let placed = h.parts.placed in
         let placed_then =
         frees_it slots s.claims s.submission.waiting s.completion.waiting s.book s.events placed index at.stage_at.1 (spot_of index s.events) refl
@@ -153,7 +153,7 @@ module _ {T : Type 0} (code : Coding T) (slots queue : ℕ) (s : Channel T) (lat
         h.passing (λ i ne carried. tt) (λ q e. absurd (free_passes q e)) in
         grind (arith, open_then, sends_now, append-nil, items, same_receiver, one_move)
 
-    known_then : ReclaimAt slots queue s_freed wrote_then (Releases number index releases.TheVariants.LoadsHead)
+    known_then : ReclaimAt slots queue s_freed wrote_then (Releases number index releases.LoadsHead)
     known_then =
         let more : freed wrote_then ≡ freed wrote ++ index ∷ [] = flat_map-append frees wrote freed_es in
         let longer = length-append (freed wrote) (index ∷ []) in
@@ -174,10 +174,10 @@ module _ {T : Type 0} (code : Coding T) (slots queue : ℕ) (s : Channel T) (lat
 
     pub clears_steps : Steps code slots queue s latest turns changes since x 0 s_freed
         (Open (starts.Loan calls.Reclaim) wrote) calls.Reclaim clears_ask false
-        (GoOn (frees_at slots queue number index releases.TheVariants.LoadsHead)) freed_es
+        (GoOn (frees_at slots queue number index releases.LoadsHead)) freed_es
     clears_steps =
         let wrote_is : wrote_then ≡ wrote_in (span_of 0 (s.events ++ freed_es)) = sym (ap wrote_in open_then) in
-        let words = whole_words releases.TheVariants.ClearsFlag here at in
+        let words = whole_words releases.ClearsFlag here at in
         let stands = all_less (freed wrote) (index + 0) index (omega arith) at.stage_at.4 in
         let others = others_dead slots queue s s_freed at.dead refl (λ i stage known. known) in
         grind (arith, shows_freed, known_then)

@@ -1,8 +1,8 @@
 -- A give-back's steps, at whatever stage it stands, as steps of the machine.
 use Rattle.laws_loan.proofs.Names.{◌≡◌, ℕ, ◌-◌, ◌^◌, ◌<◌, false, sym, ap, subst, ◌∙◌, Part, Push, Running}
 use Rattle.laws_loan.proofs.Names.{completion_word, Flight, GiveBack, Party, Coding, has_died, Trace}
-use Rattle.model.specs.declared.event.Start as starts
-use Rattle.model.specs.declared.families.Flight as flights
+use Rattle.model.specs.declared.event.Start.TheVariants as starts
+use Rattle.model.specs.declared.families.Flight.TheVariants as flights
 use Rattle.model.specs.declared.families.loan.LoanStart.TheVariants as calls
 use Rattle.model.proofs.Frame as frame
 use Rattle.laws_loan.proofs.GiveBacks.{give_at, push_on}
@@ -14,21 +14,21 @@ module _ {T : Type 0} (code : Coding T) (slots queue : ℕ) (t : Trace T)
     (p index : ℕ) (alive : has_died p sound.state.book.dead ≡ false) where
   -- a give-back of a party that lives
   pub give_back_comes : (by : ℕ) (run : Running (Part (Push ℕ)) ℕ (Unit {0}))
-      → Stands code slots queue t sound small x since p (starts.TheVariants.Loan (calls.GiveBack index))
-      (flights.TheVariants.Loan (GiveBack by run))
-      → Comes code slots queue t sound small x since p (starts.TheVariants.Loan (calls.GiveBack index))
-      (flights.TheVariants.Loan (GiveBack by run))
+      → Stands code slots queue t sound small x since p (starts.Loan (calls.GiveBack index))
+      (flights.Loan (GiveBack by run))
+      → Comes code slots queue t sound small x since p (starts.Loan (calls.GiveBack index))
+      (flights.Loan (GiveBack by run))
   give_back_comes by run there =
       let at = there.at in
       let named : ℕ → ℕ → ℕ → ℕ → Flight T =
-      λ n base capacity given. flights.TheVariants.Loan
+      λ n base capacity given. flights.Loan
       (GiveBack n (record { call = record { base = base; call = push_on capacity run.call.call.stage }; given = given; room = tt })) in
-      let same : flights.TheVariants.Loan (GiveBack by run) ≡ flights.TheVariants.Loan (give_at slots queue p index run.call.call.stage) =
+      let same : flights.Loan (GiveBack by run) ≡ flights.Loan (give_at slots queue p index run.call.call.stage) =
       ap (λ n. named n run.call.base run.call.call.capacity run.given) at.1
       ∙ (ap (λ base. named p base run.call.call.capacity run.given) at.2
       ∙ (ap (λ c. named p (completion_word slots queue) c run.given) at.3 ∙ ap (λ i. named p (completion_word slots queue) slots i) at.4))
       in
-      subst (λ flight. Comes code slots queue t sound small x since p (starts.TheVariants.Loan (calls.GiveBack index)) flight) (sym same)
+      subst (λ flight. Comes code slots queue t sound small x since p (starts.Loan (calls.GiveBack index)) flight) (sym same)
       (give_back_pushes code slots queue t sound small x since p index run.call.call.stage alive
-      (subst (λ flight. Stands code slots queue t sound small x since p (starts.TheVariants.Loan (calls.GiveBack index)) flight)
+      (subst (λ flight. Stands code slots queue t sound small x since p (starts.Loan (calls.GiveBack index)) flight)
       same there))

@@ -9,7 +9,7 @@ use Rattle.laws_loan.proofs.Names.{span_of-other, Core, filled, layout, KnowsPus
 use Rattle.std.proofs.Common.{arith}
 use Rattle.steps.specs.declared.ask.After.TheVariants.{Done}
 use Rattle.steps.specs.declared.queues.ring.PushStage.{PushStage}
-use Rattle.steps.specs.declared.queues.ring.PushStage as pushes
+use Rattle.steps.specs.declared.queues.ring.PushStage.TheVariants as pushes
 use Rattle.steps.specs.declared.queues.ring.PopStage.{PopStage}
 use Rattle.steps.specs.Queues.Ring.{cell_word, push_asks, push_takes}
 use Rattle.model.specs.declared.event.Answer.TheVariants as answers
@@ -146,7 +146,7 @@ module _ {T : Type 0} (code : Coding T) (slots queue : ℕ) (s : Channel T) (lat
   told = returned ∷ ends ∷ []
 
   abbrev last : PushStage
-  last = pushes.TheVariants.StoresWrite s.completion.write
+  last = pushes.StoresWrite s.completion.write
 
   abbrev y_end : Party T
   y_end = party_then s x since changes (calls.GiveBack index) (asked last) false (Done (answers.Truth true))
@@ -203,13 +203,13 @@ module _ {T : Type 0} (code : Coding T) (slots queue : ℕ) (s : Channel T) (lat
   -- ---- each of its stages
 
   abbrev load_of_write : PushStage
-  load_of_write = pushes.TheVariants.LoadsWrite
+  load_of_write = pushes.LoadsWrite
 
   abbrev load_of_read : PushStage
-  load_of_read = pushes.TheVariants.LoadsRead s.completion.write
+  load_of_read = pushes.LoadsRead s.completion.write
 
   abbrev store_of_cell : PushStage
-  store_of_cell = pushes.TheVariants.StoresCell s.completion.write (cell_word slots 1 s.completion.write) 0
+  store_of_cell = pushes.StoresCell s.completion.write (cell_word slots 1 s.completion.write) 0
 
   loads_write : x.steps ≤ 0 → Does load_of_write
   loads_write steps =
@@ -257,15 +257,15 @@ module _ {T : Type 0} (code : Coding T) (slots queue : ℕ) (s : Channel T) (lat
 
   -- what a give-back knows leads on
   pub does : (stage : PushStage) → KnowsPush one_word slots s.completion index stage → x.steps ≤ push_number 1 stage → Does stage
-  does pushes.TheVariants.LoadsWrite known steps = loads_write steps
-  does (pushes.TheVariants.LoadsRead write) known steps = subst (λ n. Does (pushes.TheVariants.LoadsRead n)) (sym known.0) (loads_read steps)
-  does (pushes.TheVariants.StoresCell write cell at) known steps =
+  does pushes.LoadsWrite known steps = loads_write steps
+  does (pushes.LoadsRead write) known steps = subst (λ n. Does (pushes.LoadsRead n)) (sym known.0) (loads_read steps)
+  does (pushes.StoresCell write cell at) known steps =
       let first : at ≡ 0 = (let below = known.3 in omega arith) in
-      subst (λ n. Does (pushes.TheVariants.StoresCell write cell n)) (sym first)
-      (subst (λ n. Does (pushes.TheVariants.StoresCell write n 0)) (sym known.2)
-      (subst (λ n. Does (pushes.TheVariants.StoresCell n (cell_word slots 1 s.completion.write) 0)) (sym known.0) (stores_cell (omega arith))))
-  does (pushes.TheVariants.StoresWrite write) known steps =
-      subst (λ n. Does (pushes.TheVariants.StoresWrite n)) (sym known.0)
+      subst (λ n. Does (pushes.StoresCell write cell n)) (sym first)
+      (subst (λ n. Does (pushes.StoresCell write n 0)) (sym known.2)
+      (subst (λ n. Does (pushes.StoresCell n (cell_word slots 1 s.completion.write) 0)) (sym known.0) (stores_cell (omega arith))))
+  does (pushes.StoresWrite write) known steps =
+      subst (λ n. Does (pushes.StoresWrite n)) (sym known.0)
       (record {
         queue_then = full;
         step = ends_with (completion.publish_good slots some few s.completion h.parts.completion reached index room known.2) steps;

@@ -5,8 +5,8 @@ use Rattle.laws_loan.proofs.Names.{Party, Coding, ask_of, release_effect, as_it_
 use Rattle.laws_loan.proofs.Names.{Trace}
 use Rattle.std.proofs.Common.{arith}
 use Rattle.model.specs.declared.event.Answer.TheVariants as answers
-use Rattle.model.specs.declared.event.Start as starts
-use Rattle.model.specs.declared.families.Flight as flights
+use Rattle.model.specs.declared.event.Start.TheVariants as starts
+use Rattle.model.specs.declared.families.Flight.TheVariants as flights
 use Rattle.model.specs.declared.families.loan.LoanStart.TheVariants as calls
 use Rattle.model.proofs.Frame as frame
 use Rattle.laws_loan.proofs.Channel.{words_in}
@@ -29,13 +29,13 @@ module _ {T : Type 0} (code : Coding T) (slots queue : ℕ) (t : Trace T)
     (sound : frame.Sound (channel code slots queue) t) (small : t.world.turns < 2 ^ 64 - 2) (x : Party T)
     (since : ℕ) where
   pub give_up_releases : (index : ℕ) (stage : ReleaseStage)
-      → Stands code slots queue t sound small x since 0 (starts.TheVariants.Loan (calls.GiveUp index))
-      (flights.TheVariants.Loan (give_up_at slots queue index stage))
-      → Comes code slots queue t sound small x since 0 (starts.TheVariants.Loan (calls.GiveUp index))
-      (flights.TheVariants.Loan (give_up_at slots queue index stage))
+      → Stands code slots queue t sound small x since 0 (starts.Loan (calls.GiveUp index))
+      (flights.Loan (give_up_at slots queue index stage))
+      → Comes code slots queue t sound small x since 0 (starts.Loan (calls.GiveUp index))
+      (flights.Loan (give_up_at slots queue index stage))
   give_up_releases index stage there =
       let at = there.at in
-      let from = ap (span_of 0) sound.holds.same ∙ (there.span ∙ ap (λ es. Open (starts.TheVariants.Loan (calls.GiveUp index)) es) at.3) in
+      let from = ap (span_of 0) sound.holds.same ∙ (there.span ∙ ap (λ es. Open (starts.Loan (calls.GiveUp index)) es) at.3) in
       let value = old_of (words_in sound.state) (ask_of (back_asks slots index stage)) in
       subst
       (With code slots queue t sound small x since index (gives_up T slots queue index) there.knows stage (release_effect index stage))

@@ -7,7 +7,7 @@ use Rattle.laws_loan.proofs.Names.{Party, Coding, gives_back, takes_back, read_i
 use Rattle.laws_loan.proofs.Names.{beside, room_made, hands_out, doing_of, flight_of, Span, Open}
 use Rattle.laws_loan.proofs.Names.{own_after, span_of, AreOwn}
 use Rattle.std.proofs.Common.{flat_map, arith}
-use Rattle.model.specs.declared.families.Flight as flights
+use Rattle.model.specs.declared.families.Flight.TheVariants as flights
 use Rattle.model.specs.Families.Loan.Reading.{frees}
 use Rattle.model.specs.Families.Queues.Reading.{publishes}
 use Rattle.model.specs.Parties.{party_of}
@@ -75,8 +75,8 @@ module _ {T : Type 0} (code : Coding T) (slots queue : ℕ) (s : Channel T) wher
 
     by_words_call : (wrote : List (Event T)) (start : LoanStart) (flight : LoanFlight)
         → At slots queue s 0 wrote start flight
-        → pending {T = T} (words_in s) (Some (flights.TheVariants.Loan flight))
-        ≡ hung {T = T} s.submission.read (Some (flights.TheVariants.Loan flight))
+        → pending {T = T} (words_in s) (Some (flights.Loan flight))
+        ≡ hung {T = T} s.submission.read (Some (flights.Loan flight))
     by_words_call x0 x1 x2 x3 = grind (arith, read_in, read_is)
 
     by_words_flight : (start : Start T) (flight : Flight T) → channel.At s 0 start flight

@@ -6,9 +6,9 @@ use Rattle.laws_loan.proofs.Names.{freed, pending_send, handed_out, doing_of, fl
 use Rattle.laws_loan.proofs.Names.{Core}
 use native.Mathlib.Omega.{arith}
 use Rattle.model.specs.declared.event.Start.TheVariants as starts
-use Rattle.model.specs.declared.families.Flight as flights
+use Rattle.model.specs.declared.families.Flight.TheVariants as flights
 use Rattle.model.specs.declared.families.loan.LoanStart.TheVariants as calls
-use Rattle.model.specs.declared.turn.Kind as kinds
+use Rattle.model.specs.declared.turn.Kind.TheVariants as kinds
 use Rattle.model.specs.Families.Queues.Reading.{published}
 use Rattle.model.specs.Parties.{party_of}
 use Rattle.model.specs.Shape.{IsOpen}
@@ -31,12 +31,12 @@ module _ {T : Type 0} where
 
   -- what it counts for in the head of the indices
   abbrev pub counted_for : Option (Flight T) → ℕ
-  counted_for (Some (flights.TheVariants.Loan flight)) = counts flight
+  counted_for (Some (flights.Loan flight)) = counts flight
   counted_for other = 0
 
   -- the index that a send has published and for which it waits, where the read position is this
   abbrev pub hung : ℕ → Option (Flight T) → Option ℕ
-  hung read (Some (flights.TheVariants.Loan (Send run))) = pending_send read run.given run.call.stage
+  hung read (Some (flights.Loan (Send run))) = pending_send read run.given run.call.stage
   hung read other = None
 
   -- it is in a reclaim
@@ -78,22 +78,22 @@ module _ {T : Type 0} where
   -- ---- the family of the loan channel
 
   abbrev any_number : ℕ → List (Event T) → Flight T → ℕ → ℕ
-  any_number slots wrote (flights.TheVariants.Loan flight) backs = number_of slots wrote flight backs
+  any_number slots wrote (flights.Loan flight) backs = number_of slots wrote flight backs
   any_number slots wrote flight backs = 0
 
   abbrev FlightAt : ℕ → ℕ → Channel T → ℕ → List (Event T) → Start T → Flight T → Type 0
-  FlightAt slots queue s p wrote (starts.Loan start) (flights.TheVariants.Loan flight) = At slots queue s p wrote start flight
+  FlightAt slots queue s p wrote (starts.Loan start) (flights.Loan flight) = At slots queue s p wrote start flight
   FlightAt slots queue s p wrote start flight = ⊥
 
   abbrev Knowing : ℕ → ℕ → Channel T → ℕ → ℕ → ℕ → Flight T → Type 0
-  Knowing slots queue s since changes backs (flights.TheVariants.Loan flight) = FlightKnows slots queue s since changes backs flight
+  Knowing slots queue s since changes backs (flights.Loan flight) = FlightKnows slots queue s since changes backs flight
   Knowing slots queue s since changes backs flight = ⊥
 
   abbrev pub family : Coding T → ℕ → ℕ → Family T
   family code slots queue =
       record {
         coding = code;
-        kind = kinds.TheVariants.Loan;
+        kind = kinds.Loan;
         promise = promise;
         capacity = slots;
         State = Channel T;

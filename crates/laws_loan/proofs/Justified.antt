@@ -6,13 +6,13 @@ use Rattle.laws_loan.proofs.Names.{Party, Next, Coding, ask_of, beside_of, step_
 use Rattle.laws_loan.proofs.Names.{effect_of, IsTurnBy, IsKeptBy, ask_in, answer_in, old_of, ending_of, after_turn}
 use Rattle.laws_loan.proofs.Names.{Trace, StandsThere, stands_there, InOrder, in_order_from}
 use native.Mathlib.Omega.{arith}
-use Rattle.steps.specs.declared.loan.send.SendStage as sends
+use Rattle.steps.specs.declared.loan.send.SendStage.TheVariants as sends
 use Rattle.steps.specs.declared.queues.overflow.PopStage.{PopStage}
-use Rattle.model.specs.declared.event.Start as starts
-use Rattle.model.specs.declared.families.Flight as flights
-use Rattle.model.specs.declared.families.Registry as registries
+use Rattle.model.specs.declared.event.Start.TheVariants as starts
+use Rattle.model.specs.declared.families.Flight.TheVariants as flights
+use Rattle.model.specs.declared.families.Registry.TheVariants as registries
 use Rattle.model.specs.declared.families.loan.LoanStart.TheVariants as calls
-use Rattle.model.specs.declared.turn.Kind as kinds
+use Rattle.model.specs.declared.turn.Kind.TheVariants as kinds
 use Rattle.model.specs.Parties.{party_of}
 use Rattle.model.specs.Promises.Families.{promise_of}
 use Rattle.model.proofs.Frame as frame
@@ -36,11 +36,11 @@ module _ {T : Type 0} (code : Coding T) (slots queue : ℕ) (t : Trace T)
   Acts flight = Acting code slots queue t s small p flight
 
   abbrev There : LoanStart → LoanFlight → Type 0
-  There start flight = StandsThere (channel code slots queue) t s p x since (starts.TheVariants.Loan start) (flights.TheVariants.Loan flight)
+  There start flight = StandsThere (channel code slots queue) t s p x since (starts.Loan start) (flights.Loan flight)
 
   send_acts : (index : ℕ) (stage : SendStage) → There (calls.Send index) (send_at slots queue index stage) → Acts (send_at slots queue index stage)
-  send_acts index (sends.TheVariants.Pushes stage) there asks = let at = there.at in send_right code slots queue t s small p index stage at.5.0 asks
-  send_acts index (sends.TheVariants.Releases oldest stage) there asks = silent_right code slots queue t s small p _ (frees_silent oldest stage)
+  send_acts index (sends.Pushes stage) there asks = let at = there.at in send_right code slots queue t s small p index stage at.5.0 asks
+  send_acts index (sends.Releases oldest stage) there asks = silent_right code slots queue t s small p _ (frees_silent oldest stage)
 
   receive_acts : p ≢ 0 → (stage : PopStage) (room : OneWord)
       → There calls.Receive (receive_at slots queue p stage room) → Acts (receive_at slots queue p stage room)
@@ -53,14 +53,14 @@ module _ {T : Type 0} (code : Coding T) (slots queue : ℕ) (t : Trace T)
 
   in_order : (start : Start T) (flight : Flight T)
       → StandsThere (channel code slots queue) t s p x since start flight
-      → InOrder t p promise t.world.coding (words_in s.state) (registries.TheVariants.Loan s.state.book) start flight
-  in_order (starts.TheVariants.Loan start) (flights.TheVariants.Loan flight) there =
+      → InOrder t p promise t.world.coding (words_in s.state) (registries.Loan s.state.book) start flight
+  in_order (starts.Loan start) (flights.Loan flight) there =
       let words = words_in s.state in
       let old = old_of words (ask_of (want flight)) in
       let effect = effect_of words (waits code slots queue t s small p) flight old in
       let then_so : After LoanFlight (Answer T) = after s.state.book.places flight old in
       let outcome : Option (Answer T) = answer_in then_so in
-      let ends : List (Event T) = ending_of p (starts.TheVariants.Loan start) (answer_in (any_call then_so)) in
+      let ends : List (Event T) = ending_of p (starts.Loan start) (answer_in (any_call then_so)) in
       let asks : ask_in t.world (Next p) ≡ ask_of (want flight) = rw there.found refl in
       record {
         effects = did p effect outcome;
@@ -69,7 +69,7 @@ module _ {T : Type 0} (code : Coding T) (slots queue : ℕ) (t : Trace T)
         is = ap (λ es. t.events ++ (es ++ ends)) (effects_are p effect outcome);
         are_effects = did_effects (Next p) p effect outcome refl;
         are_acts = all_act T p effect;
-        are_ends = ends_end (Next p) p (starts.TheVariants.Loan start) (answer_in (any_call then_so)) refl;
+        are_ends = ends_end (Next p) p (starts.Loan start) (answer_in (any_call then_so)) refl;
         right = call_acts start flight there asks;
       }
   in_order start flight there = absurd there.at
@@ -78,7 +78,7 @@ module _ {T : Type 0} (code : Coding T) (slots queue : ℕ) (t : Trace T)
       → InOrder t p promise t.world.coding t.world.words t.world.kept x.start flight
   step_in_order flight found doing =
       let is = kept_is t.world.kept t.world.words s.state s.fit in
-      in_order_from t p promise t.world.coding (words_in s.state) (registries.TheVariants.Loan s.state.book) x.start flight is.words is.kept
+      in_order_from t p promise t.world.coding (words_in s.state) (registries.Loan s.state.book) x.start flight is.words is.kept
       (in_order x.start flight (stands_there (channel code slots queue) t s p x since flight found doing))
 
 -- a call of a loan channel goes on as its table says
@@ -101,7 +101,7 @@ orders code slots queue =
     }
 
 -- what is proved of every run of a loan channel
-pub loan_keeps : {T : Type 0} → Keeps T kinds.TheVariants.Loan
+pub loan_keeps : {T : Type 0} → Keeps T kinds.Loan
 loan_keeps {T} =
     record {
       kept = λ t is r.

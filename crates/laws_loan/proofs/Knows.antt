@@ -10,13 +10,15 @@ use Rattle.laws_loan.proofs.Names.{Ended, acquire_counts, acquire_number, releas
 use Rattle.laws_loan.proofs.Names.{release_number, KnowsOverflowPush, KnowsOverflowPop, KnowsBacks}
 use Rattle.laws_loan.proofs.Names.{overflow_push_number, overflow_pop_number, Core, in_one, KnowsPush, KnowsPop}
 use Rattle.laws_loan.proofs.Names.{push_number, pop_number}
-use Rattle.steps.specs.declared.indices.unique.ReleaseStage as releases
+use Rattle.steps.specs.declared.indices.unique.ReleaseStage.TheVariants as releases
 use Rattle.steps.specs.declared.loan.places.Place.TheVariants as places
-use Rattle.steps.specs.declared.loan.reclaim.ReclaimStage as reclaims
-use Rattle.steps.specs.declared.loan.send.SendStage as sends
-use Rattle.steps.specs.declared.loan.take_back.TakeBackStage as take_backs
-use Rattle.steps.specs.declared.queues.overflow.PushStage as overflow_pushes
-use Rattle.steps.specs.declared.queues.overflow.PopStage as overflow_pops
+use Rattle.steps.specs.declared.loan.reclaim.ReclaimStage.TheVariants as reclaims
+use Rattle.steps.specs.declared.loan.send.SendStage.TheVariants as sends
+use Rattle.steps.specs.declared.loan.take_back.TakeBackStage.TheVariants as take_backs
+use Rattle.steps.specs.declared.queues.overflow.PushStage.{PushStage}
+use Rattle.steps.specs.declared.queues.overflow.PushStage.TheVariants as overflow_pushes
+use Rattle.steps.specs.declared.queues.overflow.PopStage.{PopStage}
+use Rattle.steps.specs.declared.queues.overflow.PopStage.TheVariants as overflow_pops
 use Rattle.steps.specs.declared.queues.ring.PopStage as pops
 use Rattle.steps.specs.Queues.Ring.{cell_word}
 use Rattle.model.specs.declared.event.Start.TheVariants as starts
@@ -30,17 +32,17 @@ use Rattle.laws_loan.proofs.SetSteps.{TakesAt}
 -- ---- what the sender's call counts for in the head of the indices
 
 abbrev pub send_counts : SendStage → ℕ
-send_counts (sends.TheVariants.Pushes stage) = 0
-send_counts (sends.TheVariants.Releases index stage) = release_counts stage
+send_counts (sends.Pushes stage) = 0
+send_counts (sends.Releases index stage) = release_counts stage
 
 abbrev pub take_back_counts : TakeBackStage → ℕ
-take_back_counts (take_backs.TheVariants.Pops stage found) = 0
-take_back_counts (take_backs.TheVariants.Releases index stage) = release_counts stage
+take_back_counts (take_backs.Pops stage found) = 0
+take_back_counts (take_backs.Releases index stage) = release_counts stage
 
 abbrev pub reclaim_counts : ReclaimStage → ℕ
-reclaim_counts (reclaims.TheVariants.Drains stage) = 0
-reclaim_counts (reclaims.TheVariants.Empties stage) = 0
-reclaim_counts (reclaims.TheVariants.Releases number index stage) = release_counts stage
+reclaim_counts (reclaims.Drains stage) = 0
+reclaim_counts (reclaims.Empties stage) = 0
+reclaim_counts (reclaims.Releases number index stage) = release_counts stage
 
 abbrev pub counts : LoanFlight → ℕ
 counts (Loan run) = acquire_counts run.call.stage
@@ -54,21 +56,21 @@ counts (Reclaim call) = reclaim_counts call.stage
 -- ---- how many steps they have taken at most, having written this and turned back so often
 
 abbrev pub send_number : SendStage → ℕ
-send_number (sends.TheVariants.Pushes stage) = overflow_push_number stage
-send_number (sends.TheVariants.Releases index stage) = 6 + release_number stage 0
+send_number (sends.Pushes stage) = overflow_push_number stage
+send_number (sends.Releases index stage) = 6 + release_number stage 0
 
 abbrev pub take_back_number : TakeBackStage → ℕ
-take_back_number (take_backs.TheVariants.Pops stage found) = pop_number 1 stage
-take_back_number (take_backs.TheVariants.Releases index stage) = 4 + release_number stage 0
+take_back_number (take_backs.Pops stage found) = pop_number 1 stage
+take_back_number (take_backs.Releases index stage) = 4 + release_number stage 0
 
 module _ {T : Type 0} where
   -- of a reclaim each index costs so many steps: one handed out, one taken back, and one freed
   abbrev pub reclaim_number : ℕ → List (Event T) → ReclaimStage → ℕ
-  reclaim_number slots wrote (reclaims.TheVariants.Drains stage) =
+  reclaim_number slots wrote (reclaims.Drains stage) =
       4 * length (handed_out wrote) + overflow_pop_number stage
-  reclaim_number slots wrote (reclaims.TheVariants.Empties stage) =
+  reclaim_number slots wrote (reclaims.Empties stage) =
       4 * (slots + 1) + 4 * length (taken_back wrote) + pop_number 1 stage
-  reclaim_number slots wrote (reclaims.TheVariants.Releases number index stage) =
+  reclaim_number slots wrote (reclaims.Releases number index stage) =
       8 * (slots + 1) + 5 * number + release_number stage 0
 
   abbrev pub number_of : ℕ → List (Event T) → LoanFlight → ℕ → ℕ
@@ -93,42 +95,42 @@ module _ {T : Type 0} where
   send_of index = starts.Loan (calls.Send index)
 
   -- a push that has published over a full queue has acted once the read position has moved
-  abbrev pub push_wrote : ℕ → Core ℕ → ℕ → overflow_pushes.PushStage → List (Event T)
-  push_wrote queue k index overflow_pushes.TheVariants.HandsBack = []
-  push_wrote queue k index overflow_pushes.TheVariants.LoadsWrite = []
-  push_wrote queue k index (overflow_pushes.TheVariants.LoadsRead write) = []
-  push_wrote queue k index (overflow_pushes.TheVariants.StoresCell write read) = []
-  push_wrote queue k index (overflow_pushes.TheVariants.StoresWrite write read) = []
-  push_wrote queue k index (overflow_pushes.TheVariants.MovesRead read) =
+  abbrev pub push_wrote : ℕ → Core ℕ → ℕ → PushStage → List (Event T)
+  push_wrote queue k index overflow_pushes.HandsBack = []
+  push_wrote queue k index overflow_pushes.LoadsWrite = []
+  push_wrote queue k index (overflow_pushes.LoadsRead write) = []
+  push_wrote queue k index (overflow_pushes.StoresCell write read) = []
+  push_wrote queue k index (overflow_pushes.StoresWrite write read) = []
+  push_wrote queue k index (overflow_pushes.MovesRead read) =
       Published 0 (Index index)
       ∷ (if read == k.read then [] else Acted 0 (send_of index) PoppedNone ∷ [])
-  push_wrote queue k index (overflow_pushes.TheVariants.LoadsCell read) =
+  push_wrote queue k index (overflow_pushes.LoadsCell read) =
       Published 0 (Index index)
       ∷ HandedOut 0 (Index (get_or k.cells (read % (queue + 1)) 0))
       ∷ Acted 0 (send_of index) (PoppedIndex (get_or k.cells (read % (queue + 1)) 0))
       ∷ []
 
   abbrev pub send_wrote : ℕ → Core ℕ → ℕ → SendStage → List (Event T)
-  send_wrote queue k index (sends.TheVariants.Pushes stage) = push_wrote queue k index stage
-  send_wrote queue k index (sends.TheVariants.Releases oldest stage) =
+  send_wrote queue k index (sends.Pushes stage) = push_wrote queue k index stage
+  send_wrote queue k index (sends.Releases oldest stage) =
       Published 0 (Index index)
       ∷ HandedOut 0 (Index oldest)
       ∷ Acted 0 (send_of index) (PoppedIndex oldest)
       ∷ release_wrote 0 oldest stage
 
   abbrev pub take_back_wrote : TakeBackStage → List (Event T)
-  take_back_wrote (take_backs.TheVariants.Pops stage found) = []
-  take_back_wrote (take_backs.TheVariants.Releases index stage) =
+  take_back_wrote (take_backs.Pops stage found) = []
+  take_back_wrote (take_backs.Releases index stage) =
       TakenBack 0 index ∷ release_wrote 0 index stage
 
 -- ---- where a reclaim stands, during which nobody else moves a position
 
-abbrev pub DrainsAt : Core ℕ → overflow_pops.PopStage → Type 0
-DrainsAt k overflow_pops.TheVariants.FindsNone = ⊥
-DrainsAt k overflow_pops.TheVariants.LoadsRead = Unit {0}
-DrainsAt k (overflow_pops.TheVariants.LoadsWrite read) = read ≡ k.read
-DrainsAt k (overflow_pops.TheVariants.LoadsCell read) = (read ≡ k.read) × (k.read < k.write)
-DrainsAt k (overflow_pops.TheVariants.MovesRead read) = (read ≡ k.read) × (k.read < k.write)
+abbrev pub DrainsAt : Core ℕ → PopStage → Type 0
+DrainsAt k overflow_pops.FindsNone = ⊥
+DrainsAt k overflow_pops.LoadsRead = Unit {0}
+DrainsAt k (overflow_pops.LoadsWrite read) = read ≡ k.read
+DrainsAt k (overflow_pops.LoadsCell read) = (read ≡ k.read) × (k.read < k.write)
+DrainsAt k (overflow_pops.MovesRead read) = (read ≡ k.read) × (k.read < k.write)
 
 abbrev pub EmptiesAt : ℕ → Core ℕ → pops.PopStage → Type 0
 EmptiesAt slots k pops.TheVariants.LoadsRead = Unit {0}
@@ -139,20 +141,20 @@ EmptiesAt slots k (pops.TheVariants.StoresRead read) = (read ≡ k.read) × (k.r
 
 -- the index that is released was sent until its flag is cleared
 abbrev pub FreesAt : List Place → ℕ → ReleaseStage → Type 0
-FreesAt table index releases.TheVariants.ClearsFlag = place_at table index ≡ places.Sent
-FreesAt table index releases.TheVariants.LoadsHead = Unit {0}
-FreesAt table index (releases.TheVariants.StoresNext head) = Unit {0}
-FreesAt table index (releases.TheVariants.ExchangesHead head) = Unit {0}
-FreesAt table index releases.TheVariants.Subtracts = Unit {0}
+FreesAt table index releases.ClearsFlag = place_at table index ≡ places.Sent
+FreesAt table index releases.LoadsHead = Unit {0}
+FreesAt table index (releases.StoresNext head) = Unit {0}
+FreesAt table index (releases.ExchangesHead head) = Unit {0}
+FreesAt table index releases.Subtracts = Unit {0}
 
 -- with these two queues and this table: what it has written of the one kind and what still waits are no more than the slots,
 -- and none that was sent is behind it
 abbrev pub StageAt : {T : Type 0} → ℕ → Core ℕ → Core ℕ → List Place → List (Event T) → ReclaimStage → Type 0
-StageAt slots k m table wrote (reclaims.TheVariants.Drains stage) =
+StageAt slots k m table wrote (reclaims.Drains stage) =
     DrainsAt k stage × (length (handed_out wrote) + length k.waiting ≤ slots) × (taken_back wrote ≡ []) × (freed wrote ≡ [])
-StageAt slots k m table wrote (reclaims.TheVariants.Empties stage) =
+StageAt slots k m table wrote (reclaims.Empties stage) =
     EmptiesAt slots m stage × (length (taken_back wrote) + length m.waiting ≤ slots) × (freed wrote ≡ []) × (k.waiting ≡ [])
-StageAt slots k m table wrote (reclaims.TheVariants.Releases number index stage) =
+StageAt slots k m table wrote (reclaims.Releases number index stage) =
     FreesAt table index stage × (index < slots) × (number ≤ index)
     × (length (freed wrote) ≡ number + release_counts stage)
     × AllByRecursion (λ i. i < index + release_counts stage) (freed wrote)
@@ -168,32 +170,32 @@ module _ {T : Type 0} (slots queue : ℕ) (s : Channel T) where
 
   -- a release of an index that is in passing, until it clears the flag
   abbrev pub GivesAt : ℕ → ReleaseStage → Type 0
-  GivesAt index releases.TheVariants.ClearsFlag = Passes 0 index
-  GivesAt index releases.TheVariants.LoadsHead = index < slots
-  GivesAt index (releases.TheVariants.StoresNext head) = index < slots
-  GivesAt index (releases.TheVariants.ExchangesHead head) = index < slots
-  GivesAt index releases.TheVariants.Subtracts = index < slots
+  GivesAt index releases.ClearsFlag = Passes 0 index
+  GivesAt index releases.LoadsHead = index < slots
+  GivesAt index (releases.StoresNext head) = index < slots
+  GivesAt index (releases.ExchangesHead head) = index < slots
+  GivesAt index releases.Subtracts = index < slots
 
   -- a push of the submission queue: its index is in passing until it is published, and so is then the one that it takes out
-  abbrev pub PushAt : ℕ → overflow_pushes.PushStage → Type 0
-  PushAt index overflow_pushes.TheVariants.HandsBack = ⊥
-  PushAt index overflow_pushes.TheVariants.LoadsWrite = Passes 0 index
-  PushAt index (overflow_pushes.TheVariants.LoadsRead write) = Passes 0 index
-  PushAt index (overflow_pushes.TheVariants.StoresCell write read) = Passes 0 index
-  PushAt index (overflow_pushes.TheVariants.StoresWrite write read) = Passes 0 index
-  PushAt index (overflow_pushes.TheVariants.MovesRead read) = Unit {0}
-  PushAt index (overflow_pushes.TheVariants.LoadsCell read) =
+  abbrev pub PushAt : ℕ → PushStage → Type 0
+  PushAt index overflow_pushes.HandsBack = ⊥
+  PushAt index overflow_pushes.LoadsWrite = Passes 0 index
+  PushAt index (overflow_pushes.LoadsRead write) = Passes 0 index
+  PushAt index (overflow_pushes.StoresCell write read) = Passes 0 index
+  PushAt index (overflow_pushes.StoresWrite write read) = Passes 0 index
+  PushAt index (overflow_pushes.MovesRead read) = Unit {0}
+  PushAt index (overflow_pushes.LoadsCell read) =
       Passes 0 (get_or s.submission.cells (read % (queue + 1)) 0)
 
   abbrev pub SendAt : ℕ → SendStage → Type 0
-  SendAt index (sends.TheVariants.Pushes stage) =
+  SendAt index (sends.Pushes stage) =
       KnowsOverflowPush queue s.submission index stage × PushAt index stage
-  SendAt index (sends.TheVariants.Releases oldest stage) = GivesAt oldest stage
+  SendAt index (sends.Releases oldest stage) = GivesAt oldest stage
 
   abbrev pub TakeBackAt : TakeBackStage → Type 0
-  TakeBackAt (take_backs.TheVariants.Pops stage found) =
+  TakeBackAt (take_backs.Pops stage found) =
       KnowsPop one_word slots s.completion (in_one found) stage
-  TakeBackAt (take_backs.TheVariants.Releases index stage) = GivesAt index stage
+  TakeBackAt (take_backs.Releases index stage) = GivesAt index stage
 
   pub record ReclaimAt (wrote : List (Event T)) (stage : ReclaimStage) : Type 0 where
     pub dead : has_died s.book.receiver s.book.dead ≡ true

@@ -6,12 +6,12 @@ use Rattle.laws_loan.proofs.Names.{refusal_of, first_row, old_of, after_turn, Is
 use Rattle.laws_loan.proofs.Names.{capacity_error, queue_error, Each-nil, passes, asked, StandsThere, stands_there}
 use Rattle.laws_loan.proofs.Names.{comes_from}
 use native.Mathlib.Omega.{arith}
-use Rattle.model.specs.declared.event.Start as starts
-use Rattle.model.specs.declared.families.Flight as flights
-use Rattle.model.specs.declared.families.Registry as registries
+use Rattle.model.specs.declared.event.Start.TheVariants as starts
+use Rattle.model.specs.declared.families.Flight.TheVariants as flights
+use Rattle.model.specs.declared.families.Registry.TheVariants as registries
 use Rattle.model.specs.declared.families.loan.LoanStart.TheVariants as calls
 use Rattle.model.specs.declared.families.loan.calls.LoanFlight.TheVariants.{Loan}
-use Rattle.model.specs.declared.turn.Kind as kinds
+use Rattle.model.specs.declared.turn.Kind.TheVariants as kinds
 use Rattle.model.specs.Families.Loan.Calls as rows
 use Rattle.model.specs.Parties.{party_of}
 use Rattle.model.proofs.Frame as frame
@@ -43,8 +43,8 @@ module _ {T : Type 0} (code : Coding T) (slots queue : ℕ) (t : Trace T)
   -- where it stands there it comes so on
   abbrev Goes : ℕ → LoanStart → LoanFlight → Type 0
   Goes p start flight =
-      Stands code slots queue t sound small x since p (starts.TheVariants.Loan start) (flights.TheVariants.Loan flight)
-      → Comes code slots queue t sound small x since p (starts.TheVariants.Loan start) (flights.TheVariants.Loan flight)
+      Stands code slots queue t sound small x since p (starts.Loan start) (flights.Loan flight)
+      → Comes code slots queue t sound small x since p (starts.Loan start) (flights.Loan flight)
 
   call_comes : (p : ℕ) (start : LoanStart) (flight : LoanFlight) → has_died (rows.party_of flight) sound.state.book.dead ≡ false → Goes p start flight
   call_comes p calls.Loan (Loan run) alive there =
@@ -88,7 +88,7 @@ module _ {T : Type 0} (code : Coding T) (slots queue : ℕ) (t : Trace T)
   comes : (p : ℕ) (start : Start T) (flight : Flight T)
       → first_row (going_rows t.world.coding t.world.kept (Some flight) None) ≡ None
       → StandsThere (channel code slots queue) t sound p x since start flight
-      → ComesFrom (channel code slots queue) t sound p x since code (words_in sound.state) (registries.TheVariants.Loan sound.state.book) start flight
+      → ComesFrom (channel code slots queue) t sound p x since code (words_in sound.state) (registries.Loan sound.state.book) start flight
   comes x0 x1 x2 x3 x4 = grind (arith, call_comes, lives)
 
   step_comes : (p : ℕ) (flight : Flight T)
@@ -97,7 +97,7 @@ module _ {T : Type 0} (code : Coding T) (slots queue : ℕ) (t : Trace T)
       → frame.ComesByStep (channel code slots queue) t p x flight since (asked t.world.coding flight) (old_of t.world.words (asked t.world.coding flight))
   step_comes p flight r found doing =
       let is = kept_is t.world.kept t.world.words sound.state sound.fit in
-      comes_from (channel code slots queue) t sound p x since (words_in sound.state) (registries.TheVariants.Loan sound.state.book) flight is.words is.kept
+      comes_from (channel code slots queue) t sound p x since (words_in sound.state) (registries.Loan sound.state.book) flight is.words is.kept
       (comes p x.start flight r (stands_there (channel code slots queue) t sound p x since flight found doing))
 
 module _ {T : Type 0} (code : Coding T) (slots queue : ℕ) where
@@ -118,7 +118,7 @@ module _ {T : Type 0} (code : Coding T) (slots queue : ℕ) where
       }
 
 -- a machine that was reached is a sound one of some second number, its dead do nothing more, and its table is right
-pub reached : {T : Type 0} (t : Trace T) → t.world.kind ≡ kinds.TheVariants.Loan → IsReached t
+pub reached : {T : Type 0} (t : Trace T) → t.world.kind ≡ kinds.Loan → IsReached t
     → (queue : ℕ) × frame.Sound (family t.world.coding t.world.capacity queue) t × Each LivesRight t.events × IsTabled t
 reached {T} t is r = kept_by_runs IsSound keeps t first r
   where

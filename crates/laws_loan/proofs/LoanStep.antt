@@ -5,11 +5,11 @@ use Rattle.laws_loan.proofs.Names.{acquire_goes_back, went_on, Answer, LoanFligh
 use Rattle.laws_loan.proofs.Names.{Open, span_of, as_call, old_of, words_after, Trace}
 use Rattle.std.proofs.Common.{arith}
 use Rattle.steps.specs.declared.ask.After.TheVariants.{Done}
-use Rattle.steps.specs.declared.indices.enums.UniqueIndexSetAcquireFailure as failures
+use Rattle.steps.specs.declared.indices.enums.UniqueIndexSetAcquireFailure.TheVariants as failures
 use Rattle.steps.specs.declared.indices.unique.Acquire as acquire_calls
 use Rattle.model.specs.declared.event.Answer.TheVariants as answers
-use Rattle.model.specs.declared.event.Start as starts
-use Rattle.model.specs.declared.families.Flight as flights
+use Rattle.model.specs.declared.event.Start.TheVariants as starts
+use Rattle.model.specs.declared.families.Flight.TheVariants as flights
 use Rattle.model.specs.declared.families.loan.LoanStart.TheVariants as calls
 use Rattle.model.specs.declared.families.loan.calls.LoanFlight.TheVariants.{Loan}
 use Rattle.model.specs.declared.families.loan.effects.Effect.TheVariants as effects
@@ -30,8 +30,8 @@ loaned_after T acquire = as_call Loan acquire_answer (went_on as_it_is tt tt acq
 module _ {T : Type 0} (code : Coding T) (slots queue : ℕ) (t : Trace T)
     (sound : frame.Sound (channel code slots queue) t) (small : t.world.turns < 2 ^ 64 - 2) (x : Party T) (since : ℕ)
     (stage : AcquireStage)
-    (there : Stands code slots queue t sound small x since 0 (starts.TheVariants.Loan calls.Loan)
-    (flights.TheVariants.Loan (loan_at slots stage))) where
+    (there : Stands code slots queue t sound small x since 0 (starts.Loan calls.Loan)
+    (flights.Loan (loan_at slots stage))) where
   abbrev ask : Option Ask
   ask = ask_of (acquire_asks slots stage)
 
@@ -41,7 +41,7 @@ module _ {T : Type 0} (code : Coding T) (slots queue : ℕ) (t : Trace T)
   abbrev words_then : List ℕ
   words_then = words_after sound.state.set ask
 
-  from : span_of 0 sound.state.events ≡ Open (starts.TheVariants.Loan calls.Loan) []
+  from : span_of 0 sound.state.events ≡ Open (starts.Loan calls.Loan) []
   from = grind arith
 
   abbrev With : Bool → After LoanFlight (Answer T) → Type 0
@@ -68,17 +68,17 @@ module _ {T : Type 0} (code : Coding T) (slots queue : ℕ) (t : Trace T)
             l.0 l.2 l.3,
         refl,
       )
-  leads_on (Done (Err failures.TheVariants.OutOfIndices)) l =
+  leads_on (Done (Err failures.OutOfIndices)) l =
       from_step code slots queue t sound small x since calls.Loan ask
-      (Done (answers.NoIndex failures.TheVariants.OutOfIndices)) effects.Claims _ [] from (
+      (Done (answers.NoIndex failures.OutOfIndices)) effects.Claims _ [] from (
         fails_steps code slots queue sound.state t.world.latest t.world.turns t.world.changes since x
             (holds_now code slots queue t sound x since) stage there.found there.at.3 from there.steps there.knows l.0 l.1
             l.2,
         refl,
       )
-  leads_on (Done (Err failures.TheVariants.IsLocked)) l = absurd l
+  leads_on (Done (Err failures.IsLocked)) l = absurd l
 
-  pub loan_acquires : Comes code slots queue t sound small x since 0 (starts.TheVariants.Loan calls.Loan) (flights.TheVariants.Loan (loan_at slots stage))
+  pub loan_acquires : Comes code slots queue t sound small x since 0 (starts.Loan calls.Loan) (flights.Loan (loan_at slots stage))
   loan_acquires =
       let does =
       step code slots queue sound.state t.world.latest t.world.turns t.world.changes since x

@@ -6,11 +6,11 @@ use Rattle.laws_loan.proofs.Names.{Free, Passing, With, spot_of, book_after, Ope
 use Rattle.laws_loan.proofs.Names.{step_count, holder, acquire_counts, acquire_number, append-nil}
 use Rattle.std.proofs.Common.{get_or-set_same, arith}
 use Rattle.steps.specs.declared.ask.After.TheVariants.{Done}
-use Rattle.steps.specs.declared.indices.enums.UniqueIndexSetAcquireFailure as failures
+use Rattle.steps.specs.declared.indices.enums.UniqueIndexSetAcquireFailure.TheVariants as failures
 use Rattle.steps.specs.declared.loan.places.Place.TheVariants as places
 use Rattle.model.specs.declared.event.Answer.TheVariants as answers
 use Rattle.model.specs.declared.event.Start.TheVariants as starts
-use Rattle.model.specs.declared.families.Flight as flights
+use Rattle.model.specs.declared.families.Flight.TheVariants as flights
 use Rattle.model.specs.declared.families.loan.LoanStart.TheVariants as calls
 use Rattle.model.specs.declared.families.loan.calls.LoanFlight.TheVariants.{Loan}
 use Rattle.laws_indices.proofs.Core as indices
@@ -41,7 +41,7 @@ one_step x0 x1 = grind arith
 
 module _ {T : Type 0} (code : Coding T) (slots queue : ℕ) (s : Channel T) (latest : List (ℕ × Party T))
     (turns changes since : ℕ) (x : Party T) (h : HoldsNow slots queue s latest s.events turns) (stage : AcquireStage)
-    (here : sends_at latest ≡ Some (flights.TheVariants.Loan (loan_at slots stage))) (takes : TakesAt slots s.set stage)
+    (here : sends_at latest ≡ Some (flights.Loan (loan_at slots stage))) (takes : TakesAt slots s.set stage)
     (from : span_of 0 s.events ≡ Open (starts.Loan calls.Loan) []) (few : x.steps ≤ acquire_number slots stage 0) (straight : x.backs ≡ 0) where
   abbrev ask : Option Ask
   ask = ask_of (acquire_asks slots stage)
@@ -85,7 +85,7 @@ module _ {T : Type 0} (code : Coding T) (slots queue : ℕ) (s : Channel T) (lat
   module _ (good : indices.Good slots words_then s.claims 0) (all : (i : ℕ) → i < slots → holder s.claims i ≢ None)
       (low : acquire_number slots stage 0 + 1 ≤ 4 + slots) where
     abbrev none_left : Answer T
-    none_left = answers.NoIndex failures.TheVariants.OutOfIndices
+    none_left = answers.NoIndex failures.OutOfIndices
 
     abbrev s_fails : Channel T
     s_fails = record s { set = words_then; claims = s.claims; book = s.book; events = s.events ++ Finished 0 (starts.Loan calls.Loan) none_left ∷ [] }

@@ -7,9 +7,9 @@ use Rattle.laws_loan.proofs.Names.{step_count, party_at_begin, Trace, flight_in,
 use Rattle.laws_loan.proofs.Names.{after_answer, events_of_next, events_of_answer, refusal_of, call_refusal}
 use Rattle.laws_loan.proofs.Names.{passes, may_begin, next_passes, doing_of, flight_of, AllByRecursion, [], ◌∷◌}
 use Rattle.std.proofs.Common.{cond, arith, is_none}
-use Rattle.model.specs.declared.families.Registry as registries
+use Rattle.model.specs.declared.families.Registry.TheVariants as registries
 use Rattle.model.specs.declared.party.Doing.TheVariants.{Going, Over}
-use Rattle.model.specs.declared.turn.Kind as kinds
+use Rattle.model.specs.declared.turn.Kind.TheVariants as kinds
 use Rattle.model.specs.LockFree.{ends, steps_of, steps_in, AreWithinEnds, HasLockFreeRuns}
 use Rattle.model.specs.Parties.{party_of}
 use Rattle.model.specs.Promises.Turns.{ask_of_flight}
@@ -51,8 +51,8 @@ module _ {T : Type 0} where
 
   -- a begin leaves the receiver and who has died
   begun_same : (code : Coding T) (slots : ℕ) (start : Start T) (p : ℕ) (book : Book)
-      → (receiver_in (kept_after_begin code slots start p (registries.TheVariants.Loan book)) ≡ book.receiver)
-      × (is_lost (kept_after_begin code slots start p (registries.TheVariants.Loan book)) ≡ has_died book.receiver book.dead)
+      → (receiver_in (kept_after_begin code slots start p (registries.Loan book)) ≡ book.receiver)
+      × (is_lost (kept_after_begin code slots start p (registries.Loan book)) ≡ has_died book.receiver book.dead)
   begun_same x0 x1 x2 x3 x4 = grind arith
 
 -- who was dead stays so
@@ -223,14 +223,14 @@ module _ {T : Type 0} where
           let passed = passes t.world turn e in
           frame.turn_sound (channel code slots queue) (λ t turn. t.world.turns < 2 ^ 64 - 2) (laws code slots queue) t turn passed.on passed.turns h
 
-  pub channel_keeps_ending : KeepsEndingRuns T kinds.TheVariants.Loan channel_bound
+  pub channel_keeps_ending : KeepsEndingRuns T kinds.Loan channel_bound
   channel_keeps_ending t is h turns allowed =
       let there = reached t is h in
       runs_end refusal_of any_turn (P t.world.coding t.world.capacity there.0)
       (weighs t.world.coding t.world.capacity there.0) t there.1 turns allowed (any_turns turns)
 
   -- in more steps than the bound one call ends
-  pub channel_one_ends : HasLockFreeRuns T kinds.TheVariants.Loan channel_bound
+  pub channel_one_ends : HasLockFreeRuns T kinds.Loan channel_bound
   channel_one_ends t is h turns allowed many = ⊎_elim (λ less. less) none (cases_lt (ends t.events) (ends (after_turns t turns).events))
     where
       within : AreWithinEnds (13 * t.world.capacity + 11) (steps_in t turns) (ends t.events) (ends (after_turns t turns).events)

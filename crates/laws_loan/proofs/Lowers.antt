@@ -13,9 +13,9 @@ use Rattle.laws_loan.proofs.Names.{Pop, OneWord, submission_word, acquire_number
 use Rattle.std.proofs.Common.{cond, arith}
 use Rattle.steps.specs.Loan.TakeBack.{take_back_asks}
 use Rattle.steps.specs.declared.ask.After.TheVariants.{Done}
-use Rattle.model.specs.declared.event.Start as starts
-use Rattle.model.specs.declared.families.Flight as flights
-use Rattle.model.specs.declared.families.Registry as registries
+use Rattle.model.specs.declared.event.Start.TheVariants as starts
+use Rattle.model.specs.declared.families.Flight.TheVariants as flights
+use Rattle.model.specs.declared.families.Registry.TheVariants as registries
 use Rattle.model.specs.declared.families.loan.LoanStart.TheVariants as calls
 use Rattle.model.specs.declared.families.loan.calls.LoanFlight.TheVariants.{Loan}
 use Rattle.model.specs.declared.party.Doing.TheVariants.{Going}
@@ -105,7 +105,7 @@ module _ {T : Type 0} (code : Coding T) (slots queue : ℕ) where
     abbrev pub dead : Bool
     dead = has_died r s.book.dead
 
-    pub is_kept : t.world.kept ≡ registries.TheVariants.Loan s.book
+    pub is_kept : t.world.kept ≡ registries.Loan s.book
     is_kept = (kept_is t.world.kept t.world.words s sound.fit).kept
 
     -- no sender is the receiver
@@ -152,11 +152,11 @@ module _ {T : Type 0} (code : Coding T) (slots queue : ℕ) where
         pub side : Sends flight st ⊎ Receives flight st
 
       abbrev loan_step : LoanStart → LoanFlight → Step (Flight T) (Registry T) T
-      loan_step start flight = step_there (registries.TheVariants.Loan s.book) (starts.TheVariants.Loan start) (flights.TheVariants.Loan flight)
+      loan_step start flight = step_there (registries.Loan s.book) (starts.Loan start) (flights.Loan flight)
 
       abbrev book_then : LoanStart → LoanFlight → Book
       book_then start flight =
-          (step {T = T} t.world.words (beside_of {T = T} t.world.words (registries.TheVariants.Loan s.book) t.world.latest p) p start flight
+          (step {T = T} t.world.words (beside_of {T = T} t.world.words (registries.Loan s.book) t.world.latest p) p start flight
           (old_of t.world.words (ask_of (want flight))) s.book).kept
 
       same_book : (start : LoanStart) (flight : LoanFlight) (next : Flight T) → (loan_step start flight).after ≡ GoOn next
@@ -167,21 +167,21 @@ module _ {T : Type 0} (code : Coding T) (slots queue : ℕ) where
               → (receiver_in (loan_step start flight).kept ≡ r) × (is_lost (loan_step start flight).kept ≡ dead)
           go (GoOn on) told =
               let stays =
-              book_goes_on {T = T} t.world.words (beside_of {T = T} t.world.words (registries.TheVariants.Loan s.book) t.world.latest p) p start
+              book_goes_on {T = T} t.world.words (beside_of {T = T} t.world.words (registries.Loan s.book) t.world.latest p) p start
               flight on (old_of t.world.words (ask_of (want flight))) s.book told in
               (stays.0, ap (λ q. has_died q (book_then start flight).dead) stays.0 ∙ ap (λ ds. has_died r ds) stays.1)
           go (Done answer) told =
               let over : (loan_step start flight).after ≡ Done answer =
-              ap (λ a. as_call flights.TheVariants.Loan (λ answer. answer) a) told in
+              ap (λ a. as_call flights.Loan (λ answer. answer) a) told in
               absurd (cc)
 
       module _ (x : Party T) (since : ℕ) (same_steps : x.steps ≡ steps) where
         abbrev Stands : LoanStart → LoanFlight → Type 0
         Stands start flight =
-            StandsThere (channel code slots queue) t sound p x since (starts.TheVariants.Loan start) (flights.TheVariants.Loan flight)
+            StandsThere (channel code slots queue) t sound p x since (starts.Loan start) (flights.Loan flight)
 
         abbrev SaysOf : LoanStart → LoanFlight → Type 0
-        SaysOf start flight = Says (flights.TheVariants.Loan flight) (loan_step start flight)
+        SaysOf start flight = Says (flights.Loan flight) (loan_step start flight)
 
         abbrev CostsOf : LoanFlight → Type 0
         CostsOf flight = CallCosts T slots queue some few fits t.world.words s.book.places flight
@@ -192,7 +192,7 @@ module _ {T : Type 0} (code : Coding T) (slots queue : ℕ) where
 
         -- which leaves the read position
         keeps : (start : LoanStart) (flight : LoanFlight) → p ≡ 0 → Keeps slots t.world.words (ask_of (want flight))
-            → allowance {T = T} slots (flights.TheVariants.Loan flight) ≡ most_sending slots → SaysOf start flight
+            → allowance {T = T} slots (flights.Loan flight) ≡ most_sending slots → SaysOf start flight
         keeps start flight mine stays is =
             sends start flight mine
             (any_costs T slots queue some few fits t.world.words flight
@@ -282,8 +282,8 @@ module _ {T : Type 0} (code : Coding T) (slots queue : ℕ) where
 
         says : (start : Start T) (flight : Flight T) → first_row (going_rows t.world.coding t.world.kept (Some flight) None) ≡ None
             → StandsThere (channel code slots queue) t sound p x since start flight
-            → Says flight (step_there (registries.TheVariants.Loan s.book) start flight)
-        says (starts.TheVariants.Loan start) (flights.TheVariants.Loan flight) passed there =
+            → Says flight (step_there (registries.Loan s.book) start flight)
+        says (starts.Loan start) (flights.Loan flight) passed there =
             call_says start flight (lives code slots queue t sound flight None passed) there
         says start flight passed there = absurd there.at
 
@@ -297,7 +297,7 @@ module _ {T : Type 0} (code : Coding T) (slots queue : ℕ) where
     module _ (s' : Channel T) where
       sender_few : (p backs : ℕ) (wrote : List (Event T)) (start : LoanStart) (flight : LoanFlight) → p ≡ 0
           → At slots queue s' p wrote start flight
-          → knows.number_of slots wrote flight backs ≤ allowance {T = T} slots (flights.TheVariants.Loan flight)
+          → knows.number_of slots wrote flight backs ≤ allowance {T = T} slots (flights.Loan flight)
       sender_few p backs wrote calls.Loan (Loan run) mine at = acquire_few at.3
         where
           acquire_few : TakesAt slots s'.set run.call.stage → acquire_number slots run.call.stage 0 ≤ most_sending slots
@@ -325,7 +325,7 @@ module _ {T : Type 0} (code : Coding T) (slots queue : ℕ) where
 
       few_any : (p backs : ℕ) (start : Start T) (flight : Flight T) → p ≡ 0 → (channel code slots queue).At s' p start flight
           → (channel code slots queue).number ((channel code slots queue).written s' p flight) flight backs ≤ allowance slots flight
-      few_any p backs (starts.TheVariants.Loan start) (flights.TheVariants.Loan flight) mine at = sender_few p backs _ start flight mine at
+      few_any p backs (starts.Loan start) (flights.Loan flight) mine at = sender_few p backs _ start flight mine at
       few_any p backs start flight mine at = absurd at
 
     module _ (p : ℕ) (x : Party T) (flight : Flight T) (since : ℕ) (found : party_of p t.world.latest ≡ Some x)

@@ -2,7 +2,7 @@
 use Rattle.laws_loan.proofs.Names.{◌≡◌, ℕ, ◌^◌, ◌<◌, ◌≤◌, None, [], refl, locked, Coding, Free, Passing, opened}
 use Rattle.laws_loan.proofs.Names.{capacity_error, queue_error, Each-nil}
 use Rattle.std.proofs.Common.{arith}
-use Rattle.model.specs.declared.turn.Kind as kinds
+use Rattle.model.specs.declared.turn.Kind.TheVariants as kinds
 use Rattle.model.proofs.Frame as frame
 use Rattle.laws_loan.proofs.Channel as channels
 use Rattle.laws_loan.proofs.Channel.{opening_fits, opening_holds}
@@ -11,10 +11,10 @@ use Rattle.laws_loan.proofs.Told.{Told}
 
 -- ---- numbers that are admitted
 
-pub slots_are : (c : ℕ) → capacity_error kinds.TheVariants.Loan c ≡ None → (1 ≤ c) × (c < locked)
+pub slots_are : (c : ℕ) → capacity_error kinds.Loan c ≡ None → (1 ≤ c) × (c < locked)
 slots_are x0 x1 = grind arith
 
-pub queue_is : (c : ℕ) → queue_error kinds.TheVariants.Loan c ≡ None → (1 ≤ c) × (c < 2 ^ 32)
+pub queue_is : (c : ℕ) → queue_error kinds.Loan c ≡ None → (1 ≤ c) × (c < 2 ^ 32)
 queue_is x0 x1 = grind arith
 
 -- ---- the opening
@@ -41,7 +41,7 @@ module _ {T : Type 0} where
           passing = λ index p e. let never : Free ≡ Passing p = e in absurd (cc);
         }
 
-    pub opening_sound : (code : Coding T) (parties : ℕ) → frame.Sound (family code slots queue) (opened code kinds.TheVariants.Loan slots queue parties)
+    pub opening_sound : (code : Coding T) (parties : ℕ) → frame.Sound (family code slots queue) (opened code kinds.Loan slots queue parties)
     opening_sound code parties =
         record {
           coding = refl;

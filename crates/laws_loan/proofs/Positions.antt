@@ -3,7 +3,7 @@ use Rattle.laws_loan.proofs.Names.{◌≡◌, ℕ, ◌+◌, ◌-◌, ◌^◌, �
 use Rattle.laws_loan.proofs.Names.{◌∙◌, get_or-append-add, Exchange, submission_word, shifted, move, after_position}
 use Rattle.laws_loan.proofs.Names.{ask_of, read_word, AddsOne, old_of, words_after, layout}
 use Rattle.std.proofs.Common.{arith}
-use Rattle.steps.specs.declared.queues.overflow.PushStage as pushes
+use Rattle.steps.specs.declared.queues.overflow.PushStage.TheVariants as pushes
 use Rattle.steps.specs.Queues.Overflow.{push_asks}
 use Rattle.laws_loan.proofs.Channel.{Channel, Holds, no_roles, words_in}
 use Rattle.laws_loan.proofs.Parts.{set_long, submission_long, submission_old, submission_words}
@@ -28,11 +28,11 @@ module _ {T : Type 0} (slots queue : ℕ) (s : Channel T) (busy : ℕ) (h : Hold
   -- the store of a push's next write position
   pub adds_write : (read index : ℕ)
       → AddsOne (submission_word slots) (words_in s)
-      (ask_of (shifted (submission_word slots) (push_asks queue (pushes.TheVariants.StoresWrite s.submission.write read) index)))
+      (ask_of (shifted (submission_word slots) (push_asks queue (pushes.StoresWrite s.submission.write read) index)))
   adds_write read index =
       let on : 0 < length queued = (let two = within in omega arith) in
       let words =
-      submission_words slots queue s busy h (push_asks queue (pushes.TheVariants.StoresWrite s.submission.write read) index) on
+      submission_words slots queue s busy h (push_asks queue (pushes.StoresWrite s.submission.write read) index) on
       ∙ ap (λ ws. s.set ++ (ws ++ behind)) (publish_words queue h.some h.few s.submission h.submission reached index)
       in
       ap (λ ws. get_or ws (submission_word slots) 0) words

@@ -9,10 +9,11 @@ use Rattle.laws_loan.proofs.Names.{own_after, span_of, change_of, AreOwn, AllFol
 use Rattle.laws_loan.proofs.Names.{publish_keeps_pop, Core, Holds}
 use Rattle.std.proofs.Common.{arith}
 use Rattle.steps.specs.declared.ask.After.TheVariants.{Done}
-use Rattle.steps.specs.declared.queues.overflow.PushStage as pushes
+use Rattle.steps.specs.declared.queues.overflow.PushStage.{PushStage}
+use Rattle.steps.specs.declared.queues.overflow.PushStage.TheVariants as pushes
 use Rattle.model.specs.declared.event.Answer.TheVariants as answers
 use Rattle.model.specs.declared.event.Start.TheVariants as starts
-use Rattle.model.specs.declared.families.Flight as flights
+use Rattle.model.specs.declared.families.Flight.TheVariants as flights
 use Rattle.model.specs.declared.families.loan.LoanStart.TheVariants as calls
 use Rattle.model.specs.declared.families.loan.effects.Effect.TheVariants as effects
 use Rattle.model.proofs.Frame as frame
@@ -37,7 +38,7 @@ module _ {T : Type 0} (code : Coding T) (slots queue : ℕ) (s : Channel T) (lat
     (turns changes since : ℕ) (x : Party T) (h : HoldsNow slots queue s latest s.events turns)
     (small : turns < 2 ^ 64 - 2) (index : ℕ) (straight : x.backs ≡ 0) (read : ℕ)
     (here : sends_at latest
-    ≡ Some (flights.TheVariants.Loan (pushes_at slots queue (pushes.TheVariants.StoresWrite s.submission.write read) index)))
+    ≡ Some (flights.Loan (pushes_at slots queue (pushes.StoresWrite s.submission.write read) index)))
     (passes : Passes slots queue s 0 index)
     (from : span_of 0 s.events ≡ Open (starts.Loan (calls.Send index)) []) where
   abbrev channel : frame.Family T
@@ -46,8 +47,8 @@ module _ {T : Type 0} (code : Coding T) (slots queue : ℕ) (s : Channel T) (lat
   abbrev call : Start T
   call = starts.Loan (calls.Send index)
 
-  abbrev stage : pushes.PushStage
-  stage = pushes.TheVariants.StoresWrite s.submission.write read
+  abbrev stage : PushStage
+  stage = pushes.StoresWrite s.submission.write read
 
   abbrev k : Core ℕ
   k = published 1 words_of_index (queue + 1) s.submission index
@@ -205,14 +206,14 @@ module _ {T : Type 0} (code : Coding T) (slots queue : ℕ) (s : Channel T) (lat
   no_tail = grind arith
 
   abbrev waits_at : LoanFlight
-  waits_at = pushes_at slots queue (pushes.TheVariants.MovesRead read) index
+  waits_at = pushes_at slots queue (pushes.MovesRead read) index
 
   one_longer : length k.waiting ≡ length s.submission.waiting + 1
   one_longer = length-append s.submission.waiting (index ∷ [])
 
   -- a push that stands before its move
   waits_here : (tail wrote : List (Event T)) → span_of 0 (s.events ++ publishes ∷ tail) ≡ Open call wrote
-      → wrote ≡ push_wrote queue k index (pushes.TheVariants.MovesRead read) → read ≤ s.submission.read
+      → wrote ≡ push_wrote queue k index (pushes.MovesRead read) → read ≤ s.submission.read
       → s.submission.write ≡ read + queue → x.steps ≤ 3
       → frame.Fits channel (s_then tail) 0 (Some (party (GoOn waits_at))) (Open call wrote)
   waits_here x0 x1 x2 x3 x4 x5 x6 = grind arith
@@ -233,8 +234,8 @@ module _ {T : Type 0} (code : Coding T) (slots queue : ℕ) (s : Channel T) (lat
         let longer = one_longer in
         let t : (read == s.submission.read) ≡ false = grind (arith, nat_tests) in
         let few : length k.waiting ≤ queue = omega arith in
-        let hangs : Hangs queue k (hung {T = T} s.submission.read (Some (flights.TheVariants.Loan waits_at))) = rw t few in
-        let told : publishes ∷ acts ∷ [] ≡ push_wrote queue k index (pushes.TheVariants.MovesRead read) = rw t refl in (
+        let hangs : Hangs queue k (hung {T = T} s.submission.read (Some (flights.Loan waits_at))) = rw t few in
+        let told : publishes ∷ acts ∷ [] ≡ push_wrote queue k index (pushes.MovesRead read) = rw t refl in (
           publishing (acts ∷ []) acts_tail cell (GoOn waits_at) refl hangs (acts_tells less)
               (waits_here (acts ∷ []) (publishes ∷ acts ∷ []) (span_then (acts ∷ []) acts_tail) told (omega arith) far steps)
               (omega arith),
@@ -245,8 +246,8 @@ module _ {T : Type 0} (code : Coding T) (slots queue : ℕ) (s : Channel T) (lat
         → s.submission.write ≡ read + queue → To (s_then []) (GoOn waits_at) (effects.Publishes index)
     publishes_over full same far =
         let t : (read == s.submission.read) ≡ true = grind (arith, nat_tests) in
-        let hangs : Hangs queue k (hung {T = T} s.submission.read (Some (flights.TheVariants.Loan waits_at))) = rw t (s.submission.waiting, refl, full) in
-        let told : publishes ∷ [] ≡ push_wrote queue k index (pushes.TheVariants.MovesRead read) = rw t refl in (
+        let hangs : Hangs queue k (hung {T = T} s.submission.read (Some (flights.Loan waits_at))) = rw t (s.submission.waiting, refl, full) in
+        let told : publishes ∷ [] ≡ push_wrote queue k index (pushes.MovesRead read) = rw t refl in (
           publishing [] no_tail cell (GoOn waits_at) refl hangs (waits_tells full)
               (waits_here [] (publishes ∷ []) (span_then [] no_tail) told (omega arith) far steps)
               (omega arith),

@@ -8,11 +8,11 @@ use Rattle.laws_loan.proofs.Names.{effects_of, sent_at, Open, span_of, old_of, T
 use Rattle.std.proofs.Common.{arith}
 use Rattle.steps.specs.declared.ask.After.TheVariants.{Done}
 use Rattle.steps.specs.declared.queues.overflow.PopStage.{PopStage}
-use Rattle.steps.specs.declared.queues.overflow.PopStage as pops
+use Rattle.steps.specs.declared.queues.overflow.PopStage.TheVariants as pops
 use Rattle.steps.specs.Queues.Overflow.{cell_word, pop_asks}
 use Rattle.model.specs.declared.event.Answer.TheVariants as answers
-use Rattle.model.specs.declared.event.Start as starts
-use Rattle.model.specs.declared.families.Flight as flights
+use Rattle.model.specs.declared.event.Start.TheVariants as starts
+use Rattle.model.specs.declared.families.Flight.TheVariants as flights
 use Rattle.model.specs.declared.families.loan.LoanStart.TheVariants as calls
 use Rattle.model.specs.declared.families.loan.effects.Effect.TheVariants as effects
 use Rattle.model.proofs.Frame as frame
@@ -40,10 +40,10 @@ module _ {T : Type 0} (code : Coding T) (slots queue : ℕ) (t : Trace T)
   -- ---- it takes an index out
 
   module _ (p : ℕ) (room : OneWord) (alive : has_died p s.book.dead ≡ false)
-      (there : Stands code slots queue t sound small x since p (starts.TheVariants.Loan calls.Receive)
-      (flights.TheVariants.Loan (receive_at slots queue p (pops.TheVariants.MovesRead s.submission.read) room))) where
+      (there : Stands code slots queue t sound small x since p (starts.Loan calls.Receive)
+      (flights.Loan (receive_at slots queue p (pops.MovesRead s.submission.read) room))) where
     abbrev stage : PopStage
-    stage = pops.TheVariants.MovesRead s.submission.read
+    stage = pops.MovesRead s.submission.read
 
     abbrev asks : Option Ask
     asks = ask_of (shifted (submission_word slots) (pop_asks queue stage))
@@ -64,7 +64,7 @@ module _ {T : Type 0} (code : Coding T) (slots queue : ℕ) (t : Trace T)
     With back after effect =
         ComesBy code slots queue t sound x since p calls.Receive asks back after effect
 
-    from : span_of p s.events ≡ Open (starts.TheVariants.Loan calls.Receive) []
+    from : span_of p s.events ≡ Open (starts.Loan calls.Receive) []
     from = grind arith
 
     takes : With false (Done (answers.PoppedIndex room.0)) (effects.Receives room.0 (by_sender waits))
@@ -101,8 +101,8 @@ module _ {T : Type 0} (code : Coding T) (slots queue : ℕ) (t : Trace T)
         alive known.0 from inv room.0 front.0 front.1 there.steps (omega arith))
 
     -- as the call computes it
-    takes_out : Comes code slots queue t sound small x since p (starts.TheVariants.Loan calls.Receive)
-        (flights.TheVariants.Loan (receive_at slots queue p stage room))
+    takes_out : Comes code slots queue t sound small x since p (starts.Loan calls.Receive)
+        (flights.Loan (receive_at slots queue p stage room))
     takes_out =
         let h = holds_now code slots queue t sound x since in
         let inv = inv_now code slots queue t sound x since in
@@ -134,50 +134,50 @@ module _ {T : Type 0} (code : Coding T) (slots queue : ℕ) (t : Trace T)
   module _ (p : ℕ) (alive : has_died p s.book.dead ≡ false) where
     abbrev StandsAt : PopStage → OneWord → Type 0
     StandsAt stage room =
-        Stands code slots queue t sound small x since p (starts.TheVariants.Loan calls.Receive)
-        (flights.TheVariants.Loan (receive_at slots queue p stage room))
+        Stands code slots queue t sound small x since p (starts.Loan calls.Receive)
+        (flights.Loan (receive_at slots queue p stage room))
 
     abbrev ComesAt : PopStage → OneWord → Type 0
     ComesAt stage room =
-        Comes code slots queue t sound small x since p (starts.TheVariants.Loan calls.Receive)
-        (flights.TheVariants.Loan (receive_at slots queue p stage room))
+        Comes code slots queue t sound small x since p (starts.Loan calls.Receive)
+        (flights.Loan (receive_at slots queue p stage room))
 
-    moves_read : (read : ℕ) (room : OneWord) → StandsAt (pops.TheVariants.MovesRead read) room → ComesAt (pops.TheVariants.MovesRead read) room
+    moves_read : (read : ℕ) (room : OneWord) → StandsAt (pops.MovesRead read) room → ComesAt (pops.MovesRead read) room
     moves_read read room there = go (s.submission.read == read) refl
       where
-        go : (b : Bool) → (s.submission.read == read) ≡ b → ComesAt (pops.TheVariants.MovesRead read) room
+        go : (b : Bool) → (s.submission.read == read) ≡ b → ComesAt (pops.MovesRead read) room
         go true e =
             let same : read ≡ s.submission.read = grind (arith, nat_tests) in
-            subst (λ n. ComesAt (pops.TheVariants.MovesRead n) room) (sym same)
-            (takes_out p room alive (subst (λ n. StandsAt (pops.TheVariants.MovesRead n) room) same there))
-        go false e = receive_looks code slots queue t sound small x since p (pops.TheVariants.MovesRead read) room alive e there
+            subst (λ n. ComesAt (pops.MovesRead n) room) (sym same)
+            (takes_out p room alive (subst (λ n. StandsAt (pops.MovesRead n) room) same there))
+        go false e = receive_looks code slots queue t sound small x since p (pops.MovesRead read) room alive e there
 
     at_stage : (stage : PopStage) (room : OneWord) → StandsAt stage room → ComesAt stage room
-    at_stage (pops.TheVariants.MovesRead read) room there = moves_read read room there
-    at_stage pops.TheVariants.FindsNone room there = receive_looks code slots queue t sound small x since p pops.TheVariants.FindsNone room alive tt there
-    at_stage pops.TheVariants.LoadsRead room there = receive_looks code slots queue t sound small x since p pops.TheVariants.LoadsRead room alive tt there
-    at_stage (pops.TheVariants.LoadsWrite read) room there =
-        receive_looks code slots queue t sound small x since p (pops.TheVariants.LoadsWrite read) room alive tt there
-    at_stage (pops.TheVariants.LoadsCell read) room there =
-        receive_looks code slots queue t sound small x since p (pops.TheVariants.LoadsCell read) room alive tt there
+    at_stage (pops.MovesRead read) room there = moves_read read room there
+    at_stage pops.FindsNone room there = receive_looks code slots queue t sound small x since p pops.FindsNone room alive tt there
+    at_stage pops.LoadsRead room there = receive_looks code slots queue t sound small x since p pops.LoadsRead room alive tt there
+    at_stage (pops.LoadsWrite read) room there =
+        receive_looks code slots queue t sound small x since p (pops.LoadsWrite read) room alive tt there
+    at_stage (pops.LoadsCell read) room there =
+        receive_looks code slots queue t sound small x since p (pops.LoadsCell read) room alive tt there
 
     -- a receive of a party that lives
     pub receive_comes : (by : ℕ) (run : Running (Part Pop) (Unit {0}) OneWord)
-        → Stands code slots queue t sound small x since p (starts.TheVariants.Loan calls.Receive)
-        (flights.TheVariants.Loan (Receive by run))
-        → Comes code slots queue t sound small x since p (starts.TheVariants.Loan calls.Receive) (flights.TheVariants.Loan (Receive by run))
+        → Stands code slots queue t sound small x since p (starts.Loan calls.Receive)
+        (flights.Loan (Receive by run))
+        → Comes code slots queue t sound small x since p (starts.Loan calls.Receive) (flights.Loan (Receive by run))
     receive_comes by run there =
         let at = there.at in
         let named : ℕ → ℕ → ℕ → Flight T =
-        λ n base capacity. flights.TheVariants.Loan (Receive n (record {
+        λ n base capacity. flights.Loan (Receive n (record {
           call = record { base = base; call = record { capacity = capacity; stage = run.call.call.stage } };
           given = tt;
           room = run.room;
         })) in
-        let same : flights.TheVariants.Loan (Receive by run) ≡ flights.TheVariants.Loan (receive_at slots queue p run.call.call.stage run.room) =
+        let same : flights.Loan (Receive by run) ≡ flights.Loan (receive_at slots queue p run.call.call.stage run.room) =
         ap (λ n. named n run.call.base run.call.call.capacity) at.1
         ∙ (ap (λ base. named p base run.call.call.capacity) at.2 ∙ ap (λ c. named p (submission_word slots) c) at.3)
         in
-        subst (λ flight. Comes code slots queue t sound small x since p (starts.TheVariants.Loan calls.Receive) flight) (sym same)
+        subst (λ flight. Comes code slots queue t sound small x since p (starts.Loan calls.Receive) flight) (sym same)
         (at_stage run.call.call.stage run.room
-        (subst (λ flight. Stands code slots queue t sound small x since p (starts.TheVariants.Loan calls.Receive) flight) same there))
+        (subst (λ flight. Stands code slots queue t sound small x since p (starts.Loan calls.Receive) flight) same there))

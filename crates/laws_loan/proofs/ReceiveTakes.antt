@@ -6,7 +6,7 @@ use Rattle.laws_loan.proofs.Names.{has_died, Passing, Waiting, spot_of, put, doi
 use Rattle.laws_loan.proofs.Names.{words_after, change_of, party_put_other, Core, GoesUp, layout}
 use Rattle.std.proofs.Common.{arith}
 use Rattle.steps.specs.declared.ask.After.TheVariants.{Done}
-use Rattle.steps.specs.declared.queues.overflow.PopStage as pops
+use Rattle.steps.specs.declared.queues.overflow.PopStage.TheVariants as pops
 use Rattle.steps.specs.Queues.Overflow.{pop_asks}
 use Rattle.model.specs.declared.event.Start.TheVariants as starts
 use Rattle.model.specs.declared.families.loan.LoanStart.TheVariants as calls
@@ -44,7 +44,7 @@ module _ {T : Type 0} (code : Coding T) (slots queue : ℕ) (s : Channel T) (lat
   channel = family code slots queue
 
   abbrev pub asks : Option Ask
-  asks = ask_of (shifted (submission_word slots) (pop_asks queue (pops.TheVariants.MovesRead s.submission.read)))
+  asks = ask_of (shifted (submission_word slots) (pop_asks queue (pops.MovesRead s.submission.read)))
 
   -- the index whose send waits for this move
   abbrev pub waits : Option ℕ
@@ -75,13 +75,13 @@ module _ {T : Type 0} (code : Coding T) (slots queue : ℕ) (s : Channel T) (lat
 
   pub take_words : words_after (words_in s) asks ≡ words_in s_then
   take_words =
-      submission_words slots queue s (counted_for (sends_at latest)) h.parts (pop_asks queue (pops.TheVariants.MovesRead s.submission.read)) on
+      submission_words slots queue s (counted_for (sends_at latest)) h.parts (pop_asks queue (pops.MovesRead s.submission.read)) on
       ∙ ap (λ ws. s.set ++ (ws ++ layout no_roles s.completion))
       (submission.take_words queue h.parts.some h.parts.few s.submission h.parts.submission low_write value rest first)
 
   one : change_of (words_in s) asks ≡ 1
   one =
-      submission_change slots queue s (counted_for (sends_at latest)) h.parts (pop_asks queue (pops.TheVariants.MovesRead s.submission.read)) on
+      submission_change slots queue s (counted_for (sends_at latest)) h.parts (pop_asks queue (pops.MovesRead s.submission.read)) on
       ∙ submission.take_changes queue h.parts.some h.parts.few s.submission h.parts.submission low_write value rest first
 
   -- ---- where the index is

@@ -13,7 +13,7 @@ use Rattle.std.proofs.Common.{arith}
 use Rattle.std.proofs.Math.Seq.{take-nil}
 use Rattle.steps.specs.declared.ask.After.TheVariants.{Done}
 use Rattle.steps.specs.declared.queues.overflow.PopStage.{PopStage}
-use Rattle.steps.specs.declared.queues.overflow.PopStage as pops
+use Rattle.steps.specs.declared.queues.overflow.PopStage.TheVariants as pops
 use Rattle.steps.specs.Queues.Overflow.{cell_word, pop_asks}
 use Rattle.model.specs.declared.event.Answer.TheVariants as answers
 use Rattle.model.specs.declared.event.Start.TheVariants as starts
@@ -49,7 +49,7 @@ word_of v = record { 0 = v }
 
 -- a receive that takes nothing out with its next step
 abbrev pub IsLook : {T : Type 0} → Channel T → PopStage → Type 0
-IsLook s (pops.TheVariants.MovesRead read) = (s.submission.read == read) ≡ false
+IsLook s (pops.MovesRead read) = (s.submission.read == read) ≡ false
 IsLook s stage = Unit {0}
 
 module _ {T : Type 0} (code : Coding T) (slots queue : ℕ) (s : Channel T) (latest : List (ℕ × Party T))
@@ -143,7 +143,7 @@ module _ {T : Type 0} (code : Coding T) (slots queue : ℕ) (s : Channel T) (lat
 
   module _ (read : ℕ) (empty : s.submission.waiting ≡ []) where
     abbrev y_none : Party T
-    y_none = party_then s x since changes calls.Receive (asked (pops.TheVariants.LoadsWrite read)) false (Done answers.PoppedNone)
+    y_none = party_then s x since changes calls.Receive (asked (pops.LoadsWrite read)) false (Done answers.PoppedNone)
 
     tells_none : Tells queue (is_reclaiming s.events) s.submission.waiting s.submission.waiting s.completion.waiting s.completion.waiting told
     tells_none = grind (arith, items, take, take-nil, append-nil)
@@ -161,11 +161,11 @@ module _ {T : Type 0} (code : Coding T) (slots queue : ℕ) (s : Channel T) (lat
         let still = sends_still latest y_none p other in
         grind (arith, tells_none, passing_none)
 
-    finds_none : IsOn queued (pop_asks queue (pops.TheVariants.LoadsWrite read)) → x.steps ≤ 2 * x.backs + 1
+    finds_none : IsOn queued (pop_asks queue (pops.LoadsWrite read)) → x.steps ≤ 2 * x.backs + 1
         → x.backs + since ≤ changes
-        → Looks (pops.TheVariants.LoadsWrite read) false (Done answers.PoppedNone) effects.FindsNone
+        → Looks (pops.LoadsWrite read) false (Done answers.PoppedNone) effects.FindsNone
     finds_none on steps paid =
-        let words = words_are (pops.TheVariants.LoadsWrite read) on refl in
+        let words = words_are (pops.LoadsWrite read) on refl in
         let others =
         at_given slots queue s s.completion (s.events ++ told) p
         (record { receiver = receives; alive = alive; pop = λ room stage known. known; passes = λ q i ne e. spots_still i s.events told told_still ∙ e }) in
@@ -173,34 +173,34 @@ module _ {T : Type 0} (code : Coding T) (slots queue : ℕ) (s : Channel T) (lat
 
   -- ---- each stage that takes nothing out
 
-  loads_read : (room : OneWord) → x.steps ≤ 2 * x.backs → x.backs + since ≤ changes → LooksOf pops.TheVariants.LoadsRead room
+  loads_read : (room : OneWord) → x.steps ≤ 2 * x.backs → x.backs + since ≤ changes → LooksOf pops.LoadsRead room
   loads_read room steps paid =
       let some = h.parts.some in
       let on : 1 < length queued = (let wide = long in omega arith) in
-      let is : goes pops.TheVariants.LoadsRead room (old pops.TheVariants.LoadsRead)
-      ≡ GoOn (receive_at slots queue p (pops.TheVariants.LoadsWrite s.submission.read) room) =
-      ap (goes pops.TheVariants.LoadsRead room) (old_is pops.TheVariants.LoadsRead on) in
-      subst (λ a. Looks pops.TheVariants.LoadsRead false a effects.Quiet) (sym is)
-      (goes_on pops.TheVariants.LoadsRead (pops.TheVariants.LoadsWrite s.submission.read) room false on refl
+      let is : goes pops.LoadsRead room (old pops.LoadsRead)
+      ≡ GoOn (receive_at slots queue p (pops.LoadsWrite s.submission.read) room) =
+      ap (goes pops.LoadsRead room) (old_is pops.LoadsRead on) in
+      subst (λ a. Looks pops.LoadsRead false a effects.Quiet) (sym is)
+      (goes_on pops.LoadsRead (pops.LoadsWrite s.submission.read) room false on refl
       (omega arith, omega arith, λ less. absurd (omega arith)) refl (omega arith) (λ n. (omega arith, omega arith)))
 
   loads_write : (read : ℕ) (room : OneWord)
-      → KnowsOverflowPop queue s.submission room (pops.TheVariants.LoadsWrite read) → x.steps ≤ 2 * x.backs + 1
-      → x.backs + since + s.submission.read ≤ changes + read → LooksOf (pops.TheVariants.LoadsWrite read) room
+      → KnowsOverflowPop queue s.submission room (pops.LoadsWrite read) → x.steps ≤ 2 * x.backs + 1
+      → x.backs + since + s.submission.read ≤ changes + read → LooksOf (pops.LoadsWrite read) room
   loads_write read room known steps paid = go (s.submission.write == read) refl
     where
       on : 0 < length queued
       on = let wide = long in omega arith
 
-      go : (b : Bool) → (s.submission.write == read) ≡ b → LooksOf (pops.TheVariants.LoadsWrite read) room
+      go : (b : Bool) → (s.submission.write == read) ≡ b → LooksOf (pops.LoadsWrite read) room
       go true t =
           let write = h.parts.submission.write in
           let low = known.1 in
           let same : s.submission.write ≡ read = grind (arith, nat_tests) in
           let none : length s.submission.waiting ≡ 0 = omega arith in
-          looks_by (pops.TheVariants.LoadsWrite read) room false (Done answers.PoppedNone) effects.FindsNone refl
-          (ap (goes (pops.TheVariants.LoadsWrite read) room) (old_is (pops.TheVariants.LoadsWrite read) on) ∙ (rw t refl))
-          (ap (effect_at (pops.TheVariants.LoadsWrite read)) (old_is (pops.TheVariants.LoadsWrite read) on) ∙ (rw t refl))
+          looks_by (pops.LoadsWrite read) room false (Done answers.PoppedNone) effects.FindsNone refl
+          (ap (goes (pops.LoadsWrite read) room) (old_is (pops.LoadsWrite read) on) ∙ (rw t refl))
+          (ap (effect_at (pops.LoadsWrite read)) (old_is (pops.LoadsWrite read) on) ∙ (rw t refl))
           (finds_none read (nil_from_length s.submission.waiting none) on steps (omega arith))
       go false t =
           let write = h.parts.submission.write in
@@ -209,16 +209,16 @@ module _ {T : Type 0} (code : Coding T) (slots queue : ℕ) (s : Channel T) (lat
           let apart : s.submission.write ≢ read = grind (arith, nat_tests) in
           let ahead : s.submission.read < s.submission.write =
           ⊎_elim known.2 (λ (still : s.submission.read ≤ read). omega arith) (cases_lt read s.submission.read) in
-          looks_by (pops.TheVariants.LoadsWrite read) room false (GoOn (receive_at slots queue p (pops.TheVariants.LoadsCell read) room))
+          looks_by (pops.LoadsWrite read) room false (GoOn (receive_at slots queue p (pops.LoadsCell read) room))
           effects.Quiet refl
-          (ap (goes (pops.TheVariants.LoadsWrite read) room) (old_is (pops.TheVariants.LoadsWrite read) on) ∙ (rw t refl))
-          (ap (effect_at (pops.TheVariants.LoadsWrite read)) (old_is (pops.TheVariants.LoadsWrite read) on) ∙ (rw t refl))
-          (goes_on (pops.TheVariants.LoadsWrite read) (pops.TheVariants.LoadsCell read) room false on refl
+          (ap (goes (pops.LoadsWrite read) room) (old_is (pops.LoadsWrite read) on) ∙ (rw t refl))
+          (ap (effect_at (pops.LoadsWrite read)) (old_is (pops.LoadsWrite read) on) ∙ (rw t refl))
+          (goes_on (pops.LoadsWrite read) (pops.LoadsCell read) room false on refl
           (omega arith, low, ahead) refl (omega arith) (λ n. (low, omega arith)))
 
   loads_cell : (read : ℕ) (room : OneWord)
-      → KnowsOverflowPop queue s.submission room (pops.TheVariants.LoadsCell read) → x.steps ≤ 2 * x.backs + 2
-      → x.backs + since + s.submission.read ≤ changes + read → LooksOf (pops.TheVariants.LoadsCell read) room
+      → KnowsOverflowPop queue s.submission room (pops.LoadsCell read) → x.steps ≤ 2 * x.backs + 2
+      → x.backs + since + s.submission.read ≤ changes + read → LooksOf (pops.LoadsCell read) room
   loads_cell read room known steps paid =
       let write = h.parts.submission.write in
       let some = h.parts.some in
@@ -226,14 +226,14 @@ module _ {T : Type 0} (code : Coding T) (slots queue : ℕ) (s : Channel T) (lat
       let ahead = known.2 in
       let first = oldest queue s.submission h.parts.submission (omega arith) in
       let on = submission.cell_on queue h.parts.some h.parts.few s.submission h.parts.submission reached read in
-      let found : old (pops.TheVariants.LoadsCell read) ≡ get_or s.submission.cells (read % (queue + 1)) 0 =
-      old_is (pops.TheVariants.LoadsCell read) on
+      let found : old (pops.LoadsCell read) ≡ get_or s.submission.cells (read % (queue + 1)) 0 =
+      old_is (pops.LoadsCell read) on
       ∙ submission.cell_is queue h.parts.some h.parts.few s.submission h.parts.submission reached read in
-      let is : goes (pops.TheVariants.LoadsCell read) room (old (pops.TheVariants.LoadsCell read))
-      ≡ GoOn (receive_at slots queue p (pops.TheVariants.MovesRead read) (word_of (get_or s.submission.cells (read % (queue + 1)) 0))) =
-      ap (goes (pops.TheVariants.LoadsCell read) room) found in
-      subst (λ a. Looks (pops.TheVariants.LoadsCell read) false a effects.Quiet) (sym is)
-      (goes_on (pops.TheVariants.LoadsCell read) (pops.TheVariants.MovesRead read)
+      let is : goes (pops.LoadsCell read) room (old (pops.LoadsCell read))
+      ≡ GoOn (receive_at slots queue p (pops.MovesRead read) (word_of (get_or s.submission.cells (read % (queue + 1)) 0))) =
+      ap (goes (pops.LoadsCell read) room) found in
+      subst (λ a. Looks (pops.LoadsCell read) false a effects.Quiet) (sym is)
+      (goes_on (pops.LoadsCell read) (pops.MovesRead read)
       (word_of (get_or s.submission.cells (read % (queue + 1)) 0)) false on
       (set-get_or queued (cell_word queue read) 0) (
         omega arith,
@@ -244,30 +244,30 @@ module _ {T : Type 0} (code : Coding T) (slots queue : ℕ) (s : Channel T) (lat
 
   -- a send has moved the read position: the cell is loaded again, at the position found
   moves_back : (read : ℕ) (room : OneWord)
-      → KnowsOverflowPop queue s.submission room (pops.TheVariants.MovesRead read) → (s.submission.read == read) ≡ false
+      → KnowsOverflowPop queue s.submission room (pops.MovesRead read) → (s.submission.read == read) ≡ false
       → x.steps ≤ 2 * x.backs + 3 → x.backs + since + s.submission.read ≤ changes + read
-      → LooksOf (pops.TheVariants.MovesRead read) room
+      → LooksOf (pops.MovesRead read) room
   moves_back read room known moved steps paid =
       let some = h.parts.some in
       let low = known.1 in
       let ahead = known.2 in
       let apart : s.submission.read ≢ read = grind (arith, nat_tests) in
       let on : 1 < length queued = (let wide = long in omega arith) in
-      let found : old (pops.TheVariants.MovesRead read) ≡ s.submission.read = old_is (pops.TheVariants.MovesRead read) on in
-      looks_by (pops.TheVariants.MovesRead read) room true
-      (GoOn (receive_at slots queue p (pops.TheVariants.LoadsCell s.submission.read) room)) effects.Quiet
-      (ap (goes_back (pops.TheVariants.MovesRead read)) found ∙ (rw moved refl))
-      (ap (goes (pops.TheVariants.MovesRead read) room) found ∙ (rw moved refl))
-      (ap (effect_at (pops.TheVariants.MovesRead read)) found ∙ (rw moved refl))
-      (goes_on (pops.TheVariants.MovesRead read) (pops.TheVariants.LoadsCell s.submission.read) room true on
+      let found : old (pops.MovesRead read) ≡ s.submission.read = old_is (pops.MovesRead read) on in
+      looks_by (pops.MovesRead read) room true
+      (GoOn (receive_at slots queue p (pops.LoadsCell s.submission.read) room)) effects.Quiet
+      (ap (goes_back (pops.MovesRead read)) found ∙ (rw moved refl))
+      (ap (goes (pops.MovesRead read) room) found ∙ (rw moved refl))
+      (ap (effect_at (pops.MovesRead read)) found ∙ (rw moved refl))
+      (goes_on (pops.MovesRead read) (pops.LoadsCell s.submission.read) room true on
       (submission.stays_words queue h.parts.some h.parts.few s.submission h.parts.submission reached read moved)
       (omega arith, omega arith, ahead) refl (omega arith) (λ n. (omega arith, omega arith)))
 
   pub looks : (stage : PopStage) (room : OneWord) → IsLook s stage → KnowsOverflowPop queue s.submission room stage
       → x.steps ≤ 2 * x.backs + overflow_pop_number stage → KnowsBacks s.submission since changes x.backs stage
       → LooksOf stage room
-  looks pops.TheVariants.FindsNone room is known steps paid = let some = h.parts.some in absurd (omega arith)
-  looks pops.TheVariants.LoadsRead room is known steps paid = loads_read room (omega arith) paid
-  looks (pops.TheVariants.LoadsWrite read) room is known steps paid = loads_write read room known steps paid.1
-  looks (pops.TheVariants.LoadsCell read) room is known steps paid = loads_cell read room known steps paid.1
-  looks (pops.TheVariants.MovesRead read) room is known steps paid = moves_back read room known is steps paid.1
+  looks pops.FindsNone room is known steps paid = let some = h.parts.some in absurd (omega arith)
+  looks pops.LoadsRead room is known steps paid = loads_read room (omega arith) paid
+  looks (pops.LoadsWrite read) room is known steps paid = loads_write read room known steps paid.1
+  looks (pops.LoadsCell read) room is known steps paid = loads_cell read room known steps paid.1
+  looks (pops.MovesRead read) room is known steps paid = moves_back read room known is steps paid.1

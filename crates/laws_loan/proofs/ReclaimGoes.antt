@@ -11,7 +11,7 @@ use Rattle.std.proofs.Common.{arith}
 use Rattle.steps.specs.declared.loan.places.Place.TheVariants as places
 use Rattle.steps.specs.declared.queues.ring.PushStage.{PushStage}
 use Rattle.model.specs.declared.event.Start.TheVariants as starts
-use Rattle.model.specs.declared.families.Flight as flights
+use Rattle.model.specs.declared.families.Flight.TheVariants as flights
 use Rattle.model.specs.declared.families.loan.LoanStart.TheVariants as calls
 use Rattle.model.specs.declared.families.loan.effects.Effect.TheVariants as effects
 use Rattle.model.specs.Families.Loan.Reading.{claimed, claims}
@@ -61,7 +61,7 @@ module _ {T : Type 0} (code : Coding T) (slots queue : ℕ) (s : Channel T) (lat
   -- ---- it goes on
 
   module _ (h : HoldsNow slots queue s latest s.events turns) (under : ReclaimStage)
-      (here : sends_at latest ≡ Some (flights.TheVariants.Loan (reclaim_at slots queue under)))
+      (here : sends_at latest ≡ Some (flights.Loan (reclaim_at slots queue under)))
       (idle : reclaim_counts under ≡ 0) (from : span_of 0 s.events ≡ Open start wrote)
       (known : ReclaimAt slots queue s wrote under) (straight : x.backs ≡ 0) where
     pub calm : Hangs queue s.submission None

@@ -8,11 +8,11 @@ use Rattle.laws_loan.proofs.Names.{Party, Coding, ask_of, freed, ended_book, Ope
 use Rattle.laws_loan.proofs.Names.{old_of, words_after, Trace, release_counts, release_number}
 use Rattle.std.proofs.Common.{arith}
 use Rattle.steps.specs.declared.ask.After.TheVariants.{Done}
-use Rattle.steps.specs.declared.indices.unique.ReleaseStage as releases
+use Rattle.steps.specs.declared.indices.unique.ReleaseStage.TheVariants as releases
 use Rattle.steps.specs.declared.loan.places.Place.TheVariants as places
 use Rattle.steps.specs.declared.loan.reclaim.Reclaim as reclaims
-use Rattle.model.specs.declared.event.Start as starts
-use Rattle.model.specs.declared.families.Flight as flights
+use Rattle.model.specs.declared.event.Start.TheVariants as starts
+use Rattle.model.specs.declared.families.Flight.TheVariants as flights
 use Rattle.model.specs.declared.families.loan.LoanStart.TheVariants as calls
 use Rattle.model.specs.declared.families.loan.effects.Effect.TheVariants as effects
 use Rattle.model.proofs.Frame as frame
@@ -46,16 +46,16 @@ module _ {T : Type 0} (code : Coding T) (slots queue : ℕ) (t : Trace T)
 
   abbrev There : ReclaimStage → Type 0
   There stage =
-      Stands code slots queue t sound small x since 0 (starts.TheVariants.Loan calls.Reclaim)
-      (flights.TheVariants.Loan (reclaim_at slots queue stage))
+      Stands code slots queue t sound small x since 0 (starts.Loan calls.Reclaim)
+      (flights.Loan (reclaim_at slots queue stage))
 
   abbrev Goes : ReclaimStage → Type 0
-  Goes stage = Comes code slots queue t sound small x since 0 (starts.TheVariants.Loan calls.Reclaim) (flights.TheVariants.Loan (reclaim_at slots queue stage))
+  Goes stage = Comes code slots queue t sound small x since 0 (starts.Loan calls.Reclaim) (flights.Loan (reclaim_at slots queue stage))
 
   abbrev now : HoldsNow slots queue s t.world.latest s.events t.world.turns
   now = holds_now code slots queue t sound x since
 
-  from : (stage : ReclaimStage) → There stage → span_of 0 s.events ≡ Open (starts.TheVariants.Loan calls.Reclaim) wrote
+  from : (stage : ReclaimStage) → There stage → span_of 0 s.events ≡ Open (starts.Loan calls.Reclaim) wrote
   from stage there = ap (span_of 0) sound.holds.same ∙ there.span
 
   -- ---- it releases an index, and comes to the next one that is sent, or ends
@@ -69,16 +69,16 @@ module _ {T : Type 0} (code : Coding T) (slots queue : ℕ) (t : Trace T)
 
     -- ---- the clear of the flag
 
-    clears : FreesThere releases.TheVariants.ClearsFlag → Goes (Releases number index releases.TheVariants.ClearsFlag)
+    clears : FreesThere releases.ClearsFlag → Goes (Releases number index releases.ClearsFlag)
     clears there =
         let few = there.steps in
         let clear =
         clears_steps code slots queue s t.world.latest t.world.turns t.world.changes since x now number index wrote
-        (from (Releases number index releases.TheVariants.ClearsFlag) there) there.knows there.found there.at.3 (omega arith) in
+        (from (Releases number index releases.ClearsFlag) there) there.knows there.found there.at.3 (omega arith) in
         from_step code slots queue t sound small x since calls.Reclaim
-        (ask_of (back_asks slots index releases.TheVariants.ClearsFlag))
-        (GoOn (frees_at slots queue number index releases.TheVariants.LoadsHead)) (effects.Frees index) _ wrote
-        (from (Releases number index releases.TheVariants.ClearsFlag) there) (clear, refl)
+        (ask_of (back_asks slots index releases.ClearsFlag))
+        (GoOn (frees_at slots queue number index releases.LoadsHead)) (effects.Frees index) _ wrote
+        (from (Releases number index releases.ClearsFlag) there) (clear, refl)
 
     -- ---- every later step
 
@@ -89,7 +89,7 @@ module _ {T : Type 0} (code : Coding T) (slots queue : ℕ) (t : Trace T)
       abbrev words_then : List ℕ
       words_then = words_after s.set ask
 
-      was_open : span_of 0 s.events ≡ Open (starts.TheVariants.Loan calls.Reclaim) wrote
+      was_open : span_of 0 s.events ≡ Open (starts.Loan calls.Reclaim) wrote
       was_open = from (Releases number index stage) there
 
       abbrev With : After LoanFlight (Answer T) → Type 0
@@ -132,7 +132,7 @@ module _ {T : Type 0} (code : Coding T) (slots queue : ℕ) (t : Trace T)
           let low = comes.0 in
           let at = there.at.3.stage_at in
           let less = at.2 in
-          goes_on (number + 1) i releases.TheVariants.ClearsFlag good (
+          goes_on (number + 1) i releases.ClearsFlag good (
             comes.2,
             comes.1,
             (omega arith),
@@ -207,15 +207,15 @@ module _ {T : Type 0} (code : Coding T) (slots queue : ℕ) (t : Trace T)
 
   -- as the machine has the call
   pub reclaim_steps_from : (held : reclaims.Reclaim)
-      → Stands code slots queue t sound small x since 0 (starts.TheVariants.Loan calls.Reclaim) (flights.TheVariants.Loan (Reclaim held))
-      → Comes code slots queue t sound small x since 0 (starts.TheVariants.Loan calls.Reclaim) (flights.TheVariants.Loan (Reclaim held))
+      → Stands code slots queue t sound small x since 0 (starts.Loan calls.Reclaim) (flights.Loan (Reclaim held))
+      → Comes code slots queue t sound small x since 0 (starts.Loan calls.Reclaim) (flights.Loan (Reclaim held))
   reclaim_steps_from held there =
       let at = there.at in
       let is : held ≡ record { slots = slots; queue = queue; stage = held.stage } =
       ap {A = ℕ} {B = reclaims.Reclaim} (λ n. record { slots = n; queue = held.queue; stage = held.stage }) at.1
       ∙ ap {A = ℕ} {B = reclaims.Reclaim} (λ n. record { slots = slots; queue = n; stage = held.stage }) at.2
       in
-      subst (λ c. Stands code slots queue t sound small x since 0 (starts.TheVariants.Loan calls.Reclaim)
-      (flights.TheVariants.Loan (Reclaim c))
-      → Comes code slots queue t sound small x since 0 (starts.TheVariants.Loan calls.Reclaim) (flights.TheVariants.Loan (Reclaim c)))
+      subst (λ c. Stands code slots queue t sound small x since 0 (starts.Loan calls.Reclaim)
+      (flights.Loan (Reclaim c))
+      → Comes code slots queue t sound small x since 0 (starts.Loan calls.Reclaim) (flights.Loan (Reclaim c)))
       (sym is) (reclaim_steps held.stage) there

@@ -6,9 +6,9 @@ use Rattle.laws_loan.proofs.Names.{Effect, Party, Coding, ask_of, book_after, re
 use Rattle.laws_loan.proofs.Names.{words_after, Trace, release_counts, release_number, release_wrote}
 use Rattle.std.proofs.Common.{arith}
 use Rattle.steps.specs.declared.ask.After.TheVariants.{Done}
-use Rattle.steps.specs.declared.indices.unique.ReleaseStage as releases
-use Rattle.model.specs.declared.event.Start as starts
-use Rattle.model.specs.declared.families.Flight as flights
+use Rattle.steps.specs.declared.indices.unique.ReleaseStage.TheVariants as releases
+use Rattle.model.specs.declared.event.Start.TheVariants as starts
+use Rattle.model.specs.declared.families.Flight.TheVariants as flights
 use Rattle.model.specs.declared.families.loan.effects.Effect.TheVariants as effects
 use Rattle.model.proofs.Frame as frame
 use Rattle.laws_loan.proofs.Channel.{Channel, words_in}
@@ -46,25 +46,25 @@ module _ {T : Type 0} (code : Coding T) (slots queue : ℕ) (t : Trace T)
 
   -- its call stands there
   pub record There (stage : ReleaseStage) : Type 0 where
-    pub found : sends_at t.world.latest ≡ Some (flights.TheVariants.Loan (r.at stage))
+    pub found : sends_at t.world.latest ≡ Some (flights.Loan (r.at stage))
     pub gives : GivesAt slots queue s index stage
-    pub from : span_of 0 s.events ≡ Open (starts.TheVariants.Loan r.start) (r.before ++ release_wrote 0 index stage)
+    pub from : span_of 0 s.events ≡ Open (starts.Loan r.start) (r.before ++ release_wrote 0 index stage)
     pub few : x.steps ≤ r.base + release_number stage 0
 
   module _ (below : index < slots) where
     -- the clear of the flag
-    clears : There releases.TheVariants.ClearsFlag → Goes releases.TheVariants.ClearsFlag (old_of s.set (asked releases.TheVariants.ClearsFlag))
+    clears : There releases.ClearsFlag → Goes releases.ClearsFlag (old_of s.set (asked releases.ClearsFlag))
     clears there =
         let few : x.steps ≤ r.base = (let steps = there.few in omega arith) in
-        from_step code slots queue t sound small x since r.start (asked releases.TheVariants.ClearsFlag)
-        (GoOn (r.at releases.TheVariants.LoadsHead)) (effects.Frees index)
+        from_step code slots queue t sound small x since r.start (asked releases.ClearsFlag)
+        (GoOn (r.at releases.LoadsHead)) (effects.Frees index)
         (record s {
-          set = words_after s.set (asked releases.TheVariants.ClearsFlag);
+          set = words_after s.set (asked releases.ClearsFlag);
           claims = set s.claims index None;
           book = book_after {T = T} s.book (Freed 0 index);
           events = s.events ++ Freed 0 index ∷ [];
         }) r.before
-        (there.from ∙ ap (λ es. Open (starts.TheVariants.Loan r.start) es) (append-nil r.before)) (
+        (there.from ∙ ap (λ es. Open (starts.Loan r.start) es) (append-nil r.before)) (
           clears_steps code slots queue s t.world.latest t.world.turns t.world.changes since x index below r h
               there.found there.gives there.from few straight,
           r.so.book None (book_after {T = T} s.book (Freed 0 index)),

@@ -2,8 +2,8 @@
 use Rattle.laws_loan.proofs.Names.{ℕ, [], ◌∷◌, ReleaseStage, PoppedIndex, Published, HandedOut, TakenBack, Acted}
 use Rattle.laws_loan.proofs.Names.{Index, LoanFlight, Send, GiveUp, TakeBack}
 use Rattle.std.proofs.Common.{arith}
-use Rattle.steps.specs.declared.loan.send.SendStage as sends
-use Rattle.steps.specs.declared.loan.take_back.TakeBackStage as take_backs
+use Rattle.steps.specs.declared.loan.send.SendStage.TheVariants as sends
+use Rattle.steps.specs.declared.loan.take_back.TakeBackStage.TheVariants as take_backs
 use Rattle.model.specs.declared.event.Answer.TheVariants.{Done}
 use Rattle.model.specs.declared.families.loan.LoanStart.TheVariants as calls
 use Rattle.laws_loan.proofs.Knows.{send_of}
@@ -16,11 +16,11 @@ module _ (slots queue : ℕ) where
 
   abbrev pub send_frees_at : ℕ → ℕ → ReleaseStage → LoanFlight
   send_frees_at own oldest stage =
-      Send (record { call = record { slots = slots; queue = queue; stage = sends.TheVariants.Releases oldest stage }; given = own; room = tt })
+      Send (record { call = record { slots = slots; queue = queue; stage = sends.Releases oldest stage }; given = own; room = tt })
 
   abbrev pub take_back_frees_at : ℕ → ReleaseStage → LoanFlight
   take_back_frees_at index stage =
-      TakeBack (record { call = record { slots = slots; queue = queue; stage = take_backs.TheVariants.Releases index stage }; given = tt; room = tt })
+      TakeBack (record { call = record { slots = slots; queue = queue; stage = take_backs.Releases index stage }; given = tt; room = tt })
 
 module _ (T : Type 0) (slots queue : ℕ) where
   pub gives_up_so : (index : ℕ) → ReleasesLast T slots queue index (calls.GiveUp index) (give_up_at slots queue index) [] Done 0

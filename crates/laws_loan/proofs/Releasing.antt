@@ -8,9 +8,9 @@ use Rattle.laws_loan.proofs.Names.{book_after, Span, Open, span_of, old_of, word
 use Rattle.laws_loan.proofs.Names.{release_counts, release_number, release_wrote, ReleaseAt}
 use Rattle.std.proofs.Common.{arith}
 use Rattle.steps.specs.declared.ask.After.TheVariants.{Done}
-use Rattle.steps.specs.declared.indices.unique.ReleaseStage as releases
+use Rattle.steps.specs.declared.indices.unique.ReleaseStage.TheVariants as releases
 use Rattle.model.specs.declared.event.Start.TheVariants as starts
-use Rattle.model.specs.declared.families.Flight as flights
+use Rattle.model.specs.declared.families.Flight.TheVariants as flights
 use Rattle.laws_indices.proofs.Core as indices
 use Rattle.laws_loan.proofs.Channel.{Channel, words_in}
 use Rattle.laws_loan.proofs.Invariant.{sends_at, counted_for, hung, reclaims_in, Carries, HoldsNow}
@@ -39,7 +39,7 @@ embedded at answer (Done state) = Done answer
 pub record ReleasesLast (T : Type 0) (slots queue index : ℕ) (start : LoanStart) (at : ReleaseStage → LoanFlight)
     (before : List (Event T)) (answer : Answer T) (base : ℕ) : Type 0 where
   pub counted : (stage : ReleaseStage) → counts (at stage) ≡ release_counts stage
-  pub calm : (read : ℕ) (stage : ReleaseStage) → hung {T = T} read (Some (flights.TheVariants.Loan (at stage))) ≡ None
+  pub calm : (read : ℕ) (stage : ReleaseStage) → hung {T = T} read (Some (flights.Loan (at stage))) ≡ None
   pub stands : (s : Channel T) (stage : ReleaseStage) → GivesAt slots queue s index stage
       → At slots queue s 0 (before ++ release_wrote 0 index stage) start (at stage)
   pub number : (wrote : List (Event T)) (stage : ReleaseStage) (backs : ℕ) → number_of slots wrote (at stage) backs ≡ base + release_number stage 0
@@ -68,7 +68,7 @@ module _ {T : Type 0} (code : Coding T) (slots queue : ℕ) (s : Channel T) (lat
     (turns changes since : ℕ) (x : Party T) (index : ℕ) (below : index < slots) (r : Releasing T slots queue index)
     (h : HoldsNow slots queue s latest s.events turns) where
   abbrev Here : ReleaseStage → Type 0
-  Here stage = sends_at latest ≡ Some (flights.TheVariants.Loan (r.at stage))
+  Here stage = sends_at latest ≡ Some (flights.Loan (r.at stage))
 
   abbrev spanned : ReleaseStage → Span T
   spanned stage = Open (starts.Loan r.start) (r.before ++ release_wrote 0 index stage)
@@ -90,18 +90,18 @@ module _ {T : Type 0} (code : Coding T) (slots queue : ℕ) (s : Channel T) (lat
 
   -- ---- the clear of the flag
 
-  module _ (here : Here releases.TheVariants.ClearsFlag)
-      (gives : GivesAt slots queue s index releases.TheVariants.ClearsFlag)
-      (from : span_of 0 s.events ≡ spanned releases.TheVariants.ClearsFlag) (few : x.steps ≤ r.base)
+  module _ (here : Here releases.ClearsFlag)
+      (gives : GivesAt slots queue s index releases.ClearsFlag)
+      (from : span_of 0 s.events ≡ spanned releases.ClearsFlag) (few : x.steps ≤ r.base)
       (straight : x.backs ≡ 0) where
     abbrev freed_es : List (Event T)
     freed_es = Freed 0 index ∷ []
 
     abbrev clears_ask : Option Ask
-    clears_ask = ask_of (back_asks slots index releases.TheVariants.ClearsFlag)
+    clears_ask = ask_of (back_asks slots index releases.ClearsFlag)
 
     abbrev y_freed : Party T
-    y_freed = party_then s x since changes r.start clears_ask false (GoOn (r.at releases.TheVariants.LoadsHead))
+    y_freed = party_then s x since changes r.start clears_ask false (GoOn (r.at releases.LoadsHead))
 
     abbrev book_freed : Book
     book_freed = book_after {T = T} s.book (Freed 0 index)
@@ -126,10 +126,10 @@ module _ {T : Type 0} (code : Coding T) (slots queue : ℕ) (s : Channel T) (lat
 
     shows_freed : Shows slots queue s s_freed 0 y_freed latest turns freed_es
     shows_freed =
-        let step = steps_set releases.TheVariants.ClearsFlag here gives in
-        let counted = r.so.counted releases.TheVariants.LoadsHead in
-        let calm = r.so.calm s.submission.read releases.TheVariants.LoadsHead in
-        let calm_before = r.so.calm s.submission.read releases.TheVariants.ClearsFlag in
+        let step = steps_set releases.ClearsFlag here gives in
+        let counted = r.so.counted releases.LoadsHead in
+        let calm = r.so.calm s.submission.read releases.LoadsHead in
+        let calm_before = r.so.calm s.submission.read releases.ClearsFlag in
         let placed =
         frees_it slots s.claims s.submission.waiting s.completion.waiting s.book s.events h.parts.placed index below (Passing 0) gives.1 refl refl in
         let reclaiming = r.so.other r.before ∙ sym (r.so.other (r.before ++ freed_es)) in
@@ -139,16 +139,16 @@ module _ {T : Type 0} (code : Coding T) (slots queue : ℕ) (s : Channel T) (lat
         grind (arith, open_then, is_from, sends_now, append-nil, items, same_receiver, one_move)
 
     pub clears_steps : Steps code slots queue s latest turns changes since x 0 s_freed
-        (Open (starts.Loan r.start) r.before) r.start clears_ask false (GoOn (r.at releases.TheVariants.LoadsHead))
+        (Open (starts.Loan r.start) r.before) r.start clears_ask false (GoOn (r.at releases.LoadsHead))
         freed_es
     clears_steps =
-        let words = whole_words releases.TheVariants.ClearsFlag here gives in
+        let words = whole_words releases.ClearsFlag here gives in
         let may = r.so.may in
-        let number = r.so.number (r.before ++ freed_es) releases.TheVariants.LoadsHead (x.backs + 0) in
-        let stands = r.so.stands s_freed releases.TheVariants.LoadsHead below in
+        let number = r.so.number (r.before ++ freed_es) releases.LoadsHead (x.backs + 0) in
+        let stands = r.so.stands s_freed releases.LoadsHead below in
         let knows =
         r.so.knows s_freed (since + change_of (words_in s) clears_ask) (changes + change_of (words_in s) clears_ask)
-        (x.backs + 0) releases.TheVariants.LoadsHead (omega arith) in
+        (x.backs + 0) releases.LoadsHead (omega arith) in
         let others =
         others_beside slots queue s s_freed refl refl (λ room stage known. known) (λ i stage known. known)
         (λ q ne. passes_on 0 index s.events freed_es (Passing 0) Free one_move q (λ e. ne (sym (passing_same 0 q e)))) in

@@ -9,7 +9,7 @@ use Rattle.laws_loan.proofs.Names.{AllFollow, Passing, spot_of}
 use Rattle.std.proofs.Common.{arith}
 use Rattle.steps.specs.declared.ask.After.TheVariants.{Done}
 use Rattle.model.specs.declared.event.Start.TheVariants as starts
-use Rattle.model.specs.declared.families.Flight as flights
+use Rattle.model.specs.declared.families.Flight.TheVariants as flights
 use Rattle.model.specs.Families.Loan.Promises.{ComesFrom}
 use Rattle.model.proofs.Frame as frame
 use Rattle.laws_indices.proofs.Core as indices
@@ -82,7 +82,7 @@ module _ {T : Type 0} (code : Coding T) (slots queue : ℕ) (s : Channel T) (lat
   -- ---- it goes on
 
   pub goes_on : (flight : LoanFlight) → KeepsSet slots queue s latest ask set' (counts flight)
-      → hung {T = T} s.submission.read (Some (flights.TheVariants.Loan flight)) ≡ None
+      → hung {T = T} s.submission.read (Some (flights.Loan flight)) ≡ None
       → x.steps + step_count ask ≤ number_of slots wrote flight (x.backs + 0)
       → At slots queue (then_on []) 0 wrote start flight
       → FlightKnows slots queue (then_on []) (since + change_of (words_in s) ask) (changes + change_of (words_in s) ask) (x.backs + 0) flight

@@ -9,9 +9,9 @@ use Rattle.laws_loan.proofs.Names.{words_of_index, handed_out, Open, span_of, ch
 use Rattle.laws_loan.proofs.Names.{take_keeps_pop, KnowsOverflowPush, overflow_push_number, Core, taken}
 use Rattle.std.proofs.Common.{arith}
 use Rattle.steps.specs.declared.ask.After.TheVariants.{Done}
-use Rattle.steps.specs.declared.indices.unique.ReleaseStage as releases
+use Rattle.steps.specs.declared.indices.unique.ReleaseStage.TheVariants as releases
 use Rattle.steps.specs.declared.queues.overflow.PushStage.{PushStage}
-use Rattle.steps.specs.declared.queues.overflow.PushStage as pushes
+use Rattle.steps.specs.declared.queues.overflow.PushStage.TheVariants as pushes
 use Rattle.steps.specs.Queues.Overflow.{cell_word}
 use Rattle.model.specs.declared.event.Answer.TheVariants as answers
 use Rattle.model.specs.declared.event.Start.TheVariants as starts
@@ -94,10 +94,10 @@ module _ {T : Type 0} (code : Coding T) (slots queue : ℕ) (s : Channel T) (lat
   -- ---- it takes the oldest index out
 
   abbrev moves : PushStage
-  moves = pushes.TheVariants.MovesRead s.submission.read
+  moves = pushes.MovesRead s.submission.read
 
   abbrev loads : PushStage
-  loads = pushes.TheVariants.LoadsCell s.submission.read
+  loads = pushes.LoadsCell s.submission.read
 
   module _ (here : Here code slots queue s latest turns changes since x h small index straight moves)
       (from : span_of 0 s.events ≡ Open call (publishes ∷ [])) (others rest : List ℕ)
@@ -209,7 +209,7 @@ module _ {T : Type 0} (code : Coding T) (slots queue : ℕ) (s : Channel T) (lat
   ends = Finished 0 call answers.PoppedNone
 
   abbrev late : ℕ → PushStage
-  late read = pushes.TheVariants.MovesRead read
+  late read = pushes.MovesRead read
 
   module _ (read : ℕ) (here : Here code slots queue s latest turns changes since x h small index straight (late read))
       (from : span_of 0 s.events ≡ Open call (publishes ∷ acted ∷ [])) (moved : (s.submission.read == read) ≡ false)
@@ -252,17 +252,17 @@ module _ {T : Type 0} (code : Coding T) (slots queue : ℕ) (s : Channel T) (lat
   wrote_out read = publishes ∷ HandedOut 0 (Index (oldest_at read)) ∷ Acted 0 call (answers.PoppedIndex (oldest_at read)) ∷ []
 
   module _ (read : ℕ)
-      (here : Here code slots queue s latest turns changes since x h small index straight (pushes.TheVariants.LoadsCell read))
+      (here : Here code slots queue s latest turns changes since x h small index straight (pushes.LoadsCell read))
       (from : span_of 0 s.events ≡ Open call (wrote_out read)) (passes : Passes slots queue s 0 (oldest_at read))
       (steps : x.steps ≤ 5) where
     abbrev stage : PushStage
-    stage = pushes.TheVariants.LoadsCell read
+    stage = pushes.LoadsCell read
 
     abbrev s_free : Channel T
     s_free = record s { submission = s.submission; completion = s.completion; book = s.book; events = s.events ++ [] }
 
     abbrev frees : LoanFlight
-    frees = send_frees_at slots queue index (oldest_at read) releases.TheVariants.ClearsFlag
+    frees = send_frees_at slots queue index (oldest_at read) releases.ClearsFlag
 
     on_cell : cell_word queue read < length (queued code slots queue s latest turns changes since x h small index straight)
     on_cell = grind (arith, low_write)
@@ -291,7 +291,7 @@ module _ {T : Type 0} (code : Coding T) (slots queue : ℕ) (s : Channel T) (lat
         does_by code slots queue s latest turns changes since x h small index straight s_free stage (wrote_out read) (GoOn frees) effects.Quiet
         refl
         (ap (then_of stage) found
-        ∙ ap (λ i. GoOn (send_frees_at slots queue index i releases.TheVariants.ClearsFlag)) (index_is (oldest_at read) slots passes.0 low))
+        ∙ ap (λ i. GoOn (send_frees_at slots queue index i releases.ClearsFlag)) (index_is (oldest_at read) slots passes.0 low))
         refl has_it
 
   -- ---- every step of the push
@@ -301,31 +301,31 @@ module _ {T : Type 0} (code : Coding T) (slots queue : ℕ) (s : Channel T) (lat
       → span_of 0 s.events ≡ Open call (push_wrote queue s.submission index now)
       → KnowsOverflowPush queue s.submission index now → PushAt slots queue s index now
       → x.steps ≤ overflow_push_number now → Does_at now
-  does pushes.TheVariants.HandsBack here from known stands steps = absurd stands
-  does pushes.TheVariants.LoadsWrite here from known stands steps =
+  does pushes.HandsBack here from known stands steps = absurd stands
+  does pushes.LoadsWrite here from known stands steps =
       loads_write code slots queue s latest turns changes since x h small index straight stands from here steps
-  does (pushes.TheVariants.LoadsRead write) here from known stands steps =
-      subst Does_at (ap (λ n. pushes.TheVariants.LoadsRead n) (sym known.1))
+  does (pushes.LoadsRead write) here from known stands steps =
+      subst Does_at (ap (λ n. pushes.LoadsRead n) (sym known.1))
       (loads_read code slots queue s latest turns changes since x h small index straight stands from
-      (subst (λ n. Here code slots queue s latest turns changes since x h small index straight (pushes.TheVariants.LoadsRead n))
+      (subst (λ n. Here code slots queue s latest turns changes since x h small index straight (pushes.LoadsRead n))
       known.1 here)
       steps)
-  does (pushes.TheVariants.StoresCell write read) here from known stands steps =
-      subst Does_at (ap (λ n. pushes.TheVariants.StoresCell n read) (sym known.1))
+  does (pushes.StoresCell write read) here from known stands steps =
+      subst Does_at (ap (λ n. pushes.StoresCell n read) (sym known.1))
       (stores_cell code slots queue s latest turns changes since x h small index straight stands from read known.2
       known.3
-      (subst (λ n. Here code slots queue s latest turns changes since x h small index straight (pushes.TheVariants.StoresCell n read))
+      (subst (λ n. Here code slots queue s latest turns changes since x h small index straight (pushes.StoresCell n read))
       known.1 here)
       steps)
-  does (pushes.TheVariants.StoresWrite write read) here from known stands steps =
-      subst Does_at (ap (λ n. pushes.TheVariants.StoresWrite n read) (sym known.1))
+  does (pushes.StoresWrite write read) here from known stands steps =
+      subst Does_at (ap (λ n. pushes.StoresWrite n read) (sym known.1))
       (stores_write code slots queue s latest turns changes since x h small index straight read
-      (subst (λ n. Here code slots queue s latest turns changes since x h small index straight (pushes.TheVariants.StoresWrite n read))
+      (subst (λ n. Here code slots queue s latest turns changes since x h small index straight (pushes.StoresWrite n read))
       known.1 here)
       stands from known.4 steps known.2 known.3)
-  does (pushes.TheVariants.MovesRead read) here from known stands steps = go (s.submission.read == read) refl
+  does (pushes.MovesRead read) here from known stands steps = go (s.submission.read == read) refl
     where
-      go : (b : Bool) → (s.submission.read == read) ≡ b → Does_at (pushes.TheVariants.MovesRead read)
+      go : (b : Bool) → (s.submission.read == read) ≡ b → Does_at (pushes.MovesRead read)
       go true e =
           let same : read ≡ s.submission.read = grind (arith, nat_tests) in
           let t : (s.submission.read == s.submission.read) ≡ true = grind (arith, nat_tests) in
@@ -334,11 +334,11 @@ module _ {T : Type 0} (code : Coding T) (slots queue : ℕ) (s : Channel T) (lat
           let write = h.parts.submission.write in
           let front = oldest queue s.submission h.parts.submission (omega arith) in
           let wrote : push_wrote {T = T} queue s.submission index moves ≡ publishes ∷ [] = rw t refl in
-          subst Does_at (ap (λ n. pushes.TheVariants.MovesRead n) (sym same))
+          subst Does_at (ap (λ n. pushes.MovesRead n) (sym same))
           (moves_read
-          (subst (λ n. Here code slots queue s latest turns changes since x h small index straight (pushes.TheVariants.MovesRead n))
+          (subst (λ n. Here code slots queue s latest turns changes since x h small index straight (pushes.MovesRead n))
           same here)
-          (subst (λ n. span_of 0 s.events ≡ Open call (push_wrote queue s.submission index (pushes.TheVariants.MovesRead n))) same from
+          (subst (λ n. span_of 0 s.events ≡ Open call (push_wrote queue s.submission index (pushes.MovesRead n))) same from
           ∙ ap (λ es. Open call es) wrote)
           last.0 front.0 last.1 front.1 (omega arith) steps)
       go false e =
@@ -346,5 +346,5 @@ module _ {T : Type 0} (code : Coding T) (slots queue : ℕ) (s : Channel T) (lat
           let apart : (read == s.submission.read) ≡ false = (let other : read ≢ s.submission.read = λ same. ne (sym same) in grind (arith, nat_tests)) in
           let wrote : push_wrote {T = T} queue s.submission index (late read) ≡ publishes ∷ acted ∷ [] = rw apart refl in
           moves_late read here (from ∙ ap (λ es. Open call es) wrote) e apart steps
-  does (pushes.TheVariants.LoadsCell read) here from known stands steps =
+  does (pushes.LoadsCell read) here from known stands steps =
       loads_cell read here from stands steps

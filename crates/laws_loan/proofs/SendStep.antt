@@ -5,9 +5,9 @@ use Rattle.laws_loan.proofs.Names.{Answer, PoppedIndex, LoanFlight, Send, Party,
 use Rattle.laws_loan.proofs.Names.{as_it_is, popped, Open, span_of, as_call, old_of, Trace}
 use native.Mathlib.Omega.{arith}
 use Rattle.steps.specs.declared.loan.send.Send as send
-use Rattle.steps.specs.declared.loan.send.SendStage as sends
-use Rattle.model.specs.declared.event.Start as starts
-use Rattle.model.specs.declared.families.Flight as flights
+use Rattle.steps.specs.declared.loan.send.SendStage.TheVariants as sends
+use Rattle.model.specs.declared.event.Start.TheVariants as starts
+use Rattle.model.specs.declared.families.Flight.TheVariants as flights
 use Rattle.model.specs.declared.families.loan.LoanStart.TheVariants as calls
 use Rattle.model.proofs.Frame as frame
 use Rattle.laws_loan.proofs.Channel.{words_in}
@@ -23,7 +23,7 @@ send_at slots queue index stage =
 
 module _ (T : Type 0) (slots queue index oldest : ℕ) where
   abbrev call_at : ReleaseStage → send.Send
-  call_at stage = record { slots = slots; queue = queue; stage = sends.TheVariants.Releases oldest stage }
+  call_at stage = record { slots = slots; queue = queue; stage = sends.Releases oldest stage }
 
   -- a send goes on as its release
   goes_so : (stage : ReleaseStage) (release : After (Release DefaultMode) ReleaseState)
@@ -35,14 +35,14 @@ module _ {T : Type 0} (code : Coding T) (slots queue : ℕ) (t : Trace T)
     (sound : frame.Sound (channel code slots queue) t) (small : t.world.turns < 2 ^ 64 - 2) (x : Party T)
     (since index : ℕ) where
   pub send_steps : (stage : SendStage)
-      → Stands code slots queue t sound small x since 0 (starts.TheVariants.Loan (calls.Send index))
-      (flights.TheVariants.Loan (send_at slots queue index stage))
-      → Comes code slots queue t sound small x since 0 (starts.TheVariants.Loan (calls.Send index))
-      (flights.TheVariants.Loan (send_at slots queue index stage))
-  send_steps (sends.TheVariants.Pushes stage) there = send_pushes code slots queue t sound small x since index stage there
-  send_steps (sends.TheVariants.Releases oldest stage) there =
+      → Stands code slots queue t sound small x since 0 (starts.Loan (calls.Send index))
+      (flights.Loan (send_at slots queue index stage))
+      → Comes code slots queue t sound small x since 0 (starts.Loan (calls.Send index))
+      (flights.Loan (send_at slots queue index stage))
+  send_steps (sends.Pushes stage) there = send_pushes code slots queue t sound small x since index stage there
+  send_steps (sends.Releases oldest stage) there =
       let at = there.at in
-      let from = ap (span_of 0) sound.holds.same ∙ (there.span ∙ ap (λ es. Open (starts.TheVariants.Loan (calls.Send index)) es) at.4) in
+      let from = ap (span_of 0) sound.holds.same ∙ (there.span ∙ ap (λ es. Open (starts.Loan (calls.Send index)) es) at.4) in
       let value = old_of (words_in sound.state) (ask_of (back_asks slots oldest stage)) in
       subst (With code slots queue t sound small x since oldest (sends_back T slots queue index oldest) there.knows stage
       (release_effect oldest stage))

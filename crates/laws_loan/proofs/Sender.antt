@@ -6,8 +6,8 @@ use Rattle.laws_loan.proofs.Names.{as_call, answer_in, words_after, change_of, s
 use Rattle.laws_loan.proofs.Names.{AreOwn, AllFollow, span_of-other, GoesUp}
 use Rattle.std.proofs.Common.{arith}
 use Rattle.model.specs.declared.event.Start.TheVariants as starts
-use Rattle.model.specs.declared.families.Flight as flights
-use Rattle.model.specs.declared.families.Registry as registries
+use Rattle.model.specs.declared.families.Flight.TheVariants as flights
+use Rattle.model.specs.declared.families.Registry.TheVariants as registries
 use Rattle.model.proofs.Frame as frame
 use Rattle.laws_loan.proofs.Channel.{Channel, words_in}
 use Rattle.laws_loan.proofs.Invariant.{family}
@@ -18,13 +18,13 @@ use Rattle.laws_loan.proofs.Turns.{Shows}
 module _ {T : Type 0} where
   -- a call of the channel as one of any family
   abbrev pub any_call : After LoanFlight (Answer T) → After (Flight T) (Answer T)
-  any_call after = as_call flights.TheVariants.Loan (λ answer. answer) after
+  any_call after = as_call flights.Loan (λ answer. answer) after
 
   -- its party after a step that does this operation, in a channel that was so
   abbrev pub party_then : Channel T → Party T → ℕ → ℕ → LoanStart → Option Ask → Bool → After LoanFlight (Answer T) → Party T
   party_then s x since changes start ask back after =
       party_after (record x { start = starts.Loan start }) since changes (step_count ask) (change_of (words_in s) ask)
-      (record { after = any_call after; back = back; wrote = []; kept = registries.TheVariants.Loan s.book })
+      (record { after = any_call after; back = back; wrote = []; kept = registries.Loan s.book })
 
 -- a turn of a party that writes events of its own, where the calls of the others stand where they stood
 module _ {T : Type 0} (code : Coding T) (slots queue : ℕ) (s s' : Channel T) (p : ℕ) (y : Party T)

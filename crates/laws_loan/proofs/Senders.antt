@@ -3,14 +3,16 @@ use Rattle.laws_loan.proofs.Names.{◌≡◌, ℕ, ◌-◌, ◌^◌, ◌<◌, fa
 use Rattle.laws_loan.proofs.Names.{goes_back, Answer, Event, LoanStart, LoanFlight, Effect, Party, Coding, has_died}
 use Rattle.laws_loan.proofs.Names.{beside, take_back_effect, give_back_effect, Open, span_of, Trace, StandsThere}
 use Rattle.laws_loan.proofs.Names.{Core}
-use Rattle.steps.specs.declared.loan.take_back.TakeBackStage as take_back_stages
+use Rattle.steps.specs.declared.loan.take_back.TakeBackStage.TheVariants as take_back_stages
 use Rattle.steps.specs.declared.queues.overflow.PopStage as overflow_pops
 use Rattle.steps.specs.declared.queues.overflow.PushStage.{PushStage}
 use Rattle.steps.specs.declared.queues.ring.PopStage.{PopStage}
 use Rattle.steps.specs.declared.queues.ring.PushStage as ring_pushes
-use Rattle.model.specs.declared.event.Start as starts
-use Rattle.model.specs.declared.families.Flight as flights
-use Rattle.model.specs.declared.families.Registry as registries
+use Rattle.model.specs.declared.event.Start.{Start}
+use Rattle.model.specs.declared.event.Start.TheVariants as starts
+use Rattle.model.specs.declared.families.Flight.{Flight}
+use Rattle.model.specs.declared.families.Flight.TheVariants as flights
+use Rattle.model.specs.declared.families.Registry.TheVariants as registries
 use Rattle.model.specs.declared.families.loan.LoanStart.TheVariants as calls
 use Rattle.model.proofs.Frame as frame
 use Rattle.model.proofs.Scenes.{ComesFrom}
@@ -33,34 +35,34 @@ module _ {T : Type 0} (code : Coding T) (slots queue : ℕ) (t : Trace T)
     (sound : frame.Sound (channel code slots queue) t) (small : t.world.turns < 2 ^ 64 - 2) (x : Party T)
     (since : ℕ) where
   -- a call of this party stands there, and comes so on
-  abbrev pub Stands : ℕ → starts.Start T → flights.Flight T → Type 0
+  abbrev pub Stands : ℕ → Start T → Flight T → Type 0
   Stands p start flight = StandsThere (channel code slots queue) t sound p x since start flight
 
-  abbrev pub Comes : ℕ → starts.Start T → flights.Flight T → Type 0
+  abbrev pub Comes : ℕ → Start T → Flight T → Type 0
   Comes p start flight =
       ComesFrom (channel code slots queue) t sound p x since code (words_in sound.state)
-      (registries.TheVariants.Loan sound.state.book) start flight
+      (registries.Loan sound.state.book) start flight
 
   -- a step of the sender that leaves this book
   pub from_step : (start : LoanStart) (ask : Option Ask) (after : After LoanFlight (Answer T)) (effect : Effect)
       (s' : Channel T) (wrote : List (Event T))
-      → span_of 0 sound.state.events ≡ Open (starts.TheVariants.Loan start) wrote
+      → span_of 0 sound.state.events ≡ Open (starts.Loan start) wrote
       → StepBy code slots queue sound.state t.world.latest t.world.turns t.world.changes since x 0 s'
-      (Open (starts.TheVariants.Loan start) wrote) start ask false after effect
+      (Open (starts.Loan start) wrote) start ask false after effect
       → ComesBy code slots queue t sound x since 0 start ask false after effect
   from_step start ask after effect s' wrote =
-      step_comes code slots queue t sound x since 0 start ask false after effect s' (Open (starts.TheVariants.Loan start) wrote)
+      step_comes code slots queue t sound x since 0 start ask false after effect s' (Open (starts.Loan start) wrote)
 
   -- of the receiver, whose call has written nothing before
   from_receiver : (p : ℕ) (start : LoanStart) (ask : Option Ask) (back : Bool) (after : After LoanFlight (Answer T))
-      (effect : Effect) (k : Core ℕ) → span_of p sound.state.events ≡ Open (starts.TheVariants.Loan start) []
+      (effect : Effect) (k : Core ℕ) → span_of p sound.state.events ≡ Open (starts.Loan start) []
       → GivesBy code slots queue sound.state t.world.latest t.world.turns t.world.changes since x p k
-      (Open (starts.TheVariants.Loan start) []) start ask back after effect
+      (Open (starts.Loan start) []) start ask back after effect
       → ComesBy code slots queue t sound x since p start ask back after effect
   from_receiver p start ask back after effect k =
       step_comes code slots queue t sound x since p start ask back after effect
       (s_given code slots queue sound.state t.world.latest t.world.turns t.world.changes since x p k start after effect)
-      (Open (starts.TheVariants.Loan start) [])
+      (Open (starts.Loan start) [])
 
   abbrev s : Channel T
   s = sound.state
@@ -69,11 +71,11 @@ module _ {T : Type 0} (code : Coding T) (slots queue : ℕ) (t : Trace T)
   h = holds_now code slots queue t sound x since
 
   pub send_pushes : (index : ℕ) (stage : PushStage)
-      → Stands 0 (starts.TheVariants.Loan (calls.Send index)) (flights.TheVariants.Loan (pushes_at slots queue stage index))
-      → Comes 0 (starts.TheVariants.Loan (calls.Send index)) (flights.TheVariants.Loan (pushes_at slots queue stage index))
+      → Stands 0 (starts.Loan (calls.Send index)) (flights.Loan (pushes_at slots queue stage index))
+      → Comes 0 (starts.Loan (calls.Send index)) (flights.Loan (pushes_at slots queue stage index))
   send_pushes index stage there =
       let at = there.at in
-      let from = ap (span_of 0) sound.holds.same ∙ (there.span ∙ ap (λ es. Open (starts.TheVariants.Loan (calls.Send index)) es) at.4) in
+      let from = ap (span_of 0) sound.holds.same ∙ (there.span ∙ ap (λ es. Open (starts.Loan (calls.Send index)) es) at.4) in
       let done =
       sends.does code slots queue s t.world.latest t.world.turns t.world.changes since x h small index there.knows stage
       there.found from at.5.0 at.5.1 there.steps in
@@ -85,11 +87,11 @@ module _ {T : Type 0} (code : Coding T) (slots queue : ℕ) (t : Trace T)
       done.channel_then (push_wrote queue s.submission index stage) from done.step
 
   pub take_back_pops : (stage : PopStage) (found : OneWord)
-      → Stands 0 (starts.TheVariants.Loan calls.TakeBack) (flights.TheVariants.Loan (pops_at slots queue stage found))
-      → Comes 0 (starts.TheVariants.Loan calls.TakeBack) (flights.TheVariants.Loan (pops_at slots queue stage found))
+      → Stands 0 (starts.Loan calls.TakeBack) (flights.Loan (pops_at slots queue stage found))
+      → Comes 0 (starts.Loan calls.TakeBack) (flights.Loan (pops_at slots queue stage found))
   take_back_pops stage found there =
       let at = there.at in
-      let from = ap (span_of 0) sound.holds.same ∙ (there.span ∙ ap (λ es. Open (starts.TheVariants.Loan calls.TakeBack) es) at.3) in
+      let from = ap (span_of 0) sound.holds.same ∙ (there.span ∙ ap (λ es. Open (starts.Loan calls.TakeBack) es) at.3) in
       let done =
       take_backs.does code slots queue s t.world.latest t.world.turns t.world.changes since x h small stage found
       there.found from there.knows stage found at.4 there.steps in
@@ -101,15 +103,15 @@ module _ {T : Type 0} (code : Coding T) (slots queue : ℕ) (t : Trace T)
       there.found from there.knows stage)
       (take_backs.goes code slots queue s t.world.latest t.world.turns t.world.changes since x h small stage found
       there.found from there.knows stage found value)
-      (take_back_effect (take_back_stages.TheVariants.Pops stage found)) done.channel_then [] from done.step
+      (take_back_effect (take_back_stages.Pops stage found)) done.channel_then [] from done.step
 
   pub give_back_pushes : (p index : ℕ) (stage : ring_pushes.PushStage) → has_died p s.book.dead ≡ false
-      → Stands p (starts.TheVariants.Loan (calls.GiveBack index)) (flights.TheVariants.Loan (give_at slots queue p index stage))
-      → Comes p (starts.TheVariants.Loan (calls.GiveBack index)) (flights.TheVariants.Loan (give_at slots queue p index stage))
+      → Stands p (starts.Loan (calls.GiveBack index)) (flights.Loan (give_at slots queue p index stage))
+      → Comes p (starts.Loan (calls.GiveBack index)) (flights.Loan (give_at slots queue p index stage))
   give_back_pushes p index stage alive there =
       let at = there.at in
       let known = at.7 alive in
-      let from = ap (span_of p) sound.holds.same ∙ (there.span ∙ ap (λ es. Open (starts.TheVariants.Loan (calls.GiveBack index)) es) at.5) in
+      let from = ap (span_of p) sound.holds.same ∙ (there.span ∙ ap (λ es. Open (starts.Loan (calls.GiveBack index)) es) at.5) in
       let done =
       give_backs.does code slots queue s t.world.latest t.world.turns t.world.changes since x p index h small at.0 alive
       known.0 known.1 from there.knows stage known.2 there.steps in
@@ -124,12 +126,12 @@ module _ {T : Type 0} (code : Coding T) (slots queue : ℕ) (t : Trace T)
   -- a receive that takes nothing out with this step
   pub receive_looks : (p : ℕ) (stage : overflow_pops.PopStage) (room : OneWord)
       → has_died p s.book.dead ≡ false → IsLook s stage
-      → Stands p (starts.TheVariants.Loan calls.Receive) (flights.TheVariants.Loan (receive_at slots queue p stage room))
-      → Comes p (starts.TheVariants.Loan calls.Receive) (flights.TheVariants.Loan (receive_at slots queue p stage room))
+      → Stands p (starts.Loan calls.Receive) (flights.Loan (receive_at slots queue p stage room))
+      → Comes p (starts.Loan calls.Receive) (flights.Loan (receive_at slots queue p stage room))
   receive_looks p stage room alive is there =
       let at = there.at in
       let known = at.5 alive in
-      let from = ap (span_of p) sound.holds.same ∙ (there.span ∙ ap (λ es. Open (starts.TheVariants.Loan calls.Receive) es) at.4) in
+      let from = ap (span_of p) sound.holds.same ∙ (there.span ∙ ap (λ es. Open (starts.Loan calls.Receive) es) at.4) in
       let send = beside s.book (words_in s) t.world.latest p in
       let step =
       receives.looks code slots queue s t.world.latest t.world.turns t.world.changes since x p h small at.0 alive known.0

@@ -8,13 +8,13 @@ use Rattle.laws_loan.proofs.Names.{change_of, step_count, fill_keeps_pop, KnowsO
 use Rattle.laws_loan.proofs.Names.{overflow_push_number, Core, filled, layout}
 use Rattle.std.proofs.Common.{arith}
 use Rattle.steps.specs.declared.loan.send.Send as send
-use Rattle.steps.specs.declared.loan.send.SendStage as sends
+use Rattle.steps.specs.declared.loan.send.SendStage.TheVariants as sends
 use Rattle.steps.specs.declared.queues.overflow.PopStage.{PopStage}
 use Rattle.steps.specs.declared.queues.overflow.PushStage.{PushStage}
-use Rattle.steps.specs.declared.queues.overflow.PushStage as pushes
+use Rattle.steps.specs.declared.queues.overflow.PushStage.TheVariants as pushes
 use Rattle.steps.specs.Queues.Overflow.{push_asks}
 use Rattle.model.specs.declared.event.Start.TheVariants as starts
-use Rattle.model.specs.declared.families.Flight as flights
+use Rattle.model.specs.declared.families.Flight.TheVariants as flights
 use Rattle.model.specs.declared.families.loan.LoanStart.TheVariants as calls
 use Rattle.model.specs.declared.families.loan.effects.Effect.TheVariants as effects
 use Rattle.laws_queues.proofs.Queues.Core.{Good}
@@ -31,7 +31,7 @@ use Rattle.laws_loan.proofs.Turns.{Shows, sends_now}
 
 abbrev pub pushes_at : ℕ → ℕ → PushStage → ℕ → LoanFlight
 pushes_at slots queue stage index =
-    Send (record { call = record { slots = slots; queue = queue; stage = sends.TheVariants.Pushes stage }; given = index; room = tt })
+    Send (record { call = record { slots = slots; queue = queue; stage = sends.Pushes stage }; given = index; room = tt })
 
 -- how a send goes on that goes on so
 abbrev pub sent_after : (T : Type 0) → ℕ → After send.Send (Option ℕ) → After LoanFlight (Answer T)
@@ -39,7 +39,7 @@ sent_after T index after = as_call Send popped (went_on as_it_is index tt after)
 
 -- a push that waits for nothing
 abbrev pub IsCalm : PushStage → Type 0
-IsCalm (pushes.TheVariants.MovesRead read) = ⊥
+IsCalm (pushes.MovesRead read) = ⊥
 IsCalm stage = Unit {0}
 
 module _ {T : Type 0} (code : Coding T) (slots queue : ℕ) (s : Channel T) (latest : List (ℕ × Party T))
@@ -59,8 +59,8 @@ module _ {T : Type 0} (code : Coding T) (slots queue : ℕ) (s : Channel T) (lat
 
   abbrev pub goes : PushStage → ℕ → After LoanFlight (Answer T)
   goes stage value =
-      sent_after T index (send_takes (record { slots = slots; queue = queue; stage = sends.TheVariants.Pushes stage })
-      (sends.TheVariants.Pushes stage) index value)
+      sent_after T index (send_takes (record { slots = slots; queue = queue; stage = sends.Pushes stage })
+      (sends.Pushes stage) index value)
 
   abbrev pub effect_at : PushStage → ℕ → Effect
   effect_at stage value = push_effect (submission_word slots) queue (words_in s) index stage value
@@ -81,7 +81,7 @@ module _ {T : Type 0} (code : Coding T) (slots queue : ℕ) (s : Channel T) (lat
   does_by x0 x1 x2 x3 x4 x5 x6 x7 x8 = grind arith
 
   abbrev pub Here : PushStage → Type 0
-  Here stage = sends_at latest ≡ Some (flights.TheVariants.Loan (pushes_at slots queue stage index))
+  Here stage = sends_at latest ≡ Some (flights.Loan (pushes_at slots queue stage index))
 
   -- ---- what is so of the queue
 
@@ -125,8 +125,8 @@ module _ {T : Type 0} (code : Coding T) (slots queue : ℕ) (s : Channel T) (lat
       (on : IsOn queued (push_asks queue now index))
       (words : words_after queued (ask_of (push_asks queue now index)) ≡ layout no_roles k)
       (none : push_wrote {T = T} queue k index after_it ≡ [])
-      (calm_then : hung {T = T} k.read (Some (flights.TheVariants.Loan (pushes_at slots queue after_it index))) ≡ None)
-      (calm_now : hung {T = T} s.submission.read (Some (flights.TheVariants.Loan (pushes_at slots queue now index))) ≡ None)
+      (calm_then : hung {T = T} k.read (Some (flights.Loan (pushes_at slots queue after_it index))) ≡ None)
+      (calm_now : hung {T = T} s.submission.read (Some (flights.Loan (pushes_at slots queue now index))) ≡ None)
       (one : step_count (asked now) ≡ 1) (known : KnowsOverflowPush queue k index after_it)
       (stands : PushAt slots queue
       (record s { submission = k; completion = s.completion; book = s.book; events = s.events ++ [] }) index
@@ -165,37 +165,37 @@ module _ {T : Type 0} (code : Coding T) (slots queue : ℕ) (s : Channel T) (lat
     passes_on : Passes slots queue (record s { events = s.events ++ [] }) 0 index
     passes_on = (passes.0, ap (spot_of index) (append-nil s.events) ∙ passes.1)
 
-    pub loads_write : Here pushes.TheVariants.LoadsWrite → x.steps ≤ 0 → Does pushes.TheVariants.LoadsWrite
+    pub loads_write : Here pushes.LoadsWrite → x.steps ≤ 0 → Does pushes.LoadsWrite
     loads_write here steps =
         let some = h.parts.some in
         let on : 0 < length queued = (let wide = long in omega arith) in
-        does_by still pushes.TheVariants.LoadsWrite [] (GoOn (pushes_at slots queue (pushes.TheVariants.LoadsRead s.submission.write) index))
+        does_by still pushes.LoadsWrite [] (GoOn (pushes_at slots queue (pushes.LoadsRead s.submission.write) index))
         effects.Quiet refl
-        (ap (goes pushes.TheVariants.LoadsWrite) (old_is pushes.TheVariants.LoadsWrite on)
+        (ap (goes pushes.LoadsWrite) (old_is pushes.LoadsWrite on)
         ∙ (let t : (s.submission.write == 2 ^ 64 - 1) ≡ false = (let low = reached in grind (arith, nat_tests)) in rw t refl))
         refl
-        (goes_on pushes.TheVariants.LoadsWrite (pushes.TheVariants.LoadsRead s.submission.write) s.submission here tt from
+        (goes_on pushes.LoadsWrite (pushes.LoadsRead s.submission.write) s.submission here tt from
         refl refl refl h.parts.submission on refl refl refl refl refl
         (omega arith, refl, (let low = reached in omega arith)) passes_on (omega arith) (λ room stage known. known))
 
-    pub loads_read : Here (pushes.TheVariants.LoadsRead s.submission.write) → x.steps ≤ 1 → Does (pushes.TheVariants.LoadsRead s.submission.write)
+    pub loads_read : Here (pushes.LoadsRead s.submission.write) → x.steps ≤ 1 → Does (pushes.LoadsRead s.submission.write)
     loads_read here steps =
         let some = h.parts.some in
         let on : 1 < length queued = (let wide = long in omega arith) in
         let few : length s.submission.waiting ≤ queue = subst (Hangs queue s.submission) (ap (hung s.submission.read) here) h.hangs in
         let write = h.parts.submission.write in
-        does_by still (pushes.TheVariants.LoadsRead s.submission.write) []
-        (GoOn (pushes_at slots queue (pushes.TheVariants.StoresCell s.submission.write s.submission.read) index)) effects.Quiet
-        refl (ap (goes (pushes.TheVariants.LoadsRead s.submission.write)) (old_is (pushes.TheVariants.LoadsRead s.submission.write) on)) refl
-        (goes_on (pushes.TheVariants.LoadsRead s.submission.write)
-        (pushes.TheVariants.StoresCell s.submission.write s.submission.read) s.submission here tt from refl refl refl
+        does_by still (pushes.LoadsRead s.submission.write) []
+        (GoOn (pushes_at slots queue (pushes.StoresCell s.submission.write s.submission.read) index)) effects.Quiet
+        refl (ap (goes (pushes.LoadsRead s.submission.write)) (old_is (pushes.LoadsRead s.submission.write) on)) refl
+        (goes_on (pushes.LoadsRead s.submission.write)
+        (pushes.StoresCell s.submission.write s.submission.read) s.submission here tt from refl refl refl
         h.parts.submission on refl refl refl refl refl
         (omega arith, refl, omega arith, omega arith, (let low = reached in omega arith)) passes_on (omega arith)
         (λ room stage known. known))
 
     pub stores_cell : (read : ℕ) → read ≤ s.submission.read → s.submission.write ≤ read + queue
-        → Here (pushes.TheVariants.StoresCell s.submission.write read) → x.steps ≤ 2
-        → Does (pushes.TheVariants.StoresCell s.submission.write read)
+        → Here (pushes.StoresCell s.submission.write read) → x.steps ≤ 2
+        → Does (pushes.StoresCell s.submission.write read)
     stores_cell read low far here steps =
         let some = h.parts.some in
         let few : length s.submission.waiting ≤ queue = subst (Hangs queue s.submission) (ap (hung s.submission.read) here) h.hangs in
@@ -209,8 +209,8 @@ module _ {T : Type 0} (code : Coding T) (slots queue : ℕ) (s : Channel T) (lat
                 events = s.events ++ [];
               };
           step =
-              goes_on (pushes.TheVariants.StoresCell s.submission.write read)
-              (pushes.TheVariants.StoresWrite s.submission.write read)
+              goes_on (pushes.StoresCell s.submission.write read)
+              (pushes.StoresWrite s.submission.write read)
               (filled 1 words_of_index (queue + 1) s.submission 0 index) here tt from refl refl refl
               (submission.fill_good queue h.parts.some h.parts.few s.submission h.parts.submission reached index below)
               (submission.cell_on queue h.parts.some h.parts.few s.submission h.parts.submission reached s.submission.write)

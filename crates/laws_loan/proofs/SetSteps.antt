@@ -12,10 +12,10 @@ use Rattle.laws_loan.proofs.Names.{release_counts, release_number, ReleaseAt, Al
 use Rattle.std.proofs.Common.{arith}
 use Rattle.std.proofs.Common.{get_or-set_same}
 use Rattle.steps.specs.declared.ask.After.TheVariants.{Done}
-use Rattle.steps.specs.declared.indices.enums.UniqueIndexSetAcquireFailure as failures
+use Rattle.steps.specs.declared.indices.enums.UniqueIndexSetAcquireFailure.TheVariants as failures
 use Rattle.steps.specs.declared.indices.unique.Acquire as acquire_calls
-use Rattle.steps.specs.declared.indices.unique.AcquireStage as acquires
-use Rattle.steps.specs.declared.indices.unique.ReleaseStage as releases
+use Rattle.steps.specs.declared.indices.unique.AcquireStage.TheVariants as acquires
+use Rattle.steps.specs.declared.indices.unique.ReleaseStage.TheVariants as releases
 use Rattle.laws_indices.proofs.Core.{Good}
 use Rattle.laws_indices.proofs.Count.{given_number, less_number}
 use Rattle.laws_indices.proofs.Knows.{IsOpen}
@@ -28,11 +28,11 @@ use Rattle.laws_loan.proofs.Lists.{sum_less}
 
 -- its first step clears the flag
 abbrev pub claims_then : ℕ → ReleaseStage → List (Option ℕ) → List (Option ℕ)
-claims_then index releases.TheVariants.ClearsFlag hs = set hs index None
-claims_then index releases.TheVariants.LoadsHead hs = hs
-claims_then index (releases.TheVariants.StoresNext head) hs = hs
-claims_then index (releases.TheVariants.ExchangesHead head) hs = hs
-claims_then index releases.TheVariants.Subtracts hs = hs
+claims_then index releases.ClearsFlag hs = set hs index None
+claims_then index releases.LoadsHead hs = hs
+claims_then index (releases.StoresNext head) hs = hs
+claims_then index (releases.ExchangesHead head) hs = hs
+claims_then index releases.Subtracts hs = hs
 
 -- it goes on and is counted, or is done and is not
 abbrev pub ReleaseLeads : ℕ → ReleaseStage → List ℕ → List (Option ℕ) → After (Release DefaultMode) ReleaseState → Type 0
@@ -49,12 +49,12 @@ module _ (c index : ℕ) (below : index < c) (ws : List ℕ) (hs : List (Option 
     pub leads : ReleaseLeads c stage (words_after ws (released_by stage)) (claims_then index stage hs) (back_takes c stage (old_of ws (released_by stage)))
     pub unlocked : counted_in (words_after ws (released_by stage)) ≢ locked
 
-  clears : holder hs index ≡ Some 0 → Good c ws hs 0 → ReleaseStep releases.TheVariants.ClearsFlag
+  clears : holder hs index ≡ Some 0 → Good c ws hs 0 → ReleaseStep releases.ClearsFlag
   clears holds g =
       let wide = g.wide in
       let low = flag_within c index below in
-      let good : Good c (words_after ws (released_by releases.TheVariants.ClearsFlag)) (set hs index None) 1 = frees c ws hs index below 0 0 holds g in
-      let unlocked = unlocked_for c (words_after ws (released_by releases.TheVariants.ClearsFlag)) (set hs index None) 1 good (omega arith) in
+      let good : Good c (words_after ws (released_by releases.ClearsFlag)) (set hs index None) 1 = frees c ws hs index below 0 0 holds g in
+      let unlocked = unlocked_for c (words_after ws (released_by releases.ClearsFlag)) (set hs index None) 1 good (omega arith) in
       grind arith
 
   -- while it is counted the set is not locked
@@ -66,27 +66,27 @@ module _ (c index : ℕ) (below : index < c) (ws : List ℕ) (hs : List (Option 
     less_unlocked : (x : ℕ) → borrowed x + 1 ≡ counted_in ws → counted_in (set ws 0 x) ≢ locked
     less_unlocked x0 x1 = grind (arith, set, borrowed, get_or-set_same)
 
-    loads : ReleaseStep releases.TheVariants.LoadsHead
+    loads : ReleaseStep releases.LoadsHead
     loads = grind (arith, set-get_or, unlocked_for)
 
-    stores : (head : ℕ) → ReleaseStep (releases.TheVariants.StoresNext head)
+    stores : (head : ℕ) → ReleaseStep (releases.StoresNext head)
     stores head =
         let wide = g.wide in
-        let good : Good c (words_after ws (released_by (releases.TheVariants.StoresNext head))) hs 1 = stores_next c ws hs index (proposed head) 1 below g in
-        let unlocked = unlocked_for c (words_after ws (released_by (releases.TheVariants.StoresNext head))) hs 1 good (omega arith) in
+        let good : Good c (words_after ws (released_by (releases.StoresNext head))) hs 1 = stores_next c ws hs index (proposed head) 1 below g in
+        let unlocked = unlocked_for c (words_after ws (released_by (releases.StoresNext head))) hs 1 good (omega arith) in
         grind arith
 
-    exchanges : (head : ℕ) → ReleaseStep (releases.TheVariants.ExchangesHead head)
+    exchanges : (head : ℕ) → ReleaseStep (releases.ExchangesHead head)
     exchanges head = go (head_of ws == head) refl
       where
-        go : (b : Bool) → (head_of ws == head) ≡ b → ReleaseStep (releases.TheVariants.ExchangesHead head)
+        go : (b : Bool) → (head_of ws == head) ≡ b → ReleaseStep (releases.ExchangesHead head)
         go true t =
             let wide = g.wide in
             let is : head_of ws ≡ head = grind (arith, nat_tests) in
-            let new : words_after ws (released_by (releases.TheVariants.ExchangesHead head))
+            let new : words_after ws (released_by (releases.ExchangesHead head))
             ≡ set ws 0 (head_given_back (head_of ws) index) =
             rw t (ap (λ h. set ws 0 (head_given_back h index)) (sym is)) in
-            let good : Good c (words_after ws (released_by (releases.TheVariants.ExchangesHead head))) hs 0 =
+            let good : Good c (words_after ws (released_by (releases.ExchangesHead head))) hs 0 =
             subst (λ w. Good c w hs 0) (sym new) (gives c ws hs 0 g index) in
             let unlocked =
             subst (λ w. counted_in w ≢ locked) (sym new)
@@ -94,12 +94,12 @@ module _ (c index : ℕ) (below : index < c) (ws : List ℕ) (hs : List (Option 
             grind arith
         go false t =
             let wide = g.wide in
-            let same : words_after ws (released_by (releases.TheVariants.ExchangesHead head)) ≡ ws = rw t (set-get_or ws 0 0) in
-            let good : Good c (words_after ws (released_by (releases.TheVariants.ExchangesHead head))) hs 1 = subst (λ w. Good c w hs 1) (sym same) g in
-            let unlocked = unlocked_for c (words_after ws (released_by (releases.TheVariants.ExchangesHead head))) hs 1 good (omega arith) in
+            let same : words_after ws (released_by (releases.ExchangesHead head)) ≡ ws = rw t (set-get_or ws 0 0) in
+            let good : Good c (words_after ws (released_by (releases.ExchangesHead head))) hs 1 = subst (λ w. Good c w hs 1) (sym same) g in
+            let unlocked = unlocked_for c (words_after ws (released_by (releases.ExchangesHead head))) hs 1 good (omega arith) in
             grind arith
 
-    subtracts_one : ReleaseStep releases.TheVariants.Subtracts
+    subtracts_one : ReleaseStep releases.Subtracts
     subtracts_one =
         let wide = g.wide in
         let good = subtracts c ws hs 0 g in
@@ -107,22 +107,22 @@ module _ (c index : ℕ) (below : index < c) (ws : List ℕ) (hs : List (Option 
         grind arith
 
   pub release_step : (stage : ReleaseStage) → ReleaseAt hs 0 index stage → Good c ws hs (release_counts stage) → ReleaseStep stage
-  release_step releases.TheVariants.ClearsFlag at g = clears at g
-  release_step releases.TheVariants.LoadsHead at g = loads g
-  release_step (releases.TheVariants.StoresNext head) at g = stores g head
-  release_step (releases.TheVariants.ExchangesHead head) at g = exchanges g head
-  release_step releases.TheVariants.Subtracts at g = subtracts_one g
+  release_step releases.ClearsFlag at g = clears at g
+  release_step releases.LoadsHead at g = loads g
+  release_step (releases.StoresNext head) at g = stores g head
+  release_step (releases.ExchangesHead head) at g = exchanges g head
+  release_step releases.Subtracts at g = subtracts_one g
 
 -- ---- an acquire
 
 -- what it knows where it stands: the head is still the one that it loaded, and the flags that it tried stand
 abbrev pub TakesAt : ℕ → List ℕ → AcquireStage → Type 0
-TakesAt c ws acquires.TheVariants.LoadsHead = Unit {0}
-TakesAt c ws (acquires.TheVariants.LoadsNext head) =
+TakesAt c ws acquires.LoadsHead = Unit {0}
+TakesAt c ws (acquires.LoadsNext head) =
     IsOpen c head × (head_of ws ≡ head) × (proposed head < c)
-TakesAt c ws (acquires.TheVariants.ExchangesHead head next) = IsOpen c head × (head_of ws ≡ head)
-TakesAt c ws (acquires.TheVariants.Claims i) = i < c
-TakesAt c ws (acquires.TheVariants.Scans i) = (i < c) × AllClaimed c ws i
+TakesAt c ws (acquires.ExchangesHead head next) = IsOpen c head × (head_of ws ≡ head)
+TakesAt c ws (acquires.Claims i) = i < c
+TakesAt c ws (acquires.Scans i) = (i < c) × AllClaimed c ws i
 
 -- it goes on; it claims an index that nobody has; or each index is claimed
 abbrev pub AcquireLeads : ℕ → AcquireStage → List ℕ → List ℕ → List (Option ℕ) → After acquire_calls.Acquire Acquired → Type 0
@@ -131,9 +131,9 @@ AcquireLeads c stage ws ws' hs (GoOn acquire) =
     × (acquire_number c stage 0 + 1 ≤ acquire_number c acquire.stage 0)
 AcquireLeads c stage ws ws' hs (Done (Ok i)) =
     Good c ws' (set hs i (Some 0)) 0 × (i < c) × (holder hs i ≡ None) × (acquire_number c stage 0 + 1 ≤ 4 + c)
-AcquireLeads c stage ws ws' hs (Done (Err failures.TheVariants.OutOfIndices)) =
+AcquireLeads c stage ws ws' hs (Done (Err failures.OutOfIndices)) =
     Good c ws' hs 0 × ((i : ℕ) → i < c → holder hs i ≢ None) × (acquire_number c stage 0 + 1 ≤ 4 + c)
-AcquireLeads c stage ws ws' hs (Done (Err failures.TheVariants.IsLocked)) = ⊥
+AcquireLeads c stage ws ws' hs (Done (Err failures.IsLocked)) = ⊥
 
 one_held_most : (o : Option ℕ) → one_held o ≤ 1
 one_held_most x0 = grind arith
@@ -163,39 +163,39 @@ module _ (c : ℕ) (ws : List ℕ) (hs : List (Option ℕ)) (opened : counted_in
   -- ---- the load of the head
 
   module _ (g : Good c ws hs 0) where
-    loaded : words_after ws (acquired_by acquires.TheVariants.LoadsHead) ≡ ws
+    loaded : words_after ws (acquired_by acquires.LoadsHead) ≡ ws
     loaded = set-get_or ws 0 0
 
-    good_loaded : Good c (words_after ws (acquired_by acquires.TheVariants.LoadsHead)) hs 0
+    good_loaded : Good c (words_after ws (acquired_by acquires.LoadsHead)) hs 0
     good_loaded = subst (λ w. Good c w hs 0) (sym loaded) g
 
     full : borrowed (head_of ws) ≡ c → (i : ℕ) → i < c → holder hs i ≢ None
     full x0 x1 x2 = grind (arith, counts_right, all_held)
 
-    sees : Leads acquires.TheVariants.LoadsHead (acquire_sees (call_at acquires.TheVariants.LoadsHead) (head_of ws))
+    sees : Leads acquires.LoadsHead (acquire_sees (call_at acquires.LoadsHead) (head_of ws))
     sees = grind (arith, by_test, head_of, borrowed, locked, by_eq, good_loaded, full, loaded, nat_tests)
 
-    loads_head : AcquireStep acquires.TheVariants.LoadsHead
+    loads_head : AcquireStep acquires.LoadsHead
     loads_head = grind (arith, sees, locked, loaded)
 
     -- ---- the load of the next index
 
-    loads_next : (head : ℕ) → IsOpen c head → head_of ws ≡ head → proposed head < c → AcquireStep (acquires.TheVariants.LoadsNext head)
+    loads_next : (head : ℕ) → IsOpen c head → head_of ws ≡ head → proposed head < c → AcquireStep (acquires.LoadsNext head)
     loads_next x0 x1 x2 x3 = grind (arith, set-get_or, next_word, head_of, locked)
 
     -- ---- the exchange of the head, which finds it as it was
 
-    exchanges_head : (head next : ℕ) → IsOpen c head → head_of ws ≡ head → AcquireStep (acquires.TheVariants.ExchangesHead head next)
+    exchanges_head : (head next : ℕ) → IsOpen c head → head_of ws ≡ head → AcquireStep (acquires.ExchangesHead head next)
     exchanges_head head next at is =
         let wide = g.wide in
         let some = g.some in
         let t : (head_of ws == head) ≡ true = grind (arith, nat_tests) in
-        let new : words_after ws (acquired_by (acquires.TheVariants.ExchangesHead head next))
+        let new : words_after ws (acquired_by (acquires.ExchangesHead head next))
         ≡ set ws 0 (head_taken (head_of ws) next) =
         rw t (ap (λ h. set ws 0 (head_taken h next)) (sym is)) in
-        let good : Good c (words_after ws (acquired_by (acquires.TheVariants.ExchangesHead head next))) hs 1 =
+        let good : Good c (words_after ws (acquired_by (acquires.ExchangesHead head next))) hs 1 =
         subst (λ w. Good c w hs 1) (sym new) (takes c ws hs 0 next g opened (λ all. at.1 (ap borrowed (sym is) ∙ all))) in
-        let unlocked = unlocked_for c (words_after ws (acquired_by (acquires.TheVariants.ExchangesHead head next))) hs 1 good (omega arith) in
+        let unlocked = unlocked_for c (words_after ws (acquired_by (acquires.ExchangesHead head next))) hs 1 good (omega arith) in
         grind (arith, nat_tests, by_test)
 
   -- ---- the claim of a flag
@@ -224,7 +224,7 @@ module _ (c : ℕ) (ws : List ℕ) (hs : List (Option ℕ)) (opened : counted_in
     is_on : flag_word c i < length ws
     is_on = let wide = g.wide in let low = flag_within c i below in omega arith
 
-    claims_proposed : AcquireStep (acquires.TheVariants.Claims i)
+    claims_proposed : AcquireStep (acquires.Claims i)
     claims_proposed = grind (arith, is_on, by_test, has_flag, stood_good, claimed, was_free, still_unlocked)
 
     module _ (all : AllClaimed c ws i) where
@@ -240,10 +240,10 @@ module _ (c : ℕ) (ws : List ℕ) (hs : List (Option ℕ)) (opened : counted_in
               let end : i + 1 ≡ c = omega arith in
               absurd (some_free c ws hs 1 g (omega arith) (subst (AllClaimed c ws) end (one_more stood)))
 
-      scans : AcquireStep (acquires.TheVariants.Scans i)
+      scans : AcquireStep (acquires.Scans i)
       scans = go (has_flag old i) refl
         where
-          go : (b : Bool) → has_flag old i ≡ b → AcquireStep (acquires.TheVariants.Scans i)
+          go : (b : Bool) → has_flag old i ≡ b → AcquireStep (acquires.Scans i)
           go x0 x1 = grind (arith, not_last, is_on, stood_good, still_claimed, one_more, still_unlocked, claimed, was_free, nat_tests)
 
   pub acquire_step : (stage : AcquireStage) → TakesAt c ws stage → Good c ws hs (acquire_counts stage) → AcquireStep stage

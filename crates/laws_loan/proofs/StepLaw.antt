@@ -4,8 +4,8 @@ use Rattle.laws_loan.proofs.Names.{Book, LoanStart, LoanFlight, Effect, Party, C
 use Rattle.laws_loan.proofs.Names.{effects_of, put, Span, span_of, answer_in, words_after, change_of, step_count}
 use Rattle.laws_loan.proofs.Names.{party_after, ending_of, Trace}
 use Rattle.std.proofs.Common.{arith}
-use Rattle.model.specs.declared.event.Start as starts
-use Rattle.model.specs.declared.families.Registry as registries
+use Rattle.model.specs.declared.event.Start.TheVariants as starts
+use Rattle.model.specs.declared.families.Registry.TheVariants as registries
 use Rattle.model.proofs.Frame as frame
 use Rattle.laws_loan.proofs.Channel.{Channel, words_in}
 use Rattle.laws_loan.proofs.Invariant.{HoldsNow, family}
@@ -30,11 +30,11 @@ module _ {T : Type 0} (code : Coding T) (slots queue : ℕ) where
     -- what is done by this party with this operation, after which it goes on so, has written this and leaves this book
     abbrev pub ComesWith : ℕ → LoanStart → Option Ask → Bool → After LoanFlight (Answer T) → List (Event T) → Book → Type 0
     ComesWith p start ask back after wrote book =
-        frame.Comes channel t p (registries.TheVariants.Loan book) (words_after (words_in now) ask)
-        (party_after (record x { start = starts.TheVariants.Loan start }) since t.world.changes (step_count ask)
+        frame.Comes channel t p (registries.Loan book) (words_after (words_in now) ask)
+        (party_after (record x { start = starts.Loan start }) since t.world.changes (step_count ask)
         (change_of (words_in now) ask)
-        (record { after = any_call after; back = back; wrote = wrote; kept = registries.TheVariants.Loan book }))
-        (wrote ++ ending_of p (starts.TheVariants.Loan start) (answer_in (any_call after)))
+        (record { after = any_call after; back = back; wrote = wrote; kept = registries.Loan book }))
+        (wrote ++ ending_of p (starts.Loan start) (answer_in (any_call after)))
         (t.world.changes + change_of (words_in now) ask)
 
     -- with this effect
@@ -50,7 +50,7 @@ module _ {T : Type 0} (code : Coding T) (slots queue : ℕ) where
         → Shows slots queue now s' p (party_then now x since t.world.changes start ask back after) t.world.latest t.world.turns es
         → frame.Owes channel s' p (party_then now x since t.world.changes start ask back after) t.world.latest
         now.events es (t.world.changes + change_of (words_in now) ask)
-        → frame.Comes channel t p (registries.TheVariants.Loan book) (words_after (words_in now) ask)
+        → frame.Comes channel t p (registries.Loan book) (words_after (words_in now) ask)
         (party_then now x since t.world.changes start ask back after) es
         (t.world.changes + change_of (words_in now) ask)
     comes p start ask back after es book s' kept words shows owes =

@@ -5,7 +5,7 @@ use Rattle.laws_loan.proofs.Names.{◌∷◌, length, get_or, refl, nat_tests, A
 use Rattle.laws_loan.proofs.Names.{after_position, distance, words_of_index, words_after, change_of, Core, Holds}
 use Rattle.laws_loan.proofs.Names.{filled, taken, fills, one_filled, set_at, layout}
 use Rattle.std.proofs.Common.{arith}
-use Rattle.steps.specs.declared.queues.overflow.PushStage as overflow_pushes
+use Rattle.steps.specs.declared.queues.overflow.PushStage.TheVariants as overflow_pushes
 use Rattle.steps.specs.Queues.Overflow.{cell_word, push_takes}
 use Rattle.laws_queues.proofs.Queues.Core.{Good, published, publishes, takes, word_at}
 use Rattle.laws_loan.proofs.Channel.{no_roles}
@@ -27,8 +27,8 @@ module _ (queue : ℕ) (some : 1 ≤ queue) (few : queue < 2 ^ 32) (k : Core ℕ
 
   -- ---- the load of the write position by a push
 
-  pub loads_write : push_takes (inner_push queue overflow_pushes.TheVariants.LoadsWrite) overflow_pushes.TheVariants.LoadsWrite k.write
-      ≡ GoOn (inner_push queue (overflow_pushes.TheVariants.LoadsRead k.write))
+  pub loads_write : push_takes (inner_push queue overflow_pushes.LoadsWrite) overflow_pushes.LoadsWrite k.write
+      ≡ GoOn (inner_push queue (overflow_pushes.LoadsRead k.write))
   loads_write = let t : (k.write == 2 ^ 64 - 1) ≡ false = grind (arith, nat_tests) in rw t refl
 
   -- ---- the stores of a push

@@ -13,8 +13,8 @@ use Rattle.std.proofs.Common.{arith}
 use Rattle.std.proofs.lemmas.List.{get_or-set_same, get_or-set_other}
 use Rattle.steps.specs.declared.loan.places.Place.TheVariants as places
 use Rattle.model.specs.declared.event.Start.TheVariants as starts
-use Rattle.model.specs.declared.families.Flight as flights
-use Rattle.model.specs.declared.families.Registry as registries
+use Rattle.model.specs.declared.families.Flight.TheVariants as flights
+use Rattle.model.specs.declared.families.Registry.TheVariants as registries
 use Rattle.model.specs.Families.Loan.Calls as rows
 use Rattle.model.specs.Parties.{party_of}
 use Rattle.model.proofs.Frame as frame
@@ -38,7 +38,7 @@ set_at table index i v within = ⊎_elim here there (cases_eq index i)
 module _ {T : Type 0} where
   -- what the table that is kept says of an index
   abbrev pub place_in : Registry T → ℕ → Place
-  place_in (registries.TheVariants.Loan book) i = place_at book.places i
+  place_in (registries.Loan book) i = place_at book.places i
   place_in kept i = places.Free
 
   abbrev pub IsTabled : Trace T → Type 0
@@ -82,23 +82,23 @@ module _ {T : Type 0} (code : Coding T) (slots queue : ℕ) where
       → AreRight (MovesRight slots) before (events_of_step p start (step_of z words push p start flight old kept))
       → place_in (step_of z words push p start flight old kept).kept i
       ≡ fold (place_after i) (place_in kept i) (events_of_step p start (step_of z words push p start flight old kept))
-  step_tabled i before z words push s p (starts.Loan start) (flights.TheVariants.Loan flight) old (registries.TheVariants.Loan book) fit long at right =
+  step_tabled i before z words push s p (starts.Loan start) (flights.Loan flight) old (registries.Loan book) fit long at right =
       let then_so = rows.after {T = T} book.places flight old in
       let wrote = effects_of p (effect_of words push flight old) (answer_in then_so) in
-      let ending = ending_of p (starts.Loan start) (answer_in (as_call flights.TheVariants.Loan (λ answer. answer) then_so)) in
+      let ending = ending_of p (starts.Loan start) (answer_in (as_call flights.Loan (λ answer. answer) then_so)) in
       let same : fold book_after book (wrote ++ ending) ≡ fold book_after book wrote =
       fold-append book_after book wrote ending
-      ∙ ending_keeps p (starts.Loan start) (answer_in (as_call flights.TheVariants.Loan (λ answer. answer) then_so))
+      ∙ ending_keeps p (starts.Loan start) (answer_in (as_call flights.Loan (λ answer. answer) then_so))
       (fold book_after book wrote)
       in
       ap (λ table. place_at table i) (ended_places p start (answer_in then_so) (fold book_after book wrote))
       ∙ (ap (λ b. place_at b.places i) (sym same)
       ∙ each slots i book before (wrote ++ ending) (ap (λ b. length b.places) fit.0 ∙ long) right)
-  step_tabled i before z words push s p (starts.Loan start) (flights.TheVariants.Loan flight) old kept fit long at right = absurd fit
+  step_tabled i before z words push s p (starts.Loan start) (flights.Loan flight) old kept fit long at right = absurd fit
   step_tabled i before z words push s p start flight old kept fit long at right = absurd at
 
   module _ (t : Trace T) (sound : frame.Sound (channel code slots queue) t) (tabled : IsTabled t) where
-    is_kept : t.world.kept ≡ registries.TheVariants.Loan sound.state.book
+    is_kept : t.world.kept ≡ registries.Loan sound.state.book
     is_kept = (kept_is t.world.kept t.world.words sound.state sound.fit).kept
 
     -- what the events of a turn that moves no index leave

@@ -5,9 +5,9 @@ use Rattle.laws_loan.proofs.Names.{went_on, Answer, PoppedIndex, LoanFlight, Tak
 use Rattle.laws_loan.proofs.Names.{release_effect, as_it_is, popped, Open, span_of, as_call, old_of, Trace}
 use native.Mathlib.Omega.{arith}
 use Rattle.steps.specs.declared.loan.take_back.TakeBack as take_back
-use Rattle.steps.specs.declared.loan.take_back.TakeBackStage as take_backs
-use Rattle.model.specs.declared.event.Start as starts
-use Rattle.model.specs.declared.families.Flight as flights
+use Rattle.steps.specs.declared.loan.take_back.TakeBackStage.TheVariants as take_backs
+use Rattle.model.specs.declared.event.Start.TheVariants as starts
+use Rattle.model.specs.declared.families.Flight.TheVariants as flights
 use Rattle.model.specs.declared.families.loan.LoanStart.TheVariants as calls
 use Rattle.model.proofs.Frame as frame
 use Rattle.laws_loan.proofs.Channel.{words_in}
@@ -23,7 +23,7 @@ take_back_at slots queue stage =
 
 module _ (T : Type 0) (slots queue index : ℕ) where
   abbrev call_at : ReleaseStage → take_back.TakeBack
-  call_at stage = record { slots = slots; queue = queue; stage = take_backs.TheVariants.Releases index stage }
+  call_at stage = record { slots = slots; queue = queue; stage = take_backs.Releases index stage }
 
   -- a take-back goes on as its release
   goes_so : (stage : ReleaseStage) (release : After (Release DefaultMode) ReleaseState)
@@ -35,14 +35,14 @@ module _ {T : Type 0} (code : Coding T) (slots queue : ℕ) (t : Trace T)
     (sound : frame.Sound (channel code slots queue) t) (small : t.world.turns < 2 ^ 64 - 2) (x : Party T)
     (since : ℕ) where
   pub take_back_steps : (stage : TakeBackStage)
-      → Stands code slots queue t sound small x since 0 (starts.TheVariants.Loan calls.TakeBack)
-      (flights.TheVariants.Loan (take_back_at slots queue stage))
-      → Comes code slots queue t sound small x since 0 (starts.TheVariants.Loan calls.TakeBack)
-      (flights.TheVariants.Loan (take_back_at slots queue stage))
-  take_back_steps (take_backs.TheVariants.Pops stage found) there = take_back_pops code slots queue t sound small x since stage found there
-  take_back_steps (take_backs.TheVariants.Releases index stage) there =
+      → Stands code slots queue t sound small x since 0 (starts.Loan calls.TakeBack)
+      (flights.Loan (take_back_at slots queue stage))
+      → Comes code slots queue t sound small x since 0 (starts.Loan calls.TakeBack)
+      (flights.Loan (take_back_at slots queue stage))
+  take_back_steps (take_backs.Pops stage found) there = take_back_pops code slots queue t sound small x since stage found there
+  take_back_steps (take_backs.Releases index stage) there =
       let at = there.at in
-      let from = ap (span_of 0) sound.holds.same ∙ (there.span ∙ ap (λ es. Open (starts.TheVariants.Loan calls.TakeBack) es) at.3) in
+      let from = ap (span_of 0) sound.holds.same ∙ (there.span ∙ ap (λ es. Open (starts.Loan calls.TakeBack) es) at.3) in
       let value = old_of (words_in sound.state) (ask_of (back_asks slots index stage)) in
       subst (With code slots queue t sound small x since index (takes_back T slots queue index) there.knows stage
       (release_effect index stage))

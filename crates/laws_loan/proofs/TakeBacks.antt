@@ -8,14 +8,14 @@ use Rattle.laws_loan.proofs.Names.{take_back_effect, as_it_is, popped, words_of_
 use Rattle.laws_loan.proofs.Names.{old_of, words_after, step_count, Core, taken, layout, in_one, KnowsPop, pop_number}
 use Rattle.std.proofs.Common.{arith}
 use Rattle.steps.specs.declared.ask.After.TheVariants.{Done}
-use Rattle.steps.specs.declared.indices.unique.ReleaseStage as releases
-use Rattle.steps.specs.declared.loan.take_back.TakeBackStage as take_backs
+use Rattle.steps.specs.declared.indices.unique.ReleaseStage.TheVariants as releases
+use Rattle.steps.specs.declared.loan.take_back.TakeBackStage.TheVariants as take_backs
 use Rattle.steps.specs.declared.queues.ring.PopStage.{PopStage}
-use Rattle.steps.specs.declared.queues.ring.PopStage as pops
+use Rattle.steps.specs.declared.queues.ring.PopStage.TheVariants as pops
 use Rattle.steps.specs.Queues.Ring.{pop_asks, cell_word, word_at}
 use Rattle.model.specs.declared.event.Answer.TheVariants as answers
 use Rattle.model.specs.declared.event.Start.TheVariants as starts
-use Rattle.model.specs.declared.families.Flight as flights
+use Rattle.model.specs.declared.families.Flight.TheVariants as flights
 use Rattle.model.specs.declared.families.loan.LoanStart.TheVariants as calls
 use Rattle.model.specs.declared.families.loan.effects.Effect.TheVariants as effects
 use Rattle.laws_queues.proofs.Ring.Keeping.{take_keeps}
@@ -41,12 +41,12 @@ use Rattle.laws_loan.proofs.Turns.{Shows, sends_now}
 
 abbrev pub pops_at : ℕ → ℕ → PopStage → OneWord → LoanFlight
 pops_at slots queue stage found =
-    TakeBack (record { call = record { slots = slots; queue = queue; stage = take_backs.TheVariants.Pops stage found }; given = tt; room = tt })
+    TakeBack (record { call = record { slots = slots; queue = queue; stage = take_backs.Pops stage found }; given = tt; room = tt })
 
 module _ {T : Type 0} (code : Coding T) (slots queue : ℕ) (s : Channel T) (latest : List (ℕ × Party T))
     (turns changes since : ℕ) (x : Party T) (h : HoldsNow slots queue s latest s.events turns)
     (small : turns < 2 ^ 64 - 2) (under : PopStage) (had : OneWord)
-    (here : sends_at latest ≡ Some (flights.TheVariants.Loan (pops_at slots queue under had)))
+    (here : sends_at latest ≡ Some (flights.Loan (pops_at slots queue under had)))
     (from : span_of 0 s.events ≡ Open (starts.Loan calls.TakeBack) []) (straight : x.backs ≡ 0) where
   abbrev start : Start T
   start = starts.Loan calls.TakeBack
@@ -66,8 +66,8 @@ module _ {T : Type 0} (code : Coding T) (slots queue : ℕ) (s : Channel T) (lat
   abbrev pub goes : PopStage → OneWord → ℕ → After LoanFlight (Answer T)
   goes stage found value =
       as_call TakeBack popped
-      (went_on as_it_is tt tt (take_back_takes (record { slots = slots; queue = queue; stage = take_backs.TheVariants.Pops stage found })
-      (take_backs.TheVariants.Pops stage found) value))
+      (went_on as_it_is tt tt (take_back_takes (record { slots = slots; queue = queue; stage = take_backs.Pops stage found })
+      (take_backs.Pops stage found) value))
 
   abbrev StepTo : Channel T → PopStage → After LoanFlight (Answer T) → Effect → Type 0
   StepTo s' stage after effect = StepBy code slots queue s latest turns changes since x 0 s' spanned calls.TakeBack (asked stage) false after effect
@@ -75,11 +75,11 @@ module _ {T : Type 0} (code : Coding T) (slots queue : ℕ) (s : Channel T) (lat
   -- what a step of a take-back that stands here comes to
   pub record Does (stage : PopStage) (found : OneWord) : Type 0 where
     pub channel_then : Channel T
-    pub step : StepTo channel_then stage (goes stage found (old stage)) (take_back_effect (take_backs.TheVariants.Pops stage found))
+    pub step : StepTo channel_then stage (goes stage found (old stage)) (take_back_effect (take_backs.Pops stage found))
 
   -- so it comes, as the call computes it
   does_by : (s' : Channel T) (stage : PopStage) (found : OneWord) (after : After LoanFlight (Answer T)) → goes stage found (old stage) ≡ after
-      → StepTo s' stage after (take_back_effect (take_backs.TheVariants.Pops stage found)) → Does stage found
+      → StepTo s' stage after (take_back_effect (take_backs.Pops stage found)) → Does stage found
   does_by x0 x1 x2 x3 x4 x5 = grind arith
 
   -- ---- what is so of the queue
@@ -139,7 +139,7 @@ module _ {T : Type 0} (code : Coding T) (slots queue : ℕ) (s : Channel T) (lat
   -- ---- nothing waits
 
   abbrev load_of_write : PopStage
-  load_of_write = pops.TheVariants.LoadsWrite s.completion.read
+  load_of_write = pops.LoadsWrite s.completion.read
 
   abbrev s_none : Channel T
   s_none = record s { submission = s.submission; completion = s.completion; book = s.book; events = s.events ++ Finished 0 start answers.PoppedNone ∷ [] }
@@ -165,7 +165,7 @@ module _ {T : Type 0} (code : Coding T) (slots queue : ℕ) (s : Channel T) (lat
 
   module _ (index : ℕ) (rest : List ℕ) (first : s.completion.waiting ≡ index ∷ rest) where
     abbrev store_of_read : PopStage
-    store_of_read = pops.TheVariants.StoresRead s.completion.read
+    store_of_read = pops.StoresRead s.completion.read
 
     abbrev takes : Event T
     takes = TakenBack 0 index
@@ -174,7 +174,7 @@ module _ {T : Type 0} (code : Coding T) (slots queue : ℕ) (s : Channel T) (lat
     without = taken 1 words_of_index slots s.completion rest
 
     abbrev frees_at : LoanFlight
-    frees_at = take_back_frees_at slots queue index releases.TheVariants.ClearsFlag
+    frees_at = take_back_frees_at slots queue index releases.ClearsFlag
 
     abbrev y_taken : Party T
     y_taken = party_then s x since changes calls.TakeBack (asked store_of_read) false (GoOn frees_at)
@@ -217,15 +217,15 @@ module _ {T : Type 0} (code : Coding T) (slots queue : ℕ) (s : Channel T) (lat
 
   -- ---- each of its stages
 
-  loads_read : (room : OneWord) → x.steps ≤ 0 → Does pops.TheVariants.LoadsRead room
+  loads_read : (room : OneWord) → x.steps ≤ 0 → Does pops.LoadsRead room
   loads_read room steps =
       let on : 1 < length queued = (let wide = long in omega arith) in
-      does_by still pops.TheVariants.LoadsRead room (GoOn (pops_at slots queue load_of_write room))
-      (ap (goes pops.TheVariants.LoadsRead room) (old_is pops.TheVariants.LoadsRead on))
-      (goes_on pops.TheVariants.LoadsRead load_of_write room on refl (omega arith, refl) (omega arith))
+      does_by still pops.LoadsRead room (GoOn (pops_at slots queue load_of_write room))
+      (ap (goes pops.LoadsRead room) (old_is pops.LoadsRead on))
+      (goes_on pops.LoadsRead load_of_write room on refl (omega arith, refl) (omega arith))
 
   abbrev load_of_cell : PopStage
-  load_of_cell = pops.TheVariants.LoadsCell s.completion.read (cell_word slots 1 s.completion.read) 0
+  load_of_cell = pops.LoadsCell s.completion.read (cell_word slots 1 s.completion.read) 0
 
   loads_write : (room : OneWord) → x.steps ≤ 1 → Does load_of_write room
   loads_write room steps = go (s.completion.write == s.completion.read) refl
@@ -262,31 +262,31 @@ module _ {T : Type 0} (code : Coding T) (slots queue : ℕ) (s : Channel T) (lat
       let value : old load_of_cell ≡ v =
       old_is load_of_cell on
       ∙ completion.first_is slots some few s.completion h.parts.completion reached v rest first in
-      does_by still load_of_cell room (GoOn (pops_at slots queue (pops.TheVariants.StoresRead s.completion.read) (word_of v)))
+      does_by still load_of_cell room (GoOn (pops_at slots queue (pops.StoresRead s.completion.read) (word_of v)))
       (ap (goes load_of_cell room) value)
-      (goes_on load_of_cell (pops.TheVariants.StoresRead s.completion.read) (word_of v) on
+      (goes_on load_of_cell (pops.StoresRead s.completion.read) (word_of v) on
       (set-get_or queued (word_at (cell_word slots 1 s.completion.read) 0) 0) (rest, refl, first) (omega arith))
 
   stores_read : (room : OneWord) (rest : List ℕ) → s.completion.waiting ≡ room.0 ∷ rest → x.steps ≤ 3
-      → Does (pops.TheVariants.StoresRead s.completion.read) room
+      → Does (pops.StoresRead s.completion.read) room
   stores_read room rest first steps =
       let on : 1 < length queued = (let wide = long in omega arith) in
       let low : slots < 2 ^ 32 = (let less = few in omega arith) in
-      does_by (s_taken room.0 rest first) (pops.TheVariants.StoresRead s.completion.read) room
-      (GoOn (take_back_frees_at slots queue room.0 releases.TheVariants.ClearsFlag))
-      (ap (λ i. GoOn (take_back_frees_at slots queue i releases.TheVariants.ClearsFlag)) (index_is room.0 slots (below room.0 rest first) low))
+      does_by (s_taken room.0 rest first) (pops.StoresRead s.completion.read) room
+      (GoOn (take_back_frees_at slots queue room.0 releases.ClearsFlag))
+      (ap (λ i. GoOn (take_back_frees_at slots queue i releases.ClearsFlag)) (index_is room.0 slots (below room.0 rest first) low))
       (takes_it room.0 rest first on steps)
 
   -- what a take-back knows leads on
   pub does : (now : PopStage) (room : OneWord) → KnowsPop one_word slots s.completion (in_one room) now → x.steps ≤ pop_number 1 now → Does now room
-  does pops.TheVariants.LoadsRead room known steps = loads_read room steps
-  does (pops.TheVariants.LoadsWrite read) room known steps =
-      subst (λ n. Does (pops.TheVariants.LoadsWrite n) room) (sym known.1) (loads_write room steps)
-  does (pops.TheVariants.LoadsCell read cell at) room known steps =
+  does pops.LoadsRead room known steps = loads_read room steps
+  does (pops.LoadsWrite read) room known steps =
+      subst (λ n. Does (pops.LoadsWrite n) room) (sym known.1) (loads_write room steps)
+  does (pops.LoadsCell read cell at) room known steps =
       let first : at ≡ 0 = (let low = known.6 in omega arith) in
-      subst (λ n. Does (pops.TheVariants.LoadsCell read cell n) room) (sym first)
-      (subst (λ n. Does (pops.TheVariants.LoadsCell read n 0) room) (sym known.5)
-      (subst (λ n. Does (pops.TheVariants.LoadsCell n (cell_word slots 1 s.completion.read) 0) room) (sym known.3)
+      subst (λ n. Does (pops.LoadsCell read cell n) room) (sym first)
+      (subst (λ n. Does (pops.LoadsCell read n 0) room) (sym known.5)
+      (subst (λ n. Does (pops.LoadsCell n (cell_word slots 1 s.completion.read) 0) room) (sym known.3)
       (loads_cell room known.1 known.2 known.4 (omega arith))))
-  does (pops.TheVariants.StoresRead read) room known steps =
-      subst (λ n. Does (pops.TheVariants.StoresRead n) room) (sym known.1) (stores_read room known.0 known.2 steps)
+  does (pops.StoresRead read) room known steps =
+      subst (λ n. Does (pops.StoresRead n) room) (sym known.1) (stores_read room known.0 known.2 steps)

@@ -8,9 +8,11 @@ use Rattle.steps.specs.Queues.Overflow as overflow
 use Rattle.steps.specs.Queues.Ring.{word_at}
 use Rattle.steps.specs.declared.ask.After.TheVariants.{Done}
 use Rattle.steps.specs.declared.ask.Op.TheVariants.{Load}
-use Rattle.steps.specs.declared.queues.overflow.PopStage as pops
-use Rattle.steps.specs.declared.queues.ring.PushStage as pushes
-use Rattle.model.specs.declared.families.Flight as flights
+use Rattle.steps.specs.declared.queues.overflow.PopStage.{PopStage}
+use Rattle.steps.specs.declared.queues.overflow.PopStage.TheVariants as pops
+use Rattle.steps.specs.declared.queues.ring.PushStage.{PushStage}
+use Rattle.steps.specs.declared.queues.ring.PushStage.TheVariants as pushes
+use Rattle.model.specs.declared.families.Flight.TheVariants as flights
 use Rattle.model.proofs.LockFree.Falls.{same_is, load_leaves}
 use Rattle.laws_loan.proofs.GiveBacks.{give_at}
 use Rattle.laws_loan.proofs.Receives.{receive_at}
@@ -24,7 +26,7 @@ module _ (T : Type 0) (slots queue : ℕ) (words : List ℕ) (places : List Plac
   asked flight = ask_of (want flight)
 
   abbrev pub goes : LoanFlight → After (Flight T) (Answer T)
-  goes flight = as_call flights.TheVariants.Loan (λ answer. answer) (after places flight (old_of words (asked flight)))
+  goes flight = as_call flights.Loan (λ answer. answer) (after places flight (old_of words (asked flight)))
 
   abbrev pub Fewer : ℕ → Option Ask → Flight T → After (Flight T) (Answer T) → Type 0
   Fewer steps ask was (GoOn next) =
@@ -32,7 +34,7 @@ module _ (T : Type 0) (slots queue : ℕ) (words : List ℕ) (places : List Plac
   Fewer steps ask was (Done answer) = Unit {0}
 
   abbrev pub TakesOne : ℕ → LoanFlight → Type 0
-  TakesOne steps flight = Fewer steps (asked flight) (flights.TheVariants.Loan flight) (goes flight)
+  TakesOne steps flight = Fewer steps (asked flight) (flights.Loan flight) (goes flight)
 
   abbrev read : ℕ
   read = read_at slots words
@@ -40,68 +42,68 @@ module _ (T : Type 0) (slots queue : ℕ) (words : List ℕ) (places : List Plac
   loads : (word : ℕ) → read_at slots (words_after words (Some (record { word = word; op = Load }))) ≡ read
   loads word = ap (read_at slots) (load_leaves words word)
 
-  pub receive_takes : (p steps : ℕ) (room : OneWord) (stage : pops.PopStage) → TakesOne steps (receive_at slots queue p stage room)
-  receive_takes p steps room pops.TheVariants.FindsNone = tt
-  receive_takes p steps room pops.TheVariants.LoadsRead =
+  pub receive_takes : (p steps : ℕ) (room : OneWord) (stage : PopStage) → TakesOne steps (receive_at slots queue p stage room)
+  receive_takes p steps room pops.FindsNone = tt
+  receive_takes p steps room pops.LoadsRead =
       let same = loads (read_word slots) in
       let self = same_is read in
       rw (same, self) (omega arith)
-  receive_takes p steps room (pops.TheVariants.LoadsWrite r) = go (old_of words (asked at_stage) == r) refl
+  receive_takes p steps room (pops.LoadsWrite r) = go (old_of words (asked at_stage) == r) refl
     where
       at_stage : LoanFlight
-      at_stage = receive_at slots queue p (pops.TheVariants.LoadsWrite r) room
+      at_stage = receive_at slots queue p (pops.LoadsWrite r) room
 
       go : (t : Bool) → (old_of words (asked at_stage) == r) ≡ t → TakesOne steps at_stage
       go true t = rw t tt
       go false t = let same = loads (word_at (submission_word slots) 0) in rw t (rw same (omega arith))
-  receive_takes p steps room (pops.TheVariants.LoadsCell r) =
+  receive_takes p steps room (pops.LoadsCell r) =
       let same = loads (word_at (submission_word slots) (overflow.cell_word queue r)) in rw same (omega arith)
-  receive_takes p steps room (pops.TheVariants.MovesRead r) = go (read == r) refl
+  receive_takes p steps room (pops.MovesRead r) = go (read == r) refl
     where
-      go : (t : Bool) → (read == r) ≡ t → TakesOne steps (receive_at slots queue p (pops.TheVariants.MovesRead r) room)
+      go : (t : Bool) → (read == r) ≡ t → TakesOne steps (receive_at slots queue p (pops.MovesRead r) room)
       go true t = rw t tt
       go false t =
-          let is : goes (receive_at slots queue p (pops.TheVariants.MovesRead r) room)
-          ≡ GoOn (flights.TheVariants.Loan (receive_at slots queue p (pops.TheVariants.LoadsCell read) room)) =
+          let is : goes (receive_at slots queue p (pops.MovesRead r) room)
+          ≡ GoOn (flights.Loan (receive_at slots queue p (pops.LoadsCell read) room)) =
           rw t refl in
-          let stays : words_after words (asked (receive_at slots queue p (pops.TheVariants.MovesRead r) room)) ≡ words =
+          let stays : words_after words (asked (receive_at slots queue p (pops.MovesRead r) room)) ≡ words =
           rw t (set-get_or words (read_word slots) 0) in
-          let now : read_at slots (words_after words (asked (receive_at slots queue p (pops.TheVariants.MovesRead r) room))) ≡ read =
+          let now : read_at slots (words_after words (asked (receive_at slots queue p (pops.MovesRead r) room))) ≡ read =
           ap (read_at slots) stays in
           let fresh : receiver_call {T = T}
-          (read_at slots (words_after words (asked (receive_at slots queue p (pops.TheVariants.MovesRead r) room))))
+          (read_at slots (words_after words (asked (receive_at slots queue p (pops.MovesRead r) room))))
           (steps + 1)
-          (flights.TheVariants.Loan (receive_at slots queue p (pops.TheVariants.LoadsCell read) room)) ≡ 1 =
+          (flights.Loan (receive_at slots queue p (pops.LoadsCell read) room)) ≡ 1 =
           ap (λ n. cond (n == read) 0 2 + 3 - 2) now ∙ ap (λ b. cond b 0 2 + 3 - 2) (same_is read) in
-          let late : receiver_call {T = T} read steps (flights.TheVariants.Loan (receive_at slots queue p (pops.TheVariants.MovesRead r) room)) ≡ 2 =
+          let late : receiver_call {T = T} read steps (flights.Loan (receive_at slots queue p (pops.MovesRead r) room)) ≡ 2 =
           ap (λ b. cond b 0 2 + 3 - 3) t in
-          subst (Fewer steps (asked (receive_at slots queue p (pops.TheVariants.MovesRead r) room))
-          (flights.TheVariants.Loan (receive_at slots queue p (pops.TheVariants.MovesRead r) room))) (sym is) (one_less _ _ fresh late)
+          subst (Fewer steps (asked (receive_at slots queue p (pops.MovesRead r) room))
+          (flights.Loan (receive_at slots queue p (pops.MovesRead r) room))) (sym is) (one_less _ _ fresh late)
 
   -- a give-back, which has taken no more steps than its stage says
-  pub give_back_takes : (k : Core ℕ) (p index steps : ℕ) (stage : pushes.PushStage) → KnowsPush one_word slots k index stage
+  pub give_back_takes : (k : Core ℕ) (p index steps : ℕ) (stage : PushStage) → KnowsPush one_word slots k index stage
       → steps ≤ push_number 1 stage → TakesOne steps (give_at slots queue p index stage)
-  give_back_takes k p index steps pushes.TheVariants.LoadsWrite known few = go (old_of words (asked at_stage) == 2 ^ 64 - 1) refl
+  give_back_takes k p index steps pushes.LoadsWrite known few = go (old_of words (asked at_stage) == 2 ^ 64 - 1) refl
     where
       at_stage : LoanFlight
-      at_stage = give_at slots queue p index pushes.TheVariants.LoadsWrite
+      at_stage = give_at slots queue p index pushes.LoadsWrite
 
       go : (t : Bool) → (old_of words (asked at_stage) == 2 ^ 64 - 1) ≡ t → TakesOne steps at_stage
       go true t = rw t tt
       go false t = rw t (omega arith)
-  give_back_takes k p index steps (pushes.TheVariants.LoadsRead write) known few =
+  give_back_takes k p index steps (pushes.LoadsRead write) known few =
       go (slots == 0 || distance write (old_of words (asked at_stage)) == slots) refl
     where
       at_stage : LoanFlight
-      at_stage = give_at slots queue p index (pushes.TheVariants.LoadsRead write)
+      at_stage = give_at slots queue p index (pushes.LoadsRead write)
 
       go : (t : Bool) → (slots == 0 || distance write (old_of words (asked at_stage)) == slots) ≡ t → TakesOne steps at_stage
       go true t = rw t tt
       go false t = rw t (omega arith)
-  give_back_takes k p index steps (pushes.TheVariants.StoresCell write cell at) known few = go (nat_lt (at + 1) 1) refl
+  give_back_takes k p index steps (pushes.StoresCell write cell at) known few = go (nat_lt (at + 1) 1) refl
     where
       at_stage : LoanFlight
-      at_stage = give_at slots queue p index (pushes.TheVariants.StoresCell write cell at)
+      at_stage = give_at slots queue p index (pushes.StoresCell write cell at)
 
       first : at < 1
       first = known.3
@@ -109,4 +111,4 @@ module _ (T : Type 0) (slots queue : ℕ) (words : List ℕ) (places : List Plac
       go : (t : Bool) → nat_lt (at + 1) 1 ≡ t → TakesOne steps at_stage
       go true t = rw t (omega arith)
       go false t = rw t (omega arith)
-  give_back_takes k p index steps (pushes.TheVariants.StoresWrite write) known few = tt
+  give_back_takes k p index steps (pushes.StoresWrite write) known few = tt

@@ -4,11 +4,13 @@ use Rattle.laws_loan.proofs.Names.{submission_word, Flight, Registry, Doing, Par
 use Rattle.laws_loan.proofs.Names.{Send, Receive, GiveBack, has_died, overflow_pop_number}
 use Rattle.std.proofs.Common.{cond, arith}
 use Rattle.steps.specs.Queues.Ring.{word_at}
-use Rattle.steps.specs.declared.loan.send.SendStage as sends
-use Rattle.steps.specs.declared.queues.overflow.PushStage as overflow_pushes
-use Rattle.steps.specs.declared.queues.overflow.PopStage as overflow_pops
-use Rattle.model.specs.declared.families.Flight as flights
-use Rattle.model.specs.declared.families.Registry as registries
+use Rattle.steps.specs.declared.loan.send.SendStage.TheVariants as sends
+use Rattle.steps.specs.declared.queues.overflow.PushStage.{PushStage}
+use Rattle.steps.specs.declared.queues.overflow.PushStage.TheVariants as overflow_pushes
+use Rattle.steps.specs.declared.queues.overflow.PopStage.{PopStage}
+use Rattle.steps.specs.declared.queues.overflow.PopStage.TheVariants as overflow_pops
+use Rattle.model.specs.declared.families.Flight.TheVariants as flights
+use Rattle.model.specs.declared.families.Registry.TheVariants as registries
 use Rattle.model.specs.declared.party.Doing.TheVariants.{Going, Over}
 use Rattle.model.specs.Parties.{party_of}
 use Rattle.model.specs.World.{World}
@@ -16,13 +18,13 @@ use Rattle.model.specs.World.{World}
 -- ---- the sender, of whose calls a reclaim takes the most steps
 
 -- what a send can still cost the receiver, by its move of the read position
-abbrev pub push_costs : overflow_pushes.PushStage → ℕ
-push_costs (overflow_pushes.TheVariants.LoadsCell read) = 0
+abbrev pub push_costs : PushStage → ℕ
+push_costs (overflow_pushes.LoadsCell read) = 0
 push_costs stage = 2
 
 abbrev pub send_costs : SendStage → ℕ
-send_costs (sends.TheVariants.Pushes stage) = push_costs stage
-send_costs (sends.TheVariants.Releases index stage) = 0
+send_costs (sends.Pushes stage) = push_costs stage
+send_costs (sends.Releases index stage) = 0
 
 abbrev pub most_sending : ℕ → ℕ
 most_sending slots = 13 * slots + 7
@@ -30,12 +32,12 @@ most_sending slots = 13 * slots + 7
 -- ---- the receiver
 
 -- a receive that was overtaken loads one cell more
-abbrev pub stale : ℕ → overflow_pops.PopStage → ℕ
-stale read overflow_pops.TheVariants.FindsNone = 0
-stale read overflow_pops.TheVariants.LoadsRead = 0
-stale read (overflow_pops.TheVariants.LoadsWrite r) = cond (read == r) 0 2
-stale read (overflow_pops.TheVariants.LoadsCell r) = cond (read == r) 0 2
-stale read (overflow_pops.TheVariants.MovesRead r) = cond (read == r) 0 2
+abbrev pub stale : ℕ → PopStage → ℕ
+stale read overflow_pops.FindsNone = 0
+stale read overflow_pops.LoadsRead = 0
+stale read (overflow_pops.LoadsWrite r) = cond (read == r) 0 2
+stale read (overflow_pops.LoadsCell r) = cond (read == r) 0 2
+stale read (overflow_pops.MovesRead r) = cond (read == r) 0 2
 
 abbrev pub read_word : ℕ → ℕ
 read_word slots = word_at (submission_word slots) 1
@@ -49,7 +51,7 @@ costs_few x0 = grind arith
 module _ {T : Type 0} where
   -- a call of this kind takes so many steps at most before its last one, with what it can still cost the receiver
   abbrev pub allowance : ℕ → Flight T → ℕ
-  allowance slots (flights.TheVariants.Loan (Send run)) = 13 * slots + 5 + send_costs run.call.stage
+  allowance slots (flights.Loan (Send run)) = 13 * slots + 5 + send_costs run.call.stage
   allowance slots flight = most_sending slots
 
   abbrev pub sender_doing : ℕ → ℕ → Doing T → ℕ
@@ -62,8 +64,8 @@ module _ {T : Type 0} where
 
   -- where this is the read position
   abbrev pub receiver_call : ℕ → ℕ → Flight T → ℕ
-  receiver_call read steps (flights.TheVariants.Loan (Receive p run)) = stale read run.call.call.stage + 3 - overflow_pop_number run.call.call.stage
-  receiver_call read steps (flights.TheVariants.Loan (GiveBack p run)) = 3 - steps
+  receiver_call read steps (flights.Loan (Receive p run)) = stale read run.call.call.stage + 3 - overflow_pop_number run.call.call.stage
+  receiver_call read steps (flights.Loan (GiveBack p run)) = 3 - steps
   receiver_call read steps flight = 4
 
   abbrev pub receiver_doing : ℕ → ℕ → Doing T → ℕ
@@ -77,11 +79,11 @@ module _ {T : Type 0} where
   -- ---- both, of whom a dead receiver takes no step
 
   abbrev pub receiver_in : Registry T → ℕ
-  receiver_in (registries.TheVariants.Loan book) = book.receiver
+  receiver_in (registries.Loan book) = book.receiver
   receiver_in kept = 0
 
   abbrev pub is_lost : Registry T → Bool
-  is_lost (registries.TheVariants.Loan book) = has_died book.receiver book.dead
+  is_lost (registries.Loan book) = has_died book.receiver book.dead
   is_lost kept = true
 
   abbrev pub receivers_left : ℕ → List ℕ → Registry T → List (ℕ × Party T) → ℕ

@@ -11,9 +11,11 @@ use Rattle.steps.specs.declared.queues.lengths.Len.{Len}
 use Rattle.steps.specs.declared.queues.lengths.LenStage.{LenStage}
 use Rattle.steps.specs.declared.queues.lengths.LenStage.TheVariants as lens
 use Rattle.steps.specs.declared.queues.overflow.Push as overflow_push
-use Rattle.steps.specs.declared.queues.overflow.PushStage as overflow_pushes
+use Rattle.steps.specs.declared.queues.overflow.PushStage.{PushStage}
+use Rattle.steps.specs.declared.queues.overflow.PushStage.TheVariants as overflow_pushes
 use Rattle.steps.specs.declared.queues.overflow.Pop as overflow_pop
-use Rattle.steps.specs.declared.queues.overflow.PopStage as overflow_pops
+use Rattle.steps.specs.declared.queues.overflow.PopStage.{PopStage}
+use Rattle.steps.specs.declared.queues.overflow.PopStage.TheVariants as overflow_pops
 use Rattle.steps.specs.declared.queues.ring.Push.{Push}
 use Rattle.steps.specs.declared.queues.ring.PushStage as pushes
 use Rattle.steps.specs.declared.queues.ring.Pop.{Pop}
@@ -22,16 +24,16 @@ use Rattle.steps.specs.declared.routine.Running.{Running}
 use Rattle.model.specs.declared.event.Start.{Start}
 use Rattle.model.specs.declared.event.Start.TheVariants as starts
 use Rattle.model.specs.declared.families.Flight.{Flight}
-use Rattle.model.specs.declared.families.Flight as flights
+use Rattle.model.specs.declared.families.Flight.TheVariants as flights
 use Rattle.model.specs.declared.families.Registry.{Registry}
-use Rattle.model.specs.declared.families.Registry as registries
+use Rattle.model.specs.declared.families.Registry.TheVariants as registries
 use Rattle.model.specs.declared.families.queues.QueueKind.{QueueKind}
-use Rattle.model.specs.declared.families.queues.QueueKind as queue_kinds
+use Rattle.model.specs.declared.families.queues.QueueKind.TheVariants as queue_kinds
 use Rattle.model.specs.declared.families.queues.calls.LengthOf.{LengthOf}
-use Rattle.model.specs.declared.families.queues.calls.OverflowCall as overflows
+use Rattle.model.specs.declared.families.queues.calls.OverflowCall.TheVariants as overflows
 use Rattle.model.specs.declared.families.queues.calls.QueueFlight.{QueueFlight}
 use Rattle.model.specs.declared.families.queues.calls.QueueFlight.TheVariants.{Role, Indices, Values, Overflow, Length}
-use Rattle.model.specs.declared.families.queues.calls.RingCall as rings
+use Rattle.model.specs.declared.families.queues.calls.RingCall.TheVariants as rings
 use Rattle.model.specs.declared.families.queues.calls.RoleCall.TheVariants.{Acquire, Release}
 use Rattle.model.specs.Coding.{Coding, IsCoding}
 use Rattle.model.specs.Families.{opening_of, first_of, want_of, after_of, goes_of, step_of, is_question, kept_after_begin, kept_after_death}
@@ -65,43 +67,43 @@ pop_left size (pops.TheVariants.LoadsWrite read) = size - 1 + 2
 pop_left size (pops.TheVariants.LoadsCell read cell at) = size - (at + 1) + 1
 pop_left size (pops.TheVariants.StoresRead read) = 0
 
-abbrev over_left : ℕ → overflow_pops.PopStage → ℕ
-over_left read overflow_pops.TheVariants.FindsNone = 0
-over_left read overflow_pops.TheVariants.LoadsRead = 3
-over_left read (overflow_pops.TheVariants.LoadsWrite r) = cond (read == r) 2 4
-over_left read (overflow_pops.TheVariants.LoadsCell r) = cond (read == r) 1 3
-over_left read (overflow_pops.TheVariants.MovesRead r) = cond (read == r) 0 2
+abbrev over_left : ℕ → PopStage → ℕ
+over_left read overflow_pops.FindsNone = 0
+over_left read overflow_pops.LoadsRead = 3
+over_left read (overflow_pops.LoadsWrite r) = cond (read == r) 2 4
+over_left read (overflow_pops.LoadsCell r) = cond (read == r) 1 3
+over_left read (overflow_pops.MovesRead r) = cond (read == r) 0 2
 
 -- ---- how many changes it makes at most before its last step that can add to the steps of others
 
 -- a push moves the write position, and where the queue was full the read position
-abbrev over_pays : overflow_pushes.PushStage → ℕ
-over_pays overflow_pushes.TheVariants.HandsBack = 0
-over_pays (overflow_pushes.TheVariants.MovesRead read) = 1
-over_pays (overflow_pushes.TheVariants.LoadsCell read) = 0
+abbrev over_pays : PushStage → ℕ
+over_pays overflow_pushes.HandsBack = 0
+over_pays (overflow_pushes.MovesRead read) = 1
+over_pays (overflow_pushes.LoadsCell read) = 0
 over_pays stage = 2
 
 module _ {T : Type 0} where
   abbrev call_left : ℕ → ℕ → ℕ → QueueFlight T → ℕ
   call_left size write read (Role call) = 0
-  call_left size write read (Indices (rings.TheVariants.Push run)) = push_left 1 run.call.stage
-  call_left size write read (Indices (rings.TheVariants.Pop run)) = pop_left 1 run.call.stage
-  call_left size write read (Values (rings.TheVariants.Push run)) = push_left size run.call.stage
-  call_left size write read (Values (rings.TheVariants.Pop run)) = pop_left size run.call.stage
-  call_left size write read (Overflow (overflows.TheVariants.Push run)) = overflow.push_left run.call.stage
-  call_left size write read (Overflow (overflows.TheVariants.Pop run)) = over_left read run.call.stage
+  call_left size write read (Indices (rings.Push run)) = push_left 1 run.call.stage
+  call_left size write read (Indices (rings.Pop run)) = pop_left 1 run.call.stage
+  call_left size write read (Values (rings.Push run)) = push_left size run.call.stage
+  call_left size write read (Values (rings.Pop run)) = pop_left size run.call.stage
+  call_left size write read (Overflow (overflows.Push run)) = overflow.push_left run.call.stage
+  call_left size write read (Overflow (overflows.Pop run)) = over_left read run.call.stage
   call_left size write read (Length which run) = len_left write read run.call.stage
 
   abbrev left_at : ℕ → ℕ → ℕ → Flight T → ℕ
-  left_at size write read (flights.TheVariants.Queues flight) = call_left size write read flight
+  left_at size write read (flights.Queues flight) = call_left size write read flight
   left_at size write read flight = 0
 
   abbrev call_pays : QueueFlight T → ℕ
-  call_pays (Overflow (overflows.TheVariants.Push run)) = over_pays run.call.stage
+  call_pays (Overflow (overflows.Push run)) = over_pays run.call.stage
   call_pays flight = 0
 
   abbrev pays : Flight T → ℕ
-  pays (flights.TheVariants.Queues flight) = call_pays flight
+  pays (flights.Queues flight) = call_pays flight
   pays flight = 0
 
   abbrev measure : ℕ → ℕ → ℕ → WordMeasure T
@@ -111,14 +113,14 @@ module _ {T : Type 0} where
 -- ---- by kind
 
 abbrev alone_of : ℕ → QueueKind → ℕ
-alone_of size queue_kinds.TheVariants.IndexQueue = 5
-alone_of size queue_kinds.TheVariants.Overflow = 5
-alone_of size queue_kinds.TheVariants.Queue = max 5 (size + 2)
+alone_of size queue_kinds.IndexQueue = 5
+alone_of size queue_kinds.Overflow = 5
+alone_of size queue_kinds.Queue = max 5 (size + 2)
 
 abbrev changes_of : QueueKind → ℕ
-changes_of queue_kinds.TheVariants.IndexQueue = 0
-changes_of queue_kinds.TheVariants.Overflow = 2
-changes_of queue_kinds.TheVariants.Queue = 0
+changes_of queue_kinds.IndexQueue = 0
+changes_of queue_kinds.Overflow = 2
+changes_of queue_kinds.Queue = 0
 
 -- a push stores words of a cell
 abbrev PushStands : ℕ → ℕ → pushes.PushStage → Type 0
@@ -132,19 +134,19 @@ module _ {T : Type 0} where
   abbrev CallStands : ℕ → QueueKind → ℕ → QueueFlight T → Type 0
   CallStands size kd c (Role call) = Unit {0}
   CallStands size kd c (Length which run) = Unit {0}
-  CallStands size queue_kinds.TheVariants.IndexQueue c (Indices (rings.TheVariants.Push run)) = IsPush 1 c run.call
-  CallStands size queue_kinds.TheVariants.IndexQueue c (Indices (rings.TheVariants.Pop run)) = Unit {0}
-  CallStands size queue_kinds.TheVariants.Queue c (Values (rings.TheVariants.Push run)) = IsPush size c run.call
-  CallStands size queue_kinds.TheVariants.Queue c (Values (rings.TheVariants.Pop run)) = Unit {0}
-  CallStands size queue_kinds.TheVariants.Overflow c (Overflow call) = Unit {0}
+  CallStands size queue_kinds.IndexQueue c (Indices (rings.Push run)) = IsPush 1 c run.call
+  CallStands size queue_kinds.IndexQueue c (Indices (rings.Pop run)) = Unit {0}
+  CallStands size queue_kinds.Queue c (Values (rings.Push run)) = IsPush size c run.call
+  CallStands size queue_kinds.Queue c (Values (rings.Pop run)) = Unit {0}
+  CallStands size queue_kinds.Overflow c (Overflow call) = Unit {0}
   CallStands size kd c flight = ⊥
 
   abbrev At : QueueKind → Coding T → ℕ → Start T → Flight T → Type 0
-  At kd code c (starts.Queues start) (flights.TheVariants.Queues flight) = CallStands code.size kd c flight
+  At kd code c (starts.Queues start) (flights.Queues flight) = CallStands code.size kd c flight
   At kd code c start flight = ⊥
 
   abbrev Kept : Registry T → Type 0
-  Kept (registries.TheVariants.Queues roles) = Unit {0}
+  Kept (registries.Queues roles) = Unit {0}
   Kept kept = ⊥
 
   abbrev outline : QueueKind → Outline T
@@ -165,7 +167,7 @@ module _ {T : Type 0} (alone changes : ℕ) (code : Coding T) (words : List ℕ)
   M = measure code.size alone changes
 
   abbrev Shown : QueueFlight T → Type 0
-  Shown flight = StepFalls M code words (flights.TheVariants.Queues flight)
+  Shown flight = StepFalls M code words (flights.Queues flight)
 
   abbrev write : ℕ
   write = get_or words 0 0
@@ -210,57 +212,57 @@ module _ {T : Type 0} (alone changes : ℕ) (code : Coding T) (words : List ℕ)
       go false t = rw t (inl (load_leaves words 1, rw t (omega arith), omega arith))
 
   -- the overflowing queue
-  abbrev over_popping : Running overflow_pop.Pop (Unit {0}) OneWord → overflow_pops.PopStage → QueueFlight T
-  over_popping run stage = Overflow (overflows.TheVariants.Pop (record run { call = record run.call { stage = stage } }))
+  abbrev over_popping : Running overflow_pop.Pop (Unit {0}) OneWord → PopStage → QueueFlight T
+  over_popping run stage = Overflow (overflows.Pop (record run { call = record run.call { stage = stage } }))
 
-  over_pop_falls : (run : Running overflow_pop.Pop (Unit {0}) OneWord) (stage : overflow_pops.PopStage) → Shown (over_popping run stage)
-  over_pop_falls run overflow_pops.TheVariants.FindsNone = tt
-  over_pop_falls run overflow_pops.TheVariants.LoadsRead = let self = same_is read in inl (load_leaves words 1, rw self (omega arith), omega arith)
-  over_pop_falls run (overflow_pops.TheVariants.LoadsWrite r) = go (write == r) refl (read == r) refl
+  over_pop_falls : (run : Running overflow_pop.Pop (Unit {0}) OneWord) (stage : PopStage) → Shown (over_popping run stage)
+  over_pop_falls run overflow_pops.FindsNone = tt
+  over_pop_falls run overflow_pops.LoadsRead = let self = same_is read in inl (load_leaves words 1, rw self (omega arith), omega arith)
+  over_pop_falls run (overflow_pops.LoadsWrite r) = go (write == r) refl (read == r) refl
     where
-      go : (t : Bool) → (write == r) ≡ t → (u : Bool) → (read == r) ≡ u → Shown (over_popping run (overflow_pops.TheVariants.LoadsWrite r))
+      go : (t : Bool) → (write == r) ≡ t → (u : Bool) → (read == r) ≡ u → Shown (over_popping run (overflow_pops.LoadsWrite r))
       go true t u e = rw t tt
       go false t true u = rw t (inl (load_leaves words 0, rw u (omega arith), omega arith))
       go false t false u = rw t (inl (load_leaves words 0, rw u (omega arith), omega arith))
-  over_pop_falls run (overflow_pops.TheVariants.LoadsCell r) = go (read == r) refl
+  over_pop_falls run (overflow_pops.LoadsCell r) = go (read == r) refl
     where
-      go : (u : Bool) → (read == r) ≡ u → Shown (over_popping run (overflow_pops.TheVariants.LoadsCell r))
+      go : (u : Bool) → (read == r) ≡ u → Shown (over_popping run (overflow_pops.LoadsCell r))
       go true u = inl (load_leaves words (overflow.cell_word run.call.capacity r), rw u (omega arith), omega arith)
       go false u = inl (load_leaves words (overflow.cell_word run.call.capacity r), rw u (omega arith), omega arith)
-  over_pop_falls run (overflow_pops.TheVariants.MovesRead r) = go (read == r) refl
+  over_pop_falls run (overflow_pops.MovesRead r) = go (read == r) refl
     where
-      go : (u : Bool) → (read == r) ≡ u → Shown (over_popping run (overflow_pops.TheVariants.MovesRead r))
+      go : (u : Bool) → (read == r) ≡ u → Shown (over_popping run (overflow_pops.MovesRead r))
       go true u = rw u tt
       go false u = let self = same_is read in rw u (inl (load_leaves words 1, rw (self, u) (omega arith), omega arith))
 
-  abbrev over_pushing : Running overflow_push.Push ℕ OneWord → overflow_pushes.PushStage → QueueFlight T
-  over_pushing run stage = Overflow (overflows.TheVariants.Push (record run { call = record run.call { stage = stage } }))
+  abbrev over_pushing : Running overflow_push.Push ℕ OneWord → PushStage → QueueFlight T
+  over_pushing run stage = Overflow (overflows.Push (record run { call = record run.call { stage = stage } }))
 
-  over_push_falls : (run : Running overflow_push.Push ℕ OneWord) (stage : overflow_pushes.PushStage) → Shown (over_pushing run stage)
-  over_push_falls run overflow_pushes.TheVariants.HandsBack = tt
-  over_push_falls run overflow_pushes.TheVariants.LoadsWrite = go (write == 2 ^ 64 - 1) refl
+  over_push_falls : (run : Running overflow_push.Push ℕ OneWord) (stage : PushStage) → Shown (over_pushing run stage)
+  over_push_falls run overflow_pushes.HandsBack = tt
+  over_push_falls run overflow_pushes.LoadsWrite = go (write == 2 ^ 64 - 1) refl
     where
-      go : (t : Bool) → (write == 2 ^ 64 - 1) ≡ t → Shown (over_pushing run overflow_pushes.TheVariants.LoadsWrite)
+      go : (t : Bool) → (write == 2 ^ 64 - 1) ≡ t → Shown (over_pushing run overflow_pushes.LoadsWrite)
       go true t = rw t tt
       go false t = rw t (inl (load_leaves words 0, omega arith, omega arith))
-  over_push_falls run (overflow_pushes.TheVariants.LoadsRead w) = inl (load_leaves words 1, omega arith, omega arith)
-  over_push_falls run (overflow_pushes.TheVariants.StoresCell w r) =
+  over_push_falls run (overflow_pushes.LoadsRead w) = inl (load_leaves words 1, omega arith, omega arith)
+  over_push_falls run (overflow_pushes.StoresCell w r) =
       inr (omega arith, inl (rest_leaves (overflow.cell_word run.call.capacity w) run.given (omega arith), omega arith))
-  over_push_falls run (overflow_pushes.TheVariants.StoresWrite w r) = go (distance w r == run.call.capacity) refl
+  over_push_falls run (overflow_pushes.StoresWrite w r) = go (distance w r == run.call.capacity) refl
     where
-      go : (t : Bool) → (distance w r == run.call.capacity) ≡ t → Shown (over_pushing run (overflow_pushes.TheVariants.StoresWrite w r))
+      go : (t : Bool) → (distance w r == run.call.capacity) ≡ t → Shown (over_pushing run (overflow_pushes.StoresWrite w r))
       go true t = rw t (inr (omega arith, inr (omega arith)))
       go false t = rw t tt
-  over_push_falls run (overflow_pushes.TheVariants.MovesRead r) = go (read == r) refl
+  over_push_falls run (overflow_pushes.MovesRead r) = go (read == r) refl
     where
-      go : (t : Bool) → (read == r) ≡ t → Shown (over_pushing run (overflow_pushes.TheVariants.MovesRead r))
+      go : (t : Bool) → (read == r) ≡ t → Shown (over_pushing run (overflow_pushes.MovesRead r))
       go true t = rw t (inr (omega arith, inr (omega arith)))
       go false t = rw t tt
-  over_push_falls run (overflow_pushes.TheVariants.LoadsCell r) = tt
+  over_push_falls run (overflow_pushes.LoadsCell r) = tt
 
   -- the index queue
   abbrev pushing : Running (Push ℕ) ℕ (Unit {0}) → pushes.PushStage → QueueFlight T
-  pushing run stage = Indices (rings.TheVariants.Push (record run { call = record run.call { stage = stage } }))
+  pushing run stage = Indices (rings.Push (record run { call = record run.call { stage = stage } }))
 
   push_falls : (run : Running (Push ℕ) ℕ (Unit {0})) (c : ℕ) (stage : pushes.PushStage) → c < 2 ^ 32 → PushStands 1 c stage → Shown (pushing run stage)
   push_falls run c pushes.TheVariants.LoadsWrite fits at = go (write == 2 ^ 64 - 1) refl
@@ -284,7 +286,7 @@ module _ {T : Type 0} (alone changes : ℕ) (code : Coding T) (words : List ℕ)
   push_falls run c (pushes.TheVariants.StoresWrite w) fits at = tt
 
   abbrev popping : Running (Pop ℕ OneWord) (Unit {0}) OneWord → pops.PopStage → QueueFlight T
-  popping run stage = Indices (rings.TheVariants.Pop (record run { call = record run.call { stage = stage } }))
+  popping run stage = Indices (rings.Pop (record run { call = record run.call { stage = stage } }))
 
   pop_falls : (run : Running (Pop ℕ OneWord) (Unit {0}) OneWord) (stage : pops.PopStage) → Shown (popping run stage)
   pop_falls run pops.TheVariants.LoadsRead = inl (load_leaves words 1, omega arith, omega arith)
@@ -302,7 +304,7 @@ module _ {T : Type 0} (alone changes : ℕ) (code : Coding T) (words : List ℕ)
 
   -- the queue of values
   abbrev value_pushing : Running (Push T) T (Unit {0}) → pushes.PushStage → QueueFlight T
-  value_pushing run stage = Values (rings.TheVariants.Push (record run { call = record run.call { stage = stage } }))
+  value_pushing run stage = Values (rings.Push (record run { call = record run.call { stage = stage } }))
 
   value_push_falls : (run : Running (Push T) T (Unit {0})) (c : ℕ) (stage : pushes.PushStage) → code.size ≤ 128 → c < 2 ^ 32
       → PushStands code.size c stage → Shown (value_pushing run stage)
@@ -329,7 +331,7 @@ module _ {T : Type 0} (alone changes : ℕ) (code : Coding T) (words : List ℕ)
   value_push_falls run c (pushes.TheVariants.StoresWrite w) few fits at = tt
 
   abbrev value_popping : Running (Pop T (buffers.Buffer 128)) (Unit {0}) (buffers.Buffer 128) → pops.PopStage → QueueFlight T
-  value_popping run stage = Values (rings.TheVariants.Pop (record run { call = record run.call { stage = stage } }))
+  value_popping run stage = Values (rings.Pop (record run { call = record run.call { stage = stage } }))
 
   value_pop_falls : (run : Running (Pop T (buffers.Buffer 128)) (Unit {0}) (buffers.Buffer 128)) (stage : pops.PopStage) → Shown (value_popping run stage)
   value_pop_falls run pops.TheVariants.LoadsRead = inl (load_leaves words 1, omega arith, omega arith)
@@ -349,13 +351,13 @@ module _ {T : Type 0} (alone changes : ℕ) (code : Coding T) (words : List ℕ)
   call_falls kd c few fits (Role (Acquire run)) at = tt
   call_falls kd c few fits (Role (Release run)) at = tt
   call_falls kd c few fits (Length which run) at = len_falls which run run.call.stage
-  call_falls queue_kinds.TheVariants.IndexQueue c few fits (Indices (rings.TheVariants.Push run)) at = push_falls run c run.call.stage fits at.1
-  call_falls queue_kinds.TheVariants.IndexQueue c few fits (Indices (rings.TheVariants.Pop run)) at = pop_falls run run.call.stage
-  call_falls queue_kinds.TheVariants.Queue c few fits (Values (rings.TheVariants.Push run)) at =
+  call_falls queue_kinds.IndexQueue c few fits (Indices (rings.Push run)) at = push_falls run c run.call.stage fits at.1
+  call_falls queue_kinds.IndexQueue c few fits (Indices (rings.Pop run)) at = pop_falls run run.call.stage
+  call_falls queue_kinds.Queue c few fits (Values (rings.Push run)) at =
       value_push_falls run c run.call.stage few fits at.1
-  call_falls queue_kinds.TheVariants.Queue c few fits (Values (rings.TheVariants.Pop run)) at = value_pop_falls run run.call.stage
-  call_falls queue_kinds.TheVariants.Overflow c few fits (Overflow (overflows.TheVariants.Push run)) at = over_push_falls run run.call.stage
-  call_falls queue_kinds.TheVariants.Overflow c few fits (Overflow (overflows.TheVariants.Pop run)) at = over_pop_falls run run.call.stage
+  call_falls queue_kinds.Queue c few fits (Values (rings.Pop run)) at = value_pop_falls run run.call.stage
+  call_falls queue_kinds.Overflow c few fits (Overflow (overflows.Push run)) at = over_push_falls run run.call.stage
+  call_falls queue_kinds.Overflow c few fits (Overflow (overflows.Pop run)) at = over_pop_falls run run.call.stage
   call_falls kd c few fits flight at = absurd at
 
 -- ---- what a kind owes
@@ -377,13 +379,13 @@ cell_high capacity size position some = go (capacity == 0) refl
 module _ {T : Type 0} (kd : QueueKind) where
   falls : (code : Coding T) (c : ℕ) → code.size ≤ 128 → c < 2 ^ 32 → (words : List ℕ) (start : Start T) (flight : Flight T) → At kd code c start flight
       → StepFalls ((outline kd).measure code c) code words flight
-  falls code c few fits words (starts.Queues start) (flights.TheVariants.Queues flight) at =
+  falls code c few fits words (starts.Queues start) (flights.Queues flight) at =
       call_falls (alone_of code.size kd) (changes_of kd) code words kd c few fits flight at
   falls code c few fits words start flight at = absurd at
 
   module _ (code : Coding T) (c : ℕ) where
     abbrev GoesOn : Start T → QueueFlight T → ℕ → Type 0
-    GoesOn start flight old = OwnAfter (outline kd) code c start (after_of code (flights.TheVariants.Queues flight) old)
+    GoesOn start flight old = OwnAfter (outline kd) code c start (after_of code (flights.Queues flight) old)
 
     goes : 1 ≤ code.size → (start : Start T) (flight : Flight T) (old : ℕ) → At kd code c start flight
         → OwnAfter (outline kd) code c start (after_of code flight old)

@@ -1,15 +1,17 @@
 -- Runs in which no push finds the last position, and no store of the single value the last version.
 use Rattle.std.specs.Prelude.{◌≡◌, ℕ, ◌-◌, ◌^◌, ◌<◌, Some, None, List, [], ◌∷◌}
-use Rattle.steps.specs.declared.atomic.StoreStage as stores
+use Rattle.steps.specs.declared.atomic.StoreStage.{StoreStage}
+use Rattle.steps.specs.declared.atomic.StoreStage.TheVariants as stores
 use Rattle.steps.specs.declared.queues.ring.PushStage as pushes
-use Rattle.steps.specs.declared.queues.overflow.PushStage as overflow_pushes
+use Rattle.steps.specs.declared.queues.overflow.PushStage.{PushStage}
+use Rattle.steps.specs.declared.queues.overflow.PushStage.TheVariants as overflow_pushes
 use Rattle.model.specs.declared.families.Flight.{Flight}
-use Rattle.model.specs.declared.families.Flight as flights
-use Rattle.model.specs.declared.families.atomic.calls.AtomicFlight as values
-use Rattle.model.specs.declared.families.queues.calls.OverflowCall as overflows
+use Rattle.model.specs.declared.families.Flight.TheVariants as flights
+use Rattle.model.specs.declared.families.atomic.calls.AtomicFlight.TheVariants as values
+use Rattle.model.specs.declared.families.queues.calls.OverflowCall.TheVariants as overflows
 use Rattle.model.specs.declared.families.queues.calls.QueueFlight.{QueueFlight}
 use Rattle.model.specs.declared.families.queues.calls.QueueFlight.TheVariants.{Indices, Values, Overflow}
-use Rattle.model.specs.declared.families.queues.calls.RingCall as rings
+use Rattle.model.specs.declared.families.queues.calls.RingCall.TheVariants as rings
 use Rattle.model.specs.declared.turn.Turn.{Turn}
 use Rattle.model.specs.declared.turn.Turn.TheVariants.{Next}
 use Rattle.model.specs.Families.{want_of, ask_of}
@@ -23,27 +25,27 @@ IsFresh write pushes.TheVariants.LoadsWrite = write < 2 ^ 64 - 1
 IsFresh write stage = Unit {0}
 
 -- the same of an overflowing queue
-abbrev pub IsFreshOver : ℕ → overflow_pushes.PushStage → Type 0
-IsFreshOver write overflow_pushes.TheVariants.LoadsWrite = write < 2 ^ 64 - 1
+abbrev pub IsFreshOver : ℕ → PushStage → Type 0
+IsFreshOver write overflow_pushes.LoadsWrite = write < 2 ^ 64 - 1
 IsFreshOver write stage = Unit {0}
 
 -- a store that is to load the version does not find the last
-abbrev pub IsFreshStore : ℕ → stores.StoreStage → Type 0
-IsFreshStore version stores.TheVariants.LoadsVersion = version < 2 ^ 64 - 1
+abbrev pub IsFreshStore : ℕ → StoreStage → Type 0
+IsFreshStore version stores.LoadsVersion = version < 2 ^ 64 - 1
 IsFreshStore version stage = Unit {0}
 
 module _ {T : Type 0} where
   -- of any call of a queue, which has found this
   abbrev pub IsFreshAt : ℕ → QueueFlight T → Type 0
-  IsFreshAt found (Indices (rings.TheVariants.Push run)) = IsFresh found run.call.stage
-  IsFreshAt found (Values (rings.TheVariants.Push run)) = IsFresh found run.call.stage
-  IsFreshAt found (Overflow (overflows.TheVariants.Push run)) = IsFreshOver found run.call.stage
+  IsFreshAt found (Indices (rings.Push run)) = IsFresh found run.call.stage
+  IsFreshAt found (Values (rings.Push run)) = IsFresh found run.call.stage
+  IsFreshAt found (Overflow (overflows.Push run)) = IsFreshOver found run.call.stage
   IsFreshAt found flight = Unit {0}
 
   -- of any call of a machine
   abbrev pub IsFreshCall : ℕ → Flight T → Type 0
-  IsFreshCall found (flights.TheVariants.Queues flight) = IsFreshAt found flight
-  IsFreshCall found (flights.TheVariants.Atomic (values.TheVariants.Store run)) =
+  IsFreshCall found (flights.Queues flight) = IsFreshAt found flight
+  IsFreshCall found (flights.Atomic (values.Store run)) =
       IsFreshStore found run.call.stage
   IsFreshCall found flight = Unit {0}
 

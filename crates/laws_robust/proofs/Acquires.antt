@@ -4,12 +4,13 @@ use Rattle.laws_robust.proofs.Names.{◌∷◌, ◌++◌, refl, ap, ◌∙◌, a
 use Rattle.laws_robust.proofs.Names.{AcquireStage, Acquired, empty, went_on, Index, NoIndex, Event, Filled, Granted}
 use Rattle.laws_robust.proofs.Names.{acquire_answer, Fills, Grants, set_act, set_acts, is_dead, as_it_is, as_call}
 use Rattle.laws_robust.proofs.Names.{words_after}
-use Rattle.steps.specs.declared.indices.enums.UniqueIndexSetAcquireFailure as failures
+use Rattle.steps.specs.declared.indices.enums.UniqueIndexSetAcquireFailure.{UniqueIndexSetAcquireFailure}
+use Rattle.steps.specs.declared.indices.enums.UniqueIndexSetAcquireFailure.TheVariants as failures
 use Rattle.steps.specs.declared.indices.robust.acquire.Acquire as calls
-use Rattle.steps.specs.declared.indices.robust.acquire.AcquireStage as acquires
-use Rattle.steps.specs.declared.indices.robust.parts.Raise as raises
+use Rattle.steps.specs.declared.indices.robust.acquire.AcquireStage.TheVariants as acquires
+use Rattle.steps.specs.declared.indices.robust.parts.Raise.TheVariants as raises
 use Rattle.model.specs.declared.families.indices.robust.RobustStart.TheVariants.{Acquire}
-use Rattle.model.specs.declared.families.indices.robust.calls.RobustFlight as flights
+use Rattle.model.specs.declared.families.indices.robust.calls.RobustFlight.TheVariants as flights
 use Rattle.laws_robust.proofs.Effects.{stays_same}
 use Rattle.laws_robust.proofs.Grants.{grants}
 use Rattle.laws_robust.proofs.Held.{Caller, WhyNot, FewEnd, held_step}
@@ -28,16 +29,16 @@ module _ {T : Type 0} (scene : Scene T) (inv : Inv scene) (owner : ℕ) (fits : 
   -- what a step leads to that did this, by how the call goes on
   abbrev Lead : Option Ask → Bool → List (Event T) → After calls.Acquire Acquired → Type 0
   Lead ask back did a =
-      Leads scene (Acquire owner) ask back did (as_call flights.TheVariants.Acquire acquire_answer (went_on as_it_is owner tt a))
+      Leads scene (Acquire owner) ask back did (as_call flights.Acquire acquire_answer (went_on as_it_is owner tt a))
 
-  refuses : (failure : failures.UniqueIndexSetAcquireFailure) (ask : Option Ask) (back : Bool)
+  refuses : (failure : UniqueIndexSetAcquireFailure) (ask : Option Ask) (back : Bool)
       → words_after ws ask ≡ ws → WhyNot scene inv owner fits alive 0 failure → IsPaid (sees scene ask back)
       → FewEnd scene inv owner fits alive 0 ask back → Lead ask back [] (Done (Err failure))
-  refuses failures.TheVariants.IsLocked ask back same why paid few =
-      ends_quietly scene inv (Acquire owner) (NoIndex failures.TheVariants.IsLocked) ask back here
+  refuses failures.IsLocked ask back same why paid few =
+      ends_quietly scene inv (Acquire owner) (NoIndex failures.IsLocked) ask back here
       (stays_same scene inv (words_after ws ask) same) (λ i o. refl) (λ i r. refl) why.0 why.1 (omega arith) paid
-  refuses failures.TheVariants.OutOfIndices ask back same why paid few =
-      ends_quietly scene inv (Acquire owner) (NoIndex failures.TheVariants.OutOfIndices) ask back here
+  refuses failures.OutOfIndices ask back same why paid few =
+      ends_quietly scene inv (Acquire owner) (NoIndex failures.OutOfIndices) ask back here
       (stays_same scene inv (words_after ws ask) same) (λ i o. refl) (λ i r. refl)
       (why.0, ⊎_elim (λ worn. inl (subst (IsWorn scene.by) (sym same) worn)) (λ all_filled. inr all_filled) why.1) why.2 (omega arith) paid
 
@@ -49,7 +50,7 @@ module _ {T : Type 0} (scene : Scene T) (inv : Inv scene) (owner : ℕ) (fits : 
             here (stays_same scene inv (words_after ws ask) same) (omega arith) (refl, refl, fits, at) known;
         filled = λ i ask new does below none known few.
             goes_on scene (Acquire owner)
-            (acquire_at c owner (acquires.TheVariants.Raises i raises.TheVariants.LoadsCounter)) ask false
+            (acquire_at c owner (acquires.Raises i raises.LoadsCounter)) ask false
             (Filled p i owner ∷ []) here (λ start w. refl) does
             ((refl, none), tt) (tt, tt) (omega arith) (refl, refl, fits, (below, ap (λ d. d ++ Fills i owner ∷ []) none)) known;
         fails = refuses;

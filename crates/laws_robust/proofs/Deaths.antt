@@ -4,7 +4,7 @@ use Rattle.laws_robust.proofs.Names.{◌∙◌, arith, fold-append, Event, Died,
 use Rattle.laws_robust.proofs.Names.{dead_with, cell_of, SetDoes, HoldsRight, set_acts, filled_after, filled_of}
 use Rattle.laws_robust.proofs.Names.{holder_after, holder_of, settled_after, settled_of, dead_after, is_dead}
 use Rattle.laws_robust.proofs.Names.{Each-append, span_of-death}
-use Rattle.model.specs.declared.families.Flight as flights
+use Rattle.model.specs.declared.families.Flight.TheVariants as flights
 use Rattle.model.proofs.Dead.{died_now, died_before}
 use Rattle.laws_robust.specs.Gone.{GoneBy, AnswersBy}
 use Rattle.laws_robust.proofs.Effects.{well_formed_less}
@@ -77,6 +77,6 @@ module _ {T : Type 0} (by : GoneBy) (c : ℕ) (words dead : List ℕ) (events : 
   pub death_known : (q since changes backs : ℕ) (flight : Flight T)
       → Knowing c flight (view by words events q since changes backs)
       → Knowing c flight (view by words (events ++ es) q since changes backs)
-  death_known q since changes backs (flights.TheVariants.Robust flight) h =
+  death_known q since changes backs (flights.Robust flight) h =
       knows_later by words words events es q since changes changes backs death_goes (death_spares q) (inl (refl, refl)) c flight h
   death_known q since changes backs flight h = absurd h

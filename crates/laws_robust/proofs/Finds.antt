@@ -5,9 +5,9 @@ use Rattle.laws_robust.proofs.Names.{Done, FindStage, at_find, find_comes_to, fi
 use Rattle.laws_robust.proofs.Names.{by_test, went_on, Number, cell_of, IsFilledWith, IsCount, as_it_is, as_call}
 use Rattle.laws_robust.proofs.Names.{words_after, step_count}
 use Rattle.steps.specs.declared.indices.robust.find.Find as calls
-use Rattle.steps.specs.declared.indices.robust.find.FindStage as finds
+use Rattle.steps.specs.declared.indices.robust.find.FindStage.TheVariants as finds
 use Rattle.model.specs.declared.families.indices.robust.RobustStart.TheVariants.{Find}
-use Rattle.model.specs.declared.families.indices.robust.calls.RobustFlight as flights
+use Rattle.model.specs.declared.families.indices.robust.calls.RobustFlight.TheVariants as flights
 use Rattle.laws_robust.proofs.Core.{cell}
 use Rattle.laws_robust.proofs.Counting.{count_next, count_within}
 use Rattle.laws_robust.proofs.Effects.{stays_same, filled_by}
@@ -51,7 +51,7 @@ module _ {T : Type 0} (scene : Scene T) (inv : Inv scene) (owner : ℕ) (fits : 
 
   module _ (here : IsHere scene (Find owner)) (none : all scene ≡ []) where
     abbrev Lead : Option Ask → After calls.Find ℕ → Type 0
-    Lead ask a = Leads scene (Find owner) ask false [] (as_call flights.TheVariants.Find Number (went_on as_it_is owner tt a))
+    Lead ask a = Leads scene (Find owner) ask false [] (as_call flights.Find Number (went_on as_it_is owner tt a))
 
     module _ (ask : Option Ask) (same : words_after ws ask ≡ ws) (paid : IsPaid (sees scene ask false))
         (stage : FindStage) (k found : ℕ) (below : k < c) (low : steps + step_count ask ≤ k + 1)
@@ -63,25 +63,25 @@ module _ {T : Type 0} (scene : Scene T) (inv : Inv scene) (owner : ℕ) (fits : 
 
       comes_to_next : Lead ask (find_comes_to (call_at stage) (k + 1) found)
       comes_to_next =
-          by_test (Lead ask) (nat_lt (k + 1) c) (GoOn (at_find (call_at stage) (finds.TheVariants.LoadsCell (k + 1) found))) (Done found)
+          by_test (Lead ask) (nat_lt (k + 1) c) (GoOn (at_find (call_at stage) (finds.LoadsCell (k + 1) found))) (Done found)
           (λ t.
           let more : k + 1 < c = grind (arith, nat_tests) in
-          goes_quietly scene inv (Find owner) (find_at c owner (finds.TheVariants.LoadsCell (k + 1) found)) ask
+          goes_quietly scene inv (Find owner) (find_at c owner (finds.LoadsCell (k + 1) found)) ask
           false here (stays_same scene inv (words_after ws ask) same) low (refl, refl, fits, (more, none))
           (record { paid = paid; scanned = tt; owns = tt; says = counted; gone = tt }))
           (λ t. ends_there)
 
-    loads_step : (k found : ℕ) → k < c → Knows c (find_at c owner (finds.TheVariants.LoadsCell k found)) (now scene)
-        → steps ≤ k → StepOf scene (Find owner) (find_at c owner (finds.TheVariants.LoadsCell k found))
+    loads_step : (k found : ℕ) → k < c → Knows c (find_at c owner (finds.LoadsCell k found)) (now scene)
+        → steps ≤ k → StepOf scene (Find owner) (find_at c owner (finds.LoadsCell k found))
     loads_step k found below h s = go (cell ws k == owner) refl
       where
         go : (b : Bool) → (cell ws k == owner) ≡ b → Lead (Some (loads (cell_word k))) (if b then GoOn
-            (at_find (call_at (finds.TheVariants.LoadsCell k found)) (finds.TheVariants.Asks k (one_more found)))
-            else find_comes_to (call_at (finds.TheVariants.LoadsCell k found)) (k + 1) found)
+            (at_find (call_at (finds.LoadsCell k found)) (finds.Asks k (one_more found)))
+            else find_comes_to (call_at (finds.LoadsCell k found)) (k + 1) found)
         go true t =
             let is : cell ws k ≡ owner = grind (arith, nat_tests) in
             let paid = h.paid in
-            goes_quietly scene inv (Find owner) (find_at c owner (finds.TheVariants.Asks k (one_more found)))
+            goes_quietly scene inv (Find owner) (find_at c owner (finds.Asks k (one_more found)))
             (Some (loads (cell_word k))) false here (stays_same scene inv _ (loads_same ws (cell_word k)))
             (omega arith)
             (refl, refl, fits, (below, none))
@@ -90,19 +90,19 @@ module _ {T : Type 0} (scene : Scene T) (inv : Inv scene) (owner : ℕ) (fits : 
             let other : cell ws k ≢ owner = grind (arith, nat_tests) in
             let paid = h.paid in
             comes_to_next (Some (loads (cell_word k))) (loads_same ws (cell_word k)) (omega arith)
-            (finds.TheVariants.LoadsCell k found) k found below (omega arith)
+            (finds.LoadsCell k found) k found below (omega arith)
             (none_counts k found below h.says other)
 
   pub find_decided : IsHere scene (Find owner) → (k found : ℕ)
-      → FindAt c (all scene) (finds.TheVariants.Asks k found)
-      → Knows c (find_at c owner (finds.TheVariants.Asks k found)) (now scene)
-      → steps ≤ find_number (finds.TheVariants.Asks k found) → (answer : ℕ)
-      → AnswerOf scene (Find owner) (find_at c owner (finds.TheVariants.Asks k found)) None answer
+      → FindAt c (all scene) (finds.Asks k found)
+      → Knows c (find_at c owner (finds.Asks k found)) (now scene)
+      → steps ≤ find_number (finds.Asks k found) → (answer : ℕ)
+      → AnswerOf scene (Find owner) (find_at c owner (finds.Asks k found)) None answer
   find_decided here k found at h s answer = go (answer == 0)
     where
-      go : (b : Bool) → Lead here at.1 None (if b then Done found else find_comes_to (call_at (finds.TheVariants.Asks k found)) (k + 1) found)
-      go true = let paid = h.paid in ends_there here at.1 None refl (omega arith) (finds.TheVariants.Asks k found) k found at.0 (omega arith) h.says
-      go false = let paid = h.paid in comes_to_next here at.1 None refl (omega arith) (finds.TheVariants.Asks k found) k found at.0 (omega arith) h.says
+      go : (b : Bool) → Lead here at.1 None (if b then Done found else find_comes_to (call_at (finds.Asks k found)) (k + 1) found)
+      go true = let paid = h.paid in ends_there here at.1 None refl (omega arith) (finds.Asks k found) k found at.0 (omega arith) h.says
+      go false = let paid = h.paid in comes_to_next here at.1 None refl (omega arith) (finds.Asks k found) k found at.0 (omega arith) h.says
 
   pub find_step : IsHere scene (Find owner) → (stage : FindStage) → FindAt c (all scene) stage
       → Knows c (find_at c owner stage) (now scene) → steps ≤ find_number stage
@@ -115,30 +115,30 @@ module _ {T : Type 0} (scene : Scene T) (inv : Inv scene) (owner : ℕ) (fits : 
       → find_comes_to (call_at stage) (k + 1) found ≡ Done number → Counted c number
   comes_to_all k found number stage below counted e = grind arith
 
-  pub find_loads_all : (k found : ℕ) → FindAt c (all scene) (finds.TheVariants.LoadsCell k found)
-      → Knows c (find_at c owner (finds.TheVariants.LoadsCell k found)) (now scene) → (number : ℕ)
-      → find_after (record { capacity = c; stage = finds.TheVariants.LoadsCell k found }) owner (cell scene.set.words k) ≡ Done number → Counted c number
+  pub find_loads_all : (k found : ℕ) → FindAt c (all scene) (finds.LoadsCell k found)
+      → Knows c (find_at c owner (finds.LoadsCell k found)) (now scene) → (number : ℕ)
+      → find_after (record { capacity = c; stage = finds.LoadsCell k found }) owner (cell scene.set.words k) ≡ Done number → Counted c number
   find_loads_all k found at h number e = go (cell ws k == owner) refl e
     where
       go : (b : Bool) → (cell ws k == owner) ≡ b
           → ◌≡◌ {A = After calls.Find ℕ}
-          (if b then GoOn (at_find (call_at (finds.TheVariants.LoadsCell k found)) (finds.TheVariants.Asks k (one_more found)))
+          (if b then GoOn (at_find (call_at (finds.LoadsCell k found)) (finds.Asks k (one_more found)))
           else find_comes_to
-          (call_at (finds.TheVariants.LoadsCell k found)) (k + 1) found) (Done number) → Counted c number
+          (call_at (finds.LoadsCell k found)) (k + 1) found) (Done number) → Counted c number
       go true t e = absurd (cc)
       go false t e =
           let other : cell ws k ≢ owner = grind (arith, nat_tests) in
-          comes_to_all k found number (finds.TheVariants.LoadsCell k found) at.0 (none_counts k found at.0 h.says other) e
+          comes_to_all k found number (finds.LoadsCell k found) at.0 (none_counts k found at.0 h.says other) e
 
-  pub find_asks_all : (k found : ℕ) → FindAt c (all scene) (finds.TheVariants.Asks k found)
-      → Knows c (find_at c owner (finds.TheVariants.Asks k found)) (now scene) → (answer number : ℕ) → answer ≢ 0
-      → find_after (record { capacity = c; stage = finds.TheVariants.Asks k found }) owner answer ≡ Done number → Counted c number
+  pub find_asks_all : (k found : ℕ) → FindAt c (all scene) (finds.Asks k found)
+      → Knows c (find_at c owner (finds.Asks k found)) (now scene) → (answer number : ℕ) → answer ≢ 0
+      → find_after (record { capacity = c; stage = finds.Asks k found }) owner answer ≡ Done number → Counted c number
   find_asks_all k found at h answer number yes_told e = go (answer == 0) refl e
     where
       go : (b : Bool) → (answer == 0) ≡ b
           → ◌≡◌ {A = After calls.Find ℕ}
-          (if b then Done found else find_comes_to (call_at (finds.TheVariants.Asks k found)) (k + 1) found)
+          (if b then Done found else find_comes_to (call_at (finds.Asks k found)) (k + 1) found)
           (Done number)
           → Counted c number
       go true t e = let zero : answer ≡ 0 = grind (arith, nat_tests) in absurd (yes_told zero)
-      go false t e = comes_to_all k found number (finds.TheVariants.Asks k found) at.0 h.says e
+      go false t e = comes_to_all k found number (finds.Asks k found) at.0 h.says e

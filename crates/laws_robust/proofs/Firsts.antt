@@ -5,9 +5,9 @@ use Rattle.laws_robust.proofs.Names.{Begun, Start, Robust, Flight, Registry, Rob
 use Rattle.laws_robust.proofs.Names.{OwnerIsDead, first_of, first, has_died, is_owner, names_owner, call_rows}
 use Rattle.laws_robust.proofs.Names.{IsFilledWith, SetAct, Yes, settled_of, set_acts_of, IsOneOf, first_row, no_more}
 use Rattle.laws_robust.proofs.Names.{row_passed}
-use Rattle.model.specs.declared.families.Flight as flights
-use Rattle.model.specs.declared.families.indices.robust.RobustStart as starts
-use Rattle.model.specs.declared.turn.Kind as kinds
+use Rattle.model.specs.declared.families.Flight.TheVariants as flights
+use Rattle.model.specs.declared.families.indices.robust.RobustStart.TheVariants as starts
+use Rattle.model.specs.declared.turn.Kind.TheVariants as kinds
 use Rattle.laws_robust.specs.Gone.{GoneBy, IsCalm}
 use Rattle.laws_robust.proofs.Begins.{taken}
 use Rattle.laws_robust.proofs.Counting.{count_none}
@@ -34,13 +34,13 @@ module _ {T : Type 0} (by : GoneBy) (c : ℕ) (words : List ℕ) (events : List 
   pub first_is : (start : RobustStart) → names_owner start ≡ true → (dead : List ℕ)
       → first_row (call_rows c dead start) ≡ None → set_acts_of p (events ++ Begun p (Robust start) ∷ []) ≡ []
       → IsFirst T by c words events p changes start (first c start)
-  first_is (starts.TheVariants.Acquire owner) named dead r none =
+  first_is (starts.Acquire owner) named dead r none =
       record { at = (refl, refl, is_below owner named, refl); knows = record { paid = omega arith; scanned = tt; owns = tt; says = tt; gone = tt } }
-  first_is (starts.TheVariants.Release index owner mode) named dead r none =
+  first_is (starts.Release index owner mode) named dead r none =
       let low = row_passed (nat_le c index) BadIndex (first_row ((has_died owner dead, OwnerIsDead) ∷ [])) r in
       let t : nat_le c index ≡ false = low.0 in
       let below : index < c = grind (arith, nat_tests) in
-      let es : List (Event T) = Begun p (Robust (starts.TheVariants.Release index owner mode)) ∷ [] in
+      let es : List (Event T) = Begun p (Robust (starts.Release index owner mode)) ∷ [] in
       record {
         at = (refl, refl, is_below owner named, below, refl);
         knows =
@@ -48,14 +48,14 @@ module _ {T : Type 0} (by : GoneBy) (c : ℕ) (words : List ℕ) (events : List 
               paid = omega arith;
               scanned = tt;
               owns =
-                  λ calm alive began. taken p index owner (Robust (starts.TheVariants.Release index owner mode)) events (λ r. refl)
-                  (owned (calm_less by events (Begun p (Robust (starts.TheVariants.Release index owner mode)) ∷ []) calm))
-                  (since_begun p (λ part. settled_of index part ≡ Some owner) events (Robust (starts.TheVariants.Release index owner mode)) began);
+                  λ calm alive began. taken p index owner (Robust (starts.Release index owner mode)) events (λ r. refl)
+                  (owned (calm_less by events (Begun p (Robust (starts.Release index owner mode)) ∷ []) calm))
+                  (since_begun p (λ part. settled_of index part ≡ Some owner) events (Robust (starts.Release index owner mode)) began);
               says = tt;
               gone = tt;
             };
       }
-  first_is (starts.TheVariants.Find owner) named dead r none =
+  first_is (starts.Find owner) named dead r none =
       record {
         at = (refl, refl, is_below owner named, (omega arith, refl));
         knows = record {
@@ -63,11 +63,11 @@ module _ {T : Type 0} (by : GoneBy) (c : ℕ) (words : List ℕ) (events : List 
           scanned = tt;
           owns = tt;
           says = count_none p (IsFilledWith owner)
-              (events ++ Begun p (Robust (starts.TheVariants.Find owner)) ∷ []);
+              (events ++ Begun p (Robust (starts.Find owner)) ∷ []);
           gone = tt;
         };
       }
-  first_is (starts.TheVariants.Recover mode) named dead r none =
+  first_is (starts.Recover mode) named dead r none =
       record {
         at = (refl, refl, refl);
         knows = record {
@@ -76,25 +76,25 @@ module _ {T : Type 0} (by : GoneBy) (c : ℕ) (words : List ℕ) (events : List 
           owns = tt;
           says = tt;
           gone = λ i owner told. none_of (Yes i owner)
-              (set_acts_of p (events ++ Begun p (Robust (starts.TheVariants.Recover mode)) ∷ [])) none told;
+              (set_acts_of p (events ++ Begun p (Robust (starts.Recover mode)) ∷ [])) none told;
         };
       }
-  first_is starts.TheVariants.BorrowedIndices named dead r none =
+  first_is starts.BorrowedIndices named dead r none =
       record { at = (refl, tt, refl); knows = record { paid = omega arith; scanned = tt; owns = tt; says = tt; gone = tt } }
-  first_is starts.TheVariants.IsLocked named dead r none =
+  first_is starts.IsLocked named dead r none =
       record { at = refl; knows = record { paid = omega arith; scanned = tt; owns = tt; says = tt; gone = tt } }
 
 -- a call that begins on the set is one of its own, for an owner that is none of an empty cell
 abbrev pub IsOwn : (T : Type 0) → ℕ → Start T → Flight T → Type 0
-IsOwn T c (Robust start) (flights.TheVariants.Robust flight) = (first c start ≡ flight) × (names_owner start ≡ true)
+IsOwn T c (Robust start) (flights.Robust flight) = (first c start ≡ flight) × (names_owner start ≡ true)
 IsOwn T c start flight = ⊥
 
 module _ (T : Type 0) (c : ℕ) where
   named_own : (start : RobustStart) (flight : Flight T) (b : Bool) → names_owner start ≡ b
-      → option_map flights.TheVariants.Robust (if b then Some (first c start) else None) ≡ Some flight
+      → option_map flights.Robust (if b then Some (first c start) else None) ≡ Some flight
       → IsOwn T c (Robust start) flight
   named_own start flight b t e = grind arith
 
   pub begins_own : (kept : Registry T) (start : Start T) (flight : Flight T)
-      → first_of kinds.TheVariants.Robust c start kept ≡ Some flight → IsOwn T c start flight
+      → first_of kinds.Robust c start kept ≡ Some flight → IsOwn T c start flight
   begins_own x0 x1 x2 x3 = grind (arith, named_own)

@@ -7,7 +7,7 @@ use Rattle.laws_robust.proofs.Names.{Granted, FreedOf, Told, Died, Finished, Rob
 use Rattle.laws_robust.proofs.Names.{AnswersRight, filled_after, filled_of, dead_after, is_dead, Each}
 use Rattle.steps.specs.declared.indices.enums.ReleaseState.TheVariants.{Unlocked}
 use Rattle.steps.specs.declared.indices.enums.UniqueIndexSetAcquireFailure.TheVariants.{OutOfIndices}
-use Rattle.model.specs.declared.families.container.ContainerStart as containers
+use Rattle.model.specs.declared.families.container.ContainerStart.TheVariants as containers
 use Rattle.model.specs.declared.families.indices.robust.RobustStart.TheVariants.{Acquire, Release, Recover}
 use Rattle.laws_robust.specs.Gone.{GoneBy, Death, Word, gone_after, is_gone, ActsForRight, IsHonest, IsHonestBy, IsCalm, MayBeTold, AsksBy, AnswersBy}
 
@@ -31,7 +31,7 @@ module _ {T : Type 0} where
   gone_stays owner [] = refl
   gone_stays owner (Died o ∷ es) = ap (λ b. fold (gone_after owner) b es) (or_true (o == owner)) ∙ gone_stays owner es
   gone_stays owner (Told p i o ∷ es) = ap (λ b. fold (gone_after owner) b es) (or_true (o == owner)) ∙ gone_stays owner es
-  gone_stays owner (Begun p (Container (containers.TheVariants.Recover o mode)) ∷ es) =
+  gone_stays owner (Begun p (Container (containers.Recover o mode)) ∷ es) =
       ap (λ b. fold (gone_after owner) b es) (or_true (o == owner)) ∙ gone_stays owner es
   gone_stays owner (e ∷ es) = gone_stays owner es
 
@@ -48,7 +48,7 @@ module _ {T : Type 0} where
 
   -- and so is he for whom a container's recovery begins
   pub gone_begun : (p owner : ℕ) (mode : ReleaseMode) (events : List (Event T))
-      → is_gone Word owner (events ++ Begun p (Container (containers.TheVariants.Recover owner mode)) ∷ []) ≡ true
+      → is_gone Word owner (events ++ Begun p (Container (containers.Recover owner mode)) ∷ []) ≡ true
   gone_begun x0 x1 x2 x3 = grind (arith, fold-append, false, eq-eqb)
 
   -- ---- honest runs
@@ -73,7 +73,7 @@ module _ {T : Type 0} where
 
   -- an add ends with an index for an owner who lives
   pub lives_settled : (by : GoneBy) (p index owner : ℕ) (value : T) (events : List (Event T)) → is_dead owner events ≡ false
-      → IsHonestBy by (events ++ Finished p (Container (containers.TheVariants.Add value owner)) (Index index) ∷ []) → is_gone by owner events ≡ false
+      → IsHonestBy by (events ++ Finished p (Container (containers.Add value owner)) (Index index) ∷ []) → is_gone by owner events ≡ false
   lives_settled x0 x1 x2 x3 x4 x5 x6 x7 = grind arith
 
   -- ---- nothing is filled with an owner who is gone

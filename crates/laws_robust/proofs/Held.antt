@@ -9,10 +9,11 @@ use Rattle.laws_robust.proofs.Names.{raise_after, raise_goes_back, by_test, by_e
 use Rattle.laws_robust.proofs.Names.{Fills, filled_after, filled_of, holder_after, holder_of, is_dead}
 use Rattle.laws_robust.proofs.Names.{ask_of, is_locked, FilledLate, granted, acquire_effects, HeldSometime, old_of}
 use Rattle.laws_robust.proofs.Names.{words_after, step_count, held_now}
-use Rattle.steps.specs.declared.indices.enums.UniqueIndexSetAcquireFailure as failures
+use Rattle.steps.specs.declared.indices.enums.UniqueIndexSetAcquireFailure.{UniqueIndexSetAcquireFailure}
+use Rattle.steps.specs.declared.indices.enums.UniqueIndexSetAcquireFailure.TheVariants as failures
 use Rattle.steps.specs.declared.indices.robust.acquire.Acquire as calls
-use Rattle.steps.specs.declared.indices.robust.acquire.AcquireStage as acquires
-use Rattle.steps.specs.declared.indices.robust.parts.Raise as raises
+use Rattle.steps.specs.declared.indices.robust.acquire.AcquireStage.TheVariants as acquires
+use Rattle.steps.specs.declared.indices.robust.parts.Raise.TheVariants as raises
 use Rattle.laws_robust.specs.Gone.{IsCalm}
 use Rattle.laws_robust.proofs.Core.{counter_of, cell}
 use Rattle.laws_robust.proofs.Effects.{at_same, IsRaised, unlocked, is_shut, filled_none, filled_some, fills}
@@ -49,9 +50,9 @@ module _ {T : Type 0} (scene : Scene T) (inv : Inv scene) (owner : ℕ) (fits : 
   FewEnd ask back = steps + step_count ask ≤ extra + (c + 3 + backs_then scene back * (c + 1))
 
   -- why no index was granted
-  abbrev pub WhyNot : failures.UniqueIndexSetAcquireFailure → Type 0
-  WhyNot failures.TheVariants.IsLocked = (is_locked events ≡ true) × ((all scene ≡ []) ⊎ FilledLate owner (all scene))
-  WhyNot failures.TheVariants.OutOfIndices = (is_locked events ≡ false) × (IsWorn by ws ⊎ AllOnce c (now scene)) × (all scene ≡ [])
+  abbrev pub WhyNot : UniqueIndexSetAcquireFailure → Type 0
+  WhyNot failures.IsLocked = (is_locked events ≡ true) × ((all scene ≡ []) ⊎ FilledLate owner (all scene))
+  WhyNot failures.OutOfIndices = (is_locked events ≡ false) × (IsWorn by ws ⊎ AllOnce c (now scene)) × (all scene ≡ [])
 
   pub record Caller (Lead : Option Ask → Bool → List (Event T) → After calls.Acquire Acquired → Type 0) : Type 0 where
     pub quiet : (next : AcquireStage) (ask : Option Ask) (back : Bool) → words_after ws ask ≡ ws
@@ -59,11 +60,11 @@ module _ {T : Type 0} (scene : Scene T) (inv : Inv scene) (owner : ℕ) (fits : 
         → Few next ask back → Lead ask back [] (GoOn (call_at next))
     pub filled : (i : ℕ) (ask : Option Ask) → words_after ws ask ≡ set ws (cell_word i) owner
         → Does scene (words_after ws ask) (Filled p i owner ∷ []) → i < c → all scene ≡ []
-        → Knows c (acquire_at c owner (acquires.TheVariants.Raises i raises.TheVariants.LoadsCounter))
+        → Knows c (acquire_at c owner (acquires.Raises i raises.LoadsCounter))
         (then_sees scene ask false (Filled p i owner ∷ []))
-        → Few (acquires.TheVariants.Raises i raises.TheVariants.LoadsCounter) ask false
-        → Lead ask false (Filled p i owner ∷ []) (GoOn (call_at (acquires.TheVariants.Raises i raises.TheVariants.LoadsCounter)))
-    pub fails : (failure : failures.UniqueIndexSetAcquireFailure) (ask : Option Ask) (back : Bool)
+        → Few (acquires.Raises i raises.LoadsCounter) ask false
+        → Lead ask false (Filled p i owner ∷ []) (GoOn (call_at (acquires.Raises i raises.LoadsCounter)))
+    pub fails : (failure : UniqueIndexSetAcquireFailure) (ask : Option Ask) (back : Bool)
         → words_after ws ask ≡ ws → WhyNot failure → IsPaid (sees scene ask back) → FewEnd ask back
         → Lead ask back [] (Done (Err failure))
     pub grants : (i : ℕ) (ask : Option Ask) (back : Bool) → i < c → all scene ≡ Fills i owner ∷ []
@@ -77,30 +78,30 @@ module _ {T : Type 0} (scene : Scene T) (inv : Inv scene) (owner : ℕ) (fits : 
     module _ (stage : AcquireStage) (ask : Option Ask) (back : Bool) (same : words_after ws ask ≡ ws)
         (none : all scene ≡ []) (low : steps + step_count ask ≤ extra + (1 + backs_then scene back * (c + 1)))
         (paid : IsPaid (sees scene ask back)) where
-      finds_locked : counter_of ws ≡ locked → Lead ask back [] (Done (Err failures.TheVariants.IsLocked))
+      finds_locked : counter_of ws ≡ locked → Lead ask back [] (Done (Err failures.IsLocked))
       finds_locked x0 = grind (arith, is_shut, inl)
 
       begins_cells : counter_of ws ≢ locked → counter_of ws ≢ greatest
-          → Lead ask back [] (GoOn (at_acquire (call_at stage) (acquires.TheVariants.FillsCell (counter_of ws) 0)))
+          → Lead ask back [] (GoOn (at_acquire (call_at stage) (acquires.FillsCell (counter_of ws) 0)))
       begins_cells x0 x1 = grind (arith, finds_counter, held_now, unlocked)
 
       finds : Lead ask back [] (acquire_sees (call_at stage) (counter_of ws))
       finds =
-          by_eq (Lead ask back []) (counter_of ws) locked (Done (Err failures.TheVariants.IsLocked)) _ finds_locked
-          (λ open_now. by_eq (Lead ask back []) (counter_of ws) greatest (Done (Err failures.TheVariants.OutOfIndices)) _
-          (λ end. caller.fails failures.TheVariants.OutOfIndices ask back same
+          by_eq (Lead ask back []) (counter_of ws) locked (Done (Err failures.IsLocked)) _ finds_locked
+          (λ open_now. by_eq (Lead ask back []) (counter_of ws) greatest (Done (Err failures.OutOfIndices)) _
+          (λ end. caller.fails failures.OutOfIndices ask back same
           (unlocked scene inv open_now, inl (worn_at by ws inv.room end), none) paid (omega arith))
           (λ less. by_test (λ s. Lead ask back [] (GoOn (at_acquire (call_at stage) s))) (nat_lt 0 c)
-          (acquires.TheVariants.FillsCell (counter_of ws) 0) (acquires.TheVariants.ChecksCounter (counter_of ws))
+          (acquires.FillsCell (counter_of ws) 0) (acquires.ChecksCounter (counter_of ws))
           (λ t. begins_cells open_now less)
           (λ t. let some = g.some in let nothing : c ≤ 0 = grind (arith, nat_tests) in absurd (omega arith))))
 
     -- ---- the exchange of a cell
 
     module _ (number i : ℕ) (below : i < c) (none : all scene ≡ []) (s : steps ≤ extra + (1 + i + backs * (c + 1)))
-        (k : Knows c (acquire_at c owner (acquires.TheVariants.FillsCell number i)) (now scene)) where
+        (k : Knows c (acquire_at c owner (acquires.FillsCell number i)) (now scene)) where
       abbrev filling : AcquireStage
-      filling = acquires.TheVariants.FillsCell number i
+      filling = acquires.FillsCell number i
 
       abbrev exchange : Option Ask
       exchange = Some (exchanges (cell_word i) empty owner)
@@ -112,7 +113,7 @@ module _ {T : Type 0} (scene : Scene T) (inv : Inv scene) (owner : ℕ) (fits : 
       paid_now = paid_of scene (counter_of ws ≡ number) k.paid.paid
 
       fills_cell : cell ws i ≡ empty
-          → Lead exchange false fill (GoOn (at_acquire (call_at filling) (acquires.TheVariants.Raises i raises.TheVariants.LoadsCounter)))
+          → Lead exchange false fill (GoOn (at_acquire (call_at filling) (acquires.Raises i raises.LoadsCounter)))
       fills_cell is =
           let free = filled_none scene inv i below is in
           let new : words_after ws exchange ≡ set ws (cell_word i) owner = exchange_sets ws (cell_word i) empty owner is in
@@ -142,35 +143,35 @@ module _ {T : Type 0} (scene : Scene T) (inv : Inv scene) (owner : ℕ) (fits : 
       fills_step = go (cell ws i == empty) refl
         where
           go : (b : Bool) → (cell ws i == empty) ≡ b → Lead (Some (exchanges (cell_word i) empty owner)) false (if b then Filled p i owner ∷ [] else [])
-              (if b then GoOn (at_acquire (call_at (acquires.TheVariants.FillsCell number i))
-              (acquires.TheVariants.Raises i raises.TheVariants.LoadsCounter))
+              (if b then GoOn (at_acquire (call_at (acquires.FillsCell number i))
+              (acquires.Raises i raises.LoadsCounter))
               else acquire_tries
-              (call_at (acquires.TheVariants.FillsCell number i)) number (i + 1))
+              (call_at (acquires.FillsCell number i)) number (i + 1))
           go true t = let is : cell ws i ≡ empty = grind (arith, nat_tests) in fills_cell is
           go false t = let other : cell ws i ≢ empty = grind (arith, nat_tests) in passes other
 
     -- ---- the exchange of the counter for itself
 
     checks_step : (number : ℕ) → all scene ≡ [] → steps ≤ extra + (1 + c + backs * (c + 1))
-        → Knows c (acquire_at c owner (acquires.TheVariants.ChecksCounter number)) (now scene)
+        → Knows c (acquire_at c owner (acquires.ChecksCounter number)) (now scene)
         → Lead (Some (exchanges 0 number number))
-        (acquire_goes_back (acquires.TheVariants.ChecksCounter number) (counter_of ws)) []
-        (acquire_takes (call_at (acquires.TheVariants.ChecksCounter number))
-        (acquires.TheVariants.ChecksCounter number) (counter_of ws))
+        (acquire_goes_back (acquires.ChecksCounter number) (counter_of ws)) []
+        (acquire_takes (call_at (acquires.ChecksCounter number))
+        (acquires.ChecksCounter number) (counter_of ws))
     checks_step number none s k = go (counter_of ws == number) refl
       where
         go : (b : Bool) → (counter_of ws == number) ≡ b → Lead (Some (exchanges 0 number number)) (not b) []
-            (if b then Done (Err failures.TheVariants.OutOfIndices) else acquire_sees (call_at (acquires.TheVariants.ChecksCounter number)) (counter_of ws))
+            (if b then Done (Err failures.OutOfIndices) else acquire_sees (call_at (acquires.ChecksCounter number)) (counter_of ws))
         go true t =
             let is : counter_of ws ≡ number = grind (arith, nat_tests) in
             let paid_now = paid_of scene (counter_of ws ≡ number) k.paid.paid in
             let same : words_after ws (Some (exchanges 0 number number)) ≡ ws =
             exchange_sets ws 0 number number is ∙ (ap (set ws 0) (sym is) ∙ set-get_or ws 0 0) in
-            caller.fails failures.TheVariants.OutOfIndices (Some (exchanges 0 number number)) false same
+            caller.fails failures.OutOfIndices (Some (exchanges 0 number number)) false same
             (unlocked scene inv (λ shut. let end = k.paid.before_end in absurd (omega arith)), inr k.says, none) (omega arith) (omega arith)
         go false t =
             let other : counter_of ws ≢ number = grind (arith, nat_tests) in
-            finds (acquires.TheVariants.ChecksCounter number) (Some (exchanges 0 number number)) true
+            finds (acquires.ChecksCounter number) (Some (exchanges 0 number number)) true
             (fails_same ws 0 number number other) none (omega arith)
             (paid_back scene number (Some (exchanges 0 number number)) events other k.paid)
 
@@ -178,9 +179,9 @@ module _ {T : Type 0} (scene : Scene T) (inv : Inv scene) (owner : ℕ) (fits : 
 
     module _ (i : ℕ) (raise : Raise) (below : i < c) (done : all scene ≡ Fills i owner ∷ [])
         (s : steps ≤ extra + (1 + c + raise_number raise + backs * (c + 1)))
-        (k : Knows c (acquire_at c owner (acquires.TheVariants.Raises i raise)) (now scene)) where
+        (k : Knows c (acquire_at c owner (acquires.Raises i raise)) (now scene)) where
       abbrev raising : AcquireStage
-      raising = acquires.TheVariants.Raises i raise
+      raising = acquires.Raises i raise
 
       abbrev raises_to : Option Ask → Bool → After Raise ReleaseState → Type 0
       raises_to ask back r = Lead ask back (granted p i owner r) (acquire_raised (call_at raising) i r)
@@ -190,11 +191,11 @@ module _ {T : Type 0} (scene : Scene T) (inv : Inv scene) (owner : ℕ) (fits : 
           raise_step scene inv raises_to raise k.paid
           (λ number ask back same held few.
           let low = few (extra + 1 + c) (c + 1) (omega arith) (omega arith) in
-          caller.quiet (acquires.TheVariants.Raises i (raises.TheVariants.ExchangesCounter number)) ask back same (below, done)
+          caller.quiet (acquires.Raises i (raises.ExchangesCounter number)) ask back same (below, done)
           (record { paid = held; scanned = tt; owns = k.owns; says = tt; gone = tt }) (omega arith))
           (λ ask back same shut paid few.
           let low = few (extra + 1 + c) (c + 1) (omega arith) (omega arith) in
-          caller.fails failures.TheVariants.IsLocked ask back same (is_shut scene inv shut, inr (record { index = i; is = done })) paid (omega arith))
+          caller.fails failures.IsLocked ask back same (is_shut scene inv shut, inr (record { index = i; is = done })) paid (omega arith))
           (λ ask back same worn end paid few.
           let low = few (extra + 1 + c) (c + 1) (omega arith) (omega arith) in
           caller.grants i ask back below done owns_it (inr (worn, end, same)) paid (omega arith))
@@ -216,10 +217,10 @@ module _ {T : Type 0} (scene : Scene T) (inv : Inv scene) (owner : ℕ) (fits : 
 
     pub held_step : (stage : AcquireStage) → AcquireAt c owner (all scene) stage
         → Knows c (acquire_at c owner stage) (now scene) → steps ≤ extra + acquire_number c stage backs → StepAt stage
-    held_step acquires.TheVariants.LoadsCounter at k s =
-        finds acquires.TheVariants.LoadsCounter (Some (loads 0)) false (loads_same ws 0) at (omega arith) (let paid = k.paid in omega arith)
-    held_step (acquires.TheVariants.FillsCell number i) at k s = fills_step number i at.0 at.1 s k
-    held_step (acquires.TheVariants.ChecksCounter number) at k s = checks_step number at s k
-    held_step (acquires.TheVariants.Raises i raises.TheVariants.LoadsCounter) at k s = raises_step i raises.TheVariants.LoadsCounter at.0 at.1 s k
-    held_step (acquires.TheVariants.Raises i (raises.TheVariants.ExchangesCounter number)) at k s =
-        raises_step i (raises.TheVariants.ExchangesCounter number) at.0 at.1 s k
+    held_step acquires.LoadsCounter at k s =
+        finds acquires.LoadsCounter (Some (loads 0)) false (loads_same ws 0) at (omega arith) (let paid = k.paid in omega arith)
+    held_step (acquires.FillsCell number i) at k s = fills_step number i at.0 at.1 s k
+    held_step (acquires.ChecksCounter number) at k s = checks_step number at s k
+    held_step (acquires.Raises i raises.LoadsCounter) at k s = raises_step i raises.LoadsCounter at.0 at.1 s k
+    held_step (acquires.Raises i (raises.ExchangesCounter number)) at k s =
+        raises_step i (raises.ExchangesCounter number) at.0 at.1 s k

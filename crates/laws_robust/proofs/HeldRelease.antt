@@ -10,12 +10,12 @@ use Rattle.laws_robust.proofs.Names.{Event, FreedOf, Locked, is_locked, most_ste
 use Rattle.laws_robust.proofs.Names.{FilledSinceFreed, LivesToRelease, holder_of, Frees, filled_of, settled_of}
 use Rattle.laws_robust.proofs.Names.{set_acts_of, IsOneOf, locked_by, release_effects, ask_of, SinceBegin, span_of}
 use Rattle.laws_robust.proofs.Names.{old_of, words_after, step_count, held_now}
-use Rattle.steps.specs.declared.indices.enums.ReleaseState as states
-use Rattle.steps.specs.declared.indices.robust.parts.Count as counts
-use Rattle.steps.specs.declared.indices.robust.parts.Lock as parts
-use Rattle.steps.specs.declared.indices.robust.parts.Raise as raises
+use Rattle.steps.specs.declared.indices.enums.ReleaseState.TheVariants as states
+use Rattle.steps.specs.declared.indices.robust.parts.Count.TheVariants as counts
+use Rattle.steps.specs.declared.indices.robust.parts.Lock.TheVariants as parts
+use Rattle.steps.specs.declared.indices.robust.parts.Raise.TheVariants as raises
 use Rattle.steps.specs.declared.indices.robust.release.Release as calls
-use Rattle.steps.specs.declared.indices.robust.release.ReleaseStage as releases
+use Rattle.steps.specs.declared.indices.robust.release.ReleaseStage.TheVariants as releases
 use Rattle.model.specs.declared.families.indices.robust.RobustStart.TheVariants.{Release}
 use Rattle.laws_robust.specs.Gone.{is_gone, IsCalm}
 use Rattle.laws_robust.proofs.Core.{counter_of, cell}
@@ -57,10 +57,10 @@ module _ {T : Type 0} (scene : Scene T) (inv : Inv scene) (index owner : ℕ) (m
 
   -- what the state says with which it ends, that leaves these words
   abbrev pub Ends : List ℕ → ReleaseMode → ReleaseState → Type 0
-  Ends words' Default states.TheVariants.Locked = ⊥
-  Ends words' Default states.TheVariants.Unlocked = Unit {0}
-  Ends words' LockIfLastIndex states.TheVariants.Locked = is_locked events ≡ true
-  Ends words' LockIfLastIndex states.TheVariants.Unlocked = (is_locked events ≡ false) × (IsWorn by words' ⊎ FilledSinceFreed p owner index events)
+  Ends words' Default states.Locked = ⊥
+  Ends words' Default states.Unlocked = Unit {0}
+  Ends words' LockIfLastIndex states.Locked = is_locked events ≡ true
+  Ends words' LockIfLastIndex states.Unlocked = (is_locked events ≡ false) × (IsWorn by words' ⊎ FilledSinceFreed p owner index events)
 
   pub record Caller (Lead : Option Ask → Bool → List (Event T) → After calls.Release Released → Type 0) : Type 0 where
     pub quiet : (next : ReleaseStage) (ask : Option Ask) (back : Bool) → Stays scene (words_after ws ask)
@@ -69,10 +69,10 @@ module _ {T : Type 0} (scene : Scene T) (inv : Inv scene) (index owner : ℕ) (m
         → Lead ask back [] (GoOn (call_at next))
     pub freed : (ask : Option Ask) → words_after ws ask ≡ set ws (cell_word index) empty
         → Does scene (words_after ws ask) (FreedOf p index owner ∷ []) → all scene ≡ []
-        → Knows c (release_at c index owner mode (releases.TheVariants.Raises raises.TheVariants.LoadsCounter))
+        → Knows c (release_at c index owner mode (releases.Raises raises.LoadsCounter))
         (then_sees scene ask false (FreedOf p index owner ∷ []))
-        → Few (releases.TheVariants.Raises raises.TheVariants.LoadsCounter) ask false
-        → Lead ask false (FreedOf p index owner ∷ []) (GoOn (call_at (releases.TheVariants.Raises raises.TheVariants.LoadsCounter)))
+        → Few (releases.Raises raises.LoadsCounter) ask false
+        → Lead ask false (FreedOf p index owner ∷ []) (GoOn (call_at (releases.Raises raises.LoadsCounter)))
     pub refused : (ask : Option Ask) → words_after ws ask ≡ ws → filled_of index events ≢ Some owner
         → all scene ≡ [] → IsPaid (sees scene ask false) → FewEnd ask false
         → Lead ask false [] (Done (Err IndexIsNotOwnedByProvidedOwner))
@@ -82,12 +82,12 @@ module _ {T : Type 0} (scene : Scene T) (inv : Inv scene) (index owner : ℕ) (m
     pub locks : (ask : Option Ask) → mode ≡ LockIfLastIndex
         → (IsCalm by events → (i : ℕ) → holder_of i events ≡ None) → counter_of ws < greatest
         → words_after ws ask ≡ set ws 0 locked → all scene ≡ Frees index owner ∷ [] → IsPaid (sees scene ask false)
-        → FewEnd ask false → Lead ask false (Locked p ∷ []) (Done (Ok states.TheVariants.Locked))
+        → FewEnd ask false → Lead ask false (Locked p ∷ []) (Done (Ok states.Locked))
 
   module _ (Lead : Option Ask → Bool → List (Event T) → After calls.Release Released → Type 0) (caller : Caller Lead) where
     -- ---- the exchange of the cell
 
-    module _ (none : all scene ≡ []) (s : steps ≤ extra) (k : Knows c (release_at c index owner mode releases.TheVariants.EmptiesCell) (now scene)) where
+    module _ (none : all scene ≡ []) (s : steps ≤ extra) (k : Knows c (release_at c index owner mode releases.EmptiesCell) (now scene)) where
       abbrev exchange : Option Ask
       exchange = Some (exchanges (cell_word index) owner empty)
 
@@ -101,7 +101,7 @@ module _ {T : Type 0} (scene : Scene T) (inv : Inv scene) (index owner : ℕ) (m
       unsettled x0 x1 x2 x3 = grind (arith, calm_less, owns_it, right_of)
 
       empties : cell ws index ≡ owner
-          → Lead exchange false (FreedOf p index owner ∷ []) (GoOn (call_at (releases.TheVariants.Raises raises.TheVariants.LoadsCounter)))
+          → Lead exchange false (FreedOf p index owner ∷ []) (GoOn (call_at (releases.Raises raises.LoadsCounter)))
       empties is =
           let new : words_after ws exchange ≡ set ws (cell_word index) empty = exchange_sets ws (cell_word index) owner empty is in
           caller.freed exchange new
@@ -114,15 +114,15 @@ module _ {T : Type 0} (scene : Scene T) (inv : Inv scene) (index owner : ℕ) (m
       refuses x0 = grind (arith, fails_same, empty, first_few)
 
       empties_step : Lead exchange false
-          (release_effects p (record { index = index; owner = owner; mode = mode }) releases.TheVariants.EmptiesCell (cell ws index))
-          (release_takes (call_at releases.TheVariants.EmptiesCell) releases.TheVariants.EmptiesCell
+          (release_effects p (record { index = index; owner = owner; mode = mode }) releases.EmptiesCell (cell ws index))
+          (release_takes (call_at releases.EmptiesCell) releases.EmptiesCell
           (record { index = index; owner = owner; mode = mode }) (cell ws index))
       empties_step = go (cell ws index == owner) refl
         where
           go : (b : Bool) → (cell ws index == owner) ≡ b
               → Lead (Some (exchanges (cell_word index) owner empty)) false (if b then FreedOf p index owner ∷ [] else [])
               (if b then GoOn
-              (at_release (call_at releases.TheVariants.EmptiesCell) (releases.TheVariants.Raises raises.TheVariants.LoadsCounter))
+              (at_release (call_at releases.EmptiesCell) (releases.Raises raises.LoadsCounter))
               else Done (Err IndexIsNotOwnedByProvidedOwner))
           go true t = let is : cell ws index ≡ owner = grind (arith, nat_tests) in empties is
           go false t = let other : cell ws index ≢ owner = grind (arith, nat_tests) in refuses other
@@ -131,14 +131,14 @@ module _ {T : Type 0} (scene : Scene T) (inv : Inv scene) (index owner : ℕ) (m
 
     module _ (raise : Raise) (done : all scene ≡ Frees index owner ∷ [])
         (s : steps ≤ extra + (1 + raise_number raise + backs * for_back c mode))
-        (k : Knows c (release_at c index owner mode (releases.TheVariants.Raises raise)) (now scene)) where
+        (k : Knows c (release_at c index owner mode (releases.Raises raise)) (now scene)) where
       abbrev raises_to : Option Ask → Bool → After Raise ReleaseState → Type 0
-      raises_to ask back r = Lead ask back [] (release_raised (call_at (releases.TheVariants.Raises raise)) mode r)
+      raises_to ask back r = Lead ask back [] (release_raised (call_at (releases.Raises raise)) mode r)
 
       closes : (m : ReleaseMode) → mode ≡ m → (state : ReleaseState) (ask : Option Ask) (back : Bool)
           → Stays scene (words_after ws ask) → IsPaid (sees scene ask back)
           → steps + step_count ask ≤ extra + (3 + backs_then scene back * for_back c m)
-          → Lead ask back [] (release_raised (call_at (releases.TheVariants.Raises raise)) m (Done state))
+          → Lead ask back [] (release_raised (call_at (releases.Raises raise)) m (Done state))
       closes x0 x1 x2 x3 x4 x5 x6 x7 = grind arith
 
       raises_step : raises_to (Some (raise_ask raise)) (raise_goes_back raise (counter_of ws)) (raise_after raise (counter_of ws))
@@ -146,25 +146,25 @@ module _ {T : Type 0} (scene : Scene T) (inv : Inv scene) (index owner : ℕ) (m
           raise_step scene inv raises_to raise k.paid
           (λ number ask back same held few.
           let low = few (extra + 1) (for_back c mode) (at_least_one c mode) (omega arith) in
-          caller.quiet (releases.TheVariants.Raises (raises.TheVariants.ExchangesCounter number)) ask back (stays_same scene inv (words_after ws ask) same) done
+          caller.quiet (releases.Raises (raises.ExchangesCounter number)) ask back (stays_same scene inv (words_after ws ask) same) done
           (record { paid = held; scanned = tt; owns = tt; says = tt; gone = tt }) (omega arith))
           (λ ask back same shut paid few.
           let low = few (extra + 1) (for_back c mode) (at_least_one c mode) (omega arith) in
-          closes mode refl states.TheVariants.Locked ask back (stays_same scene inv (words_after ws ask) same) paid (omega arith))
+          closes mode refl states.Locked ask back (stays_same scene inv (words_after ws ask) same) paid (omega arith))
           (λ ask back same worn end paid few.
           let low = few (extra + 1) (for_back c mode) (at_least_one c mode) (omega arith) in
-          closes mode refl states.TheVariants.Unlocked ask back (stays_same scene inv (words_after ws ask) same) paid (omega arith))
+          closes mode refl states.Unlocked ask back (stays_same scene inv (words_after ws ask) same) paid (omega arith))
           (λ ask less new paid few.
           let low = few (extra + 1) (for_back c mode) (at_least_one c mode) (omega arith) in
-          closes mode refl states.TheVariants.Unlocked ask false (stays_raised scene inv (words_after ws ask) less new) paid (omega arith))
+          closes mode refl states.Unlocked ask false (stays_raised scene inv (words_after ws ask) less new) paid (omega arith))
 
     -- ---- the lock
 
     module _ (lock : Lock) (is : mode ≡ LockIfLastIndex) (at : LockAt c lock)
         (done : all scene ≡ Frees index owner ∷ []) (s : steps ≤ extra + (3 + lock_number c lock + backs * (c + 3)))
-        (k : Knows c (release_at c index owner mode (releases.TheVariants.Locks lock)) (now scene)) where
+        (k : Knows c (release_at c index owner mode (releases.Locks lock)) (now scene)) where
       abbrev locks_to : Option Ask → Bool → List (Event T) → After Lock ReleaseState → Type 0
-      locks_to ask back did r = Lead ask back did (release_locked (call_at (releases.TheVariants.Locks lock)) r)
+      locks_to ask back did r = Lead ask back did (release_locked (call_at (releases.Locks lock)) r)
 
       said : IsSaid scene inv (FoundOne owner index (now scene))
       said =
@@ -189,23 +189,23 @@ module _ {T : Type 0} (scene : Scene T) (inv : Inv scene) (index owner : ℕ) (m
           lock_step scene inv (FoundOne owner index (now scene)) said locks_to lock at k.paid k.scanned k.says
           (λ next ask back stays next_at paid scanned says few.
           let low = few (extra + 3) (c + 3) (omega arith) (omega arith) in
-          caller.quiet (releases.TheVariants.Locks next) ask back stays (is, next_at, done)
+          caller.quiet (releases.Locks next) ask back stays (is, next_at, done)
           (record { paid = paid; scanned = scanned; owns = tt; says = says; gone = tt })
-          (subst (λ m. steps + step_count ask ≤ extra + release_number c m (releases.TheVariants.Locks next) (backs_then scene back)) (sym is) (omega arith)))
+          (subst (λ m. steps + step_count ask ≤ extra + release_number c m (releases.Locks next) (backs_then scene back)) (sym is) (omega arith)))
           (λ ask same shut paid few.
           let low = few (extra + 3) (c + 3) (omega arith) (omega arith) in
-          caller.ended states.TheVariants.Locked ask false (stays_same scene inv (words_after ws ask) same)
-          (subst (λ m. Ends (words_after ws ask) m states.TheVariants.Locked) (sym is) (is_shut scene inv shut))
+          caller.ended states.Locked ask false (stays_same scene inv (words_after ws ask) same)
+          (subst (λ m. Ends (words_after ws ask) m states.Locked) (sym is) (is_shut scene inv shut))
           done paid (few_end ask false (omega arith)))
           (λ filled ask stays open_now more says paid few.
           let low = few (extra + 3) (c + 3) (omega arith) (omega arith) in
-          caller.ended states.TheVariants.Unlocked ask false stays
-          (subst (λ m. Ends (words_after ws ask) m states.TheVariants.Unlocked) (sym is) (unlocked scene inv open_now, inr (says more)))
+          caller.ended states.Unlocked ask false stays
+          (subst (λ m. Ends (words_after ws ask) m states.Unlocked) (sym is) (unlocked scene inv open_now, inr (says more)))
           done paid (few_end ask false (omega arith)))
           (λ ask stays open_now worn paid few.
           let low = few (extra + 3) (c + 3) (omega arith) (omega arith) in
-          caller.ended states.TheVariants.Unlocked ask false stays
-          (subst (λ m. Ends (words_after ws ask) m states.TheVariants.Unlocked) (sym is) (unlocked scene inv open_now, inl worn))
+          caller.ended states.Unlocked ask false stays
+          (subst (λ m. Ends (words_after ws ask) m states.Unlocked) (sym is) (unlocked scene inv open_now, inl worn))
           done paid (few_end ask false (omega arith)))
           (λ ask none less new paid few.
           let low = few (extra + 3) (c + 3) (omega arith) (omega arith) in
@@ -225,21 +225,21 @@ module _ {T : Type 0} (scene : Scene T) (inv : Inv scene) (index owner : ℕ) (m
     pub held_step : (stage : ReleaseStage) → ReleaseAt c index owner mode (all scene) stage
         → Knows c (release_at c index owner mode stage) (now scene) → steps ≤ extra + release_number c mode stage backs
         → StepAt stage
-    held_step releases.TheVariants.EmptiesCell at k s = empties_step at (omega arith) k
-    held_step (releases.TheVariants.Raises raises.TheVariants.LoadsCounter) at k s = raises_step raises.TheVariants.LoadsCounter at (omega arith) k
-    held_step (releases.TheVariants.Raises (raises.TheVariants.ExchangesCounter number)) at k s =
-        raises_step (raises.TheVariants.ExchangesCounter number) at (omega arith) k
-    held_step (releases.TheVariants.Locks lock) at k s =
-        go lock at.0 at.1 at.2 (subst (λ m. steps ≤ extra + release_number c m (releases.TheVariants.Locks lock) backs) at.0 s) k
+    held_step releases.EmptiesCell at k s = empties_step at (omega arith) k
+    held_step (releases.Raises raises.LoadsCounter) at k s = raises_step raises.LoadsCounter at (omega arith) k
+    held_step (releases.Raises (raises.ExchangesCounter number)) at k s =
+        raises_step (raises.ExchangesCounter number) at (omega arith) k
+    held_step (releases.Locks lock) at k s =
+        go lock at.0 at.1 at.2 (subst (λ m. steps ≤ extra + release_number c m (releases.Locks lock) backs) at.0 s) k
       where
         go : (l : Lock) → mode ≡ LockIfLastIndex → LockAt c l → all scene ≡ Frees index owner ∷ []
             → steps ≤ extra + (3 + lock_number c l + backs * (c + 3))
-            → Knows c (release_at c index owner mode (releases.TheVariants.Locks l)) (now scene)
-            → StepAt (releases.TheVariants.Locks l)
-        go (parts.TheVariants.Counts counts.TheVariants.LoadsCounter) is at done s k =
-            locks_step (parts.TheVariants.Counts counts.TheVariants.LoadsCounter) is at done s k
-        go (parts.TheVariants.Counts (counts.TheVariants.LoadsCell number j filled)) is at done s k =
-            locks_step (parts.TheVariants.Counts (counts.TheVariants.LoadsCell number j filled)) is at done s k
-        go (parts.TheVariants.Counts (counts.TheVariants.ExchangesCounter number filled)) is at done s k =
-            locks_step (parts.TheVariants.Counts (counts.TheVariants.ExchangesCounter number filled)) is at done s k
-        go (parts.TheVariants.ExchangesCounter number) is at done s k = locks_step (parts.TheVariants.ExchangesCounter number) is at done s k
+            → Knows c (release_at c index owner mode (releases.Locks l)) (now scene)
+            → StepAt (releases.Locks l)
+        go (parts.Counts counts.LoadsCounter) is at done s k =
+            locks_step (parts.Counts counts.LoadsCounter) is at done s k
+        go (parts.Counts (counts.LoadsCell number j filled)) is at done s k =
+            locks_step (parts.Counts (counts.LoadsCell number j filled)) is at done s k
+        go (parts.Counts (counts.ExchangesCounter number filled)) is at done s k =
+            locks_step (parts.Counts (counts.ExchangesCounter number filled)) is at done s k
+        go (parts.ExchangesCounter number) is at done s k = locks_step (parts.ExchangesCounter number) is at done s k

@@ -6,10 +6,10 @@ use Rattle.laws_robust.proofs.Names.{Flight, Party, Coding, is_locked, has_died,
 use Rattle.laws_robust.proofs.Names.{HoldsRight, promise, SetAct, set_acts, filled_of, is_dead, wrote_in, set_acts_of}
 use Rattle.laws_robust.proofs.Names.{party_of, put, Stands, Each, Span, own_after, span_of, AreOwn, AllFollow}
 use Rattle.laws_robust.proofs.Names.{AreRight, Each-append, span_of-other}
-use Rattle.model.specs.declared.event.Start as any_starts
-use Rattle.model.specs.declared.families.Flight as flights
-use Rattle.model.specs.declared.families.Registry as registries
-use Rattle.model.specs.declared.turn.Kind as kinds
+use Rattle.model.specs.declared.event.Start.TheVariants as any_starts
+use Rattle.model.specs.declared.families.Flight.TheVariants as flights
+use Rattle.model.specs.declared.families.Registry.TheVariants as registries
+use Rattle.model.specs.declared.turn.Kind.TheVariants as kinds
 use Rattle.model.proofs.Family as families
 use Rattle.model.proofs.Family.{Outline}
 use Rattle.model.proofs.Frame as frame
@@ -96,15 +96,15 @@ module _ {T : Type 0} where
   wrote_of p events = wrote_in (span_of p events)
 
   abbrev number : ℕ → Flight T → ℕ → ℕ
-  number c (flights.TheVariants.Robust flight) backs = number_of c flight backs
+  number c (flights.Robust flight) backs = number_of c flight backs
   number c flight backs = 0
 
   abbrev pub FlightAt : ℕ → List SetAct → Start T → Flight T → Type 0
-  FlightAt c all (any_starts.TheVariants.Robust start) (flights.TheVariants.Robust flight) = At c all start flight
+  FlightAt c all (any_starts.Robust start) (flights.Robust flight) = At c all start flight
   FlightAt c all start flight = ⊥
 
   abbrev pub Knowing : ℕ → Flight T → View T → Type 0
-  Knowing c (flights.TheVariants.Robust flight) v = Knows c flight v
+  Knowing c (flights.Robust flight) v = Knows c flight v
   Knowing c flight v = ⊥
 
   abbrev pub view : GoneBy → List ℕ → List (Event T) → ℕ → ℕ → ℕ → ℕ → View T
@@ -114,12 +114,12 @@ module _ {T : Type 0} where
   abbrev pub outline : GoneBy → Outline T
   outline by =
       record {
-        kind = kinds.TheVariants.Robust;
+        kind = kinds.Robust;
         no_loan = refl;
         promise = promise;
         State = RobustSet T;
         words = λ s. s.words;
-        kept = λ s. registries.TheVariants.Owners s.dead;
+        kept = λ s. registries.Owners s.dead;
         Holds = λ code c s latest events turns. Holds by c s latest events turns;
         written = λ c s p flight. wrote_of p s.events;
         number = λ code c. number c;

@@ -4,9 +4,9 @@ use Rattle.laws_robust.proofs.Names.{Start, Robust, Flight, Turn, Next, Decide}
 use Rattle.laws_robust.proofs.Names.{Coding, step_of, goes_of}
 use Rattle.laws_robust.proofs.Names.{IsParty}
 use Rattle.laws_robust.proofs.Names.{number_of, Trace}
-use Rattle.model.specs.declared.families.Flight as flights
-use Rattle.model.specs.declared.families.Registry as registries
-use Rattle.model.specs.declared.turn.Kind as kinds
+use Rattle.model.specs.declared.families.Flight.TheVariants as flights
+use Rattle.model.specs.declared.families.Registry.TheVariants as registries
+use Rattle.model.specs.declared.turn.Kind.TheVariants as kinds
 use Rattle.model.proofs.Frame as frame
 use Rattle.model.proofs.FamilyLaws.{Writes, only_effects, Owed, keeps}
 use Rattle.model.proofs.Orders.{Keeps}
@@ -22,16 +22,16 @@ use Rattle.laws_robust.proofs.Written.{all_effects}
 module _ {T : Type 0} (code : Coding T) (c : ℕ) where
   writes : (t : Trace T) (turn : Turn T) (p : ℕ) → IsParty turn p → (answer : ℕ) (s : RobustSet T) (start : Start T) (flight : Flight T)
       → (family code c).At s p start flight
-      → Writes (outline Death) t turn (answered_from t p t.world.coding answer s.words (registries.TheVariants.Owners s.dead) start flight)
-  writes t turn p mine answer s (Robust start) (flights.TheVariants.Robust flight) at =
+      → Writes (outline Death) t turn (answered_from t p t.world.coding answer s.words (registries.Owners s.dead) start flight)
+  writes t turn p mine answer s (Robust start) (flights.Robust flight) at =
       only_effects (outline Death) t turn _ (all_effects turn p mine flight answer)
   writes t turn p mine answer s start flight at = absurd at
 
   -- a call of the set goes on as its table says
   told : (s : RobustSet T) (p : ℕ) (start : Start T) (flight : Flight T) → (family code c).At s p start flight
       → (z : Coding T) (words : List ℕ) (beside : Option (ℕ × ℕ)) (answer : ℕ)
-      → (step_of z words beside p start flight answer (registries.TheVariants.Owners s.dead)).after
-      ≡ goes_of z p flight answer (registries.TheVariants.Owners s.dead)
+      → (step_of z words beside p start flight answer (registries.Owners s.dead)).after
+      ≡ goes_of z p flight answer (registries.Owners s.dead)
   told s p start flight at z words beside answer = grind arith
 
   owed : Owed (outline Death) code c
@@ -47,5 +47,5 @@ module _ {T : Type 0} (code : Coding T) (c : ℕ) where
       }
 
 -- what is proved of every run of the robust index set
-pub robust_keeps : {T : Type 0} → Keeps T kinds.TheVariants.Robust
+pub robust_keeps : {T : Type 0} → Keeps T kinds.Robust
 robust_keeps = keeps (outline Death) (May Death) (all_turns Death) (λ code c coded admitted. owed code c)

@@ -4,7 +4,7 @@ use Rattle.laws_robust.proofs.Names.{◌∙◌, arith, ReleaseMode, LockIfLastIn
 use Rattle.laws_robust.proofs.Names.{Count, Lock, RecoverStage, ReleaseStage, RobustStart, RobustFlight}
 use Rattle.laws_robust.proofs.Names.{Coding, most_steps, KeepsDead, IsRobustSet, SetAct}
 use Rattle.laws_robust.proofs.Names.{Trace}
-use Rattle.model.specs.declared.families.indices.robust.RobustStart as starts
+use Rattle.model.specs.declared.families.indices.robust.RobustStart.TheVariants as starts
 use Rattle.model.proofs.Frame as frame
 use Rattle.laws_robust.specs.Gone.{Death}
 use Rattle.laws_robust.proofs.Core.{cell}
@@ -28,7 +28,7 @@ pub acquire_most : (c owner : ℕ) (all : List SetAct) (stage : AcquireStage) (b
 acquire_most c owner all stage backs at = grind arith
 
 pub release_most : (c index owner : ℕ) (mode : ReleaseMode) (all : List SetAct) (stage : ReleaseStage) (backs : ℕ) → ReleaseAt c index owner mode all stage
-    → release_number c mode stage backs ≤ most_steps c (starts.TheVariants.Release index owner mode) backs
+    → release_number c mode stage backs ≤ most_steps c (starts.Release index owner mode) backs
 release_most c index owner mode all stage backs at = grind arith
 
 find_most : (c : ℕ) (all : List SetAct) (stage : FindStage) → FindAt c all stage → find_number stage ≤ c
@@ -42,7 +42,7 @@ recover_at_most c mode all stage backs wide lock at = grind arith
 
 recover_most : (c : ℕ) (mode : ReleaseMode) (all : List SetAct) (stage : RecoverStage) (backs : ℕ)
     → RecoverAt c mode all stage
-    → recover_number c mode stage backs ≤ most_steps c (starts.TheVariants.Recover mode) backs
+    → recover_number c mode stage backs ≤ most_steps c (starts.Recover mode) backs
 recover_most x0 x1 x2 x3 x4 x5 = grind (arith, recover_at_most, lock_most)
 
 pub steps_most : (c : ℕ) (all : List SetAct) (backs : ℕ) (start : RobustStart) (flight : RobustFlight)

@@ -7,13 +7,13 @@ use Rattle.laws_robust.proofs.Names.{RobustFlight, NoneTakes, IsFilled, IsFilled
 use Rattle.laws_robust.proofs.Names.{HeldThroughout, FilledSinceFreed, StillToFree, IsWellFormed, Asks, Yes}
 use Rattle.laws_robust.proofs.Names.{filled_of, holder_of, settled_of, is_dead, set_acts_of, IsOneOf, BeginsNone}
 use Rattle.laws_robust.proofs.Names.{HeldSometime, SinceBegin, held_later}
-use Rattle.steps.specs.declared.indices.robust.acquire.AcquireStage as acquires
-use Rattle.steps.specs.declared.indices.robust.find.FindStage as finds
-use Rattle.steps.specs.declared.indices.robust.parts.Count as counts
-use Rattle.steps.specs.declared.indices.robust.parts.Lock as locks
-use Rattle.steps.specs.declared.indices.robust.parts.Raise as raises
-use Rattle.steps.specs.declared.indices.robust.recover.RecoverStage as recovers
-use Rattle.steps.specs.declared.indices.robust.release.ReleaseStage as releases
+use Rattle.steps.specs.declared.indices.robust.acquire.AcquireStage.TheVariants as acquires
+use Rattle.steps.specs.declared.indices.robust.find.FindStage.TheVariants as finds
+use Rattle.steps.specs.declared.indices.robust.parts.Count.TheVariants as counts
+use Rattle.steps.specs.declared.indices.robust.parts.Lock.TheVariants as locks
+use Rattle.steps.specs.declared.indices.robust.parts.Raise.TheVariants as raises
+use Rattle.steps.specs.declared.indices.robust.recover.RecoverStage.TheVariants as recovers
+use Rattle.steps.specs.declared.indices.robust.release.ReleaseStage.TheVariants as releases
 use Rattle.model.specs.declared.families.indices.robust.calls.RobustFlight.TheVariants.{Acquire, Release, Find}
 use Rattle.model.specs.declared.families.indices.robust.calls.RobustFlight.TheVariants.{Recover, BorrowedIndices}
 use Rattle.model.specs.declared.families.indices.robust.calls.RobustFlight.TheVariants.{IsLocked}
@@ -38,41 +38,41 @@ pub record View (T : Type 0) : Type 0 where
 -- ---- the counter that they hold
 
 abbrev pub raise_holds : Raise → Option ℕ
-raise_holds raises.TheVariants.LoadsCounter = None
-raise_holds (raises.TheVariants.ExchangesCounter counter) = Some counter
+raise_holds raises.LoadsCounter = None
+raise_holds (raises.ExchangesCounter counter) = Some counter
 
 -- a count goes on where the counter is at its end, but then holds none
 abbrev pub unless_last : ℕ → Option ℕ
 unless_last counter = if counter == greatest then None else Some counter
 
 abbrev pub count_holds : Count → Option ℕ
-count_holds counts.TheVariants.LoadsCounter = None
-count_holds (counts.TheVariants.LoadsCell counter index filled) = unless_last counter
-count_holds (counts.TheVariants.ExchangesCounter counter filled) = Some counter
+count_holds counts.LoadsCounter = None
+count_holds (counts.LoadsCell counter index filled) = unless_last counter
+count_holds (counts.ExchangesCounter counter filled) = Some counter
 
 abbrev pub lock_holds : Lock → Option ℕ
-lock_holds (locks.TheVariants.Counts count) = count_holds count
-lock_holds (locks.TheVariants.ExchangesCounter counter) = Some counter
+lock_holds (locks.Counts count) = count_holds count
+lock_holds (locks.ExchangesCounter counter) = Some counter
 
 abbrev pub acquire_holds : AcquireStage → Option ℕ
-acquire_holds acquires.TheVariants.LoadsCounter = None
-acquire_holds (acquires.TheVariants.FillsCell counter index) = Some counter
-acquire_holds (acquires.TheVariants.ChecksCounter counter) = Some counter
-acquire_holds (acquires.TheVariants.Raises index raise) = raise_holds raise
+acquire_holds acquires.LoadsCounter = None
+acquire_holds (acquires.FillsCell counter index) = Some counter
+acquire_holds (acquires.ChecksCounter counter) = Some counter
+acquire_holds (acquires.Raises index raise) = raise_holds raise
 
 abbrev pub release_holds : ReleaseStage → Option ℕ
-release_holds releases.TheVariants.EmptiesCell = None
-release_holds (releases.TheVariants.Raises raise) = raise_holds raise
-release_holds (releases.TheVariants.Locks lock) = lock_holds lock
+release_holds releases.EmptiesCell = None
+release_holds (releases.Raises raise) = raise_holds raise
+release_holds (releases.Locks lock) = lock_holds lock
 
 abbrev pub recover_holds : RecoverStage → Option ℕ
-recover_holds recovers.TheVariants.LoadsCounter = None
-recover_holds (recovers.TheVariants.LoadsCell index) = None
-recover_holds (recovers.TheVariants.Asks index owner) = None
-recover_holds (recovers.TheVariants.EmptiesCell index owner) = None
-recover_holds (recovers.TheVariants.Raises index raise) = raise_holds raise
-recover_holds (recovers.TheVariants.Locks index lock) = lock_holds lock
-recover_holds recovers.TheVariants.LoadsCounterAgain = None
+recover_holds recovers.LoadsCounter = None
+recover_holds (recovers.LoadsCell index) = None
+recover_holds (recovers.Asks index owner) = None
+recover_holds (recovers.EmptiesCell index owner) = None
+recover_holds (recovers.Raises index raise) = raise_holds raise
+recover_holds (recovers.Locks index lock) = lock_holds lock
+recover_holds recovers.LoadsCounterAgain = None
 
 abbrev pub flight_holds : RobustFlight → Option ℕ
 flight_holds (Acquire run) = acquire_holds run.call.stage
@@ -90,30 +90,30 @@ pub record Scan : Type 0 where
   pub filled : ℕ
 
 abbrev pub count_scan : ℕ → Count → Option Scan
-count_scan c counts.TheVariants.LoadsCounter = None
-count_scan c (counts.TheVariants.LoadsCell counter index filled) =
+count_scan c counts.LoadsCounter = None
+count_scan c (counts.LoadsCell counter index filled) =
     Some record { counter = counter; below = index; filled = filled }
-count_scan c (counts.TheVariants.ExchangesCounter counter filled) =
+count_scan c (counts.ExchangesCounter counter filled) =
     Some record { counter = counter; below = c; filled = filled }
 
 abbrev pub lock_scan : ℕ → Lock → Option Scan
-lock_scan c (locks.TheVariants.Counts count) = count_scan c count
-lock_scan c (locks.TheVariants.ExchangesCounter counter) =
+lock_scan c (locks.Counts count) = count_scan c count
+lock_scan c (locks.ExchangesCounter counter) =
     Some record { counter = counter; below = c; filled = 0 }
 
 abbrev pub release_scan : ℕ → ReleaseStage → Option Scan
-release_scan c releases.TheVariants.EmptiesCell = None
-release_scan c (releases.TheVariants.Raises raise) = None
-release_scan c (releases.TheVariants.Locks lock) = lock_scan c lock
+release_scan c releases.EmptiesCell = None
+release_scan c (releases.Raises raise) = None
+release_scan c (releases.Locks lock) = lock_scan c lock
 
 abbrev pub recover_scan : ℕ → RecoverStage → Option Scan
-recover_scan c recovers.TheVariants.LoadsCounter = None
-recover_scan c (recovers.TheVariants.LoadsCell index) = None
-recover_scan c (recovers.TheVariants.Asks index owner) = None
-recover_scan c (recovers.TheVariants.EmptiesCell index owner) = None
-recover_scan c (recovers.TheVariants.Raises index raise) = None
-recover_scan c (recovers.TheVariants.Locks index lock) = lock_scan c lock
-recover_scan c recovers.TheVariants.LoadsCounterAgain = None
+recover_scan c recovers.LoadsCounter = None
+recover_scan c (recovers.LoadsCell index) = None
+recover_scan c (recovers.Asks index owner) = None
+recover_scan c (recovers.EmptiesCell index owner) = None
+recover_scan c (recovers.Raises index raise) = None
+recover_scan c (recovers.Locks index lock) = lock_scan c lock
+recover_scan c recovers.LoadsCounterAgain = None
 
 abbrev pub flight_scan : ℕ → RobustFlight → Option Scan
 flight_scan c (Acquire run) = None
@@ -127,13 +127,13 @@ flight_scan c (IsLocked run) = None
 
 -- what a count says, where it has come to so many cells and found so many filled
 abbrev pub CountSays : ℕ → (ℕ → ℕ → Type 0) → Count → Type 0
-CountSays c Says counts.TheVariants.LoadsCounter = Unit {0}
-CountSays c Says (counts.TheVariants.LoadsCell counter index filled) = Says index filled
-CountSays c Says (counts.TheVariants.ExchangesCounter counter filled) = Says c filled
+CountSays c Says counts.LoadsCounter = Unit {0}
+CountSays c Says (counts.LoadsCell counter index filled) = Says index filled
+CountSays c Says (counts.ExchangesCounter counter filled) = Says c filled
 
 abbrev pub LockSays : ℕ → (ℕ → ℕ → Type 0) → Lock → Type 0
-LockSays c Says (locks.TheVariants.Counts count) = CountSays c Says count
-LockSays c Says (locks.TheVariants.ExchangesCounter counter) = Unit {0}
+LockSays c Says (locks.Counts count) = CountSays c Says count
+LockSays c Says (locks.ExchangesCounter counter) = Unit {0}
 
 count_says : (c : ℕ) (P Q : ℕ → ℕ → Type 0) → ((k n : ℕ) → P k n → Q k n) → (count : Count) → CountSays c P count → CountSays c Q count
 count_says c h k follows count m = grind arith
@@ -143,7 +143,7 @@ lock_says x0 x1 x2 x3 x4 x5 = grind (arith, count_says)
 
 -- the index that a recovery frees now
 abbrev pub FreesNow : RecoverStage → ℕ → ℕ → Type 0
-FreesNow (recovers.TheVariants.EmptiesCell index owner) i o = (i ≡ index) × (o ≡ owner)
+FreesNow (recovers.EmptiesCell index owner) i o = (i ≡ index) × (o ≡ owner)
 FreesNow stage i o = ⊥
 
 -- the words stay, or their changes go up
@@ -184,14 +184,14 @@ module _ {T : Type 0} where
 
   -- the party has a right to the index that it fills, which nobody holds
   abbrev pub AcquireOwns : ℕ → AcquireStage → View T → Type 0
-  AcquireOwns owner (acquires.TheVariants.Raises index raise) v =
+  AcquireOwns owner (acquires.Raises index raise) v =
       IsCalm v.by v.events → is_gone v.by owner v.events ≡ false
       → IsBy v.party index owner v.events × (holder_of index v.events ≡ None)
   AcquireOwns owner stage v = Unit {0}
 
   -- and to the index that it may give back
   abbrev pub ReleaseOwns : ℕ → ℕ → ReleaseStage → View T → Type 0
-  ReleaseOwns index owner releases.TheVariants.EmptiesCell v =
+  ReleaseOwns index owner releases.EmptiesCell v =
       IsCalm v.by v.events → is_gone v.by owner v.events ≡ false
       → SinceBegin v.party (λ part since. settled_of index part ≡ Some owner) v.events
       → IsBy v.party index owner v.events
@@ -211,17 +211,17 @@ module _ {T : Type 0} where
   AllOnce k v = (i : ℕ) → i < k → HeldSometime v.party (IsFilled i) v.events
 
   abbrev pub AcquireSays : ℕ → AcquireStage → View T → Type 0
-  AcquireSays c acquires.TheVariants.LoadsCounter v = Unit {0}
-  AcquireSays c (acquires.TheVariants.FillsCell counter index) v = WasOpen v × AllOnce index v
-  AcquireSays c (acquires.TheVariants.ChecksCounter counter) v = AllOnce c v
-  AcquireSays c (acquires.TheVariants.Raises index raise) v = Unit {0}
+  AcquireSays c acquires.LoadsCounter v = Unit {0}
+  AcquireSays c (acquires.FillsCell counter index) v = WasOpen v × AllOnce index v
+  AcquireSays c (acquires.ChecksCounter counter) v = AllOnce c v
+  AcquireSays c (acquires.Raises index raise) v = Unit {0}
 
   -- a release whose lock finds an index filled
   abbrev pub FoundOne : ℕ → ℕ → View T → ℕ → ℕ → Type 0
   FoundOne owner index v k filled = 0 < filled → FilledSinceFreed v.party owner index v.events
 
   abbrev pub ReleaseSays : ℕ → ℕ → ℕ → ReleaseStage → View T → Type 0
-  ReleaseSays c index owner (releases.TheVariants.Locks lock) v =
+  ReleaseSays c index owner (releases.Locks lock) v =
       LockSays c (FoundOne owner index v) lock
   ReleaseSays c index owner stage v = Unit {0}
 
@@ -229,9 +229,9 @@ module _ {T : Type 0} where
   Borrowed v k filled = IsCount v.party IsFilled k filled v.events
 
   abbrev pub FindSays : ℕ → FindStage → View T → Type 0
-  FindSays owner (finds.TheVariants.LoadsCell index found) v =
+  FindSays owner (finds.LoadsCell index found) v =
       IsCount v.party (IsFilledWith owner) index found v.events
-  FindSays owner (finds.TheVariants.Asks index found) v =
+  FindSays owner (finds.Asks index found) v =
       IsCount v.party (IsFilledWith owner) (index + 1) found v.events
 
   -- a recovery has asked about the lower indices that were to be freed throughout
@@ -241,14 +241,14 @@ module _ {T : Type 0} where
       → IsOneOf (Asks i owner) (set_acts_of v.party v.events)
 
   abbrev pub RecoverSays : ℕ → RecoverStage → View T → Type 0
-  RecoverSays c recovers.TheVariants.LoadsCounter v = Unit {0}
-  RecoverSays c (recovers.TheVariants.LoadsCell index) v = WasOpen v × AskedBelow index v
-  RecoverSays c (recovers.TheVariants.Asks index owner) v = WasOpen v × AskedBelow (index + 1) v
-  RecoverSays c (recovers.TheVariants.EmptiesCell index owner) v =
+  RecoverSays c recovers.LoadsCounter v = Unit {0}
+  RecoverSays c (recovers.LoadsCell index) v = WasOpen v × AskedBelow index v
+  RecoverSays c (recovers.Asks index owner) v = WasOpen v × AskedBelow (index + 1) v
+  RecoverSays c (recovers.EmptiesCell index owner) v =
       WasOpen v × AskedBelow (index + 1) v
-  RecoverSays c (recovers.TheVariants.Raises index raise) v = WasOpen v × AskedBelow (index + 1) v
-  RecoverSays c (recovers.TheVariants.Locks index lock) v = WasOpen v × AskedBelow (index + 1) v
-  RecoverSays c recovers.TheVariants.LoadsCounterAgain v = AskedBelow c v
+  RecoverSays c (recovers.Raises index raise) v = WasOpen v × AskedBelow (index + 1) v
+  RecoverSays c (recovers.Locks index lock) v = WasOpen v × AskedBelow (index + 1) v
+  RecoverSays c recovers.LoadsCounterAgain v = AskedBelow c v
 
   abbrev pub Says : ℕ → RobustFlight → View T → Type 0
   Says c (Acquire run) v = AcquireSays c run.call.stage v
@@ -332,7 +332,7 @@ module _ {T : Type 0} where
     acquire_owns x0 x1 x2 = grind (arith, gone_less, calm_less)
 
     release_owns : (index owner : ℕ) (stage : ReleaseStage) → ReleaseOwns index owner stage before → ReleaseOwns index owner stage later
-    release_owns index owner releases.TheVariants.EmptiesCell h =
+    release_owns index owner releases.EmptiesCell h =
         λ calm alive settled.
         let lives = gone_less by owner events es alive in
         spares.owned calm index owner lives
@@ -363,13 +363,13 @@ module _ {T : Type 0} where
         subst (IsOneOf (Asks i owner)) (sym spares.set_acts) (h i owner below (through_less q (StillToFree q owner i) events es spares.none through))
 
     recover_says : (c : ℕ) (stage : RecoverStage) → RecoverSays c stage before → RecoverSays c stage later
-    recover_says c recovers.TheVariants.LoadsCounter h = tt
-    recover_says c (recovers.TheVariants.LoadsCell index) h = (once_later IsUnlocked h.0, asked_later index h.1)
-    recover_says c (recovers.TheVariants.Asks index owner) h = (once_later IsUnlocked h.0, asked_later (index + 1) h.1)
-    recover_says c (recovers.TheVariants.EmptiesCell index owner) h = (once_later IsUnlocked h.0, asked_later (index + 1) h.1)
-    recover_says c (recovers.TheVariants.Raises index raise) h = (once_later IsUnlocked h.0, asked_later (index + 1) h.1)
-    recover_says c (recovers.TheVariants.Locks index lock) h = (once_later IsUnlocked h.0, asked_later (index + 1) h.1)
-    recover_says c recovers.TheVariants.LoadsCounterAgain h = asked_later c h
+    recover_says c recovers.LoadsCounter h = tt
+    recover_says c (recovers.LoadsCell index) h = (once_later IsUnlocked h.0, asked_later index h.1)
+    recover_says c (recovers.Asks index owner) h = (once_later IsUnlocked h.0, asked_later (index + 1) h.1)
+    recover_says c (recovers.EmptiesCell index owner) h = (once_later IsUnlocked h.0, asked_later (index + 1) h.1)
+    recover_says c (recovers.Raises index raise) h = (once_later IsUnlocked h.0, asked_later (index + 1) h.1)
+    recover_says c (recovers.Locks index lock) h = (once_later IsUnlocked h.0, asked_later (index + 1) h.1)
+    recover_says c recovers.LoadsCounterAgain h = asked_later c h
 
     still_says : (c : ℕ) (flight : RobustFlight) → Says c flight before → Says c flight later
     still_says x0 x1 x2 = grind (arith, acquire_says, release_says, find_says, recover_says, count_says, count_later)

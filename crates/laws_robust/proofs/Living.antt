@@ -4,8 +4,8 @@ use Rattle.laws_robust.proofs.Names.{◌≡◌, ℕ, false, Some, None, List, re
 use Rattle.laws_robust.proofs.Names.{Start, Flight, Registry, RobustFlight, Coding, beside_of, step_of}
 use Rattle.laws_robust.proofs.Names.{going_rows, after, has_died, acts_for_dead, frees_living, effects, first_row}
 use Rattle.laws_robust.proofs.Names.{events_of_step, Trace, stands_there}
-use Rattle.model.specs.declared.families.Flight as flights
-use Rattle.model.specs.declared.families.Registry as registries
+use Rattle.model.specs.declared.families.Flight.TheVariants as flights
+use Rattle.model.specs.declared.families.Registry.TheVariants as registries
 use Rattle.model.specs.declared.families.indices.robust.calls.RobustFlight.TheVariants.{Recover}
 use Rattle.model.proofs.Frame as frame
 use Rattle.laws_robust.specs.Gone.{Word}
@@ -23,10 +23,10 @@ module _ {T : Type 0} (code : Coding T) (c : ℕ) (t : Trace T) (s : frame.Sound
         events_of_step p start (step_of t.world.coding t.world.words (beside_of t.world.words kept t.world.latest p) p start flight answer kept)
 
     step_leaves : (start : Start T) (flight : Flight T) → (family_by Word code c).At s.state p start flight
-        → AllByRecursion Leaves (writes (registries.TheVariants.Owners s.state.dead) start flight)
+        → AllByRecursion Leaves (writes (registries.Owners s.state.dead) start flight)
     step_leaves x0 x1 x2 = grind (arith, joined, effects, effects_hold, end_leaves, after)
 
-  same_kept : t.world.kept ≡ registries.TheVariants.Owners s.state.dead
+  same_kept : t.world.kept ≡ registries.Owners s.state.dead
   same_kept = s.fit.kept
 
   pub steps_leave : StepsLeave t
@@ -46,5 +46,5 @@ module _ {T : Type 0} (code : Coding T) (c : ℕ) (t : Trace T) (s : frame.Sound
     frees_none flight = refl
 
     -- a step of a call of the set
-    pub step_is_free : (flight : RobustFlight) → first_row (going_rows t.world.coding t.world.kept (Some (flights.TheVariants.Robust flight)) None) ≡ None
+    pub step_is_free : (flight : RobustFlight) → first_row (going_rows t.world.coding t.world.kept (Some (flights.Robust flight)) None) ≡ None
     step_is_free x0 = grind (arith, first_row, same_kept, acts_for_none, frees_none)

@@ -1,20 +1,26 @@
 -- A robust index set in which no call may lock is lock-free.
 use Rattle.std.proofs.Common.{◌≡◌, ℕ, ◌+◌, ◌-◌, ◌*◌, ◌≤◌, ◌==◌, Bool, true, false, cond}
 use Rattle.std.proofs.Common.{Option, Some, None, List, get_or, refl, arith}
-use Rattle.steps.specs.declared.indices.robust.acquire.AcquireStage as acquires
-use Rattle.steps.specs.declared.indices.robust.find.FindStage as finds
-use Rattle.steps.specs.declared.indices.robust.parts.Count as counts
-use Rattle.steps.specs.declared.indices.robust.parts.Raise as raises
-use Rattle.steps.specs.declared.indices.robust.recover.RecoverStage as recovers
-use Rattle.steps.specs.declared.indices.robust.release.ReleaseStage as releases
+use Rattle.steps.specs.declared.indices.robust.acquire.AcquireStage.{AcquireStage}
+use Rattle.steps.specs.declared.indices.robust.acquire.AcquireStage.TheVariants as acquires
+use Rattle.steps.specs.declared.indices.robust.find.FindStage.{FindStage}
+use Rattle.steps.specs.declared.indices.robust.find.FindStage.TheVariants as finds
+use Rattle.steps.specs.declared.indices.robust.parts.Count.{Count}
+use Rattle.steps.specs.declared.indices.robust.parts.Count.TheVariants as counts
+use Rattle.steps.specs.declared.indices.robust.parts.Raise.{Raise}
+use Rattle.steps.specs.declared.indices.robust.parts.Raise.TheVariants as raises
+use Rattle.steps.specs.declared.indices.robust.recover.RecoverStage.{RecoverStage}
+use Rattle.steps.specs.declared.indices.robust.recover.RecoverStage.TheVariants as recovers
+use Rattle.steps.specs.declared.indices.robust.release.ReleaseStage.{ReleaseStage}
+use Rattle.steps.specs.declared.indices.robust.release.ReleaseStage.TheVariants as releases
 use Rattle.model.specs.declared.event.Start.{Start}
 use Rattle.model.specs.declared.event.Start.TheVariants as starts
 use Rattle.model.specs.declared.families.Flight.{Flight}
-use Rattle.model.specs.declared.families.Flight as flights
+use Rattle.model.specs.declared.families.Flight.TheVariants as flights
 use Rattle.model.specs.declared.families.Registry.{Registry}
 use Rattle.model.specs.declared.families.indices.robust.calls.RobustFlight.{RobustFlight}
-use Rattle.model.specs.declared.families.indices.robust.calls.RobustFlight as calls
-use Rattle.model.specs.declared.turn.Kind as kinds
+use Rattle.model.specs.declared.families.indices.robust.calls.RobustFlight.TheVariants as calls
+use Rattle.model.specs.declared.turn.Kind.TheVariants as kinds
 use Rattle.model.specs.declared.turn.Refusal.{Refusal}
 use Rattle.model.specs.declared.turn.Turn.{Turn}
 use Rattle.model.specs.Coding.{Coding}
@@ -38,68 +44,68 @@ one_of true a b most x y = x
 one_of false a b most x y = y
 
 module _ (c : ℕ) (some : 1 ≤ c) where
-  pub raise_most : (now : ℕ) (raise : raises.Raise) → raise_left now raise ≤ 1
-  raise_most now raises.TheVariants.LoadsCounter = omega arith
-  raise_most now (raises.TheVariants.ExchangesCounter counter) = one_of _ 0 1 1 (omega arith) (omega arith)
+  pub raise_most : (now : ℕ) (raise : Raise) → raise_left now raise ≤ 1
+  raise_most now raises.LoadsCounter = omega arith
+  raise_most now (raises.ExchangesCounter counter) = one_of _ 0 1 1 (omega arith) (omega arith)
 
-  acquire_most : (now : ℕ) (stage : acquires.AcquireStage) → acquire_left c now stage ≤ 4 * c + 1
-  acquire_most now acquires.TheVariants.LoadsCounter = omega arith
-  acquire_most now (acquires.TheVariants.FillsCell counter index) =
+  acquire_most : (now : ℕ) (stage : AcquireStage) → acquire_left c now stage ≤ 4 * c + 1
+  acquire_most now acquires.LoadsCounter = omega arith
+  acquire_most now (acquires.FillsCell counter index) =
       one_of (now == counter) (c - (index + 1) + 2) (c - (index + 1) + (c - 1) + 4) (4 * c + 1) (omega arith) (omega arith)
-  acquire_most now (acquires.TheVariants.ChecksCounter counter) = one_of _ 0 (c - 1 + 3) (4 * c + 1) (omega arith) (omega arith)
-  acquire_most now (acquires.TheVariants.Raises index raise) = let most = raise_most now raise in omega arith
+  acquire_most now (acquires.ChecksCounter counter) = one_of _ 0 (c - 1 + 3) (4 * c + 1) (omega arith) (omega arith)
+  acquire_most now (acquires.Raises index raise) = let most = raise_most now raise in omega arith
 
-  recover_most : (now : ℕ) (stage : recovers.RecoverStage) → recover_left c now stage ≤ 4 * c + 1
-  recover_most now recovers.TheVariants.LoadsCounter = omega arith
-  recover_most now (recovers.TheVariants.LoadsCell index) = omega arith
-  recover_most now (recovers.TheVariants.Asks index owner) = omega arith
-  recover_most now (recovers.TheVariants.EmptiesCell index owner) = omega arith
-  recover_most now (recovers.TheVariants.Raises index raise) = let most = raise_most now raise in omega arith
-  recover_most now (recovers.TheVariants.Locks index lock) = omega arith
-  recover_most now recovers.TheVariants.LoadsCounterAgain = omega arith
+  recover_most : (now : ℕ) (stage : RecoverStage) → recover_left c now stage ≤ 4 * c + 1
+  recover_most now recovers.LoadsCounter = omega arith
+  recover_most now (recovers.LoadsCell index) = omega arith
+  recover_most now (recovers.Asks index owner) = omega arith
+  recover_most now (recovers.EmptiesCell index owner) = omega arith
+  recover_most now (recovers.Raises index raise) = let most = raise_most now raise in omega arith
+  recover_most now (recovers.Locks index lock) = omega arith
+  recover_most now recovers.LoadsCounterAgain = omega arith
 
-  count_most : (now : ℕ) (count : counts.Count) → count_left c now count ≤ 4 * c + 1
-  count_most now counts.TheVariants.LoadsCounter = omega arith
-  count_most now (counts.TheVariants.LoadsCell counter index filled) =
+  count_most : (now : ℕ) (count : Count) → count_left c now count ≤ 4 * c + 1
+  count_most now counts.LoadsCounter = omega arith
+  count_most now (counts.LoadsCell counter index filled) =
       one_of (now == counter) (c - (index + 1) + 1) (c - (index + 1) + (c - 1) + 4) (4 * c + 1) (omega arith) (omega arith)
-  count_most now (counts.TheVariants.ExchangesCounter counter filled) = one_of _ 0 (c - 1 + 3) (4 * c + 1) (omega arith) (omega arith)
+  count_most now (counts.ExchangesCounter counter filled) = one_of _ 0 (c - 1 + 3) (4 * c + 1) (omega arith) (omega arith)
 
-  find_most : (stage : finds.FindStage) → find_left c stage ≤ 4 * c + 1
-  find_most (finds.TheVariants.LoadsCell index found) = omega arith
-  find_most (finds.TheVariants.Asks index found) = omega arith
+  find_most : (stage : FindStage) → find_left c stage ≤ 4 * c + 1
+  find_most (finds.LoadsCell index found) = omega arith
+  find_most (finds.Asks index found) = omega arith
 
-  release_most : (now : ℕ) (stage : releases.ReleaseStage) → release_left c now stage ≤ 4 * c + 1
-  release_most now releases.TheVariants.EmptiesCell = omega arith
-  release_most now (releases.TheVariants.Raises raise) = let most = raise_most now raise in omega arith
-  release_most now (releases.TheVariants.Locks lock) = omega arith
+  release_most : (now : ℕ) (stage : ReleaseStage) → release_left c now stage ≤ 4 * c + 1
+  release_most now releases.EmptiesCell = omega arith
+  release_most now (releases.Raises raise) = let most = raise_most now raise in omega arith
+  release_most now (releases.Locks lock) = omega arith
 
-  pays_most : (stage : recovers.RecoverStage) → recover_pays c stage ≤ c
+  pays_most : (stage : RecoverStage) → recover_pays c stage ≤ c
   pays_most x0 = grind arith
 
   most : {T : Type 0} → (now : ℕ) (flight : Flight T) → (left_at c now flight ≤ 4 * c + 1) × (pays c flight ≤ c)
-  most now (flights.TheVariants.Robust (calls.TheVariants.Acquire run)) = (acquire_most now run.call.stage, omega arith)
-  most now (flights.TheVariants.Robust (calls.TheVariants.Release run)) = (release_most now run.call.stage, omega arith)
-  most now (flights.TheVariants.Robust (calls.TheVariants.Find run)) = (find_most run.call.stage, omega arith)
-  most now (flights.TheVariants.Robust (calls.TheVariants.Recover run)) = (recover_most now run.call.stage, pays_most run.call.stage)
-  most now (flights.TheVariants.Robust (calls.TheVariants.BorrowedIndices run)) = (count_most now run.call.count, omega arith)
-  most now (flights.TheVariants.Robust (calls.TheVariants.IsLocked run)) = (omega arith, omega arith)
+  most now (flights.Robust (calls.Acquire run)) = (acquire_most now run.call.stage, omega arith)
+  most now (flights.Robust (calls.Release run)) = (release_most now run.call.stage, omega arith)
+  most now (flights.Robust (calls.Find run)) = (find_most run.call.stage, omega arith)
+  most now (flights.Robust (calls.Recover run)) = (recover_most now run.call.stage, pays_most run.call.stage)
+  most now (flights.Robust (calls.BorrowedIndices run)) = (count_most now run.call.count, omega arith)
+  most now (flights.Robust (calls.IsLocked run)) = (omega arith, omega arith)
   most now flight = (omega arith, omega arith)
 
 module _ {T : Type 0} (code : Coding T) (c : ℕ) where
   falls : (words : List ℕ) (start : Start T) (flight : Flight T) → At code c start flight → StepFalls (measure c) code words flight
-  falls words (starts.Robust start) (flights.TheVariants.Robust flight) at = call_falls code c words flight at
+  falls words (starts.Robust start) (flights.Robust flight) at = call_falls code c words flight at
   falls words start flight at = absurd at
 
   decides : (words : List ℕ) (start : Start T) (flight : Flight T) (said : Bool) → At code c start flight → is_question (want_of code flight) ≡ true
       → FallsIn (measure c) words words 0 flight (after_of code flight (number_of said))
-  decides words (starts.Robust start) (flights.TheVariants.Robust flight) said at due = call_decides code c words flight at said due
+  decides words (starts.Robust start) (flights.Robust flight) said at due = call_decides code c words flight at said due
   decides words start flight said at due = absurd at
 
   goes : (start : Start T) (flight : Flight T) (old : ℕ) → At code c start flight → OwnAfter outline code c start (after_of code flight old)
   goes x0 x1 x2 x3 = grind arith
 
   begins : (start : Start T) (kept : Registry T) (flight : Flight T) → IsDefault start → Kept kept
-      → first_of kinds.TheVariants.Robust c start kept ≡ Some flight
+      → first_of kinds.Robust c start kept ≡ Some flight
       → At code c start flight × ((p : ℕ) → Kept (kept_after_begin code c start p kept))
   begins x0 x1 x2 x3 x4 x5 = grind arith
 
@@ -116,7 +122,7 @@ module _ {T : Type 0} (code : Coding T) (c : ℕ) where
   dies : (kept : Registry T) (owner : ℕ) → Kept kept → Kept (kept_after_death kept owner)
   dies x0 x1 x2 = grind arith
 
-  laws : capacity_error kinds.TheVariants.Robust c ≡ None → TableLaws outline code c
+  laws : capacity_error kinds.Robust c ≡ None → TableLaws outline code c
   laws admitted =
       record {
         opens = tt;
@@ -134,10 +140,10 @@ module _ {T : Type 0} (code : Coding T) (c : ℕ) where
 -- in runs of calls that do not lock, whichever rows refuse turns
 pub default_keeps_ending_by : {T : Type 0} (refuses : World T → Turn T → Option Refusal)
     → ((w : World T) (turn : Turn T) → refuses w turn ≡ None → IsPossible w turn)
-    → KeepsEndingBy refuses kinds.TheVariants.Robust IsDefault default_bound
+    → KeepsEndingBy refuses kinds.Robust IsDefault default_bound
 default_keeps_ending_by {T} refuses possible =
     keeps_ending_by (outline {T = T}) (λ code c coded admitted. by_table outline code c (laws code c admitted)) refuses possible
     default_bound (λ code c n. refl)
 
-pub default_keeps_ending : {T : Type 0} → KeepsEndingOf T kinds.TheVariants.Robust IsDefault default_bound
+pub default_keeps_ending : {T : Type 0} → KeepsEndingOf T kinds.Robust IsDefault default_bound
 default_keeps_ending {T} = default_keeps_ending_by {T = T} call_refusal possible_on

@@ -3,10 +3,10 @@ use Rattle.laws_robust.proofs.Names.{◌≡◌, ℕ, ◌+◌, ◌*◌, ◌≤◌
 use Rattle.laws_robust.proofs.Names.{List, [], refl, ap, arith, Ask, After, Count, Counted, locked, count_after}
 use Rattle.laws_robust.proofs.Names.{count_goes_back, went_on, Number, Truth, IsFilled, filled_of, as_it_is, as_call}
 use Rattle.laws_robust.proofs.Names.{old_of, words_after}
-use Rattle.steps.specs.declared.indices.robust.parts.Count as counts
+use Rattle.steps.specs.declared.indices.robust.parts.Count.TheVariants as counts
 use Rattle.steps.specs.Indices.Robust.Looks.{borrowed_counted}
 use Rattle.model.specs.declared.families.indices.robust.RobustStart.TheVariants.{BorrowedIndices, IsLocked}
-use Rattle.model.specs.declared.families.indices.robust.calls.RobustFlight as flights
+use Rattle.model.specs.declared.families.indices.robust.calls.RobustFlight.TheVariants as flights
 use Rattle.laws_robust.proofs.Core.{counter_of}
 use Rattle.laws_robust.proofs.Counting.{count_none, count_next}
 use Rattle.laws_robust.proofs.Effects.{both_ways, not_shut, unlocked, is_shut, stays_same, stays_raised}
@@ -42,7 +42,7 @@ module _ {T : Type 0} (scene : Scene T) (inv : Inv scene) where
     abbrev counts_to : Option Ask → Bool → After Count Counted → Type 0
     counts_to ask back r =
         Leads scene BorrowedIndices ask back []
-        (as_call flights.TheVariants.BorrowedIndices Number
+        (as_call flights.BorrowedIndices Number
         (went_on as_it_is tt tt (borrowed_counted (record { capacity = c; count = count }) r)))
 
     count_moves : counts_to (Some (count_ask count)) (count_goes_back count (old_of ws (Some (count_ask count))))
@@ -70,10 +70,10 @@ module _ {T : Type 0} (scene : Scene T) (inv : Inv scene) where
   pub borrowed_step : IsHere scene BorrowedIndices → (count : Count) → CountAt c count → all scene ≡ []
       → Knows c (borrowed_at c count) (now scene) → steps ≤ count_number c count + backs * (c + 2)
       → StepOf scene BorrowedIndices (borrowed_at c count)
-  borrowed_step here counts.TheVariants.LoadsCounter at done k s = count_moves here counts.TheVariants.LoadsCounter at done k s
-  borrowed_step here (counts.TheVariants.LoadsCell number i filled) at done k s = count_moves here (counts.TheVariants.LoadsCell number i filled) at done k s
-  borrowed_step here (counts.TheVariants.ExchangesCounter number filled) at done k s =
-      count_moves here (counts.TheVariants.ExchangesCounter number filled) at done k s
+  borrowed_step here counts.LoadsCounter at done k s = count_moves here counts.LoadsCounter at done k s
+  borrowed_step here (counts.LoadsCell number i filled) at done k s = count_moves here (counts.LoadsCell number i filled) at done k s
+  borrowed_step here (counts.ExchangesCounter number filled) at done k s =
+      count_moves here (counts.ExchangesCounter number filled) at done k s
 
   pub looks_step : IsHere scene IsLocked → all scene ≡ [] → Knows c looking (now scene) → steps ≤ 0 → StepOf scene IsLocked looking
   looks_step here done k s =

@@ -9,23 +9,29 @@ use Rattle.steps.specs.Routine.{went_on}
 use Rattle.steps.specs.declared.ask.After.{After}
 use Rattle.steps.specs.declared.indices.enums.ReleaseMode.TheVariants.{Default}
 use Rattle.steps.specs.declared.indices.robust.acquire.Acquire as acquiring
-use Rattle.steps.specs.declared.indices.robust.acquire.AcquireStage as acquires
-use Rattle.steps.specs.declared.indices.robust.find.FindStage as finds
-use Rattle.steps.specs.declared.indices.robust.parts.Count as counts
-use Rattle.steps.specs.declared.indices.robust.parts.Raise as raises
-use Rattle.steps.specs.declared.indices.robust.recover.RecoverStage as recovers
-use Rattle.steps.specs.declared.indices.robust.release.ReleaseStage as releases
+use Rattle.steps.specs.declared.indices.robust.acquire.AcquireStage.{AcquireStage}
+use Rattle.steps.specs.declared.indices.robust.acquire.AcquireStage.TheVariants as acquires
+use Rattle.steps.specs.declared.indices.robust.find.FindStage.{FindStage}
+use Rattle.steps.specs.declared.indices.robust.find.FindStage.TheVariants as finds
+use Rattle.steps.specs.declared.indices.robust.parts.Count.{Count}
+use Rattle.steps.specs.declared.indices.robust.parts.Count.TheVariants as counts
+use Rattle.steps.specs.declared.indices.robust.parts.Raise.{Raise}
+use Rattle.steps.specs.declared.indices.robust.parts.Raise.TheVariants as raises
+use Rattle.steps.specs.declared.indices.robust.recover.RecoverStage.{RecoverStage}
+use Rattle.steps.specs.declared.indices.robust.recover.RecoverStage.TheVariants as recovers
+use Rattle.steps.specs.declared.indices.robust.release.ReleaseStage.{ReleaseStage}
+use Rattle.steps.specs.declared.indices.robust.release.ReleaseStage.TheVariants as releases
 use Rattle.model.specs.declared.event.Answer.{Answer}
-use Rattle.model.specs.declared.event.Answer as answers
+use Rattle.model.specs.declared.event.Answer.TheVariants as answers
 use Rattle.model.specs.declared.event.Start.{Start}
 use Rattle.model.specs.declared.event.Start.TheVariants as starts
 use Rattle.model.specs.declared.families.Flight.{Flight}
-use Rattle.model.specs.declared.families.Flight as flights
+use Rattle.model.specs.declared.families.Flight.TheVariants as flights
 use Rattle.model.specs.declared.families.Registry.{Registry}
-use Rattle.model.specs.declared.families.Registry as registries
+use Rattle.model.specs.declared.families.Registry.TheVariants as registries
 use Rattle.model.specs.declared.families.indices.robust.calls.RobustFlight.{RobustFlight}
-use Rattle.model.specs.declared.families.indices.robust.calls.RobustFlight as calls
-use Rattle.model.specs.declared.turn.Kind as kinds
+use Rattle.model.specs.declared.families.indices.robust.calls.RobustFlight.TheVariants as calls
+use Rattle.model.specs.declared.turn.Kind.TheVariants as kinds
 use Rattle.model.specs.Coding.{Coding}
 use Rattle.model.specs.Families.{want_of, after_of, is_question}
 use Rattle.model.specs.Families.Indices.Robust.Calls.{acquire_answer}
@@ -39,130 +45,130 @@ use Rattle.model.proofs.LockFree.Own.{Outline}
 
 -- ---- how many steps a call takes at most before its last one, while the counter stays
 
-abbrev pub raise_left : ℕ → raises.Raise → ℕ
-raise_left now raises.TheVariants.LoadsCounter = 1
-raise_left now (raises.TheVariants.ExchangesCounter counter) = cond (now == counter) 0 1
+abbrev pub raise_left : ℕ → Raise → ℕ
+raise_left now raises.LoadsCounter = 1
+raise_left now (raises.ExchangesCounter counter) = cond (now == counter) 0 1
 
 module _ (c : ℕ) where
-  abbrev pub acquire_left : ℕ → acquires.AcquireStage → ℕ
-  acquire_left now acquires.TheVariants.LoadsCounter = c - 1 + 3
-  acquire_left now (acquires.TheVariants.FillsCell counter index) = cond (now == counter) (c - (index + 1) + 2) (c - (index + 1) + (c - 1) + 4)
-  acquire_left now (acquires.TheVariants.ChecksCounter counter) = cond (now == counter) 0 (c - 1 + 3)
-  acquire_left now (acquires.TheVariants.Raises index raise) = raise_left now raise
+  abbrev pub acquire_left : ℕ → AcquireStage → ℕ
+  acquire_left now acquires.LoadsCounter = c - 1 + 3
+  acquire_left now (acquires.FillsCell counter index) = cond (now == counter) (c - (index + 1) + 2) (c - (index + 1) + (c - 1) + 4)
+  acquire_left now (acquires.ChecksCounter counter) = cond (now == counter) 0 (c - 1 + 3)
+  acquire_left now (acquires.Raises index raise) = raise_left now raise
 
-  abbrev pub find_left : finds.FindStage → ℕ
-  find_left (finds.TheVariants.LoadsCell index found) = c - (index + 1) + 1
-  find_left (finds.TheVariants.Asks index found) = c - (index + 1)
+  abbrev pub find_left : FindStage → ℕ
+  find_left (finds.LoadsCell index found) = c - (index + 1) + 1
+  find_left (finds.Asks index found) = c - (index + 1)
 
-  abbrev pub recover_left : ℕ → recovers.RecoverStage → ℕ
-  recover_left now recovers.TheVariants.LoadsCounter = 4 * (c - 1) + 5
-  recover_left now (recovers.TheVariants.LoadsCell index) = 4 * (c - (index + 1)) + 4
-  recover_left now (recovers.TheVariants.Asks index owner) = 4 * (c - (index + 1)) + 3
-  recover_left now (recovers.TheVariants.EmptiesCell index owner) = 4 * (c - (index + 1)) + 3
-  recover_left now (recovers.TheVariants.Raises index raise) = 4 * (c - (index + 1)) + 1 + raise_left now raise
-  recover_left now (recovers.TheVariants.Locks index lock) = 0
-  recover_left now recovers.TheVariants.LoadsCounterAgain = 0
+  abbrev pub recover_left : ℕ → RecoverStage → ℕ
+  recover_left now recovers.LoadsCounter = 4 * (c - 1) + 5
+  recover_left now (recovers.LoadsCell index) = 4 * (c - (index + 1)) + 4
+  recover_left now (recovers.Asks index owner) = 4 * (c - (index + 1)) + 3
+  recover_left now (recovers.EmptiesCell index owner) = 4 * (c - (index + 1)) + 3
+  recover_left now (recovers.Raises index raise) = 4 * (c - (index + 1)) + 1 + raise_left now raise
+  recover_left now (recovers.Locks index lock) = 0
+  recover_left now recovers.LoadsCounterAgain = 0
 
-  abbrev pub count_left : ℕ → counts.Count → ℕ
-  count_left now counts.TheVariants.LoadsCounter = c - 1 + 2
-  count_left now (counts.TheVariants.LoadsCell counter index filled) = cond (now == counter) (c - (index + 1) + 1) (c - (index + 1) + (c - 1) + 4)
-  count_left now (counts.TheVariants.ExchangesCounter counter filled) = cond (now == counter) 0 (c - 1 + 3)
+  abbrev pub count_left : ℕ → Count → ℕ
+  count_left now counts.LoadsCounter = c - 1 + 2
+  count_left now (counts.LoadsCell counter index filled) = cond (now == counter) (c - (index + 1) + 1) (c - (index + 1) + (c - 1) + 4)
+  count_left now (counts.ExchangesCounter counter filled) = cond (now == counter) 0 (c - 1 + 3)
 
   -- ---- how many changes it makes at most before its last step that can add to the steps of others
 
   -- a recovery raises the counter once for each index
-  abbrev pub recover_pays : recovers.RecoverStage → ℕ
-  recover_pays recovers.TheVariants.LoadsCounter = c - 1 + 1
-  recover_pays (recovers.TheVariants.LoadsCell index) = c - (index + 1) + 1
-  recover_pays (recovers.TheVariants.Asks index owner) = c - (index + 1) + 1
-  recover_pays (recovers.TheVariants.EmptiesCell index owner) = c - (index + 1) + 1
-  recover_pays (recovers.TheVariants.Raises index raise) = c - (index + 1) + 1
-  recover_pays (recovers.TheVariants.Locks index lock) = 0
-  recover_pays recovers.TheVariants.LoadsCounterAgain = 0
+  abbrev pub recover_pays : RecoverStage → ℕ
+  recover_pays recovers.LoadsCounter = c - 1 + 1
+  recover_pays (recovers.LoadsCell index) = c - (index + 1) + 1
+  recover_pays (recovers.Asks index owner) = c - (index + 1) + 1
+  recover_pays (recovers.EmptiesCell index owner) = c - (index + 1) + 1
+  recover_pays (recovers.Raises index raise) = c - (index + 1) + 1
+  recover_pays (recovers.Locks index lock) = 0
+  recover_pays recovers.LoadsCounterAgain = 0
 
-  abbrev pub release_left : ℕ → releases.ReleaseStage → ℕ
-  release_left now releases.TheVariants.EmptiesCell = 2
-  release_left now (releases.TheVariants.Raises raise) = raise_left now raise
-  release_left now (releases.TheVariants.Locks lock) = 0
+  abbrev pub release_left : ℕ → ReleaseStage → ℕ
+  release_left now releases.EmptiesCell = 2
+  release_left now (releases.Raises raise) = raise_left now raise
+  release_left now (releases.Locks lock) = 0
 
   abbrev pub call_left : ℕ → RobustFlight → ℕ
-  call_left now (calls.TheVariants.Acquire run) = acquire_left now run.call.stage
-  call_left now (calls.TheVariants.Release run) = release_left now run.call.stage
-  call_left now (calls.TheVariants.Find run) = find_left run.call.stage
-  call_left now (calls.TheVariants.Recover run) = recover_left now run.call.stage
-  call_left now (calls.TheVariants.BorrowedIndices run) = count_left now run.call.count
-  call_left now (calls.TheVariants.IsLocked run) = 0
+  call_left now (calls.Acquire run) = acquire_left now run.call.stage
+  call_left now (calls.Release run) = release_left now run.call.stage
+  call_left now (calls.Find run) = find_left run.call.stage
+  call_left now (calls.Recover run) = recover_left now run.call.stage
+  call_left now (calls.BorrowedIndices run) = count_left now run.call.count
+  call_left now (calls.IsLocked run) = 0
 
   abbrev pub call_pays : RobustFlight → ℕ
-  call_pays (calls.TheVariants.Recover run) = recover_pays run.call.stage
+  call_pays (calls.Recover run) = recover_pays run.call.stage
   call_pays flight = 0
 
 -- ---- where a call stands that does not lock
 
-abbrev pub ReleaseStands : releases.ReleaseStage → Type 0
-ReleaseStands (releases.TheVariants.Locks lock) = ⊥
+abbrev pub ReleaseStands : ReleaseStage → Type 0
+ReleaseStands (releases.Locks lock) = ⊥
 ReleaseStands stage = Unit {0}
 
-abbrev pub RecoverStands : recovers.RecoverStage → Type 0
-RecoverStands (recovers.TheVariants.Locks index lock) = ⊥
+abbrev pub RecoverStands : RecoverStage → Type 0
+RecoverStands (recovers.Locks index lock) = ⊥
 RecoverStands stage = Unit {0}
 
 abbrev pub CallStands : ℕ → RobustFlight → Type 0
-CallStands c (calls.TheVariants.Acquire run) = run.call.capacity ≡ c
-CallStands c (calls.TheVariants.Release run) = (run.call.capacity ≡ c) × (run.given.mode ≡ Default) × ReleaseStands run.call.stage
-CallStands c (calls.TheVariants.Find run) = run.call.capacity ≡ c
-CallStands c (calls.TheVariants.Recover run) = (run.call.capacity ≡ c) × (run.given ≡ Default) × RecoverStands run.call.stage
-CallStands c (calls.TheVariants.BorrowedIndices run) = run.call.capacity ≡ c
-CallStands c (calls.TheVariants.IsLocked run) = Unit {0}
+CallStands c (calls.Acquire run) = run.call.capacity ≡ c
+CallStands c (calls.Release run) = (run.call.capacity ≡ c) × (run.given.mode ≡ Default) × ReleaseStands run.call.stage
+CallStands c (calls.Find run) = run.call.capacity ≡ c
+CallStands c (calls.Recover run) = (run.call.capacity ≡ c) × (run.given ≡ Default) × RecoverStands run.call.stage
+CallStands c (calls.BorrowedIndices run) = run.call.capacity ≡ c
+CallStands c (calls.IsLocked run) = Unit {0}
 
 -- a find or a recovery, which alone ask
 abbrev pub is_looking : RobustFlight → Bool
-is_looking (calls.TheVariants.Find run) = true
-is_looking (calls.TheVariants.Recover run) = true
+is_looking (calls.Find run) = true
+is_looking (calls.Recover run) = true
 is_looking flight = false
 
 -- the calls by their stages
-abbrev pub acquire_at : ℕ → ℕ → acquires.AcquireStage → RobustFlight
-acquire_at c owner stage = calls.TheVariants.Acquire (record { call = record { capacity = c; stage = stage }; given = owner; room = tt })
+abbrev pub acquire_at : ℕ → ℕ → AcquireStage → RobustFlight
+acquire_at c owner stage = calls.Acquire (record { call = record { capacity = c; stage = stage }; given = owner; room = tt })
 
-abbrev pub release_at : ℕ → ℕ → ℕ → releases.ReleaseStage → RobustFlight
+abbrev pub release_at : ℕ → ℕ → ℕ → ReleaseStage → RobustFlight
 release_at c index owner stage =
-    calls.TheVariants.Release
+    calls.Release
     (record { call = record { capacity = c; stage = stage }; given = record { index = index; owner = owner; mode = Default }; room = tt })
 
-abbrev pub find_at : ℕ → ℕ → finds.FindStage → RobustFlight
-find_at c owner stage = calls.TheVariants.Find (record { call = record { capacity = c; stage = stage }; given = owner; room = tt })
+abbrev pub find_at : ℕ → ℕ → FindStage → RobustFlight
+find_at c owner stage = calls.Find (record { call = record { capacity = c; stage = stage }; given = owner; room = tt })
 
-abbrev pub recover_at : ℕ → recovers.RecoverStage → RobustFlight
-recover_at c stage = calls.TheVariants.Recover (record { call = record { capacity = c; stage = stage }; given = Default; room = tt })
+abbrev pub recover_at : ℕ → RecoverStage → RobustFlight
+recover_at c stage = calls.Recover (record { call = record { capacity = c; stage = stage }; given = Default; room = tt })
 
-abbrev pub borrowed_at : ℕ → counts.Count → RobustFlight
-borrowed_at c count = calls.TheVariants.BorrowedIndices (record { call = record { capacity = c; count = count }; given = tt; room = tt })
+abbrev pub borrowed_at : ℕ → Count → RobustFlight
+borrowed_at c count = calls.BorrowedIndices (record { call = record { capacity = c; count = count }; given = tt; room = tt })
 
 module _ {T : Type 0} where
   abbrev pub left_at : ℕ → ℕ → Flight T → ℕ
-  left_at c now (flights.TheVariants.Robust flight) = call_left c now flight
+  left_at c now (flights.Robust flight) = call_left c now flight
   left_at c now flight = 0
 
   abbrev pub pays : ℕ → Flight T → ℕ
-  pays c (flights.TheVariants.Robust flight) = call_pays c flight
+  pays c (flights.Robust flight) = call_pays c flight
   pays c flight = 0
 
   abbrev pub measure : ℕ → WordMeasure T
   measure c = record { left = λ words flight. left_at c (get_or words 0 0) flight; pays = pays c; alone = 4 * c + 1; changes = c }
 
   abbrev pub At : Coding T → ℕ → Start T → Flight T → Type 0
-  At code c (starts.Robust start) (flights.TheVariants.Robust flight) = CallStands c flight
+  At code c (starts.Robust start) (flights.Robust flight) = CallStands c flight
   At code c start flight = ⊥
 
   abbrev pub Kept : Registry T → Type 0
-  Kept (registries.TheVariants.Owners dead) = Unit {0}
+  Kept (registries.Owners dead) = Unit {0}
   Kept kept = ⊥
 
   abbrev pub outline : Outline T
   outline =
       record {
-        kind = kinds.TheVariants.Robust;
+        kind = kinds.Robust;
         Such = IsDefault;
         Kept = Kept;
         At = At;
@@ -177,7 +183,7 @@ module _ {T : Type 0} (code : Coding T) (c : ℕ) (words : List ℕ) where
   M = measure c
 
   abbrev pub Shown : RobustFlight → Type 0
-  Shown flight = StepFalls M code words (flights.TheVariants.Robust flight)
+  Shown flight = StepFalls M code words (flights.Robust flight)
 
   abbrev pub now : ℕ
   now = get_or words 0 0
@@ -192,31 +198,31 @@ module _ {T : Type 0} (code : Coding T) (c : ℕ) (words : List ℕ) where
 
   abbrev pub as_acquire : After acquiring.Acquire Acquired → ℕ → After (Flight T) (Answer T)
   as_acquire after owner =
-      as_call flights.TheVariants.Robust (λ answer. answer)
-      (as_call calls.TheVariants.Acquire acquire_answer (went_on as_it_is owner tt after))
+      as_call flights.Robust (λ answer. answer)
+      (as_call calls.Acquire acquire_answer (went_on as_it_is owner tt after))
 
-  acquire_sees_falls : (new : List ℕ) (owner : ℕ) (stage : acquires.AcquireStage) → new ≡ words
+  acquire_sees_falls : (new : List ℕ) (owner : ℕ) (stage : AcquireStage) → new ≡ words
       → c - 1 + 3 ≤ acquire_left c now stage
-      → FallsIn M words new 1 (flights.TheVariants.Robust (acquire_at c owner stage))
+      → FallsIn M words new 1 (flights.Robust (acquire_at c owner stage))
       (as_acquire (acquire_sees (record { capacity = c; stage = stage }) now) owner)
   acquire_sees_falls new owner stage same enough = go (now == locked) refl (now == greatest) refl (nat_lt 0 c) refl
     where
       go : (t : Bool) → (now == locked) ≡ t → (u : Bool) → (now == greatest) ≡ u → (v : Bool) → nat_lt 0 c ≡ v
-          → FallsIn M words new 1 (flights.TheVariants.Robust (acquire_at c owner stage))
+          → FallsIn M words new 1 (flights.Robust (acquire_at c owner stage))
           (as_acquire (acquire_sees (record { capacity = c; stage = stage }) now) owner)
       go true t u e v f = rw t tt
       go false t true u v f = rw (t, u) tt
       go false t false u true v = let self = same_is now in rw (t, u, v) (inl (same, rw self (omega arith), omega arith))
       go false t false u false v = let self = same_is now in rw (t, u, v) (inl (same, rw self (omega arith), omega arith))
 
-  acquire_falls : (owner : ℕ) (stage : acquires.AcquireStage) → Shown (acquire_at c owner stage)
-  acquire_falls owner acquires.TheVariants.LoadsCounter =
-      acquire_sees_falls _ owner acquires.TheVariants.LoadsCounter (load_leaves words 0) (omega arith)
-  acquire_falls owner (acquires.TheVariants.FillsCell counter index) =
+  acquire_falls : (owner : ℕ) (stage : AcquireStage) → Shown (acquire_at c owner stage)
+  acquire_falls owner acquires.LoadsCounter =
+      acquire_sees_falls _ owner acquires.LoadsCounter (load_leaves words 0) (omega arith)
+  acquire_falls owner (acquires.FillsCell counter index) =
       go (get_or words (cell_word index) 0 == empty) refl (nat_lt (index + 1) c) refl (now == counter) refl
     where
-      stage : acquires.AcquireStage
-      stage = acquires.TheVariants.FillsCell counter index
+      stage : AcquireStage
+      stage = acquires.FillsCell counter index
 
       go : (t : Bool) → (get_or words (cell_word index) 0 == empty) ≡ t → (u : Bool) → nat_lt (index + 1) c ≡ u
           → (v : Bool) → (now == counter) ≡ v → Shown (acquire_at c owner stage)
@@ -230,24 +236,24 @@ module _ {T : Type 0} (code : Coding T) (c : ℕ) (words : List ℕ) where
           rw (t, u) (inl (load_leaves words (cell_word index), rw v (omega arith), omega arith))
       go false t false u true v = rw (t, u) (inl (load_leaves words (cell_word index), rw v (omega arith), omega arith))
       go false t false u false v = rw (t, u) (inl (load_leaves words (cell_word index), rw v (omega arith), omega arith))
-  acquire_falls owner (acquires.TheVariants.ChecksCounter counter) = go (now == counter) refl
+  acquire_falls owner (acquires.ChecksCounter counter) = go (now == counter) refl
     where
-      go : (t : Bool) → (now == counter) ≡ t → Shown (acquire_at c owner (acquires.TheVariants.ChecksCounter counter))
+      go : (t : Bool) → (now == counter) ≡ t → Shown (acquire_at c owner (acquires.ChecksCounter counter))
       go true t = rw t tt
       go false t =
-          rw t (acquire_sees_falls _ owner (acquires.TheVariants.ChecksCounter counter) (load_leaves words 0) (rw t (omega arith)))
-  acquire_falls owner (acquires.TheVariants.Raises index raises.TheVariants.LoadsCounter) = go (now == locked) refl (now == greatest) refl
+          rw t (acquire_sees_falls _ owner (acquires.ChecksCounter counter) (load_leaves words 0) (rw t (omega arith)))
+  acquire_falls owner (acquires.Raises index raises.LoadsCounter) = go (now == locked) refl (now == greatest) refl
     where
       go : (t : Bool) → (now == locked) ≡ t → (u : Bool) → (now == greatest) ≡ u
-          → Shown (acquire_at c owner (acquires.TheVariants.Raises index raises.TheVariants.LoadsCounter))
+          → Shown (acquire_at c owner (acquires.Raises index raises.LoadsCounter))
       go true t u e = rw t tt
       go false t true u = rw (t, u) tt
       go false t false u = let self = same_is now in rw (t, u) (inl (load_leaves words 0, rw self (omega arith), omega arith))
-  acquire_falls owner (acquires.TheVariants.Raises index (raises.TheVariants.ExchangesCounter counter)) =
+  acquire_falls owner (acquires.Raises index (raises.ExchangesCounter counter)) =
       go (now == counter) refl (now == locked) refl (now == greatest) refl
     where
       go : (s : Bool) → (now == counter) ≡ s → (t : Bool) → (now == locked) ≡ t → (u : Bool) → (now == greatest) ≡ u
-          → Shown (acquire_at c owner (acquires.TheVariants.Raises index (raises.TheVariants.ExchangesCounter counter)))
+          → Shown (acquire_at c owner (acquires.Raises index (raises.ExchangesCounter counter)))
       go true s t e u f = rw s tt
       go false s true t u e = rw (s, t) tt
       go false s false t true u = rw (s, t, u) tt
@@ -255,59 +261,59 @@ module _ {T : Type 0} (code : Coding T) (c : ℕ) (words : List ℕ) where
 
   -- ---- a release
 
-  release_falls : (index owner : ℕ) (stage : releases.ReleaseStage) → ReleaseStands stage → Shown (release_at c index owner stage)
-  release_falls index owner releases.TheVariants.EmptiesCell stands = go (get_or words (cell_word index) 0 == owner) refl
+  release_falls : (index owner : ℕ) (stage : ReleaseStage) → ReleaseStands stage → Shown (release_at c index owner stage)
+  release_falls index owner releases.EmptiesCell stands = go (get_or words (cell_word index) 0 == owner) refl
     where
-      go : (t : Bool) → (get_or words (cell_word index) 0 == owner) ≡ t → Shown (release_at c index owner releases.TheVariants.EmptiesCell)
+      go : (t : Bool) → (get_or words (cell_word index) 0 == owner) ≡ t → Shown (release_at c index owner releases.EmptiesCell)
       go true t = rw t (inr (omega arith, inl (cell_leaves index empty, omega arith)))
       go false t = rw t tt
-  release_falls index owner (releases.TheVariants.Raises raises.TheVariants.LoadsCounter) stands = go (now == locked) refl (now == greatest) refl
+  release_falls index owner (releases.Raises raises.LoadsCounter) stands = go (now == locked) refl (now == greatest) refl
     where
       go : (t : Bool) → (now == locked) ≡ t → (u : Bool) → (now == greatest) ≡ u
-          → Shown (release_at c index owner (releases.TheVariants.Raises raises.TheVariants.LoadsCounter))
+          → Shown (release_at c index owner (releases.Raises raises.LoadsCounter))
       go true t u e = rw t tt
       go false t true u = rw (t, u) tt
       go false t false u = let self = same_is now in rw (t, u) (inl (load_leaves words 0, rw self (omega arith), omega arith))
-  release_falls index owner (releases.TheVariants.Raises (raises.TheVariants.ExchangesCounter counter)) stands =
+  release_falls index owner (releases.Raises (raises.ExchangesCounter counter)) stands =
       go (now == counter) refl (now == locked) refl (now == greatest) refl
     where
       go : (s : Bool) → (now == counter) ≡ s → (t : Bool) → (now == locked) ≡ t → (u : Bool) → (now == greatest) ≡ u
-          → Shown (release_at c index owner (releases.TheVariants.Raises (raises.TheVariants.ExchangesCounter counter)))
+          → Shown (release_at c index owner (releases.Raises (raises.ExchangesCounter counter)))
       go true s t e u f = rw s tt
       go false s true t u e = rw (s, t) tt
       go false s false t true u = rw (s, t, u) tt
       go false s false t false u = let self = same_is now in rw (s, t, u) (inl (load_leaves words 0, rw (self, s) (omega arith), omega arith))
-  release_falls index owner (releases.TheVariants.Locks lock) stands = absurd stands
+  release_falls index owner (releases.Locks lock) stands = absurd stands
 
   -- ---- a find
 
-  find_falls : (owner : ℕ) (stage : finds.FindStage) → Shown (find_at c owner stage)
-  find_falls owner (finds.TheVariants.LoadsCell index found) = go (get_or words (cell_word index) 0 == owner) refl (nat_lt (index + 1) c) refl
+  find_falls : (owner : ℕ) (stage : FindStage) → Shown (find_at c owner stage)
+  find_falls owner (finds.LoadsCell index found) = go (get_or words (cell_word index) 0 == owner) refl (nat_lt (index + 1) c) refl
     where
       go : (t : Bool) → (get_or words (cell_word index) 0 == owner) ≡ t → (u : Bool) → nat_lt (index + 1) c ≡ u
-          → Shown (find_at c owner (finds.TheVariants.LoadsCell index found))
+          → Shown (find_at c owner (finds.LoadsCell index found))
       go true t u e = rw t (inl (load_leaves words (cell_word index), omega arith, omega arith))
       go false t true u =
           let less : index + 2 ≤ c = grind (arith, nat_tests) in
           rw (t, u) (inl (load_leaves words (cell_word index), omega arith, omega arith))
       go false t false u = rw (t, u) tt
-  find_falls owner (finds.TheVariants.Asks index found) = tt
+  find_falls owner (finds.Asks index found) = tt
 
   -- ---- a number of borrowed indices
 
-  borrowed_falls : (count : counts.Count) → Shown (borrowed_at c count)
-  borrowed_falls counts.TheVariants.LoadsCounter = go (now == locked) refl (nat_lt 0 c) refl (now == greatest) refl
+  borrowed_falls : (count : Count) → Shown (borrowed_at c count)
+  borrowed_falls counts.LoadsCounter = go (now == locked) refl (nat_lt 0 c) refl (now == greatest) refl
     where
       go : (t : Bool) → (now == locked) ≡ t → (u : Bool) → nat_lt 0 c ≡ u → (v : Bool) → (now == greatest) ≡ v
-          → Shown (borrowed_at c counts.TheVariants.LoadsCounter)
+          → Shown (borrowed_at c counts.LoadsCounter)
       go true t u e v f = rw t tt
       go false t true u v e = let self = same_is now in rw (t, u) (inl (load_leaves words 0, rw self (omega arith), omega arith))
       go false t false u true v = rw (t, u, v) tt
       go false t false u false v = let self = same_is now in rw (t, u, v) (inl (load_leaves words 0, rw self (omega arith), omega arith))
-  borrowed_falls (counts.TheVariants.LoadsCell counter index filled) = go (nat_lt (index + 1) c) refl (counter == greatest) refl (now == counter) refl
+  borrowed_falls (counts.LoadsCell counter index filled) = go (nat_lt (index + 1) c) refl (counter == greatest) refl (now == counter) refl
     where
       go : (u : Bool) → nat_lt (index + 1) c ≡ u → (v : Bool) → (counter == greatest) ≡ v → (t : Bool) → (now == counter) ≡ t
-          → Shown (borrowed_at c (counts.TheVariants.LoadsCell counter index filled))
+          → Shown (borrowed_at c (counts.LoadsCell counter index filled))
       go true u v e true t =
           let less : index + 2 ≤ c = grind (arith, nat_tests) in
           rw u (inl (load_leaves words (cell_word index), rw t (omega arith), omega arith))
@@ -317,70 +323,70 @@ module _ {T : Type 0} (code : Coding T) (c : ℕ) (words : List ℕ) where
       go false u true v t e = rw (u, v) tt
       go false u false v true t = rw (u, v) (inl (load_leaves words (cell_word index), rw t (omega arith), omega arith))
       go false u false v false t = rw (u, v) (inl (load_leaves words (cell_word index), rw t (omega arith), omega arith))
-  borrowed_falls (counts.TheVariants.ExchangesCounter counter filled) = go (now == counter) refl
+  borrowed_falls (counts.ExchangesCounter counter filled) = go (now == counter) refl
     where
-      go : (t : Bool) → (now == counter) ≡ t → Shown (borrowed_at c (counts.TheVariants.ExchangesCounter counter filled))
+      go : (t : Bool) → (now == counter) ≡ t → Shown (borrowed_at c (counts.ExchangesCounter counter filled))
       go true t = rw t tt
       go false t = rw t (inl (load_leaves words 0, rw t (omega arith), omega arith))
 
   -- ---- a recovery
 
   -- it comes to the next index, or to its last step
-  comes_fall : (new : List ℕ) (steps index : ℕ) (stage : recovers.RecoverStage) → new ≡ words → steps ≤ 1
+  comes_fall : (new : List ℕ) (steps index : ℕ) (stage : RecoverStage) → new ≡ words → steps ≤ 1
       → 4 * (c - (index + 1)) + steps ≤ recover_left c now stage → c - (index + 1) ≤ recover_pays c stage
-      → FallsIn M words new steps (flights.TheVariants.Robust (recover_at c stage))
-      (as_call flights.TheVariants.Robust (λ answer. answer)
-      (as_call calls.TheVariants.Recover answers.TheVariants.State
+      → FallsIn M words new steps (flights.Robust (recover_at c stage))
+      (as_call flights.Robust (λ answer. answer)
+      (as_call calls.Recover answers.State
       (went_on as_it_is Default tt (recover_comes_to (record { capacity = c; stage = stage }) (index + 1)))))
   comes_fall new steps index stage same one enough pays = go (nat_lt (index + 1) c) refl
     where
       go : (u : Bool) → nat_lt (index + 1) c ≡ u
-          → FallsIn M words new steps (flights.TheVariants.Robust (recover_at c stage))
-          (as_call flights.TheVariants.Robust (λ answer. answer)
-          (as_call calls.TheVariants.Recover answers.TheVariants.State
+          → FallsIn M words new steps (flights.Robust (recover_at c stage))
+          (as_call flights.Robust (λ answer. answer)
+          (as_call calls.Recover answers.State
           (went_on as_it_is Default tt (recover_comes_to (record { capacity = c; stage = stage }) (index + 1)))))
       go true u =
           let less : index + 2 ≤ c = grind (arith, nat_tests) in
           rw u (inl (same, omega arith, omega arith))
       go false u = rw u (inl (same, omega arith, omega arith))
 
-  recover_falls : (stage : recovers.RecoverStage) → RecoverStands stage → Shown (recover_at c stage)
-  recover_falls recovers.TheVariants.LoadsCounter stands = go (now == locked) refl (nat_lt 0 c) refl
+  recover_falls : (stage : RecoverStage) → RecoverStands stage → Shown (recover_at c stage)
+  recover_falls recovers.LoadsCounter stands = go (now == locked) refl (nat_lt 0 c) refl
     where
-      go : (t : Bool) → (now == locked) ≡ t → (u : Bool) → nat_lt 0 c ≡ u → Shown (recover_at c recovers.TheVariants.LoadsCounter)
+      go : (t : Bool) → (now == locked) ≡ t → (u : Bool) → nat_lt 0 c ≡ u → Shown (recover_at c recovers.LoadsCounter)
       go true t u e = rw t tt
       go false t true u = rw (t, u) (inl (load_leaves words 0, omega arith, omega arith))
       go false t false u = rw (t, u) (inl (load_leaves words 0, omega arith, omega arith))
-  recover_falls (recovers.TheVariants.LoadsCell index) stands = go (get_or words (cell_word index) 0 == empty) refl
+  recover_falls (recovers.LoadsCell index) stands = go (get_or words (cell_word index) 0 == empty) refl
     where
-      go : (t : Bool) → (get_or words (cell_word index) 0 == empty) ≡ t → Shown (recover_at c (recovers.TheVariants.LoadsCell index))
+      go : (t : Bool) → (get_or words (cell_word index) 0 == empty) ≡ t → Shown (recover_at c (recovers.LoadsCell index))
       go true t =
-          rw t (comes_fall _ 1 index (recovers.TheVariants.LoadsCell index) (load_leaves words (cell_word index))
+          rw t (comes_fall _ 1 index (recovers.LoadsCell index) (load_leaves words (cell_word index))
           (omega arith) (omega arith) (omega arith))
       go false t = rw t (inl (load_leaves words (cell_word index), omega arith, omega arith))
-  recover_falls (recovers.TheVariants.Asks index owner) stands =
-      comes_fall _ 0 index (recovers.TheVariants.Asks index owner) refl (omega arith) (omega arith) (omega arith)
-  recover_falls (recovers.TheVariants.EmptiesCell index owner) stands = go (get_or words (cell_word index) 0 == owner) refl
+  recover_falls (recovers.Asks index owner) stands =
+      comes_fall _ 0 index (recovers.Asks index owner) refl (omega arith) (omega arith) (omega arith)
+  recover_falls (recovers.EmptiesCell index owner) stands = go (get_or words (cell_word index) 0 == owner) refl
     where
-      go : (t : Bool) → (get_or words (cell_word index) 0 == owner) ≡ t → Shown (recover_at c (recovers.TheVariants.EmptiesCell index owner))
+      go : (t : Bool) → (get_or words (cell_word index) 0 == owner) ≡ t → Shown (recover_at c (recovers.EmptiesCell index owner))
       go true t = rw t (inr (omega arith, inl (cell_leaves index empty, omega arith)))
       go false t =
-          rw t (comes_fall _ 1 index (recovers.TheVariants.EmptiesCell index owner) (load_leaves words (cell_word index))
+          rw t (comes_fall _ 1 index (recovers.EmptiesCell index owner) (load_leaves words (cell_word index))
           (omega arith) (omega arith) (omega arith))
-  recover_falls (recovers.TheVariants.Raises index raises.TheVariants.LoadsCounter) stands = go (now == locked) refl (now == greatest) refl
+  recover_falls (recovers.Raises index raises.LoadsCounter) stands = go (now == locked) refl (now == greatest) refl
     where
-      stage : recovers.RecoverStage
-      stage = recovers.TheVariants.Raises index raises.TheVariants.LoadsCounter
+      stage : RecoverStage
+      stage = recovers.Raises index raises.LoadsCounter
 
       go : (t : Bool) → (now == locked) ≡ t → (u : Bool) → (now == greatest) ≡ u → Shown (recover_at c stage)
       go true t u e = rw t tt
       go false t true u = rw (t, u) (comes_fall _ 1 index stage (load_leaves words 0) (omega arith) (omega arith) (omega arith))
       go false t false u = let self = same_is now in rw (t, u) (inl (load_leaves words 0, rw self (omega arith), omega arith))
-  recover_falls (recovers.TheVariants.Raises index (raises.TheVariants.ExchangesCounter counter)) stands =
+  recover_falls (recovers.Raises index (raises.ExchangesCounter counter)) stands =
       go (now == counter) refl (now == locked) refl (now == greatest) refl (nat_lt (index + 1) c) refl
     where
-      stage : recovers.RecoverStage
-      stage = recovers.TheVariants.Raises index (raises.TheVariants.ExchangesCounter counter)
+      stage : RecoverStage
+      stage = recovers.Raises index (raises.ExchangesCounter counter)
 
       go : (s : Bool) → (now == counter) ≡ s → (t : Bool) → (now == locked) ≡ t → (u : Bool) → (now == greatest) ≡ u
           → (v : Bool) → nat_lt (index + 1) c ≡ v → Shown (recover_at c stage)
@@ -391,15 +397,15 @@ module _ {T : Type 0} (code : Coding T) (c : ℕ) (words : List ℕ) where
       go false s true t u e v f = rw (s, t) tt
       go false s false t true u v e = rw (s, t, u) (comes_fall _ 1 index stage (load_leaves words 0) (omega arith) (rw s (omega arith)) (omega arith))
       go false s false t false u v e = let self = same_is now in rw (s, t, u) (inl (load_leaves words 0, rw (self, s) (omega arith), omega arith))
-  recover_falls (recovers.TheVariants.Locks index lock) stands = absurd stands
-  recover_falls recovers.TheVariants.LoadsCounterAgain stands = tt
+  recover_falls (recovers.Locks index lock) stands = absurd stands
+  recover_falls recovers.LoadsCounterAgain stands = tt
 
   pub call_falls : (flight : RobustFlight) → CallStands c flight → Shown flight
-  call_falls (calls.TheVariants.Acquire run) at =
+  call_falls (calls.Acquire run) at =
       subst (λ n. Shown (acquire_at n run.given run.call.stage)) (sym at) (acquire_falls run.given run.call.stage)
-  call_falls (calls.TheVariants.Release run) at =
+  call_falls (calls.Release run) at =
       subst
-      (λ m. Shown (calls.TheVariants.Release (record {
+      (λ m. Shown (calls.Release (record {
         call = run.call;
         given = record { index = run.given.index; owner = run.given.owner; mode = m };
         room = tt;
@@ -407,62 +413,62 @@ module _ {T : Type 0} (code : Coding T) (c : ℕ) (words : List ℕ) where
       (sym at.1)
       (subst (λ n. Shown (release_at n run.given.index run.given.owner run.call.stage)) (sym at.0)
       (release_falls run.given.index run.given.owner run.call.stage at.2))
-  call_falls (calls.TheVariants.Find run) at = subst (λ n. Shown (find_at n run.given run.call.stage)) (sym at) (find_falls run.given run.call.stage)
-  call_falls (calls.TheVariants.Recover run) at =
-      subst (λ m. Shown (calls.TheVariants.Recover (record { call = run.call; given = m; room = tt }))) (sym at.1)
+  call_falls (calls.Find run) at = subst (λ n. Shown (find_at n run.given run.call.stage)) (sym at) (find_falls run.given run.call.stage)
+  call_falls (calls.Recover run) at =
+      subst (λ m. Shown (calls.Recover (record { call = run.call; given = m; room = tt }))) (sym at.1)
       (subst (λ n. Shown (recover_at n run.call.stage)) (sym at.0) (recover_falls run.call.stage at.2))
-  call_falls (calls.TheVariants.BorrowedIndices run) at =
+  call_falls (calls.BorrowedIndices run) at =
       subst (λ n. Shown (borrowed_at n run.call.count)) (sym at) (borrowed_falls run.call.count)
-  call_falls (calls.TheVariants.IsLocked run) at = tt
+  call_falls (calls.IsLocked run) at = tt
 
   -- ---- a decision
 
-  find_decides : (owner : ℕ) (stage : finds.FindStage) (said : Bool) → is_question (want_of code (flights.TheVariants.Robust (find_at c owner stage))) ≡ true
-      → FallsIn M words words 0 (flights.TheVariants.Robust (find_at c owner stage))
-      (after_of code (flights.TheVariants.Robust (find_at c owner stage)) (number_of said))
-  find_decides owner (finds.TheVariants.LoadsCell index found) said due = absurd (cc)
-  find_decides owner (finds.TheVariants.Asks index found) true due = go (nat_lt (index + 1) c) refl
+  find_decides : (owner : ℕ) (stage : FindStage) (said : Bool) → is_question (want_of code (flights.Robust (find_at c owner stage))) ≡ true
+      → FallsIn M words words 0 (flights.Robust (find_at c owner stage))
+      (after_of code (flights.Robust (find_at c owner stage)) (number_of said))
+  find_decides owner (finds.LoadsCell index found) said due = absurd (cc)
+  find_decides owner (finds.Asks index found) true due = go (nat_lt (index + 1) c) refl
     where
       go : (u : Bool) → nat_lt (index + 1) c ≡ u
-          → FallsIn M words words 0 (flights.TheVariants.Robust (find_at c owner (finds.TheVariants.Asks index found)))
-          (after_of code (flights.TheVariants.Robust (find_at c owner (finds.TheVariants.Asks index found))) 1)
+          → FallsIn M words words 0 (flights.Robust (find_at c owner (finds.Asks index found)))
+          (after_of code (flights.Robust (find_at c owner (finds.Asks index found))) 1)
       go true u =
           let less : index + 2 ≤ c = grind (arith, nat_tests) in
           rw u (inl (refl, omega arith, omega arith))
       go false u = rw u tt
-  find_decides owner (finds.TheVariants.Asks index found) false due = tt
+  find_decides owner (finds.Asks index found) false due = tt
 
-  recover_decides : (stage : recovers.RecoverStage) (said : Bool) → RecoverStands stage
-      → is_question (want_of code (flights.TheVariants.Robust (recover_at c stage))) ≡ true
-      → FallsIn M words words 0 (flights.TheVariants.Robust (recover_at c stage))
-      (after_of code (flights.TheVariants.Robust (recover_at c stage)) (number_of said))
-  recover_decides recovers.TheVariants.LoadsCounter said stands due = absurd (cc)
-  recover_decides (recovers.TheVariants.LoadsCell index) said stands due = absurd (cc)
-  recover_decides (recovers.TheVariants.Asks index owner) true stands due = inl (refl, omega arith, omega arith)
-  recover_decides (recovers.TheVariants.Asks index owner) false stands due =
-      comes_fall _ 0 index (recovers.TheVariants.Asks index owner) refl (omega arith) (omega arith) (omega arith)
-  recover_decides (recovers.TheVariants.EmptiesCell index owner) said stands due = absurd (cc)
-  recover_decides (recovers.TheVariants.Raises index raises.TheVariants.LoadsCounter) said stands due = absurd (cc)
-  recover_decides (recovers.TheVariants.Raises index (raises.TheVariants.ExchangesCounter counter)) said stands due = absurd (cc)
-  recover_decides (recovers.TheVariants.Locks index lock) said stands due = absurd stands
-  recover_decides recovers.TheVariants.LoadsCounterAgain said stands due = absurd (cc)
+  recover_decides : (stage : RecoverStage) (said : Bool) → RecoverStands stage
+      → is_question (want_of code (flights.Robust (recover_at c stage))) ≡ true
+      → FallsIn M words words 0 (flights.Robust (recover_at c stage))
+      (after_of code (flights.Robust (recover_at c stage)) (number_of said))
+  recover_decides recovers.LoadsCounter said stands due = absurd (cc)
+  recover_decides (recovers.LoadsCell index) said stands due = absurd (cc)
+  recover_decides (recovers.Asks index owner) true stands due = inl (refl, omega arith, omega arith)
+  recover_decides (recovers.Asks index owner) false stands due =
+      comes_fall _ 0 index (recovers.Asks index owner) refl (omega arith) (omega arith) (omega arith)
+  recover_decides (recovers.EmptiesCell index owner) said stands due = absurd (cc)
+  recover_decides (recovers.Raises index raises.LoadsCounter) said stands due = absurd (cc)
+  recover_decides (recovers.Raises index (raises.ExchangesCounter counter)) said stands due = absurd (cc)
+  recover_decides (recovers.Locks index lock) said stands due = absurd stands
+  recover_decides recovers.LoadsCounterAgain said stands due = absurd (cc)
 
   abbrev pub Decided : RobustFlight → Type 0
   Decided flight =
-      (said : Bool) → is_question (want_of code (flights.TheVariants.Robust flight)) ≡ true
-      → FallsIn M words words 0 (flights.TheVariants.Robust flight) (after_of code (flights.TheVariants.Robust flight) (number_of said))
+      (said : Bool) → is_question (want_of code (flights.Robust flight)) ≡ true
+      → FallsIn M words words 0 (flights.Robust flight) (after_of code (flights.Robust flight) (number_of said))
 
-  never_asks : (flight : RobustFlight) → CallStands c flight → is_question (want_of code (flights.TheVariants.Robust flight)) ≡ true
+  never_asks : (flight : RobustFlight) → CallStands c flight → is_question (want_of code (flights.Robust flight)) ≡ true
       → (◌≡◌ {A = Bool} (is_looking flight) true)
   never_asks x0 x1 x2 = grind arith
 
   pub call_decides : (flight : RobustFlight) → CallStands c flight → Decided flight
-  call_decides (calls.TheVariants.Acquire run) at said due = let looks = never_asks (calls.TheVariants.Acquire run) at due in absurd (cc)
-  call_decides (calls.TheVariants.Release run) at said due = let looks = never_asks (calls.TheVariants.Release run) at due in absurd (cc)
-  call_decides (calls.TheVariants.Find run) at said due =
+  call_decides (calls.Acquire run) at said due = let looks = never_asks (calls.Acquire run) at due in absurd (cc)
+  call_decides (calls.Release run) at said due = let looks = never_asks (calls.Release run) at due in absurd (cc)
+  call_decides (calls.Find run) at said due =
       subst (λ n. Decided (find_at n run.given run.call.stage)) (sym at) (λ s d. find_decides run.given run.call.stage s d) said due
-  call_decides (calls.TheVariants.Recover run) at said due =
-      subst (λ m. Decided (calls.TheVariants.Recover (record { call = run.call; given = m; room = tt }))) (sym at.1)
+  call_decides (calls.Recover run) at said due =
+      subst (λ m. Decided (calls.Recover (record { call = run.call; given = m; room = tt }))) (sym at.1)
       (subst (λ n. Decided (recover_at n run.call.stage)) (sym at.0) (λ s d. recover_decides run.call.stage s at.2 d)) said due
-  call_decides (calls.TheVariants.BorrowedIndices run) at said due = let looks = never_asks (calls.TheVariants.BorrowedIndices run) at due in absurd (cc)
-  call_decides (calls.TheVariants.IsLocked run) at said due = let looks = never_asks (calls.TheVariants.IsLocked run) at due in absurd (cc)
+  call_decides (calls.BorrowedIndices run) at said due = let looks = never_asks (calls.BorrowedIndices run) at due in absurd (cc)
+  call_decides (calls.IsLocked run) at said due = let looks = never_asks (calls.IsLocked run) at due in absurd (cc)

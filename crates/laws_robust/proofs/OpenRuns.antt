@@ -5,14 +5,14 @@ use Rattle.laws_robust.proofs.Names.{Flight, Party, Idle, Undecided, Turn, Begin
 use Rattle.laws_robust.proofs.Names.{AnswersRight, party_of, Each, is_due, call_refusal, after_turn}
 use Rattle.laws_robust.proofs.Names.{Trace, flight_in, row_passed}
 use Rattle.model.specs.declared.families.container.ContainerStart.TheVariants.{Recover}
-use Rattle.model.specs.declared.families.Flight as flights
+use Rattle.model.specs.declared.families.Flight.TheVariants as flights
 use Rattle.model.specs.declared.event.Start.{Start}
-use Rattle.model.specs.declared.turn.Kind as kinds
+use Rattle.model.specs.declared.turn.Kind.TheVariants as kinds
 use Rattle.model.specs.declared.turn.Refusal.TheVariants.{Busy, WrongCall}
 use Rattle.model.specs.Families.{first_of}
 use Rattle.model.specs.World.{World}
 use Rattle.std.proofs.Common.{is_some}
-use Rattle.model.specs.declared.families.Registry as registries
+use Rattle.model.specs.declared.families.Registry.TheVariants as registries
 use Rattle.model.proofs.FamilyLaws.{opening_there}
 use Rattle.model.proofs.Frame as frame
 use Rattle.model.proofs.Rows.{MayStart, MayGoOn, IsPossible, possible_on, not_none, not_some}
@@ -56,7 +56,7 @@ module _ {T : Type 0} (code : Coding T) (c : ℕ) where
   may_decide : (t : Trace T) (s : Sound t) (p : ℕ) (x : Party T) (since : ℕ)
       (found : party_of p t.world.latest ≡ Some x) (flight : Flight T) (said : Bool)
       → MayDecideIn Word code c t s p x since found flight said
-  may_decide t s p x since found (flights.TheVariants.Robust flight) said = tt
+  may_decide t s p x since found (flights.Robust flight) said = tt
   may_decide t s p x since found flight said = tt
 
   may_decide_open : (w : World T) (p : ℕ) (said : Bool) → open_refusal w (Decide p said) ≡ None → is_due w.coding (flight_in w p) ≡ true
@@ -81,7 +81,7 @@ module _ {T : Type 0} (code : Coding T) (c : ℕ) where
       let due : is_due code (flight_in t.world p) ≡ true = subst (λ y. is_due y (flight_in t.world p) ≡ true) s.coding (may_decide_open t.world p said e) in
       let F = family_by Word code c in
       frame.decision_sound F t p said s (λ x flight since u.
-      decides_from F t s p x since said s.state.words (registries.TheVariants.Owners s.state.dead) flight s.fit.words s.fit.kept
+      decides_from F t s p x since said s.state.words (registries.Owners s.state.dead) flight s.fit.words s.fit.kept
       (decides Word code c t s p x since u.found tt said x.start flight (may_decide t s p x since u.found flight said)
       (subst (λ o. is_due code o ≡ true) u.is due) (stands_there F t s p x since flight u.found u.doing)))
       (party_of p t.world.latest) refl
@@ -90,7 +90,7 @@ module _ {T : Type 0} (code : Coding T) (c : ℕ) where
 
 module _ {T : Type 0} where
   -- whatever the order of the turns, and however many there were
-  pub reached_open_sound : (t : Trace T) → t.world.kind ≡ kinds.TheVariants.Robust → IsReachedOpen t
+  pub reached_open_sound : (t : Trace T) → t.world.kind ≡ kinds.Robust → IsReachedOpen t
       → frame.Sound (family_by Word t.world.coding t.world.capacity) t
   reached_open_sound t is r =
       let w = t.world in
@@ -99,7 +99,7 @@ module _ {T : Type 0} where
       (opening_there (outline Word) (May Word) (all_turns Word) t is r.coded r.admitted) r
 
   -- and nobody dies
-  pub reached_open_lives : (t : Trace T) → t.world.kind ≡ kinds.TheVariants.Robust → IsReachedOpen t → AllLive t.events
+  pub reached_open_lives : (t : Trace T) → t.world.kind ≡ kinds.Robust → IsReachedOpen t → AllLive t.events
   reached_open_lives t is r =
       let code = t.world.coding in
       let c = t.world.capacity in
@@ -113,7 +113,7 @@ module _ {T : Type 0} where
       let words = s.fit.words in
       grind arith
 
-  pub reached_open_kept : (t : Trace T) → t.world.kind ≡ kinds.TheVariants.Robust → IsReachedOpen t → IsOpenSet t
+  pub reached_open_kept : (t : Trace T) → t.world.kind ≡ kinds.Robust → IsReachedOpen t → IsOpenSet t
   reached_open_kept t is r = open_kept t.world.coding t (reached_open_sound t is r) (reached_open_lives t is r)
 
   -- In an honest run whose counter is not at its end the answers are those of a machine whose owners die.

@@ -1,7 +1,7 @@
 -- The robust index set as it opens: no index is filled, and nobody has died.
 use Rattle.laws_robust.proofs.Names.{◌≡◌, ℕ, zero, suc, ◌^◌, ◌<◌, ◌≤◌, None, [], replicate, get_or, refl}
 use Rattle.laws_robust.proofs.Names.{arith, length-replicate, empty, opening_words, capacity_error, Each-nil}
-use Rattle.model.specs.declared.turn.Kind as kinds
+use Rattle.model.specs.declared.turn.Kind.TheVariants as kinds
 use Rattle.laws_robust.specs.Gone.{GoneBy}
 use Rattle.laws_robust.proofs.Core.{cell}
 use Rattle.laws_robust.proofs.Invariant.{Good}
@@ -33,5 +33,5 @@ opening_good by c some few =
       holds = λ calm. Each-nil _;
     }
 
-pub admitted_is : (c : ℕ) → capacity_error kinds.TheVariants.Robust c ≡ None → (1 ≤ c) × (c < 2 ^ 32)
+pub admitted_is : (c : ℕ) → capacity_error kinds.Robust c ≡ None → (1 ≤ c) × (c < 2 ^ 32)
 admitted_is c e = grind arith

@@ -8,11 +8,11 @@ use Rattle.laws_robust.proofs.Names.{one_more, raise_sees, raise_after, raise_go
 use Rattle.laws_robust.proofs.Names.{count_goes_back, first_lock, lock_counted, lock_after, lock_goes_back, by_test}
 use Rattle.laws_robust.proofs.Names.{by_eq, Event, Locked, filled_of, holder_of, locked_by, old_of, words_after}
 use Rattle.laws_robust.proofs.Names.{step_count}
-use Rattle.steps.specs.declared.indices.enums.ReleaseState as states
-use Rattle.steps.specs.declared.indices.robust.parts.Count as counts
-use Rattle.steps.specs.declared.indices.robust.parts.Counted as ends
-use Rattle.steps.specs.declared.indices.robust.parts.Lock as locks
-use Rattle.steps.specs.declared.indices.robust.parts.Raise as raises
+use Rattle.steps.specs.declared.indices.enums.ReleaseState.TheVariants as states
+use Rattle.steps.specs.declared.indices.robust.parts.Count.TheVariants as counts
+use Rattle.steps.specs.declared.indices.robust.parts.Counted.TheVariants as ends
+use Rattle.steps.specs.declared.indices.robust.parts.Lock.TheVariants as locks
+use Rattle.steps.specs.declared.indices.robust.parts.Raise.TheVariants as raises
 use Rattle.laws_robust.specs.Gone.{IsCalm}
 use Rattle.laws_robust.proofs.Core.{counter_of, cell, counter_set}
 use Rattle.laws_robust.proofs.Effects.{Stays, not_shut, stays_same, stays_raised, filled_none, filled_some}
@@ -23,18 +23,18 @@ use Rattle.laws_robust.proofs.Standing.{raise_number, count_number, lock_number,
 use Rattle.laws_robust.proofs.Stages.{loads, exchanges, loads_same, fails_same, exchange_sets, backs_then, now, sees, paid_of, paid_back, holds_on}
 
 abbrev pub raise_ask : Raise → Ask
-raise_ask raises.TheVariants.LoadsCounter = loads 0
-raise_ask (raises.TheVariants.ExchangesCounter counter) = exchanges 0 counter (one_more counter)
+raise_ask raises.LoadsCounter = loads 0
+raise_ask (raises.ExchangesCounter counter) = exchanges 0 counter (one_more counter)
 
 abbrev pub count_ask : Count → Ask
-count_ask counts.TheVariants.LoadsCounter = loads 0
-count_ask (counts.TheVariants.LoadsCell counter index filled) = loads (cell_word index)
-count_ask (counts.TheVariants.ExchangesCounter counter filled) =
+count_ask counts.LoadsCounter = loads 0
+count_ask (counts.LoadsCell counter index filled) = loads (cell_word index)
+count_ask (counts.ExchangesCounter counter filled) =
     exchanges 0 counter (one_more counter)
 
 abbrev pub lock_ask : Lock → Ask
-lock_ask (locks.TheVariants.Counts count) = count_ask count
-lock_ask (locks.TheVariants.ExchangesCounter counter) = exchanges 0 counter locked
+lock_ask (locks.Counts count) = count_ask count
+lock_ask (locks.ExchangesCounter counter) = exchanges 0 counter locked
 
 zero_if : (n : ℕ) → ((n == 0) && true) ≡ true → n ≡ 0
 zero_if n t = grind arith
@@ -89,26 +89,26 @@ module _ {T : Type 0} (scene : Scene T) (inv : Inv scene) where
     RaiseGoes raise =
         (number : ℕ) (ask : Option Ask) (back : Bool) → words_after ws ask ≡ ws
         → Holding number (sees scene ask back) → RaiseSteps raise 1 ask back
-        → Lead ask back (GoOn (raises.TheVariants.ExchangesCounter number))
+        → Lead ask back (GoOn (raises.ExchangesCounter number))
 
     abbrev pub RaiseMeets : Raise → Type 0
     RaiseMeets raise =
         (ask : Option Ask) (back : Bool) → words_after ws ask ≡ ws → counter_of ws ≡ locked
         → IsPaid (sees scene ask back) → RaiseSteps raise 2 ask back
-        → Lead ask back (Done states.TheVariants.Locked)
+        → Lead ask back (Done states.Locked)
 
     -- the counter is at its end, and stays
     abbrev pub RaiseStays : Raise → Type 0
     RaiseStays raise =
         (ask : Option Ask) (back : Bool) → words_after ws ask ≡ ws → IsWorn by ws → counter_of ws ≡ greatest
         → IsPaid (sees scene ask back) → RaiseSteps raise 2 ask back
-        → Lead ask back (Done states.TheVariants.Unlocked)
+        → Lead ask back (Done states.Unlocked)
 
     abbrev pub RaiseEnds : Raise → Type 0
     RaiseEnds raise =
         (ask : Option Ask) → counter_of ws < greatest → words_after ws ask ≡ set ws 0 (counter_of ws + 1)
         → IsPaid (sees scene ask false) → RaiseSteps raise 2 ask false
-        → Lead ask false (Done states.TheVariants.Unlocked)
+        → Lead ask false (Done states.Unlocked)
 
     raise_finds : (raise : Raise) → RaiseGoes raise → RaiseMeets raise → RaiseStays raise
         → (ask : Option Ask) (back : Bool) → words_after ws ask ≡ ws → IsPaid (sees scene ask back)
@@ -117,13 +117,13 @@ module _ {T : Type 0} (scene : Scene T) (inv : Inv scene) where
 
     pub raise_step : (raise : Raise) → Paid (raise_holds raise) (now scene) → RaiseGoes raise → RaiseMeets raise → RaiseStays raise → RaiseEnds raise
         → Lead (Some (raise_ask raise)) (raise_goes_back raise (counter_of ws)) (raise_after raise (counter_of ws))
-    raise_step raises.TheVariants.LoadsCounter paid goes meets rests closes =
-        raise_finds raises.TheVariants.LoadsCounter goes meets rests (Some (loads 0)) false (loads_same ws 0) (omega arith) (λ n w some low. omega arith)
-    raise_step (raises.TheVariants.ExchangesCounter number) paid goes meets rests closes = go (counter_of ws == number) refl
+    raise_step raises.LoadsCounter paid goes meets rests closes =
+        raise_finds raises.LoadsCounter goes meets rests (Some (loads 0)) false (loads_same ws 0) (omega arith) (λ n w some low. omega arith)
+    raise_step (raises.ExchangesCounter number) paid goes meets rests closes = go (counter_of ws == number) refl
       where
         go : (b : Bool) → (counter_of ws == number) ≡ b
             → Lead (Some (exchanges 0 number (one_more number))) (not b)
-            (if b then Done states.TheVariants.Unlocked else raise_sees (counter_of ws))
+            (if b then Done states.Unlocked else raise_sees (counter_of ws))
         go x0 x1 = grind (arith, paid_of, exchanges, one_more, before_end, raised, raise_finds, fails_same, paid_back, nat_tests)
 
   -- ---- the counter that a count has loaded, which it holds unless that is at its end
@@ -172,25 +172,25 @@ module _ {T : Type 0} (scene : Scene T) (inv : Inv scene) where
       abbrev pub CountMeets : Count → Type 0
       CountMeets count =
           (ask : Option Ask) → words_after ws ask ≡ ws → counter_of ws ≡ locked → IsPaid (sees scene ask false)
-          → CountSteps count (2 + c) ask false → Lead ask false (Done ends.TheVariants.Locked)
+          → CountSteps count (2 + c) ask false → Lead ask false (Done ends.Locked)
 
       -- all cells are loaded, and the counter is at its end
       abbrev pub CountStays : Count → Type 0
       CountStays count =
           (filled : ℕ) (ask : Option Ask) → words_after ws ask ≡ ws → IsWorn by ws → counter_of ws ≡ greatest
           → filled ≤ c → Says c filled → IsPaid (sees scene ask false) → CountSteps count (2 + c) ask false
-          → Lead ask false (Done (ends.TheVariants.Filled filled greatest))
+          → Lead ask false (Done (ends.Filled filled greatest))
 
       abbrev pub CountEnds : Count → Type 0
       CountEnds count =
           (filled : ℕ) (ask : Option Ask) → counter_of ws < greatest
           → words_after ws ask ≡ set ws 0 (counter_of ws + 1) → filled ≤ c → Says c filled → NoneHeld c filled
           → IsPaid (sees scene ask false) → CountSteps count
-          (2 + c) ask false → Lead ask false (Done (ends.TheVariants.Filled filled (counter_of ws + 1)))
+          (2 + c) ask false → Lead ask false (Done (ends.Filled filled (counter_of ws + 1)))
 
       -- the next cell, or the end of the count, of which this is known
-      module _ (number k filled new : ℕ) (goes : CountGoes (counts.TheVariants.LoadsCell number k filled))
-          (rests : CountStays (counts.TheVariants.LoadsCell number k filled)) (below : k < c) (few : new ≤ k + 1)
+      module _ (number k filled new : ℕ) (goes : CountGoes (counts.LoadsCell number k filled))
+          (rests : CountStays (counts.LoadsCell number k filled)) (below : k < c) (few : new ≤ k + 1)
           (held : Paid (unless_last number) (now scene)) (least : number ≤ counter_of ws)
           (at_end : number ≡ greatest → counter_of ws ≡ greatest) (says : Says (k + 1) new)
           (none : number < greatest → new ≡ 0 → counter_of ws ≡ number → IsCalm by events → (i : ℕ) → i < k + 1 → holder_of i events ≡ None) where
@@ -208,20 +208,20 @@ module _ {T : Type 0} (scene : Scene T) (inv : Inv scene) where
 
         count_comes : Lead ask false (count_comes_to c number (k + 1) new)
         count_comes =
-            by_test (Lead ask false) (nat_lt (k + 1) c) (GoOn (counts.TheVariants.LoadsCell number (k + 1) new)) _
+            by_test (Lead ask false) (nat_lt (k + 1) c) (GoOn (counts.LoadsCell number (k + 1) new)) _
             (λ t.
             let more : k + 1 < c = grind (arith, nat_tests) in
-            goes (counts.TheVariants.LoadsCell number (k + 1) new) ask false same (more, few) (still_held number ask same_counter held)
+            goes (counts.LoadsCell number (k + 1) new) ask false same (more, few) (still_held number ask same_counter held)
             (low, λ end. same_counter ∙ at_end end, λ before zero is calm i less. none before zero (sym same_counter ∙ is) calm i less)
             says (λ n w some bound. omega arith))
             (λ t.
             let last : c ≡ k + 1 = grind (arith, nat_tests) in
             let paid : IsPaid (now scene) = still_paid number held in
-            by_eq (Lead ask false) number greatest (Done (ends.TheVariants.Filled new number)) (GoOn (counts.TheVariants.ExchangesCounter number new))
-            (λ end. subst (λ m. Lead ask false (Done (ends.TheVariants.Filled new m))) (sym end)
+            by_eq (Lead ask false) number greatest (Done (ends.Filled new number)) (GoOn (counts.ExchangesCounter number new))
+            (λ end. subst (λ m. Lead ask false (Done (ends.Filled new m))) (sym end)
             (rests new ask same (worn_at by ws inv.room (at_end end)) (at_end end) (omega arith)
             (subst (λ m. Says m new) (sym last) says) (omega arith) (λ n w some bound. omega arith)))
-            (λ other. goes (counts.TheVariants.ExchangesCounter number new) ask false same (omega arith)
+            (λ other. goes (counts.ExchangesCounter number new) ask false same (omega arith)
             (holds_on scene number ask events same_counter (holds_one number other held)) (
               low,
               λ end. same_counter ∙ at_end end,
@@ -233,18 +233,18 @@ module _ {T : Type 0} (scene : Scene T) (inv : Inv scene) where
           → CountStays count → CountEnds count
           → Lead (Some (count_ask count)) (count_goes_back count (old_of ws (Some (count_ask count))))
           (count_after c count (old_of ws (Some (count_ask count))))
-      count_step counts.TheVariants.LoadsCounter at paid scanned says goes meets rests closes =
+      count_step counts.LoadsCounter at paid scanned says goes meets rests closes =
           let some = g.some in
           let same = loads_same ws 0 in
           let same_counter : counter_of (words_after ws (Some (loads 0))) ≡ counter_of ws = ap counter_of same in
-          by_eq (Lead (Some (loads 0)) false) (counter_of ws) locked (Done ends.TheVariants.Locked) _
+          by_eq (Lead (Some (loads 0)) false) (counter_of ws) locked (Done ends.Locked) _
           (λ shut. meets (Some (loads 0)) same shut (omega arith) (λ n w wide low. omega arith))
-          (λ open_now. by_test (Lead (Some (loads 0)) false) (nat_lt 0 c) (GoOn (counts.TheVariants.LoadsCell (counter_of ws) 0 0)) _
-          (λ t. goes (counts.TheVariants.LoadsCell (counter_of ws) 0 0) (Some (loads 0)) false same
+          (λ open_now. by_test (Lead (Some (loads 0)) false) (nat_lt 0 c) (GoOn (counts.LoadsCell (counter_of ws) 0 0)) _
+          (λ t. goes (counts.LoadsCell (counter_of ws) 0 0) (Some (loads 0)) false same
           (omega arith, omega arith) (found_held (Some (loads 0)) same open_now (omega arith))
           (omega arith, λ end. same_counter ∙ end, λ before zero is calm i less. absurd (omega arith)) said.none (λ n w wide low. omega arith))
           (λ t. let none : c ≤ 0 = grind (arith, nat_tests) in absurd (omega arith)))
-      count_step (counts.TheVariants.LoadsCell number k filled) at paid scanned says goes meets rests closes = go (cell ws k == empty) refl
+      count_step (counts.LoadsCell number k filled) at paid scanned says goes meets rests closes = go (cell ws k == empty) refl
         where
           go : (b : Bool) → (cell ws k == empty) ≡ b
               → Lead (Some (loads (cell_word k))) false (count_comes_to c number (k + 1) (if b then filled else one_more filled))
@@ -267,23 +267,23 @@ module _ {T : Type 0} (scene : Scene T) (inv : Inv scene) where
               (count_comes number k filled (filled + 1) goes rests at.0 (omega arith) paid scanned.0 scanned.1
               (said.filled_next k filled (cell ws k) at.0 some.1 says)
               (λ before zero is calm i less. absurd (omega arith)))
-      count_step (counts.TheVariants.ExchangesCounter number filled) at paid scanned says goes meets rests closes = go (counter_of ws == number) refl
+      count_step (counts.ExchangesCounter number filled) at paid scanned says goes meets rests closes = go (counter_of ws == number) refl
         where
           go : (b : Bool) → (counter_of ws == number) ≡ b
               → Lead (Some (exchanges 0 number (one_more number))) (not b)
-              (if b then Done (ends.TheVariants.Filled filled (one_more number)) else GoOn counts.TheVariants.LoadsCounter)
+              (if b then Done (ends.Filled filled (one_more number)) else GoOn counts.LoadsCounter)
           go true t =
               let is : counter_of ws ≡ number = grind (arith, nat_tests) in
               let paid_now = paid_of scene (counter_of ws ≡ number) paid.paid in
               let less = paid.before_end in
               let next : one_more number ≡ counter_of ws + 1 = omega arith in
-              subst (λ m. Lead (Some (exchanges 0 number (one_more number))) false (Done (ends.TheVariants.Filled filled m))) (sym next)
+              subst (λ m. Lead (Some (exchanges 0 number (one_more number))) false (Done (ends.Filled filled m))) (sym next)
               (closes filled (Some (exchanges 0 number (one_more number))) (before_end number is paid)
               (raised number is paid) at says (λ zero calm i below. scanned.2 paid.before_end zero is calm i below)
               (omega arith) (λ n w wide low. omega arith))
           go false t =
               let other : counter_of ws ≢ number = grind (arith, nat_tests) in
-              goes counts.TheVariants.LoadsCounter (Some (exchanges 0 number (one_more number))) true (fails_same ws 0 number (one_more number) other) tt
+              goes counts.LoadsCounter (Some (exchanges 0 number (one_more number))) true (fails_same ws 0 number (one_more number) other) tt
               (paid_back scene number (Some (exchanges 0 number (one_more number))) events other paid) tt tt (λ n w wide low. omega arith)
 
     -- ---- a lock
@@ -303,33 +303,33 @@ module _ {T : Type 0} (scene : Scene T) (inv : Inv scene) where
       abbrev pub LockMeets : Lock → Type 0
       LockMeets lock =
           (ask : Option Ask) → words_after ws ask ≡ ws → counter_of ws ≡ locked → IsPaid (sees scene ask false)
-          → LockSteps lock (3 + c) ask false → Lead ask false [] (Done states.TheVariants.Locked)
+          → LockSteps lock (3 + c) ask false → Lead ask false [] (Done states.Locked)
 
       -- an index is filled
       abbrev pub LockFinds : Lock → Type 0
       LockFinds lock =
           (filled : ℕ) (ask : Option Ask) → Stays scene (words_after ws ask) → counter_of ws ≢ locked → 0 < filled
           → Says c filled → IsPaid (sees scene ask false) → LockSteps lock (3 + c) ask false
-          → Lead ask false [] (Done states.TheVariants.Unlocked)
+          → Lead ask false [] (Done states.Unlocked)
 
       -- the counter is at its end, where no set is locked
       abbrev pub LockStays : Lock → Type 0
       LockStays lock =
           (ask : Option Ask) → Stays scene (words_after ws ask) → counter_of ws ≢ locked
           → IsWorn by (words_after ws ask) → IsPaid (sees scene ask false) → LockSteps lock (3 + c) ask false
-          → Lead ask false [] (Done states.TheVariants.Unlocked)
+          → Lead ask false [] (Done states.Unlocked)
 
       -- it locks the set
       abbrev pub LockLocks : Lock → Type 0
       LockLocks lock =
           (ask : Option Ask) → (IsCalm by events → (i : ℕ) → holder_of i events ≡ None) → counter_of ws < greatest
           → words_after ws ask ≡ set ws 0 locked → IsPaid (sees scene ask false) → LockSteps lock (3 + c) ask false
-          → Lead ask false (Locked p ∷ []) (Done states.TheVariants.Locked)
+          → Lead ask false (Locked p ∷ []) (Done states.Locked)
 
       -- the count is closed
-      module _ (count : Count) (goes : LockGoes (locks.TheVariants.Counts count))
-          (finds : LockFinds (locks.TheVariants.Counts count))
-          (rests : LockStays (locks.TheVariants.Counts count)) where
+      module _ (count : Count) (goes : LockGoes (locks.Counts count))
+          (finds : LockFinds (locks.Counts count))
+          (rests : LockStays (locks.Counts count)) where
         counted : CountEnds (λ ask back r. Lead ask back [] (lock_counted r)) count
         counted filled ask less new most says none paid few = go (counter_of ws + 1 == greatest) refl
           where
@@ -339,11 +339,11 @@ module _ {T : Type 0} (scene : Scene T) (inv : Inv scene) where
             is : counter_of (words_after ws ask) ≡ counter_of ws + 1
             is = grind (arith, counter_set)
 
-            go : (b : Bool) → (counter_of ws + 1 == greatest) ≡ b → Lead ask false [] (lock_counted (Done (ends.TheVariants.Filled filled (counter_of ws + 1))))
+            go : (b : Bool) → (counter_of ws + 1 == greatest) ≡ b → Lead ask false [] (lock_counted (Done (ends.Filled filled (counter_of ws + 1))))
             go true t =
                 let last : counter_of ws + 1 ≡ greatest = grind (arith, nat_tests) in
-                none_locks (Lead ask false []) (GoOn (locks.TheVariants.ExchangesCounter (counter_of ws + 1)))
-                (Done states.TheVariants.Unlocked) (filled == 0) (counter_of ws + 1 == greatest) t
+                none_locks (Lead ask false []) (GoOn (locks.ExchangesCounter (counter_of ws + 1)))
+                (Done states.Unlocked) (filled == 0) (counter_of ws + 1 == greatest) t
                 (rests ask stays (not_shut scene inv less)
                 (worn_then by ws (words_after ws ask) inv.room last (is ∙ last)) paid
                 (λ n w more bound. let next = few n w (omega arith) bound in omega arith))
@@ -354,10 +354,10 @@ module _ {T : Type 0} (scene : Scene T) (inv : Inv scene) where
                 let low : counter_of ws + 1 ≤ counter_of (words_after ws ask) = omega arith in
                 rw other
                 (by_test (Lead ask false []) ((filled == 0) && true)
-                (GoOn (locks.TheVariants.ExchangesCounter (counter_of ws + 1))) (Done states.TheVariants.Unlocked)
+                (GoOn (locks.ExchangesCounter (counter_of ws + 1))) (Done states.Unlocked)
                 (λ u.
                 let zero : filled ≡ 0 = zero_if filled u in
-                goes (locks.TheVariants.ExchangesCounter (counter_of ws + 1)) ask false stays tt
+                goes (locks.ExchangesCounter (counter_of ws + 1)) ask false stays tt
                 (record { before_end = omega arith; low = low; paid = inl (is, paid) })
                 (low, λ end. absurd (differs end), λ before same_zero same calm i below. none zero calm i below) tt
                 (λ n w more bound. let next = few n w (omega arith) bound in omega arith))
@@ -370,24 +370,24 @@ module _ {T : Type 0} (scene : Scene T) (inv : Inv scene) where
           → Lead (Some (lock_ask lock)) (lock_goes_back lock (old_of ws (Some (lock_ask lock))))
           (locked_by p lock (old_of ws (Some (lock_ask lock))))
           (lock_after c lock (old_of ws (Some (lock_ask lock))))
-      lock_step (locks.TheVariants.Counts count) at paid scanned says goes meets finds rests shuts =
+      lock_step (locks.Counts count) at paid scanned says goes meets finds rests shuts =
           count_step (λ ask back r. Lead ask back [] (lock_counted r)) count at paid scanned says
-          (λ next ask back same next_at next_paid next_scanned next_says few. goes (locks.TheVariants.Counts next)
+          (λ next ask back same next_at next_paid next_scanned next_says few. goes (locks.Counts next)
           ask back (stays_same scene inv (words_after ws ask) same) next_at next_paid next_scanned next_says
           (λ n w more bound. few n w (omega arith) bound))
           (λ ask same shut done_paid few. meets ask same shut done_paid (λ n w more bound. let next = few n w (omega arith) bound in omega arith))
           (λ filled ask same worn end most says_so done_paid few.
-          none_locks (Lead ask false []) (GoOn (locks.TheVariants.ExchangesCounter greatest))
-          (Done states.TheVariants.Unlocked) (filled == 0) (greatest == greatest) (eq-eqb greatest greatest refl)
+          none_locks (Lead ask false []) (GoOn (locks.ExchangesCounter greatest))
+          (Done states.Unlocked) (filled == 0) (greatest == greatest) (eq-eqb greatest greatest refl)
           (rests ask (stays_same scene inv (words_after ws ask) same) (λ shut. absurd (omega arith))
           (subst (IsWorn by) (sym same) worn) done_paid
           (λ n w more bound. let next = few n w (omega arith) bound in omega arith)))
           (counted count goes finds rests)
-      lock_step (locks.TheVariants.ExchangesCounter number) at paid scanned says goes meets finds rests shuts = go (counter_of ws == number) refl
+      lock_step (locks.ExchangesCounter number) at paid scanned says goes meets finds rests shuts = go (counter_of ws == number) refl
         where
           go : (b : Bool) → (counter_of ws == number) ≡ b
               → Lead (Some (exchanges 0 number locked)) (not b) (if b then Locked p ∷ [] else [])
-              (if b then Done states.TheVariants.Locked else GoOn first_lock)
+              (if b then Done states.Locked else GoOn first_lock)
           go true t =
               let is : counter_of ws ≡ number = grind (arith, nat_tests) in
               let paid_now = paid_of scene (counter_of ws ≡ number) paid.paid in

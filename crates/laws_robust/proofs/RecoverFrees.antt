@@ -7,12 +7,12 @@ use Rattle.laws_robust.proofs.Names.{locked, first_lock, raise_after, raise_goes
 use Rattle.laws_robust.proofs.Names.{recover_raised, went_on, State, Event, FreedOf, Told, cell_of, StillToFree}
 use Rattle.laws_robust.proofs.Names.{LivesToRelease, SetAct, Frees, Asks, Yes, filled_of, set_acts_of}
 use Rattle.laws_robust.proofs.Names.{IsOneOf, HasJustFreed, as_it_is, as_call, words_after, step_count}
-use Rattle.steps.specs.declared.indices.enums.ReleaseState as states
-use Rattle.steps.specs.declared.indices.robust.parts.Raise as raises
+use Rattle.steps.specs.declared.indices.enums.ReleaseState.TheVariants as states
+use Rattle.steps.specs.declared.indices.robust.parts.Raise.TheVariants as raises
 use Rattle.steps.specs.declared.indices.robust.recover.Recover as calls
-use Rattle.steps.specs.declared.indices.robust.recover.RecoverStage as recovers
+use Rattle.steps.specs.declared.indices.robust.recover.RecoverStage.TheVariants as recovers
 use Rattle.model.specs.declared.families.indices.robust.RobustStart.TheVariants.{Recover}
-use Rattle.model.specs.declared.families.indices.robust.calls.RobustFlight as flights
+use Rattle.model.specs.declared.families.indices.robust.calls.RobustFlight.TheVariants as flights
 use Rattle.laws_robust.specs.Gone.{is_gone, MayBeTold, HasRecoveredBy}
 use Rattle.laws_robust.proofs.Core.{counter_of, cell}
 use Rattle.laws_robust.proofs.Counting.{times_below}
@@ -45,21 +45,21 @@ module _ {T : Type 0} (scene : Scene T) (inv : Inv scene) (mode : ReleaseMode) (
 
   abbrev Lead : Option Ask → Bool → List (Event T) → After calls.Recover ReleaseState → Type 0
   Lead ask back did a =
-      Leads scene (Recover mode) ask back did (as_call flights.TheVariants.Recover State (went_on as_it_is mode tt a))
+      Leads scene (Recover mode) ask back did (as_call flights.Recover State (went_on as_it_is mode tt a))
 
   abbrev Few : Option Ask → Bool → ℕ → ℕ → Type 0
   Few ask back n index = steps + step_count ask ≤ n + index * for_index c mode + backs_then scene back * for_back c mode
 
   -- ---- a decision
 
-  module _ (index owner : ℕ) (at : RecoverAt c mode done (recovers.TheVariants.Asks index owner))
-      (k : Knows c (recover_at c mode (recovers.TheVariants.Asks index owner)) (now scene))
+  module _ (index owner : ℕ) (at : RecoverAt c mode done (recovers.Asks index owner))
+      (k : Knows c (recover_at c mode (recovers.Asks index owner)) (now scene))
       (s : steps ≤ 2 + index * for_index c mode + backs * for_back c mode) where
-    says_no : Lead None false [] (recover_comes_to (call_at (recovers.TheVariants.Asks index owner)) (index + 1))
+    says_no : Lead None false [] (recover_comes_to (call_at (recovers.Asks index owner)) (index + 1))
     says_no =
         let four = at_least_four c mode in
         let paid = k.paid in
-        (comes_quietly scene inv mode here) index at.0.within (recovers.TheVariants.Asks index owner) None false (omega arith)
+        (comes_quietly scene inv mode here) index at.0.within (recovers.Asks index owner) None false (omega arith)
         (stays_same scene inv ws refl) (omega arith) at.0.asked at.0.freed k.says.0 k.says.1 k.gone
 
     module _ (may : MayBeTold by owner events) where
@@ -75,10 +75,10 @@ module _ {T : Type 0} (scene : Scene T) (inv : Inv scene) (mode : ReleaseMode) (
       frees_this : (i o : ℕ) → Yes index owner ≡ Yes i o → (is_gone by o (events ++ telling) ≡ true) × ((i ≡ index) × (o ≡ owner))
       frees_this x0 x1 x2 = grind (arith, gone_told)
 
-      says_yes : Lead None false telling (GoOn (at_recover (call_at (recovers.TheVariants.Asks index owner)) (recovers.TheVariants.EmptiesCell index owner)))
+      says_yes : Lead None false telling (GoOn (at_recover (call_at (recovers.Asks index owner)) (recovers.EmptiesCell index owner)))
       says_yes =
           let paid = k.paid in
-          goes_on scene (Recover mode) (recover_at c mode (recovers.TheVariants.EmptiesCell index owner)) None false
+          goes_on scene (Recover mode) (recover_at c mode (recovers.EmptiesCell index owner)) None false
           telling here (λ start w. refl) tells_does (at.2, tt) (may, tt) (omega arith) (
             refl,
             refl,
@@ -108,20 +108,20 @@ module _ {T : Type 0} (scene : Scene T) (inv : Inv scene) (mode : ReleaseMode) (
           })
 
     pub decided : (answer : ℕ) → (answer ≢ 0 → MayBeTold by owner events)
-        → AnswerOf scene (Recover mode) (recover_at c mode (recovers.TheVariants.Asks index owner)) None answer
+        → AnswerOf scene (Recover mode) (recover_at c mode (recovers.Asks index owner)) None answer
     decided answer may = go (answer == 0) refl
       where
         go : (b : Bool) → (answer == 0) ≡ b → Lead None false (if b then [] else Told p index owner ∷ [])
-            (if b then recover_comes_to (call_at (recovers.TheVariants.Asks index owner)) (index + 1) else GoOn
-            (at_recover (call_at (recovers.TheVariants.Asks index owner)) (recovers.TheVariants.EmptiesCell index owner)))
+            (if b then recover_comes_to (call_at (recovers.Asks index owner)) (index + 1) else GoOn
+            (at_recover (call_at (recovers.Asks index owner)) (recovers.EmptiesCell index owner)))
         go true t = says_no
         go false t = let other : answer ≢ 0 = grind (arith, nat_tests) in says_yes (may other)
 
   -- ---- the exchange of a cell
 
-  module _ (index owner : ℕ) (at : RecoverAt c mode done (recovers.TheVariants.EmptiesCell index owner))
+  module _ (index owner : ℕ) (at : RecoverAt c mode done (recovers.EmptiesCell index owner))
       (s : steps ≤ 2 + index * for_index c mode + backs * for_back c mode)
-      (k : Knows c (recover_at c mode (recovers.TheVariants.EmptiesCell index owner)) (now scene)) where
+      (k : Knows c (recover_at c mode (recovers.EmptiesCell index owner)) (now scene)) where
     abbrev exchange : Option Ask
     exchange = Some (exchanges (cell_word index) owner empty)
 
@@ -142,11 +142,11 @@ module _ {T : Type 0} (scene : Scene T) (inv : Inv scene) (mode : ReleaseMode) (
               (h.1 honest),
         )
 
-    misses : cell ws index ≢ owner → Lead exchange false [] (recover_comes_to (call_at (recovers.TheVariants.EmptiesCell index owner)) (index + 1))
+    misses : cell ws index ≢ owner → Lead exchange false [] (recover_comes_to (call_at (recovers.EmptiesCell index owner)) (index + 1))
     misses other =
         let four = at_least_four c mode in
         let paid = k.paid in
-        (comes_quietly scene inv mode here) index at.0.within (recovers.TheVariants.EmptiesCell index owner) exchange false (omega arith)
+        (comes_quietly scene inv mode here) index at.0.within (recovers.EmptiesCell index owner) exchange false (omega arith)
         (stays_same scene inv _ (fails_same ws (cell_word index) owner empty other))
         (omega arith) at.0.asked at.0.freed k.says.0 k.says.1 (gone_already other)
 
@@ -175,12 +175,12 @@ module _ {T : Type 0} (scene : Scene T) (inv : Inv scene) (mode : ReleaseMode) (
       asked_about i o e = grind arith
 
       empties : Lead exchange false freeing
-          (GoOn (at_recover (call_at (recovers.TheVariants.EmptiesCell index owner))
-          (recovers.TheVariants.Raises index raises.TheVariants.LoadsCounter)))
+          (GoOn (at_recover (call_at (recovers.EmptiesCell index owner))
+          (recovers.Raises index raises.LoadsCounter)))
       empties =
           let paid = k.paid in
           goes_on scene (Recover mode)
-          (recover_at c mode (recovers.TheVariants.Raises index raises.TheVariants.LoadsCounter)) exchange false
+          (recover_at c mode (recovers.Raises index raises.LoadsCounter)) exchange false
           freeing here (λ start w. refl) frees_does (at.2, tt) (tt, tt) (omega arith) (
             refl,
             refl,
@@ -208,23 +208,23 @@ module _ {T : Type 0} (scene : Scene T) (inv : Inv scene) (mode : ReleaseMode) (
                 (λ i o e. absurd (cc));
           })
 
-    pub empties_cell : StepOf scene (Recover mode) (recover_at c mode (recovers.TheVariants.EmptiesCell index owner))
+    pub empties_cell : StepOf scene (Recover mode) (recover_at c mode (recovers.EmptiesCell index owner))
     empties_cell = go (cell ws index == owner) refl
       where
         go : (b : Bool) → (cell ws index == owner) ≡ b
             → Lead (Some (exchanges (cell_word index) owner empty)) false (if b then FreedOf p index owner ∷ [] else [])
-            (if b then GoOn (at_recover (call_at (recovers.TheVariants.EmptiesCell index owner))
-            (recovers.TheVariants.Raises index raises.TheVariants.LoadsCounter))
+            (if b then GoOn (at_recover (call_at (recovers.EmptiesCell index owner))
+            (recovers.Raises index raises.LoadsCounter))
             else recover_comes_to
-            (call_at (recovers.TheVariants.EmptiesCell index owner)) (index + 1))
+            (call_at (recovers.EmptiesCell index owner)) (index + 1))
         go true t = let is : cell ws index ≡ owner = grind (arith, nat_tests) in empties is
         go false t = let other : cell ws index ≢ owner = grind (arith, nat_tests) in misses other
 
   -- ---- the second look at the counter
 
   pub loads_again : FreedWereAsked done → steps ≤ 1 + c * for_index c mode + backs * for_back c mode
-      → Knows c (recover_at c mode recovers.TheVariants.LoadsCounterAgain) (now scene)
-      → StepOf scene (Recover mode) (recover_at c mode recovers.TheVariants.LoadsCounterAgain)
+      → Knows c (recover_at c mode recovers.LoadsCounterAgain) (now scene)
+      → StepOf scene (Recover mode) (recover_at c mode recovers.LoadsCounterAgain)
   loads_again freed s k = go (counter_of ws == locked) refl
     where
       recovered : HasRecoveredBy by p events
@@ -239,36 +239,36 @@ module _ {T : Type 0} (scene : Scene T) (inv : Inv scene) (mode : ReleaseMode) (
           }
 
       go : (b : Bool) → (counter_of ws == locked) ≡ b
-          → Lead (Some (loads 0)) false [] (Done (if b then states.TheVariants.Locked else states.TheVariants.Unlocked))
+          → Lead (Some (loads 0)) false [] (Done (if b then states.Locked else states.Unlocked))
       go true t =
           let shut : counter_of ws ≡ locked = grind (arith, nat_tests) in
           let paid = k.paid in
-          (ends_so scene inv mode here) states.TheVariants.Locked (Some (loads 0)) false (stays_same scene inv _ (loads_same ws 0))
+          (ends_so scene inv mode here) states.Locked (Some (loads 0)) false (stays_same scene inv _ (loads_same ws 0))
           (is_shut scene inv shut) (omega arith) (omega arith)
       go false t =
           let other : counter_of ws ≢ locked = grind (arith, nat_tests) in
           let paid = k.paid in
-          (ends_so scene inv mode here) states.TheVariants.Unlocked (Some (loads 0)) false (stays_same scene inv _ (loads_same ws 0))
+          (ends_so scene inv mode here) states.Unlocked (Some (loads 0)) false (stays_same scene inv _ (loads_same ws 0))
           (unlocked scene inv other, recovered) (omega arith) (omega arith)
 
   -- ---- the raise of the counter
 
   module _ (index : ℕ) (raise : Raise) (course : IsInCourse c index (index + 1) done) (just : HasJustFreed done)
       (s : steps ≤ 3 + raise_number raise + index * for_index c mode + backs * for_back c mode)
-      (k : Knows c (recover_at c mode (recovers.TheVariants.Raises index raise)) (now scene)) where
+      (k : Knows c (recover_at c mode (recovers.Raises index raise)) (now scene)) where
     abbrev raises_to : Option Ask → Bool → After Raise ReleaseState → Type 0
-    raises_to ask back r = Lead ask back [] (recover_raised (call_at (recovers.TheVariants.Raises index raise)) index mode r)
+    raises_to ask back r = Lead ask back [] (recover_raised (call_at (recovers.Raises index raise)) index mode r)
 
     -- it locks in the mode for that alone
     goes_by_mode : (m : ReleaseMode) → mode ≡ m → (ask : Option Ask) (back : Bool)
         → Stays scene (words_after ws ask) → IsPaid (sees scene ask back) → Few ask back 5 index
-        → Lead ask back [] (recover_raised (call_at (recovers.TheVariants.Raises index raise)) index m (Done states.TheVariants.Unlocked))
+        → Lead ask back [] (recover_raised (call_at (recovers.Raises index raise)) index m (Done states.Unlocked))
     goes_by_mode Default e ask back stays paid few =
         let four = at_least_four c mode in
-        (comes_quietly scene inv mode here) index course.within (recovers.TheVariants.Raises index raise) ask back (omega arith) stays
+        (comes_quietly scene inv mode here) index course.within (recovers.Raises index raise) ask back (omega arith) stays
         paid course.asked course.freed k.says.0 k.says.1 k.gone
     goes_by_mode LockIfLastIndex e ask back stays paid few =
-        goes_quietly scene inv (Recover mode) (recover_at c mode (recovers.TheVariants.Locks index first_lock)) ask
+        goes_quietly scene inv (Recover mode) (recover_at c mode (recovers.Locks index first_lock)) ask
         back here stays few (refl, refl, (course, just, e, tt))
         (record { paid = paid; scanned = tt; owns = tt; says = k.says; gone = k.gone })
 
@@ -279,7 +279,7 @@ module _ {T : Type 0} (scene : Scene T) (inv : Inv scene) (mode : ReleaseMode) (
         (λ number ask back same held few.
         let low = few (3 + index * for_index c mode) (for_back c mode) one (omega arith) in
         goes_quietly scene inv (Recover mode)
-        (recover_at c mode (recovers.TheVariants.Raises index (raises.TheVariants.ExchangesCounter number))) ask
+        (recover_at c mode (recovers.Raises index (raises.ExchangesCounter number))) ask
         back here (stays_same scene inv (words_after ws ask) same)
         (omega arith) (refl, refl, (course, just))
         (record { paid = held; scanned = tt; owns = tt; says = k.says; gone = k.gone }))
@@ -287,7 +287,7 @@ module _ {T : Type 0} (scene : Scene T) (inv : Inv scene) (mode : ReleaseMode) (
         let low = few (3 + index * for_index c mode) (for_back c mode) one (omega arith) in
         let four = at_least_four c mode in
         let times = times_below c index (for_index c mode) course.within in
-        (ends_so scene inv mode here) states.TheVariants.Locked ask back
+        (ends_so scene inv mode here) states.Locked ask back
         (stays_same scene inv (words_after ws ask) same) (is_shut scene inv shut) (omega arith) paid)
         (λ ask back same worn end paid few.
         let low = few (3 + index * for_index c mode) (for_back c mode) one (omega arith) in

@@ -5,13 +5,13 @@ use Rattle.laws_robust.proofs.Names.{ReleaseState, Lock, RecoverStage, locked, g
 use Rattle.laws_robust.proofs.Names.{recover_comes_to, recover_locked, went_on, State, Event, Locked, Robust, promise}
 use Rattle.laws_robust.proofs.Names.{SetAct, Locks, holder_of, set_acts_of, HasJustFreed, locked_by, as_it_is, Stands}
 use Rattle.laws_robust.proofs.Names.{Open, as_call, old_of, words_after, step_count, AllFollow}
-use Rattle.steps.specs.declared.indices.robust.parts.Count as counts
-use Rattle.steps.specs.declared.indices.robust.parts.Lock as parts
-use Rattle.steps.specs.declared.indices.robust.parts.Raise as raises
+use Rattle.steps.specs.declared.indices.robust.parts.Count.TheVariants as counts
+use Rattle.steps.specs.declared.indices.robust.parts.Lock.TheVariants as parts
+use Rattle.steps.specs.declared.indices.robust.parts.Raise.TheVariants as raises
 use Rattle.steps.specs.declared.indices.robust.recover.Recover as calls
-use Rattle.steps.specs.declared.indices.robust.recover.RecoverStage as recovers
+use Rattle.steps.specs.declared.indices.robust.recover.RecoverStage.TheVariants as recovers
 use Rattle.model.specs.declared.families.indices.robust.RobustStart.TheVariants.{Recover}
-use Rattle.model.specs.declared.families.indices.robust.calls.RobustFlight as flights
+use Rattle.model.specs.declared.families.indices.robust.calls.RobustFlight.TheVariants as flights
 use Rattle.laws_robust.specs.Gone.{IsCalm, MayBeTold}
 use Rattle.laws_robust.proofs.Core.{counter_of}
 use Rattle.laws_robust.proofs.SetActs.{asks_more, freed_more}
@@ -40,7 +40,7 @@ module _ {T : Type 0} (scene : Scene T) (inv : Inv scene) (mode : ReleaseMode) (
 
   abbrev Lead : Option Ask → Bool → List (Event T) → After calls.Recover ReleaseState → Type 0
   Lead ask back did a =
-      Leads scene (Recover mode) ask back did (as_call flights.TheVariants.Recover State (went_on as_it_is mode tt a))
+      Leads scene (Recover mode) ask back did (as_call flights.Recover State (went_on as_it_is mode tt a))
 
   abbrev Few : Option Ask → Bool → ℕ → ℕ → Type 0
   Few ask back n index = steps + step_count ask ≤ n + index * for_index c mode + backs_then scene back * for_back c mode
@@ -50,9 +50,9 @@ module _ {T : Type 0} (scene : Scene T) (inv : Inv scene) (mode : ReleaseMode) (
   module _ (index : ℕ) (lock : Lock) (course : IsInCourse c index (index + 1) done) (just : HasJustFreed done)
       (may_lock : mode ≡ LockIfLastIndex) (at : LockAt c lock)
       (s : steps ≤ 5 + lock_number c lock + index * for_index c mode + backs * for_back c mode)
-      (k : Knows c (recover_at c mode (recovers.TheVariants.Locks index lock)) (now scene)) where
+      (k : Knows c (recover_at c mode (recovers.Locks index lock)) (now scene)) where
     abbrev locks_to : Option Ask → Bool → List (Event T) → After Lock ReleaseState → Type 0
-    locks_to ask back did r = Lead ask back did (recover_locked (call_at (recovers.TheVariants.Locks index lock)) index r)
+    locks_to ask back did r = Lead ask back did (recover_locked (call_at (recovers.Locks index lock)) index r)
 
     for_a_back : for_back c mode ≡ c + 3
     for_a_back = ap (for_back c) may_lock
@@ -79,9 +79,9 @@ module _ {T : Type 0} (scene : Scene T) (inv : Inv scene) (mode : ReleaseMode) (
       stands_there : AllFollow (Stands promise c) (Open (Robust (Recover mode)) (wrote_of p events)) locking
       stands_there = grind (arith, promise)
 
-      locks_set : Lead ask false locking (recover_comes_to (call_at (recovers.TheVariants.Locks index lock)) (index + 1))
+      locks_set : Lead ask false locking (recover_comes_to (call_at (recovers.Locks index lock)) (index + 1))
       locks_set =
-          comes_loudly scene inv mode here index course.within (recovers.TheVariants.Locks index lock) ask false few
+          comes_loudly scene inv mode here index course.within (recovers.Locks index lock) ask false few
           locking (λ start w. refl) locks_does stands_there (tt, tt) paid
           (asks_more (index + 1) Locks done course.asked tt) (freed_more Locks done course.freed (λ i o e. absurd (cc)))
           (open_then scene inv mode here Locks locking (words_after ws ask) tt locks_set_acts locks_does k.says.0)
@@ -97,21 +97,21 @@ module _ {T : Type 0} (scene : Scene T) (inv : Inv scene) (mode : ReleaseMode) (
         lock_step scene inv (λ j filled. Unit {0}) said locks_to lock at k.paid k.scanned (nothing_said c lock)
         (λ next ask back stays next_at paid scanned says few.
         let low = few (5 + index * for_index c mode) (for_back c mode) (omega arith) (omega arith) in
-        goes_quietly scene inv (Recover mode) (recover_at c mode (recovers.TheVariants.Locks index next)) ask back
+        goes_quietly scene inv (Recover mode) (recover_at c mode (recovers.Locks index next)) ask back
         here stays (omega arith) (refl, refl, (course, just, may_lock, next_at))
         (record { paid = paid; scanned = scanned; owns = tt; says = k.says; gone = k.gone }))
         (λ ask same shut paid few.
         let low = few (5 + index * for_index c mode) (for_back c mode) (omega arith) (omega arith) in
-        comes_quietly scene inv mode here index course.within (recovers.TheVariants.Locks index lock) ask false
+        comes_quietly scene inv mode here index course.within (recovers.Locks index lock) ask false
         (omega arith) (stays_same scene inv (words_after ws ask) same) paid course.asked course.freed k.says.0
         k.says.1 k.gone)
         (λ filled ask stays open_now more says paid few.
         let low = few (5 + index * for_index c mode) (for_back c mode) (omega arith) (omega arith) in
-        comes_quietly scene inv mode here index course.within (recovers.TheVariants.Locks index lock) ask false
+        comes_quietly scene inv mode here index course.within (recovers.Locks index lock) ask false
         (omega arith) stays paid course.asked course.freed k.says.0 k.says.1 k.gone)
         (λ ask stays open_now worn paid few.
         let low = few (5 + index * for_index c mode) (for_back c mode) (omega arith) (omega arith) in
-        comes_quietly scene inv mode here index course.within (recovers.TheVariants.Locks index lock) ask false
+        comes_quietly scene inv mode here index course.within (recovers.Locks index lock) ask false
         (omega arith) stays paid course.asked course.freed k.says.0 k.says.1 k.gone)
         (λ ask none less new paid few.
         let low = few (5 + index * for_index c mode) (for_back c mode) (omega arith) (omega arith) in
@@ -122,26 +122,26 @@ module _ {T : Type 0} (scene : Scene T) (inv : Inv scene) (mode : ReleaseMode) (
   pub recover_step : (stage : RecoverStage) → RecoverAt c mode (all scene) stage
       → Knows c (recover_at c mode stage) (now scene) → steps ≤ recover_number c mode stage backs
       → StepOf scene (Recover mode) (recover_at c mode stage)
-  recover_step recovers.TheVariants.LoadsCounter at k s = loads_counter scene inv mode here at s k
-  recover_step (recovers.TheVariants.LoadsCell index) at k s = loads_cell scene inv mode here index at s k
-  recover_step (recovers.TheVariants.Asks index owner) at k s = decided scene inv mode here index owner at k s 0 (λ other. absurd (other refl))
-  recover_step (recovers.TheVariants.EmptiesCell index owner) at k s = empties_cell scene inv mode here index owner at s k
-  recover_step (recovers.TheVariants.Raises index raises.TheVariants.LoadsCounter) at k s =
-      raises_step scene inv mode here index raises.TheVariants.LoadsCounter at.0 at.1 s k
-  recover_step (recovers.TheVariants.Raises index (raises.TheVariants.ExchangesCounter number)) at k s =
-      raises_step scene inv mode here index (raises.TheVariants.ExchangesCounter number) at.0 at.1 s k
-  recover_step (recovers.TheVariants.Locks index (parts.TheVariants.Counts counts.TheVariants.LoadsCounter)) at k s =
-      locks_step index (parts.TheVariants.Counts counts.TheVariants.LoadsCounter) at.0 at.1 at.2 at.3 s k
-  recover_step (recovers.TheVariants.Locks index (parts.TheVariants.Counts (counts.TheVariants.LoadsCell number i filled))) at k s = locks_step index
-      (parts.TheVariants.Counts (counts.TheVariants.LoadsCell number i filled)) at.0 at.1 at.2 at.3 s k
-  recover_step (recovers.TheVariants.Locks index (parts.TheVariants.Counts (counts.TheVariants.ExchangesCounter number filled))) at k s = locks_step index
-      (parts.TheVariants.Counts (counts.TheVariants.ExchangesCounter number filled)) at.0 at.1 at.2 at.3 s k
-  recover_step (recovers.TheVariants.Locks index (parts.TheVariants.ExchangesCounter number)) at k s =
-      locks_step index (parts.TheVariants.ExchangesCounter number) at.0 at.1 at.2 at.3 s k
-  recover_step recovers.TheVariants.LoadsCounterAgain at k s = loads_again scene inv mode here at s k
+  recover_step recovers.LoadsCounter at k s = loads_counter scene inv mode here at s k
+  recover_step (recovers.LoadsCell index) at k s = loads_cell scene inv mode here index at s k
+  recover_step (recovers.Asks index owner) at k s = decided scene inv mode here index owner at k s 0 (λ other. absurd (other refl))
+  recover_step (recovers.EmptiesCell index owner) at k s = empties_cell scene inv mode here index owner at s k
+  recover_step (recovers.Raises index raises.LoadsCounter) at k s =
+      raises_step scene inv mode here index raises.LoadsCounter at.0 at.1 s k
+  recover_step (recovers.Raises index (raises.ExchangesCounter number)) at k s =
+      raises_step scene inv mode here index (raises.ExchangesCounter number) at.0 at.1 s k
+  recover_step (recovers.Locks index (parts.Counts counts.LoadsCounter)) at k s =
+      locks_step index (parts.Counts counts.LoadsCounter) at.0 at.1 at.2 at.3 s k
+  recover_step (recovers.Locks index (parts.Counts (counts.LoadsCell number i filled))) at k s = locks_step index
+      (parts.Counts (counts.LoadsCell number i filled)) at.0 at.1 at.2 at.3 s k
+  recover_step (recovers.Locks index (parts.Counts (counts.ExchangesCounter number filled))) at k s = locks_step index
+      (parts.Counts (counts.ExchangesCounter number filled)) at.0 at.1 at.2 at.3 s k
+  recover_step (recovers.Locks index (parts.ExchangesCounter number)) at k s =
+      locks_step index (parts.ExchangesCounter number) at.0 at.1 at.2 at.3 s k
+  recover_step recovers.LoadsCounterAgain at k s = loads_again scene inv mode here at s k
 
-  pub recover_decided : (index owner : ℕ) → RecoverAt c mode (all scene) (recovers.TheVariants.Asks index owner)
-      → Knows c (recover_at c mode (recovers.TheVariants.Asks index owner)) (now scene)
-      → steps ≤ recover_number c mode (recovers.TheVariants.Asks index owner) backs → (answer : ℕ) → (answer ≢ 0 → MayBeTold scene.by owner events)
-      → AnswerOf scene (Recover mode) (recover_at c mode (recovers.TheVariants.Asks index owner)) None answer
+  pub recover_decided : (index owner : ℕ) → RecoverAt c mode (all scene) (recovers.Asks index owner)
+      → Knows c (recover_at c mode (recovers.Asks index owner)) (now scene)
+      → steps ≤ recover_number c mode (recovers.Asks index owner) backs → (answer : ℕ) → (answer ≢ 0 → MayBeTold scene.by owner events)
+      → AnswerOf scene (Recover mode) (recover_at c mode (recovers.Asks index owner)) None answer
   recover_decided index owner at k s answer may = decided scene inv mode here index owner at k s answer may

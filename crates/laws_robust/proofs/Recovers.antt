@@ -9,11 +9,11 @@ use Rattle.laws_robust.proofs.Names.{HeldThroughout, StillToFree, SetAct, Frees,
 use Rattle.laws_robust.proofs.Names.{filled_of, set_acts_of, IsOneOf, as_it_is, BeginsNone}
 use Rattle.laws_robust.proofs.Names.{HeldSometime, Stands, Open, as_call, words_after, step_count, held_now}
 use Rattle.laws_robust.proofs.Names.{held_later, no_more, AllFollow, AreRight}
-use Rattle.steps.specs.declared.indices.enums.ReleaseState as states
+use Rattle.steps.specs.declared.indices.enums.ReleaseState.TheVariants as states
 use Rattle.steps.specs.declared.indices.robust.recover.Recover as calls
-use Rattle.steps.specs.declared.indices.robust.recover.RecoverStage as recovers
+use Rattle.steps.specs.declared.indices.robust.recover.RecoverStage.TheVariants as recovers
 use Rattle.model.specs.declared.families.indices.robust.RobustStart.TheVariants.{Recover}
-use Rattle.model.specs.declared.families.indices.robust.calls.RobustFlight as flights
+use Rattle.model.specs.declared.families.indices.robust.calls.RobustFlight.TheVariants as flights
 use Rattle.laws_robust.specs.Gone.{is_gone, IsHonestBy, AsksBy, AnswersBy}
 use Rattle.laws_robust.proofs.Core.{counter_of, cell}
 use Rattle.laws_robust.proofs.SetActs.{still_one, last_one, was_one, all_so, asks_more, FreedWereAsked, freed_more}
@@ -53,7 +53,7 @@ module _ {T : Type 0} (scene : Scene T) (inv : Inv scene) (mode : ReleaseMode) (
 
   abbrev Lead : Option Ask → Bool → List (Event T) → After calls.Recover ReleaseState → Type 0
   Lead ask back did a =
-      Leads scene (Recover mode) ask back did (as_call flights.TheVariants.Recover State (went_on as_it_is mode tt a))
+      Leads scene (Recover mode) ask back did (as_call flights.Recover State (went_on as_it_is mode tt a))
 
   -- the steps up to this index
   abbrev Few : Option Ask → Bool → ℕ → ℕ → Type 0
@@ -82,16 +82,16 @@ module _ {T : Type 0} (scene : Scene T) (inv : Inv scene) (mode : ReleaseMode) (
       pub comes_quietly : Lead ask back [] (recover_comes_to (call_at stage) (index + 1))
       comes_quietly =
           by_test (λ s. Lead ask back [] (GoOn (at_recover (call_at stage) s))) (nat_lt (index + 1) c)
-          (recovers.TheVariants.LoadsCell (index + 1)) recovers.TheVariants.LoadsCounterAgain
+          (recovers.LoadsCell (index + 1)) recovers.LoadsCounterAgain
           (λ t.
           let more : index + 1 < c = grind (arith, nat_tests) in
-          goes_quietly scene inv (Recover mode) (recover_at c mode (recovers.TheVariants.LoadsCell (index + 1))) ask
+          goes_quietly scene inv (Recover mode) (recover_at c mode (recovers.LoadsCell (index + 1))) ask
           back here stays few (refl, refl, record { within = more; asked = asked; freed = freed })
           (record { paid = paid; scanned = tt; owns = tt; says = (open_once, says); gone = gone }))
           (λ t.
           let last : c ≤ index + 1 = grind (arith, nat_tests) in
           let end : index + 1 ≡ c = omega arith in
-          goes_quietly scene inv (Recover mode) (recover_at c mode recovers.TheVariants.LoadsCounterAgain) ask back
+          goes_quietly scene inv (Recover mode) (recover_at c mode recovers.LoadsCounterAgain) ask back
           here stays (few_last last) (refl, refl, freed)
           (record { paid = paid; scanned = tt; owns = tt; says = subst (λ n. AskedBelow n (now scene)) end says; gone = gone }))
 
@@ -106,16 +106,16 @@ module _ {T : Type 0} (scene : Scene T) (inv : Inv scene) (mode : ReleaseMode) (
       pub comes_loudly : Lead ask back did (recover_comes_to (call_at stage) (index + 1))
       comes_loudly =
           by_test (λ s. Lead ask back did (GoOn (at_recover (call_at stage) s))) (nat_lt (index + 1) c)
-          (recovers.TheVariants.LoadsCell (index + 1)) recovers.TheVariants.LoadsCounterAgain
+          (recovers.LoadsCell (index + 1)) recovers.LoadsCounterAgain
           (λ t.
           let more : index + 1 < c = grind (arith, nat_tests) in
-          goes_on scene (Recover mode) (recover_at c mode (recovers.TheVariants.LoadsCell (index + 1))) ask back did
+          goes_on scene (Recover mode) (recover_at c mode (recovers.LoadsCell (index + 1))) ask back did
           here longer does stands asks few (refl, refl, record { within = more; asked = asked; freed = freed })
           (record { paid = omega arith; scanned = tt; owns = tt; says = (open_once, says); gone = gone }))
           (λ t.
           let last : c ≤ index + 1 = grind (arith, nat_tests) in
           let end : index + 1 ≡ c = omega arith in
-          goes_on scene (Recover mode) (recover_at c mode recovers.TheVariants.LoadsCounterAgain) ask back did here
+          goes_on scene (Recover mode) (recover_at c mode recovers.LoadsCounterAgain) ask back did here
           longer does stands asks (few_last last) (refl, refl, freed)
           (record {
             paid = omega arith;
@@ -159,26 +159,26 @@ module _ {T : Type 0} (scene : Scene T) (inv : Inv scene) (mode : ReleaseMode) (
   -- ---- the load of the counter
 
   pub loads_counter : done ≡ [] → steps ≤ 0
-      → Knows c (recover_at c mode recovers.TheVariants.LoadsCounter) (now scene)
-      → StepOf scene (Recover mode) (recover_at c mode recovers.TheVariants.LoadsCounter)
+      → Knows c (recover_at c mode recovers.LoadsCounter) (now scene)
+      → StepOf scene (Recover mode) (recover_at c mode recovers.LoadsCounter)
   loads_counter none s k = go (counter_of ws == locked) refl
     where
       go : (b : Bool) → (counter_of ws == locked) ≡ b
           → Lead (Some (loads 0)) false []
-          (if b then Done states.TheVariants.Locked else recover_comes_to (call_at recovers.TheVariants.LoadsCounter) 0)
+          (if b then Done states.Locked else recover_comes_to (call_at recovers.LoadsCounter) 0)
       go true t =
           let shut : counter_of ws ≡ locked = grind (arith, nat_tests) in
           let paid = k.paid in
-          ends_so states.TheVariants.Locked (Some (loads 0)) false (stays_same scene inv _ (loads_same ws 0))
+          ends_so states.Locked (Some (loads 0)) false (stays_same scene inv _ (loads_same ws 0))
           (is_shut scene inv shut) (omega arith) (omega arith)
       go false t =
           let open_now : counter_of ws ≢ locked = grind (arith, nat_tests) in
           let paid = k.paid in
           let some = g.some in
-          by_test (λ s. Lead (Some (loads 0)) false [] (GoOn (at_recover (call_at recovers.TheVariants.LoadsCounter) s)))
-          (nat_lt 0 c) (recovers.TheVariants.LoadsCell 0) recovers.TheVariants.LoadsCounterAgain
+          by_test (λ s. Lead (Some (loads 0)) false [] (GoOn (at_recover (call_at recovers.LoadsCounter) s)))
+          (nat_lt 0 c) (recovers.LoadsCell 0) recovers.LoadsCounterAgain
           (λ u.
-          goes_quietly scene inv (Recover mode) (recover_at c mode (recovers.TheVariants.LoadsCell 0))
+          goes_quietly scene inv (Recover mode) (recover_at c mode (recovers.LoadsCell 0))
           (Some (loads 0)) false here (stays_same scene inv _ (loads_same ws 0)) (omega arith) (
             refl,
             refl,
@@ -202,7 +202,7 @@ module _ {T : Type 0} (scene : Scene T) (inv : Inv scene) (mode : ReleaseMode) (
 
   module _ (index : ℕ) (course : IsInCourse c index index done)
       (s : steps ≤ 1 + index * for_index c mode + backs * for_back c mode)
-      (k : Knows c (recover_at c mode (recovers.TheVariants.LoadsCell index)) (now scene)) where
+      (k : Knows c (recover_at c mode (recovers.LoadsCell index)) (now scene)) where
     abbrev load : Option Ask
     load = Some (loads (cell_word index))
 
@@ -213,11 +213,11 @@ module _ {T : Type 0} (scene : Scene T) (inv : Inv scene) (mode : ReleaseMode) (
     passed_says : cell ws index ≡ empty → AskedBelow (index + 1) (now scene)
     passed_says x0 x1 x2 x3 x4 = grind (arith, some_none, filled_none, through_now)
 
-    passes_empty : cell ws index ≡ empty → Lead load false [] (recover_comes_to (call_at (recovers.TheVariants.LoadsCell index)) (index + 1))
+    passes_empty : cell ws index ≡ empty → Lead load false [] (recover_comes_to (call_at (recovers.LoadsCell index)) (index + 1))
     passes_empty is =
         let four = at_least_four c mode in
         let paid = k.paid in
-        comes_quietly index course.within (recovers.TheVariants.LoadsCell index) load false (omega arith)
+        comes_quietly index course.within (recovers.LoadsCell index) load false (omega arith)
         (stays_same scene inv _ (loads_same ws (cell_word index))) (omega arith) asked_next course.freed k.says.0
         (passed_says is) k.gone
 
@@ -257,10 +257,10 @@ module _ {T : Type 0} (scene : Scene T) (inv : Inv scene) (mode : ReleaseMode) (
               → IsOneOf (Asks i owner) (set_acts_of p (events ++ Asked p index (cell ws index) ∷ []))
           filled_here x0 x1 x2 x3 = grind (arith, fold-append, cell, one_owner, asks_set_acts, last_one)
 
-      asks_about : Lead load false asking (GoOn (at_recover (call_at (recovers.TheVariants.LoadsCell index)) (recovers.TheVariants.Asks index (cell ws index))))
+      asks_about : Lead load false asking (GoOn (at_recover (call_at (recovers.LoadsCell index)) (recovers.Asks index (cell ws index))))
       asks_about =
           let paid = k.paid in
-          goes_on scene (Recover mode) (recover_at c mode (recovers.TheVariants.Asks index (cell ws index))) load
+          goes_on scene (Recover mode) (recover_at c mode (recovers.Asks index (cell ws index))) load
           false asking here (λ start w. refl) asks_does (course.asked, tt) ((is_filled.1, k.says.0), tt)
           (omega arith) (
             refl,
@@ -285,11 +285,11 @@ module _ {T : Type 0} (scene : Scene T) (inv : Inv scene) (mode : ReleaseMode) (
                 (λ i o. ⊥) k.gone (λ i o never. absurd never) (λ i o e. absurd (cc));
           })
 
-    pub loads_cell : StepOf scene (Recover mode) (recover_at c mode (recovers.TheVariants.LoadsCell index))
+    pub loads_cell : StepOf scene (Recover mode) (recover_at c mode (recovers.LoadsCell index))
     loads_cell = go (cell ws index == empty) refl
       where
         go : (b : Bool) → (cell ws index == empty) ≡ b → Lead (Some (loads (cell_word index))) false (if b then [] else Asked p index (cell ws index) ∷ [])
-            (if b then recover_comes_to (call_at (recovers.TheVariants.LoadsCell index)) (index + 1) else GoOn
-            (at_recover (call_at (recovers.TheVariants.LoadsCell index)) (recovers.TheVariants.Asks index (cell ws index))))
+            (if b then recover_comes_to (call_at (recovers.LoadsCell index)) (index + 1) else GoOn
+            (at_recover (call_at (recovers.LoadsCell index)) (recovers.Asks index (cell ws index))))
         go true t = let is : cell ws index ≡ empty = grind (arith, nat_tests) in passes_empty is
         go false t = let other : cell ws index ≢ empty = grind (arith, nat_tests) in asks_about other

@@ -8,13 +8,13 @@ use Rattle.laws_robust.proofs.Names.{Robust, locked_after, is_locked, most_steps
 use Rattle.laws_robust.proofs.Names.{LivesToRelease, SetAct, Frees, Locks, set_acts, filled_of, holder_of}
 use Rattle.laws_robust.proofs.Names.{settled_of, is_dead, HasDone, as_it_is, SinceBegin, span_of, as_call}
 use Rattle.laws_robust.proofs.Names.{words_after, step_count}
-use Rattle.steps.specs.declared.indices.enums.ReleaseState as states
+use Rattle.steps.specs.declared.indices.enums.ReleaseState.TheVariants as states
 use Rattle.steps.specs.declared.indices.enums.RobustUniqueIndexSetReleaseError.{RobustUniqueIndexSetReleaseError}
-use Rattle.steps.specs.declared.indices.robust.parts.Raise as raises
+use Rattle.steps.specs.declared.indices.robust.parts.Raise.TheVariants as raises
 use Rattle.steps.specs.declared.indices.robust.release.Release as calls
-use Rattle.steps.specs.declared.indices.robust.release.ReleaseStage as releases
+use Rattle.steps.specs.declared.indices.robust.release.ReleaseStage.TheVariants as releases
 use Rattle.model.specs.declared.families.indices.robust.RobustStart.TheVariants.{Release}
-use Rattle.model.specs.declared.families.indices.robust.calls.RobustFlight as flights
+use Rattle.model.specs.declared.families.indices.robust.calls.RobustFlight.TheVariants as flights
 use Rattle.laws_robust.specs.Gone.{GoneBy, Word, is_gone, GivesBackRight, IsHonest, IsCalm, AnswersBy}
 use Rattle.laws_robust.proofs.Core.{counter_of}
 use Rattle.laws_robust.proofs.Effects.{Stays, quiet_end, stays_same}
@@ -47,7 +47,7 @@ module _ {T : Type 0} (scene : Scene T) (inv : Inv scene) (index owner : ℕ) (f
   abbrev Lead : ReleaseMode → Option Ask → Bool → List (Event T) → After calls.Release Released → Type 0
   Lead mode ask back did a =
       Leads scene (Release index owner mode) ask back did
-      (as_call flights.TheVariants.Release release_answer
+      (as_call flights.Release release_answer
       (went_on as_it_is (record { index = index; owner = owner; mode = mode }) tt a))
 
   module _ (mode : ReleaseMode) (here : IsHere scene (Release index owner mode)) where
@@ -71,15 +71,15 @@ module _ {T : Type 0} (scene : Scene T) (inv : Inv scene) (index owner : ℕ) (f
         → IsPaid (sees scene ask back)
         → steps + step_count ask ≤ 0 + most_steps c (Release index owner m) (backs_then scene back)
         → Lead m ask back [] (Done (Ok state))
-    ends_with Default is states.TheVariants.Locked ask back stays why done paid few = absurd why
-    ends_with Default is states.TheVariants.Unlocked ask back stays why done paid few =
-        ends_quietly scene inv (Release index owner Default) (State states.TheVariants.Unlocked) ask back is stays
+    ends_with Default is states.Locked ask back stays why done paid few = absurd why
+    ends_with Default is states.Unlocked ask back stays why done paid few =
+        ends_quietly scene inv (Release index owner Default) (State states.Unlocked) ask back is stays
         (λ j o. refl) (λ j r. refl) tt done (omega arith) paid
-    ends_with LockIfLastIndex is states.TheVariants.Locked ask back stays why done paid few =
-        ends_quietly scene inv (Release index owner LockIfLastIndex) (State states.TheVariants.Locked) ask back is
+    ends_with LockIfLastIndex is states.Locked ask back stays why done paid few =
+        ends_quietly scene inv (Release index owner LockIfLastIndex) (State states.Locked) ask back is
         stays (λ j o. refl) (λ j r. refl) why (inl done) (omega arith) paid
-    ends_with LockIfLastIndex is states.TheVariants.Unlocked ask back stays why done paid few =
-        ends_quietly scene inv (Release index owner LockIfLastIndex) (State states.TheVariants.Unlocked) ask back is
+    ends_with LockIfLastIndex is states.Unlocked ask back stays why done paid few =
+        ends_quietly scene inv (Release index owner LockIfLastIndex) (State states.Unlocked) ask back is
         stays (λ j o. refl) (λ j r. refl) why done (omega arith) paid
 
     all_done : all scene ≡ Frees index owner ∷ [] → set_acts (wrote_of p events ++ Locked p ∷ []) ≡ Frees index owner ∷ Locks ∷ []
@@ -94,12 +94,12 @@ module _ {T : Type 0} (scene : Scene T) (inv : Inv scene) (index owner : ℕ) (f
         → words_after ws ask ≡ set ws 0 locked
         → all scene ≡ Frees index owner ∷ [] → IsPaid (sees scene ask false)
         → steps + step_count ask ≤ 0 + most_steps c (Release index owner m) (backs_then scene false)
-        → Lead m ask false (Locked p ∷ []) (Done (Ok states.TheVariants.Locked))
+        → Lead m ask false (Locked p ∷ []) (Done (Ok states.Locked))
     locks_with Default is ask mode none less new done paid few = absurd (cc)
     locks_with LockIfLastIndex is ask mode none less new done paid few =
-        ends scene (Release index owner LockIfLastIndex) (State states.TheVariants.Locked) ask false (Locked p ∷ []) is (λ start w. refl)
-        (locks scene inv (words_after ws ask) (Finished p (Robust (Release index owner LockIfLastIndex)) (State states.TheVariants.Locked) ∷ [])
-        (quiet_end p (Robust (Release index owner LockIfLastIndex)) (State states.TheVariants.Locked) (λ j o. refl) (λ j r. refl))
+        ends scene (Release index owner LockIfLastIndex) (State states.Locked) ask false (Locked p ∷ []) is (λ start w. refl)
+        (locks scene inv (words_after ws ask) (Finished p (Robust (Release index owner LockIfLastIndex)) (State states.Locked) ∷ [])
+        (quiet_end p (Robust (Release index owner LockIfLastIndex)) (State states.Locked) (λ j o. refl) (λ j r. refl))
         (refl, tt) (tt, tt) (now_locked, tt) none less new)
         (done, ((refl, inr (all_done done)), tt)) (tt, (tt, tt)) (omega arith) paid
 
@@ -112,7 +112,7 @@ module _ {T : Type 0} (scene : Scene T) (inv : Inv scene) (index owner : ℕ) (f
               known;
           freed = λ ask new does none known few.
               goes_on scene (Release index owner mode)
-              (release_at c index owner mode (releases.TheVariants.Raises raises.TheVariants.LoadsCounter)) ask
+              (release_at c index owner mode (releases.Raises raises.LoadsCounter)) ask
               false (FreedOf p index owner ∷ []) here (λ start w. refl) does
               ((refl, refl, none), tt) (tt, tt) (omega arith) (refl, refl, fits, below, ap (λ d. d ++ Frees index owner ∷ []) none) known;
           refused = λ ask same other none paid few.
@@ -132,6 +132,6 @@ module _ {T : Type 0} (scene : Scene T) (inv : Inv scene) (index owner : ℕ) (f
     pub release_step : (stage : ReleaseStage) → ReleaseAt c index owner mode (all scene) stage
         → Knows c (release_at c index owner mode stage) (now scene) → steps ≤ release_number c mode stage backs
         → StepOf scene (Release index owner mode) (release_at c index owner mode stage)
-    release_step releases.TheVariants.EmptiesCell at k s = held releases.TheVariants.EmptiesCell at k (omega arith)
-    release_step (releases.TheVariants.Raises raise) at k s = held (releases.TheVariants.Raises raise) at k (omega arith)
-    release_step (releases.TheVariants.Locks lock) at k s = held (releases.TheVariants.Locks lock) at k (omega arith)
+    release_step releases.EmptiesCell at k s = held releases.EmptiesCell at k (omega arith)
+    release_step (releases.Raises raise) at k s = held (releases.Raises raise) at k (omega arith)
+    release_step (releases.Locks lock) at k s = held (releases.Locks lock) at k (omega arith)

@@ -14,21 +14,29 @@ use Rattle.steps.specs.declared.ask.After.TheVariants.{GoOn, Done}
 use Rattle.steps.specs.declared.indices.enums.ReleaseMode.{ReleaseMode}
 use Rattle.steps.specs.declared.indices.enums.ReleaseMode.TheVariants.{Default, LockIfLastIndex}
 use Rattle.steps.specs.declared.indices.enums.ReleaseState.{ReleaseState}
-use Rattle.steps.specs.declared.indices.enums.ReleaseState as states
+use Rattle.steps.specs.declared.indices.enums.ReleaseState.TheVariants as states
 use Rattle.steps.specs.declared.indices.robust.acquire.Acquire as acquiring
-use Rattle.steps.specs.declared.indices.robust.acquire.AcquireStage as acquires
+use Rattle.steps.specs.declared.indices.robust.acquire.AcquireStage.{AcquireStage}
+use Rattle.steps.specs.declared.indices.robust.acquire.AcquireStage.TheVariants as acquires
 use Rattle.steps.specs.declared.indices.robust.find.Find as finding
-use Rattle.steps.specs.declared.indices.robust.find.FindStage as finds
+use Rattle.steps.specs.declared.indices.robust.find.FindStage.{FindStage}
+use Rattle.steps.specs.declared.indices.robust.find.FindStage.TheVariants as finds
 use Rattle.steps.specs.declared.indices.robust.looks.BorrowedIndices as counting
-use Rattle.steps.specs.declared.indices.robust.parts.Count as counts
-use Rattle.steps.specs.declared.indices.robust.parts.Counted as ends
-use Rattle.steps.specs.declared.indices.robust.parts.Lock as locks
-use Rattle.steps.specs.declared.indices.robust.parts.Raise as raises
+use Rattle.steps.specs.declared.indices.robust.parts.Count.{Count}
+use Rattle.steps.specs.declared.indices.robust.parts.Count.TheVariants as counts
+use Rattle.steps.specs.declared.indices.robust.parts.Counted.{Counted}
+use Rattle.steps.specs.declared.indices.robust.parts.Counted.TheVariants as ends
+use Rattle.steps.specs.declared.indices.robust.parts.Lock.{Lock}
+use Rattle.steps.specs.declared.indices.robust.parts.Lock.TheVariants as locks
+use Rattle.steps.specs.declared.indices.robust.parts.Raise.{Raise}
+use Rattle.steps.specs.declared.indices.robust.parts.Raise.TheVariants as raises
 use Rattle.steps.specs.declared.indices.robust.recover.Recover as recovering
-use Rattle.steps.specs.declared.indices.robust.recover.RecoverStage as recovers
+use Rattle.steps.specs.declared.indices.robust.recover.RecoverStage.{RecoverStage}
+use Rattle.steps.specs.declared.indices.robust.recover.RecoverStage.TheVariants as recovers
 use Rattle.steps.specs.declared.indices.robust.release.GiveBack.{GiveBack}
 use Rattle.steps.specs.declared.indices.robust.release.Release as releasing
-use Rattle.steps.specs.declared.indices.robust.release.ReleaseStage as releases
+use Rattle.steps.specs.declared.indices.robust.release.ReleaseStage.{ReleaseStage}
+use Rattle.steps.specs.declared.indices.robust.release.ReleaseStage.TheVariants as releases
 use Rattle.model.proofs.LockFree.Falls.{same_is}
 use Rattle.model.proofs.LockFree.Measure.{worth}
 use Rattle.laws_robust.proofs.Measured.{raise_left, acquire_left, find_left, count_left}
@@ -94,65 +102,65 @@ up a b k le = let paid = worth (a + 1) b k le in omega arith
 module _ (c : ℕ) where
   -- ---- how many steps a call takes at most before its last one, while the counter stays
 
-  abbrev pub lock_left : ℕ → locks.Lock → ℕ
-  lock_left now (locks.TheVariants.Counts count) = count_left c now count
-  lock_left now (locks.TheVariants.ExchangesCounter k) = cond (now == k) 0 (c - 1 + 3)
+  abbrev pub lock_left : ℕ → Lock → ℕ
+  lock_left now (locks.Counts count) = count_left c now count
+  lock_left now (locks.ExchangesCounter k) = cond (now == k) 0 (c - 1 + 3)
 
-  abbrev pub release_left : ℕ → releases.ReleaseStage → ℕ
-  release_left now releases.TheVariants.EmptiesCell = c - 1 + 5
-  release_left now (releases.TheVariants.Raises raise) = raise_left now raise + (c - 1 + 3)
-  release_left now (releases.TheVariants.Locks lock) = lock_left now lock
+  abbrev pub release_left : ℕ → ReleaseStage → ℕ
+  release_left now releases.EmptiesCell = c - 1 + 5
+  release_left now (releases.Raises raise) = raise_left now raise + (c - 1 + 3)
+  release_left now (releases.Locks lock) = lock_left now lock
 
   -- for the indices after this one
   abbrev pub rest : ℕ → ℕ
   rest index = (c - (index + 1)) * (c - 1 + 7)
 
-  abbrev pub recover_left : ℕ → recovers.RecoverStage → ℕ
-  recover_left now recovers.TheVariants.LoadsCounter = (c - 1) * (c - 1 + 7) + (c - 1 + 8)
-  recover_left now (recovers.TheVariants.LoadsCell index) = rest index + (c - 1 + 7)
-  recover_left now (recovers.TheVariants.Asks index owner) = rest index + (c - 1 + 6)
-  recover_left now (recovers.TheVariants.EmptiesCell index owner) = rest index + (c - 1 + 6)
-  recover_left now (recovers.TheVariants.Raises index raise) = rest index + (c - 1 + 4) + raise_left now raise
-  recover_left now (recovers.TheVariants.Locks index lock) = rest index + 1 + lock_left now lock
-  recover_left now recovers.TheVariants.LoadsCounterAgain = 0
+  abbrev pub recover_left : ℕ → RecoverStage → ℕ
+  recover_left now recovers.LoadsCounter = (c - 1) * (c - 1 + 7) + (c - 1 + 8)
+  recover_left now (recovers.LoadsCell index) = rest index + (c - 1 + 7)
+  recover_left now (recovers.Asks index owner) = rest index + (c - 1 + 6)
+  recover_left now (recovers.EmptiesCell index owner) = rest index + (c - 1 + 6)
+  recover_left now (recovers.Raises index raise) = rest index + (c - 1 + 4) + raise_left now raise
+  recover_left now (recovers.Locks index lock) = rest index + 1 + lock_left now lock
+  recover_left now recovers.LoadsCounterAgain = 0
 
 -- ---- where a counter is kept, it is not that of the lock
 
-abbrev pub RaiseAt : raises.Raise → Type 0
-RaiseAt raises.TheVariants.LoadsCounter = Unit {0}
-RaiseAt (raises.TheVariants.ExchangesCounter k) = (k == locked) ≡ false
+abbrev pub RaiseAt : Raise → Type 0
+RaiseAt raises.LoadsCounter = Unit {0}
+RaiseAt (raises.ExchangesCounter k) = (k == locked) ≡ false
 
-abbrev pub CountAt : counts.Count → Type 0
-CountAt counts.TheVariants.LoadsCounter = Unit {0}
-CountAt (counts.TheVariants.LoadsCell k index filled) = (k == locked) ≡ false
-CountAt (counts.TheVariants.ExchangesCounter k filled) = (k == locked) ≡ false
+abbrev pub CountAt : Count → Type 0
+CountAt counts.LoadsCounter = Unit {0}
+CountAt (counts.LoadsCell k index filled) = (k == locked) ≡ false
+CountAt (counts.ExchangesCounter k filled) = (k == locked) ≡ false
 
-abbrev pub LockAt : locks.Lock → Type 0
-LockAt (locks.TheVariants.Counts count) = CountAt count
-LockAt (locks.TheVariants.ExchangesCounter k) = Unit {0}
+abbrev pub LockAt : Lock → Type 0
+LockAt (locks.Counts count) = CountAt count
+LockAt (locks.ExchangesCounter k) = Unit {0}
 
-abbrev pub AcquireAt : acquires.AcquireStage → Type 0
-AcquireAt (acquires.TheVariants.Raises index raise) = RaiseAt raise
+abbrev pub AcquireAt : AcquireStage → Type 0
+AcquireAt (acquires.Raises index raise) = RaiseAt raise
 AcquireAt stage = Unit {0}
 
-abbrev pub ReleaseAt : releases.ReleaseStage → Type 0
-ReleaseAt (releases.TheVariants.Raises raise) = RaiseAt raise
-ReleaseAt (releases.TheVariants.Locks lock) = LockAt lock
+abbrev pub ReleaseAt : ReleaseStage → Type 0
+ReleaseAt (releases.Raises raise) = RaiseAt raise
+ReleaseAt (releases.Locks lock) = LockAt lock
 ReleaseAt stage = Unit {0}
 
-abbrev pub RecoverAt : recovers.RecoverStage → Type 0
-RecoverAt (recovers.TheVariants.Raises index raise) = RaiseAt raise
-RecoverAt (recovers.TheVariants.Locks index lock) = LockAt lock
+abbrev pub RecoverAt : RecoverStage → Type 0
+RecoverAt (recovers.Raises index raise) = RaiseAt raise
+RecoverAt (recovers.Locks index lock) = LockAt lock
 RecoverAt stage = Unit {0}
 
 -- the steps of a turn of a recovery, and of a find: a question takes none
-abbrev pub recover_steps : recovers.RecoverStage → ℕ
-recover_steps (recovers.TheVariants.Asks index owner) = 0
+abbrev pub recover_steps : RecoverStage → ℕ
+recover_steps (recovers.Asks index owner) = 0
 recover_steps stage = 1
 
-abbrev pub find_steps : finds.FindStage → ℕ
-find_steps (finds.TheVariants.LoadsCell index found) = 1
-find_steps (finds.TheVariants.Asks index found) = 0
+abbrev pub find_steps : FindStage → ℕ
+find_steps (finds.LoadsCell index found) = 1
+find_steps (finds.Asks index found) = 0
 
 -- ---- each step, where the counter was n and is new
 
@@ -173,21 +181,21 @@ module _ (c n new : ℕ) where
 
   -- ---- the parts
 
-  abbrev pub RaiseTo : raises.Raise → After raises.Raise ReleaseState → Type 0
+  abbrev pub RaiseTo : Raise → After Raise ReleaseState → Type 0
   RaiseTo raise (GoOn next) = (new ≡ n) × (raise_left n next + 1 ≤ raise_left n raise)
   RaiseTo raise (Done state) = StaysOrMoves
 
-  pub raise_to : (raise : raises.Raise) → RaiseAt raise → new ≡ raise_then raise n → RaiseTo raise (raise_after raise n)
-  raise_to raises.TheVariants.LoadsCounter at is = go (n == locked) refl (n == greatest) refl
+  pub raise_to : (raise : Raise) → RaiseAt raise → new ≡ raise_then raise n → RaiseTo raise (raise_after raise n)
+  raise_to raises.LoadsCounter at is = go (n == locked) refl (n == greatest) refl
     where
-      go : (t : Bool) → (n == locked) ≡ t → (u : Bool) → (n == greatest) ≡ u → RaiseTo raises.TheVariants.LoadsCounter (raise_sees n)
+      go : (t : Bool) → (n == locked) ≡ t → (u : Bool) → (n == greatest) ≡ u → RaiseTo raises.LoadsCounter (raise_sees n)
       go true t u e = rw t (inl is)
       go false t true u = rw (t, u) (inl is)
       go false t false u = let me = self in rw (t, u) (is, rw me (omega arith))
-  raise_to (raises.TheVariants.ExchangesCounter k) at is = go (n == k) refl (n == locked) refl (n == greatest) refl
+  raise_to (raises.ExchangesCounter k) at is = go (n == k) refl (n == locked) refl (n == greatest) refl
     where
       go : (s : Bool) → (n == k) ≡ s → (t : Bool) → (n == locked) ≡ t → (u : Bool) → (n == greatest) ≡ u
-          → RaiseTo (raises.TheVariants.ExchangesCounter k) (raise_after (raises.TheVariants.ExchangesCounter k) n)
+          → RaiseTo (raises.ExchangesCounter k) (raise_after (raises.ExchangesCounter k) n)
       go true s t e u f =
           let same = tested n k s in
           let next : new ≡ one_more k = rw s at is in
@@ -197,32 +205,32 @@ module _ (c n new : ℕ) where
       go false s false t true u = let same : new ≡ n = rw s at is in rw (s, t, u) (inl same)
       go false s false t false u = let same : new ≡ n = rw s at is in let me = self in rw (s, t, u) (same, rw (me, s) (omega arith))
 
-  abbrev CountTo : counts.Count → After counts.Count ends.Counted → Type 0
+  abbrev CountTo : Count → After Count Counted → Type 0
   CountTo count (GoOn next) = (new ≡ n) × (count_left c n next + 1 ≤ count_left c n count)
-  CountTo count (Done ends.TheVariants.Locked) = StaysOrMoves
-  CountTo count (Done (ends.TheVariants.Filled filled counter)) = ((new ≡ n) × ((counter == greatest) ≡ true)) ⊎ (room new + 1 ≤ room n)
+  CountTo count (Done ends.Locked) = StaysOrMoves
+  CountTo count (Done (ends.Filled filled counter)) = ((new ≡ n) × ((counter == greatest) ≡ true)) ⊎ (room new + 1 ≤ room n)
 
-  count_to : (count : counts.Count) (cell : ℕ) → CountAt count → new ≡ count_then count n → CountTo count (count_after c count (count_old count n cell))
-  count_to counts.TheVariants.LoadsCounter cell at is = go (n == locked) refl (nat_lt 0 c) refl (n == greatest) refl
+  count_to : (count : Count) (cell : ℕ) → CountAt count → new ≡ count_then count n → CountTo count (count_after c count (count_old count n cell))
+  count_to counts.LoadsCounter cell at is = go (n == locked) refl (nat_lt 0 c) refl (n == greatest) refl
     where
       go : (t : Bool) → (n == locked) ≡ t → (u : Bool) → nat_lt 0 c ≡ u → (v : Bool) → (n == greatest) ≡ v
-          → CountTo counts.TheVariants.LoadsCounter (count_after c counts.TheVariants.LoadsCounter n)
+          → CountTo counts.LoadsCounter (count_after c counts.LoadsCounter n)
       go true t u e v f = rw t (inl is)
       go false t true u v e = let me = self in rw (t, u) (is, rw me (omega arith))
       go false t false u true v = rw (t, u, v) (inl (is, v))
       go false t false u false v = let me = self in rw (t, u, v) (is, rw me (omega arith))
-  count_to (counts.TheVariants.LoadsCell k index filled) cell at is = go (nat_lt (index + 1) c) refl (k == greatest) refl (n == k) refl
+  count_to (counts.LoadsCell k index filled) cell at is = go (nat_lt (index + 1) c) refl (k == greatest) refl (n == k) refl
     where
       go : (u : Bool) → nat_lt (index + 1) c ≡ u → (v : Bool) → (k == greatest) ≡ v → (t : Bool) → (n == k) ≡ t
-          → CountTo (counts.TheVariants.LoadsCell k index filled) (count_after c (counts.TheVariants.LoadsCell k index filled) cell)
+          → CountTo (counts.LoadsCell k index filled) (count_after c (counts.LoadsCell k index filled) cell)
       go true u v e true t = let less : index + 2 ≤ c = grind (arith, nat_tests) in rw u (is, rw t (omega arith))
       go true u v e false t = let less : index + 2 ≤ c = grind (arith, nat_tests) in rw u (is, rw t (omega arith))
       go false u true v t e = rw (u, v) (inl (is, v))
       go false u false v true t = rw (u, v) (is, rw t (omega arith))
       go false u false v false t = rw (u, v) (is, rw t (omega arith))
-  count_to (counts.TheVariants.ExchangesCounter k filled) cell at is = go (n == k) refl
+  count_to (counts.ExchangesCounter k filled) cell at is = go (n == k) refl
     where
-      go : (s : Bool) → (n == k) ≡ s → CountTo (counts.TheVariants.ExchangesCounter k filled) (count_after c (counts.TheVariants.ExchangesCounter k filled) n)
+      go : (s : Bool) → (n == k) ≡ s → CountTo (counts.ExchangesCounter k filled) (count_after c (counts.ExchangesCounter k filled) n)
       go true s =
           let same = tested n k s in
           let next : new ≡ one_more k = rw s at is in
@@ -230,18 +238,18 @@ module _ (c n new : ℕ) where
           rw s (inr moved)
       go false s = let same : new ≡ n = rw s at is in rw s (same, rw s (omega arith))
 
-  abbrev pub LockTo : locks.Lock → After locks.Lock ReleaseState → Type 0
+  abbrev pub LockTo : Lock → After Lock ReleaseState → Type 0
   LockTo lock (GoOn next) = Less 1 (lock_left c n lock) (lock_left c n next)
   LockTo lock (Done state) = StaysOrMoves
 
-  counted_to : (count : counts.Count) (a : After counts.Count ends.Counted) → CountTo count a → LockTo (locks.TheVariants.Counts count) (lock_counted a)
+  counted_to : (count : Count) (a : After Count Counted) → CountTo count a → LockTo (locks.Counts count) (lock_counted a)
   counted_to count (GoOn next) h = inl h
-  counted_to count (Done ends.TheVariants.Locked) h = h
-  counted_to count (Done (ends.TheVariants.Filled filled counter)) h = go (filled == 0) refl (counter == greatest) refl h
+  counted_to count (Done ends.Locked) h = h
+  counted_to count (Done (ends.Filled filled counter)) h = go (filled == 0) refl (counter == greatest) refl h
     where
       go : (z : Bool) → (filled == 0) ≡ z → (g : Bool) → (counter == greatest) ≡ g
           → (((new ≡ n) × ((counter == greatest) ≡ true)) ⊎ (room new + 1 ≤ room n))
-          → LockTo (locks.TheVariants.Counts count) (lock_counted (Done (ends.TheVariants.Filled filled counter)))
+          → LockTo (locks.Counts count) (lock_counted (Done (ends.Filled filled counter)))
       go false z g e (inl h) = rw z (inl h.0)
       go false z g e (inr h) = rw z (inr h)
       go true z true g (inl h) = rw (z, g) (inl h.0)
@@ -249,12 +257,12 @@ module _ (c n new : ℕ) where
       go true z false g (inl h) = let both : false ≡ true = sym g ∙ h.1 in absurd (cc)
       go true z false g (inr h) = rw (z, g) (inr h)
 
-  pub lock_to : (lock : locks.Lock) (cell : ℕ) → LockAt lock → new ≡ lock_then lock n → LockTo lock (lock_after c lock (lock_old lock n cell))
-  lock_to (locks.TheVariants.Counts count) cell at is = counted_to count (count_after c count (count_old count n cell)) (count_to count cell at is)
-  lock_to (locks.TheVariants.ExchangesCounter k) cell at is = go (n == k) refl (n == locked) refl
+  pub lock_to : (lock : Lock) (cell : ℕ) → LockAt lock → new ≡ lock_then lock n → LockTo lock (lock_after c lock (lock_old lock n cell))
+  lock_to (locks.Counts count) cell at is = counted_to count (count_after c count (count_old count n cell)) (count_to count cell at is)
+  lock_to (locks.ExchangesCounter k) cell at is = go (n == k) refl (n == locked) refl
     where
       go : (s : Bool) → (n == k) ≡ s → (t : Bool) → (n == locked) ≡ t
-          → LockTo (locks.TheVariants.ExchangesCounter k) (lock_after c (locks.TheVariants.ExchangesCounter k) n)
+          → LockTo (locks.ExchangesCounter k) (lock_after c (locks.ExchangesCounter k) n)
       go true s true t =
           let shut : new ≡ locked = rw s at is in
           let was = tested n locked t in
@@ -280,33 +288,33 @@ module _ (c n new : ℕ) where
       go false t false u true v = let me = self in rw (t, u, v) (inl (same, rw me (omega arith)))
       go false t false u false v = let me = self in rw (t, u, v) (inl (same, rw me (omega arith)))
 
-  acquire_raises : (call : acquiring.Acquire) (index : ℕ) (raise : raises.Raise) (a : After raises.Raise ReleaseState) → RaiseTo raise a
+  acquire_raises : (call : acquiring.Acquire) (index : ℕ) (raise : Raise) (a : After Raise ReleaseState) → RaiseTo raise a
       → AcquireTo (raise_left n raise) (acquire_raised call index a)
   acquire_raises call index raise (GoOn next) h = inl h
-  acquire_raises call index raise (Done states.TheVariants.Locked) h = tt
-  acquire_raises call index raise (Done states.TheVariants.Unlocked) h = tt
+  acquire_raises call index raise (Done states.Locked) h = tt
+  acquire_raises call index raise (Done states.Unlocked) h = tt
 
-  pub acquire_to : (call : acquiring.Acquire) (stage : acquires.AcquireStage) (cell : ℕ) → call.capacity ≡ c → AcquireAt stage → new ≡ acquire_then stage n
+  pub acquire_to : (call : acquiring.Acquire) (stage : AcquireStage) (cell : ℕ) → call.capacity ≡ c → AcquireAt stage → new ≡ acquire_then stage n
       → AcquireTo (acquire_left c n stage) (acquire_takes call stage (acquire_old stage n cell))
-  acquire_to call acquires.TheVariants.LoadsCounter cell cap at is =
-      acquire_sees_to call cap is (acquire_left c n acquires.TheVariants.LoadsCounter) (omega arith)
-  acquire_to call (acquires.TheVariants.FillsCell k index) cell cap at is = go (cell == empty) refl (nat_lt (index + 1) call.capacity) refl (n == k) refl
+  acquire_to call acquires.LoadsCounter cell cap at is =
+      acquire_sees_to call cap is (acquire_left c n acquires.LoadsCounter) (omega arith)
+  acquire_to call (acquires.FillsCell k index) cell cap at is = go (cell == empty) refl (nat_lt (index + 1) call.capacity) refl (n == k) refl
     where
       go : (t : Bool) → (cell == empty) ≡ t → (u : Bool) → nat_lt (index + 1) call.capacity ≡ u → (v : Bool) → (n == k) ≡ v
-          → AcquireTo (acquire_left c n (acquires.TheVariants.FillsCell k index)) (acquire_takes call (acquires.TheVariants.FillsCell k index) cell)
+          → AcquireTo (acquire_left c n (acquires.FillsCell k index)) (acquire_takes call (acquires.FillsCell k index) cell)
       go true t u e true v = rw t (inl (is, rw v (omega arith)))
       go true t u e false v = rw t (inl (is, rw v (omega arith)))
       go false t true u true v = let less : index + 2 ≤ c = grind (arith, nat_tests) in rw (t, u) (inl (is, rw v (omega arith)))
       go false t true u false v = let less : index + 2 ≤ c = grind (arith, nat_tests) in rw (t, u) (inl (is, rw v (omega arith)))
       go false t false u true v = rw (t, u) (inl (is, rw v (omega arith)))
       go false t false u false v = rw (t, u) (inl (is, rw v (omega arith)))
-  acquire_to call (acquires.TheVariants.ChecksCounter k) cell cap at is = go (n == k) refl
+  acquire_to call (acquires.ChecksCounter k) cell cap at is = go (n == k) refl
     where
       go : (s : Bool) → (n == k) ≡ s
-          → AcquireTo (acquire_left c n (acquires.TheVariants.ChecksCounter k)) (acquire_takes call (acquires.TheVariants.ChecksCounter k) n)
+          → AcquireTo (acquire_left c n (acquires.ChecksCounter k)) (acquire_takes call (acquires.ChecksCounter k) n)
       go true s = rw s tt
       go false s = let same : new ≡ n = rw s at is in rw s (acquire_sees_to call cap same (c - 1 + 3) (omega arith))
-  acquire_to call (acquires.TheVariants.Raises index raise) cell cap at is = acquire_raises call index raise (raise_after raise n) (raise_to raise at is)
+  acquire_to call (acquires.Raises index raise) cell cap at is = acquire_raises call index raise (raise_after raise n) (raise_to raise at is)
 
   -- ---- a release
 
@@ -314,28 +322,28 @@ module _ (c n new : ℕ) where
   ReleaseTo was (GoOn next) = Less 1 was (release_left c n next.stage)
   ReleaseTo was (Done result) = Unit {0}
 
-  release_raises : (call : releasing.Release) (mode : ReleaseMode) (raise : raises.Raise) (a : After raises.Raise ReleaseState) → RaiseTo raise a
+  release_raises : (call : releasing.Release) (mode : ReleaseMode) (raise : Raise) (a : After Raise ReleaseState) → RaiseTo raise a
       → ReleaseTo (raise_left n raise + (c - 1 + 3)) (release_raised call mode a)
   release_raises call mode raise (GoOn next) h = inl (h.0, (let le = h.1 in omega arith))
   release_raises call Default raise (Done state) h = tt
   release_raises call LockIfLastIndex raise (Done state) h = less_by 1 (raise_left n raise + (c - 1 + 3)) (c - 1 + 2) (omega arith) h
 
-  release_locks : (call : releasing.Release) (lock : locks.Lock) (a : After locks.Lock ReleaseState) → LockTo lock a
+  release_locks : (call : releasing.Release) (lock : Lock) (a : After Lock ReleaseState) → LockTo lock a
       → ReleaseTo (lock_left c n lock) (release_locked call a)
   release_locks call lock (GoOn next) h = h
   release_locks call lock (Done state) h = tt
 
-  pub release_to : (call : releasing.Release) (stage : releases.ReleaseStage) (given : GiveBack) (cell : ℕ) → call.capacity ≡ c → ReleaseAt stage
+  pub release_to : (call : releasing.Release) (stage : ReleaseStage) (given : GiveBack) (cell : ℕ) → call.capacity ≡ c → ReleaseAt stage
       → new ≡ release_then stage n → ReleaseTo (release_left c n stage) (release_takes call stage given (release_old stage n cell))
-  release_to call releases.TheVariants.EmptiesCell given cell cap at is = go (cell == given.owner) refl
+  release_to call releases.EmptiesCell given cell cap at is = go (cell == given.owner) refl
     where
       go : (t : Bool) → (cell == given.owner) ≡ t
-          → ReleaseTo (release_left c n releases.TheVariants.EmptiesCell) (release_takes call releases.TheVariants.EmptiesCell given cell)
+          → ReleaseTo (release_left c n releases.EmptiesCell) (release_takes call releases.EmptiesCell given cell)
       go true t = rw t (inl (is, omega arith))
       go false t = rw t tt
-  release_to call (releases.TheVariants.Raises raise) given cell cap at is =
+  release_to call (releases.Raises raise) given cell cap at is =
       release_raises call given.mode raise (raise_after raise n) (raise_to raise at is)
-  release_to call (releases.TheVariants.Locks lock) given cell cap at is =
+  release_to call (releases.Locks lock) given cell cap at is =
       subst (λ m. ReleaseTo (lock_left c n lock) (release_locked call (lock_after m lock (lock_old lock n cell)))) (sym cap)
       (release_locks call lock (lock_after c lock (lock_old lock n cell)) (lock_to lock cell at is))
 
@@ -356,55 +364,55 @@ module _ (c n new : ℕ) where
           rw t (less_by steps was (rest c (index + 1) + (c - 1 + 7)) (omega (arith, paid, enough)) h)
       go false t = rw t (less_by steps was 0 (omega (arith, enough)) h)
 
-  recover_raises : (call : recovering.Recover) (index : ℕ) (mode : ReleaseMode) (raise : raises.Raise) (a : After raises.Raise ReleaseState) → call.capacity ≡ c
+  recover_raises : (call : recovering.Recover) (index : ℕ) (mode : ReleaseMode) (raise : Raise) (a : After Raise ReleaseState) → call.capacity ≡ c
       → RaiseTo raise a → RecoverTo 1 (rest c index + (c - 1 + 4) + raise_left n raise) (recover_raised call index mode a)
   recover_raises call index mode raise (GoOn next) cap h = inl (h.0, (let le = h.1 in omega arith))
-  recover_raises call index mode raise (Done states.TheVariants.Locked) cap h = tt
-  recover_raises call index Default raise (Done states.TheVariants.Unlocked) cap h =
+  recover_raises call index mode raise (Done states.Locked) cap h = tt
+  recover_raises call index Default raise (Done states.Unlocked) cap h =
       recover_comes call index 1 (rest c index + (c - 1 + 4) + raise_left n raise) cap (omega arith) h
-  recover_raises call index LockIfLastIndex raise (Done states.TheVariants.Unlocked) cap h =
+  recover_raises call index LockIfLastIndex raise (Done states.Unlocked) cap h =
       less_by 1 (rest c index + (c - 1 + 4) + raise_left n raise) (rest c index + 1 + (c - 1 + 2)) (omega arith) h
 
-  recover_locks : (call : recovering.Recover) (index : ℕ) (lock : locks.Lock) (a : After locks.Lock ReleaseState) → call.capacity ≡ c → LockTo lock a
+  recover_locks : (call : recovering.Recover) (index : ℕ) (lock : Lock) (a : After Lock ReleaseState) → call.capacity ≡ c → LockTo lock a
       → RecoverTo 1 (rest c index + 1 + lock_left c n lock) (recover_locked call index a)
   recover_locks call index lock (GoOn next) cap (inl h) = inl (h.0, (let le = h.1 in omega arith))
   recover_locks call index lock (GoOn next) cap (inr h) = inr h
   recover_locks call index lock (Done state) cap h = recover_comes call index 1 (rest c index + 1 + lock_left c n lock) cap (omega arith) h
 
-  pub recover_to : (call : recovering.Recover) (stage : recovers.RecoverStage) (mode : ReleaseMode) (cell : ℕ) → call.capacity ≡ c → RecoverAt stage
+  pub recover_to : (call : recovering.Recover) (stage : RecoverStage) (mode : ReleaseMode) (cell : ℕ) → call.capacity ≡ c → RecoverAt stage
       → new ≡ recover_then stage n → RecoverTo (recover_steps stage) (recover_left c n stage) (recover_takes call stage mode (recover_old stage n cell))
-  recover_to call recovers.TheVariants.LoadsCounter mode cell cap at is = go (n == locked) refl (nat_lt 0 call.capacity) refl
+  recover_to call recovers.LoadsCounter mode cell cap at is = go (n == locked) refl (nat_lt 0 call.capacity) refl
     where
       go : (t : Bool) → (n == locked) ≡ t → (u : Bool) → nat_lt 0 call.capacity ≡ u
-          → RecoverTo 1 (recover_left c n recovers.TheVariants.LoadsCounter) (recover_takes call recovers.TheVariants.LoadsCounter mode n)
+          → RecoverTo 1 (recover_left c n recovers.LoadsCounter) (recover_takes call recovers.LoadsCounter mode n)
       go true t u e = rw t tt
       go false t true u = rw (t, u) (inl (is, omega arith))
       go false t false u = rw (t, u) (inl (is, omega arith))
-  recover_to call (recovers.TheVariants.LoadsCell index) mode cell cap at is = go (cell == empty) refl
+  recover_to call (recovers.LoadsCell index) mode cell cap at is = go (cell == empty) refl
     where
       go : (t : Bool) → (cell == empty) ≡ t
-          → RecoverTo 1 (recover_left c n (recovers.TheVariants.LoadsCell index)) (recover_takes call (recovers.TheVariants.LoadsCell index) mode cell)
+          → RecoverTo 1 (recover_left c n (recovers.LoadsCell index)) (recover_takes call (recovers.LoadsCell index) mode cell)
       go true t = rw t (recover_comes call index 1 (rest c index + (c - 1 + 7)) cap (omega arith) (inl is))
       go false t = rw t (inl (is, omega arith))
-  recover_to call (recovers.TheVariants.Asks index owner) mode cell cap at is = go (cell == 0) refl
+  recover_to call (recovers.Asks index owner) mode cell cap at is = go (cell == 0) refl
     where
       go : (t : Bool) → (cell == 0) ≡ t
-          → RecoverTo 0 (recover_left c n (recovers.TheVariants.Asks index owner)) (recover_takes call (recovers.TheVariants.Asks index owner) mode cell)
+          → RecoverTo 0 (recover_left c n (recovers.Asks index owner)) (recover_takes call (recovers.Asks index owner) mode cell)
       go true t = rw t (recover_comes call index 0 (rest c index + (c - 1 + 6)) cap (omega arith) (inl is))
       go false t = rw t (inl (is, omega arith))
-  recover_to call (recovers.TheVariants.EmptiesCell index owner) mode cell cap at is = go (cell == owner) refl
+  recover_to call (recovers.EmptiesCell index owner) mode cell cap at is = go (cell == owner) refl
     where
       go : (t : Bool) → (cell == owner) ≡ t
-          → RecoverTo 1 (recover_left c n (recovers.TheVariants.EmptiesCell index owner))
-          (recover_takes call (recovers.TheVariants.EmptiesCell index owner) mode cell)
+          → RecoverTo 1 (recover_left c n (recovers.EmptiesCell index owner))
+          (recover_takes call (recovers.EmptiesCell index owner) mode cell)
       go true t = rw t (inl (is, omega arith))
       go false t = rw t (recover_comes call index 1 (rest c index + (c - 1 + 6)) cap (omega arith) (inl is))
-  recover_to call (recovers.TheVariants.Raises index raise) mode cell cap at is =
+  recover_to call (recovers.Raises index raise) mode cell cap at is =
       recover_raises call index mode raise (raise_after raise n) cap (raise_to raise at is)
-  recover_to call (recovers.TheVariants.Locks index lock) mode cell cap at is =
+  recover_to call (recovers.Locks index lock) mode cell cap at is =
       subst (λ m. RecoverTo 1 (rest c index + 1 + lock_left c n lock) (recover_locked call index (lock_after m lock (lock_old lock n cell)))) (sym cap)
       (recover_locks call index lock (lock_after c lock (lock_old lock n cell)) cap (lock_to lock cell at is))
-  recover_to call recovers.TheVariants.LoadsCounterAgain mode cell cap at is = tt
+  recover_to call recovers.LoadsCounterAgain mode cell cap at is = tt
 
   -- ---- a find, and a number of borrowed indices
 
@@ -420,18 +428,18 @@ module _ (c n new : ℕ) where
       go true t = let less : index + 2 ≤ c = grind (arith, nat_tests) in rw t (inl (same, omega (arith, less, enough)))
       go false t = rw t tt
 
-  pub find_to : (call : finding.Find) (stage : finds.FindStage) (owner cell : ℕ) → call.capacity ≡ c → new ≡ n
+  pub find_to : (call : finding.Find) (stage : FindStage) (owner cell : ℕ) → call.capacity ≡ c → new ≡ n
       → FindTo (find_steps stage) (find_left c stage) (find_takes call stage owner cell)
-  find_to call (finds.TheVariants.LoadsCell index found) owner cell cap same = go (cell == owner) refl
+  find_to call (finds.LoadsCell index found) owner cell cap same = go (cell == owner) refl
     where
       go : (t : Bool) → (cell == owner) ≡ t
-          → FindTo 1 (find_left c (finds.TheVariants.LoadsCell index found)) (find_takes call (finds.TheVariants.LoadsCell index found) owner cell)
+          → FindTo 1 (find_left c (finds.LoadsCell index found)) (find_takes call (finds.LoadsCell index found) owner cell)
       go true t = rw t (inl (same, omega arith))
       go false t = rw t (find_comes call index found 1 (c - (index + 1) + 1) cap same (omega arith) (omega arith))
-  find_to call (finds.TheVariants.Asks index found) owner cell cap same = go (cell == 0) refl
+  find_to call (finds.Asks index found) owner cell cap same = go (cell == 0) refl
     where
       go : (t : Bool) → (cell == 0) ≡ t
-          → FindTo 0 (find_left c (finds.TheVariants.Asks index found)) (find_takes call (finds.TheVariants.Asks index found) owner cell)
+          → FindTo 0 (find_left c (finds.Asks index found)) (find_takes call (finds.Asks index found) owner cell)
       go true t = rw t tt
       go false t = rw t (find_comes call index found 0 (c - (index + 1)) cap same (omega arith) (omega arith))
 
@@ -439,11 +447,11 @@ module _ (c n new : ℕ) where
   BorrowedTo was (GoOn next) = Less 1 was (count_left c n next.count)
   BorrowedTo was (Done found) = Unit {0}
 
-  borrows : (call : counting.BorrowedIndices) (count : counts.Count) (a : After counts.Count ends.Counted) → CountTo count a
+  borrows : (call : counting.BorrowedIndices) (count : Count) (a : After Count Counted) → CountTo count a
       → BorrowedTo (count_left c n count) (borrowed_counted call a)
   borrows call count (GoOn next) h = inl h
-  borrows call count (Done ends.TheVariants.Locked) h = tt
-  borrows call count (Done (ends.TheVariants.Filled filled counter)) h = tt
+  borrows call count (Done ends.Locked) h = tt
+  borrows call count (Done (ends.Filled filled counter)) h = tt
 
   pub borrowed_to : (call : counting.BorrowedIndices) (cell : ℕ) → call.capacity ≡ c → CountAt call.count → new ≡ count_then call.count n
       → BorrowedTo (count_left c n call.count) (borrowed_counted call (count_after call.capacity call.count (count_old call.count n cell)))

@@ -13,30 +13,37 @@ use Rattle.steps.specs.declared.ask.After.TheVariants.{GoOn, Done}
 use Rattle.steps.specs.declared.indices.enums.ReleaseMode.{ReleaseMode}
 use Rattle.steps.specs.declared.indices.enums.ReleaseState.{ReleaseState}
 use Rattle.steps.specs.declared.indices.robust.acquire.Acquire as acquiring
-use Rattle.steps.specs.declared.indices.robust.acquire.AcquireStage as acquires
+use Rattle.steps.specs.declared.indices.robust.acquire.AcquireStage.{AcquireStage}
+use Rattle.steps.specs.declared.indices.robust.acquire.AcquireStage.TheVariants as acquires
 use Rattle.steps.specs.declared.indices.robust.find.Find as finding
-use Rattle.steps.specs.declared.indices.robust.find.FindStage as finds
+use Rattle.steps.specs.declared.indices.robust.find.FindStage.{FindStage}
+use Rattle.steps.specs.declared.indices.robust.find.FindStage.TheVariants as finds
 use Rattle.steps.specs.declared.indices.robust.looks.BorrowedIndices as counting
-use Rattle.steps.specs.declared.indices.robust.parts.Count as counts
-use Rattle.steps.specs.declared.indices.robust.parts.Lock as locks
-use Rattle.steps.specs.declared.indices.robust.parts.Raise as raises
+use Rattle.steps.specs.declared.indices.robust.parts.Count.{Count}
+use Rattle.steps.specs.declared.indices.robust.parts.Count.TheVariants as counts
+use Rattle.steps.specs.declared.indices.robust.parts.Lock.{Lock}
+use Rattle.steps.specs.declared.indices.robust.parts.Lock.TheVariants as locks
+use Rattle.steps.specs.declared.indices.robust.parts.Raise.{Raise}
+use Rattle.steps.specs.declared.indices.robust.parts.Raise.TheVariants as raises
 use Rattle.steps.specs.declared.indices.robust.recover.Recover as recovering
-use Rattle.steps.specs.declared.indices.robust.recover.RecoverStage as recovers
+use Rattle.steps.specs.declared.indices.robust.recover.RecoverStage.{RecoverStage}
+use Rattle.steps.specs.declared.indices.robust.recover.RecoverStage.TheVariants as recovers
 use Rattle.steps.specs.declared.indices.robust.release.GiveBack.{GiveBack}
 use Rattle.steps.specs.declared.indices.robust.release.Release as releasing
-use Rattle.steps.specs.declared.indices.robust.release.ReleaseStage as releases
+use Rattle.steps.specs.declared.indices.robust.release.ReleaseStage.{ReleaseStage}
+use Rattle.steps.specs.declared.indices.robust.release.ReleaseStage.TheVariants as releases
 use Rattle.model.specs.declared.event.Answer.{Answer}
-use Rattle.model.specs.declared.event.Answer as answers
+use Rattle.model.specs.declared.event.Answer.TheVariants as answers
 use Rattle.model.specs.declared.event.Start.{Start}
 use Rattle.model.specs.declared.event.Start.TheVariants as starts
 use Rattle.model.specs.declared.families.Flight.{Flight}
-use Rattle.model.specs.declared.families.Flight as flights
+use Rattle.model.specs.declared.families.Flight.TheVariants as flights
 use Rattle.model.specs.declared.families.Registry.{Registry}
-use Rattle.model.specs.declared.families.Registry as registries
+use Rattle.model.specs.declared.families.Registry.TheVariants as registries
 use Rattle.model.specs.declared.families.indices.robust.RobustStart.{RobustStart}
 use Rattle.model.specs.declared.families.indices.robust.calls.RobustFlight.{RobustFlight}
-use Rattle.model.specs.declared.families.indices.robust.calls.RobustFlight as calls
-use Rattle.model.specs.declared.turn.Kind as kinds
+use Rattle.model.specs.declared.families.indices.robust.calls.RobustFlight.TheVariants as calls
+use Rattle.model.specs.declared.turn.Kind.TheVariants as kinds
 use Rattle.model.specs.Coding.{Coding}
 use Rattle.model.specs.Families.{first_of, want_of, after_of, goes_of, step_of, ask_of, is_question, kept_after_begin, kept_after_death}
 use Rattle.model.specs.Families.Indices.Robust.Calls.{want, after, acquire_answer, release_answer}
@@ -74,55 +81,55 @@ full : (c : ℕ) → 1 ≤ c → (c - 1) * (c - 1 + 7) + 2 * (c - 1) + 8 ≡ c *
 full c some = let e : c - 1 + 1 ≡ c = omega arith in subst (λ m. (c - 1) * (c - 1 + 7) + 2 * (c - 1) + 8 ≡ m * (m + 7)) e (square (c - 1))
 
 module _ (c now : ℕ) where
-  pub raise_most : (raise : raises.Raise) → raise_left now raise ≤ 1
-  raise_most raises.TheVariants.LoadsCounter = omega arith
-  raise_most (raises.TheVariants.ExchangesCounter k) = one_of _ 0 1 1 (omega arith) (omega arith)
+  pub raise_most : (raise : Raise) → raise_left now raise ≤ 1
+  raise_most raises.LoadsCounter = omega arith
+  raise_most (raises.ExchangesCounter k) = one_of _ 0 1 1 (omega arith) (omega arith)
 
-  pub count_most : (count : counts.Count) → count_left c now count ≤ 2 * (c - 1) + 4
-  count_most counts.TheVariants.LoadsCounter = omega arith
-  count_most (counts.TheVariants.LoadsCell k index filled) =
+  pub count_most : (count : Count) → count_left c now count ≤ 2 * (c - 1) + 4
+  count_most counts.LoadsCounter = omega arith
+  count_most (counts.LoadsCell k index filled) =
       one_of (now == k) (c - (index + 1) + 1) (c - (index + 1) + (c - 1) + 4) (2 * (c - 1) + 4) (omega arith) (omega arith)
-  count_most (counts.TheVariants.ExchangesCounter k filled) = one_of _ 0 (c - 1 + 3) (2 * (c - 1) + 4) (omega arith) (omega arith)
+  count_most (counts.ExchangesCounter k filled) = one_of _ 0 (c - 1 + 3) (2 * (c - 1) + 4) (omega arith) (omega arith)
 
-  pub lock_most : (lock : locks.Lock) → lock_left c now lock ≤ 2 * (c - 1) + 4
-  lock_most (locks.TheVariants.Counts count) = count_most count
-  lock_most (locks.TheVariants.ExchangesCounter k) = one_of _ 0 (c - 1 + 3) (2 * (c - 1) + 4) (omega arith) (omega arith)
+  pub lock_most : (lock : Lock) → lock_left c now lock ≤ 2 * (c - 1) + 4
+  lock_most (locks.Counts count) = count_most count
+  lock_most (locks.ExchangesCounter k) = one_of _ 0 (c - 1 + 3) (2 * (c - 1) + 4) (omega arith) (omega arith)
 
-  acquire_most : (stage : acquires.AcquireStage) → acquire_left c now stage ≤ 2 * (c - 1) + 4
-  acquire_most acquires.TheVariants.LoadsCounter = omega arith
-  acquire_most (acquires.TheVariants.FillsCell k index) =
+  acquire_most : (stage : AcquireStage) → acquire_left c now stage ≤ 2 * (c - 1) + 4
+  acquire_most acquires.LoadsCounter = omega arith
+  acquire_most (acquires.FillsCell k index) =
       one_of (now == k) (c - (index + 1) + 2) (c - (index + 1) + (c - 1) + 4) (2 * (c - 1) + 4) (omega arith) (omega arith)
-  acquire_most (acquires.TheVariants.ChecksCounter k) = one_of _ 0 (c - 1 + 3) (2 * (c - 1) + 4) (omega arith) (omega arith)
-  acquire_most (acquires.TheVariants.Raises index raise) = let most = raise_most raise in omega arith
+  acquire_most (acquires.ChecksCounter k) = one_of _ 0 (c - 1 + 3) (2 * (c - 1) + 4) (omega arith) (omega arith)
+  acquire_most (acquires.Raises index raise) = let most = raise_most raise in omega arith
 
-  pub release_most : (stage : releases.ReleaseStage) → release_left c now stage ≤ 2 * (c - 1) + 8
-  release_most releases.TheVariants.EmptiesCell = omega arith
-  release_most (releases.TheVariants.Raises raise) = let most = raise_most raise in omega arith
-  release_most (releases.TheVariants.Locks lock) = let most = lock_most lock in omega arith
+  pub release_most : (stage : ReleaseStage) → release_left c now stage ≤ 2 * (c - 1) + 8
+  release_most releases.EmptiesCell = omega arith
+  release_most (releases.Raises raise) = let most = raise_most raise in omega arith
+  release_most (releases.Locks lock) = let most = lock_most lock in omega arith
 
-  find_most : (stage : finds.FindStage) → find_left c stage ≤ 2 * (c - 1) + 4
-  find_most (finds.TheVariants.LoadsCell index found) = omega arith
-  find_most (finds.TheVariants.Asks index found) = omega arith
+  find_most : (stage : FindStage) → find_left c stage ≤ 2 * (c - 1) + 4
+  find_most (finds.LoadsCell index found) = omega arith
+  find_most (finds.Asks index found) = omega arith
 
   rest_most : (index : ℕ) → rest c index ≤ (c - 1) * (c - 1 + 7)
   rest_most index = worth (c - (index + 1)) (c - 1) (c - 1 + 7) (omega arith)
 
-  recover_most : (stage : recovers.RecoverStage) → recover_left c now stage ≤ (c - 1) * (c - 1 + 7) + 2 * (c - 1) + 8
-  recover_most recovers.TheVariants.LoadsCounter = omega arith
-  recover_most (recovers.TheVariants.LoadsCell index) = let most = rest_most index in omega arith
-  recover_most (recovers.TheVariants.Asks index owner) = let most = rest_most index in omega arith
-  recover_most (recovers.TheVariants.EmptiesCell index owner) = let most = rest_most index in omega arith
-  recover_most (recovers.TheVariants.Raises index raise) = let most = rest_most index in let one = raise_most raise in omega arith
-  recover_most (recovers.TheVariants.Locks index lock) = let most = rest_most index in let one = lock_most lock in omega arith
-  recover_most recovers.TheVariants.LoadsCounterAgain = omega arith
+  recover_most : (stage : RecoverStage) → recover_left c now stage ≤ (c - 1) * (c - 1 + 7) + 2 * (c - 1) + 8
+  recover_most recovers.LoadsCounter = omega arith
+  recover_most (recovers.LoadsCell index) = let most = rest_most index in omega arith
+  recover_most (recovers.Asks index owner) = let most = rest_most index in omega arith
+  recover_most (recovers.EmptiesCell index owner) = let most = rest_most index in omega arith
+  recover_most (recovers.Raises index raise) = let most = rest_most index in let one = raise_most raise in omega arith
+  recover_most (recovers.Locks index lock) = let most = rest_most index in let one = lock_most lock in omega arith
+  recover_most recovers.LoadsCounterAgain = omega arith
 
   own_by : (flight : RobustFlight) → own c now flight ≤ (c - 1) * (c - 1 + 7) + 2 * (c - 1) + 8
-  own_by (calls.TheVariants.Acquire run) = let most = acquire_most run.call.stage in omega arith
-  own_by (calls.TheVariants.Release run) = let most = release_most run.call.stage in omega arith
-  own_by (calls.TheVariants.Find run) = let most = find_most run.call.stage in omega arith
-  own_by (calls.TheVariants.Recover run) = recover_most run.call.stage
-  own_by (calls.TheVariants.BorrowedIndices run) = let most = count_most run.call.count in omega arith
-  own_by (calls.TheVariants.IsLocked run) = omega arith
+  own_by (calls.Acquire run) = let most = acquire_most run.call.stage in omega arith
+  own_by (calls.Release run) = let most = release_most run.call.stage in omega arith
+  own_by (calls.Find run) = let most = find_most run.call.stage in omega arith
+  own_by (calls.Recover run) = recover_most run.call.stage
+  own_by (calls.BorrowedIndices run) = let most = count_most run.call.count in omega arith
+  own_by (calls.IsLocked run) = omega arith
 
 -- ---- a step of any call
 
@@ -132,50 +139,50 @@ module _ (T : Type 0) (c n new : ℕ) where
   CallTo steps was (Done answer) = Unit {0}
 
   acquires_so : (owner : ℕ) (was : ℕ) (a : After acquiring.Acquire Acquired) → AcquireTo c n new was a
-      → CallTo 1 was (as_call calls.TheVariants.Acquire acquire_answer (went_on as_it_is owner tt a))
+      → CallTo 1 was (as_call calls.Acquire acquire_answer (went_on as_it_is owner tt a))
   acquires_so owner was (GoOn next) h = h
   acquires_so owner was (Done result) h = tt
 
   releases_so : (given : GiveBack) (was : ℕ) (a : After releasing.Release Released) → ReleaseTo c n new was a
-      → CallTo 1 was (as_call calls.TheVariants.Release release_answer (went_on as_it_is given tt a))
+      → CallTo 1 was (as_call calls.Release release_answer (went_on as_it_is given tt a))
   releases_so given was (GoOn next) h = h
   releases_so given was (Done result) h = tt
 
   finds_so : (owner steps was : ℕ) (a : After finding.Find ℕ) → FindTo c n new steps was a
-      → CallTo steps was (as_call calls.TheVariants.Find answers.TheVariants.Number (went_on as_it_is owner tt a))
+      → CallTo steps was (as_call calls.Find answers.Number (went_on as_it_is owner tt a))
   finds_so owner steps was (GoOn next) h = h
   finds_so owner steps was (Done result) h = tt
 
   recovers_so : (mode : ReleaseMode) (steps was : ℕ) (a : After recovering.Recover ReleaseState) → RecoverTo c n new steps was a
-      → CallTo steps was (as_call calls.TheVariants.Recover answers.TheVariants.State (went_on as_it_is mode tt a))
+      → CallTo steps was (as_call calls.Recover answers.State (went_on as_it_is mode tt a))
   recovers_so mode steps was (GoOn next) h = h
   recovers_so mode steps was (Done result) h = tt
 
   borrows_so : (was : ℕ) (a : After counting.BorrowedIndices ℕ) → BorrowedTo c n new was a
-      → CallTo 1 was (as_call calls.TheVariants.BorrowedIndices answers.TheVariants.Number (went_on as_it_is tt tt a))
+      → CallTo 1 was (as_call calls.BorrowedIndices answers.Number (went_on as_it_is tt tt a))
   borrows_so was (GoOn next) h = h
   borrows_so was (Done result) h = tt
 
   call_to : (flight : RobustFlight) (cell : ℕ) → CallAt c flight → new ≡ robust_then flight n
       → CallTo (robust_steps flight) (own c n flight) (after {T = T} flight (robust_old flight n cell))
-  call_to (calls.TheVariants.Acquire run) cell at is =
+  call_to (calls.Acquire run) cell at is =
       acquires_so run.given (acquire_left c n run.call.stage) (acquire_takes run.call run.call.stage (acquire_old run.call.stage n cell))
       (acquire_to c n new run.call run.call.stage cell at.0 at.1 is)
-  call_to (calls.TheVariants.Release run) cell at is =
+  call_to (calls.Release run) cell at is =
       releases_so run.given (release_left c n run.call.stage) (release_takes run.call run.call.stage run.given (release_old run.call.stage n cell))
       (release_to c n new run.call run.call.stage run.given cell at.0 at.1 is)
-  call_to (calls.TheVariants.Find run) cell at is =
+  call_to (calls.Find run) cell at is =
       finds_so run.given (find_steps run.call.stage) (find_left c run.call.stage) (find_takes run.call run.call.stage run.given cell)
       (find_to c n new run.call run.call.stage run.given cell at is)
-  call_to (calls.TheVariants.Recover run) cell at is =
+  call_to (calls.Recover run) cell at is =
       recovers_so run.given (recover_steps run.call.stage) (recover_left c n run.call.stage)
       (recover_takes run.call run.call.stage run.given (recover_old run.call.stage n cell))
       (recover_to c n new run.call run.call.stage run.given cell at.0 at.1 is)
-  call_to (calls.TheVariants.BorrowedIndices run) cell at is =
+  call_to (calls.BorrowedIndices run) cell at is =
       borrows_so (count_left c n run.call.count)
       (borrowed_counted run.call (count_after run.call.capacity run.call.count (count_old run.call.count n cell)))
       (borrowed_to c n new run.call cell at.0 at.1 is)
-  call_to (calls.TheVariants.IsLocked run) cell at is = tt
+  call_to (calls.IsLocked run) cell at is = tt
 
 -- numbers
 pub pays_move : (a b each next other : ℕ) → a + 1 ≤ b → next + 1 ≤ each → a * each + next + 1 ≤ b * each + other
@@ -191,7 +198,7 @@ top_most r top each o le low = let paid = worth r top each le in omega arith
 
 module _ {T : Type 0} where
   abbrev own_at : ℕ → ℕ → Flight T → ℕ
-  own_at c now (flights.TheVariants.Robust flight) = own c now flight
+  own_at c now (flights.Robust flight) = own c now flight
   own_at c now flight = 0
 
   abbrev left : ℕ → List ℕ → Flight T → ℕ
@@ -201,11 +208,11 @@ module _ {T : Type 0} where
   measure c = record { left = left c; pays = λ flight. 0; alone = (2 ^ 64 + 1) * (c * (c + 7) + 1); changes = 0 }
 
   abbrev AtAny : Coding T → ℕ → Start T → Flight T → Type 0
-  AtAny code c (starts.Robust start) (flights.TheVariants.Robust flight) = CallAt c flight
+  AtAny code c (starts.Robust start) (flights.Robust flight) = CallAt c flight
   AtAny code c start flight = ⊥
 
   own_most : (c now : ℕ) → 1 ≤ c → (flight : Flight T) → own_at c now flight ≤ c * (c + 7)
-  own_most c now some (flights.TheVariants.Robust flight) = let most = own_by c now flight in let all = full c some in omega arith
+  own_most c now some (flights.Robust flight) = let most = own_by c now flight in let all = full c some in omega arith
   own_most c now some flight = omega arith
 
 module _ {T : Type 0} (code : Coding T) (c : ℕ) (some : 1 ≤ c) where
@@ -229,42 +236,42 @@ module _ {T : Type 0} (code : Coding T) (c : ℕ) (some : 1 ≤ c) where
 
     to_falls : (steps s : ℕ) (flight : RobustFlight) (a : After RobustFlight (Answer T)) → s ≤ steps → steps ≤ 1
         → CallTo T c n n' steps (own c n flight) a
-        → FallsIn (measure c) old new s (flights.TheVariants.Robust flight) (as_call flights.TheVariants.Robust (λ answer. answer) a)
+        → FallsIn (measure c) old new s (flights.Robust flight) (as_call flights.Robust (λ answer. answer) a)
     to_falls steps s flight (GoOn next) low one (inl h) =
         inr (rw h.0 (keep (room n * (c * (c + 7) + 1)) (own c n next) s steps (own c n flight) h.1 low), inl (stays h.0, omega arith))
     to_falls steps s flight (GoOn next) low one (inr h) =
-        let less = moves h (flights.TheVariants.Robust flight) (flights.TheVariants.Robust next) in
+        let less = moves h (flights.Robust flight) (flights.Robust next) in
         inr (omega (arith, low, one), inl (moved_by h, omega arith))
     to_falls steps s flight (Done answer) low one h = tt
 
   call_falls : (words : List ℕ) (flight : RobustFlight) → CallAt c flight → 0 < length words
-      → StepFalls (measure {T = T} c) code words (flights.TheVariants.Robust flight)
+      → StepFalls (measure {T = T} c) code words (flights.Robust flight)
   call_falls words flight at there =
       let ask = ask_of (want flight) in
       let old = old_of words ask in
-      subst (λ o. FallsIn (measure c) words (words_after words ask) (step_count ask) (flights.TheVariants.Robust flight)
-      (as_call flights.TheVariants.Robust (λ answer. answer) (after {T = T} flight o))) (sym (robust_finds words flight))
+      subst (λ o. FallsIn (measure c) words (words_after words ask) (step_count ask) (flights.Robust flight)
+      (as_call flights.Robust (λ answer. answer) (after {T = T} flight o))) (sym (robust_finds words flight))
       (to_falls words (words_after words ask) (robust_steps flight) (step_count ask) flight (after flight (robust_old flight (counter_of words) old))
       (steps_are flight) (steps_one flight)
       (call_to T c (counter_of words) (counter_of (words_after words ask)) flight old at (robust_leaves words there flight)))
 
   falls : (words : List ℕ) (start : Start T) (flight : Flight T) → AtAny code c start flight → 0 < length words → StepFalls (measure c) code words flight
-  falls words (starts.Robust start) (flights.TheVariants.Robust flight) at there = call_falls words flight at there
+  falls words (starts.Robust start) (flights.Robust flight) at there = call_falls words flight at there
   falls words start flight at there = absurd at
 
   call_decides : (words : List ℕ) (flight : RobustFlight) (answer : ℕ) → CallAt c flight → is_question (want flight) ≡ true
-      → FallsIn (measure {T = T} c) words words 0 (flights.TheVariants.Robust flight)
-      (as_call flights.TheVariants.Robust (λ answer. answer) (after {T = T} flight answer))
+      → FallsIn (measure {T = T} c) words words 0 (flights.Robust flight)
+      (as_call flights.Robust (λ answer. answer) (after {T = T} flight answer))
   call_decides words flight answer at due =
       let asks = robust_asks flight (counter_of words) answer due in
-      subst (λ o. FallsIn (measure c) words words 0 (flights.TheVariants.Robust flight)
-      (as_call flights.TheVariants.Robust (λ answer. answer) (after {T = T} flight o))) (sym asks.1)
+      subst (λ o. FallsIn (measure c) words words 0 (flights.Robust flight)
+      (as_call flights.Robust (λ answer. answer) (after {T = T} flight o))) (sym asks.1)
       (to_falls words words (robust_steps flight) 0 flight (after flight (robust_old flight (counter_of words) answer))
       (omega arith) (steps_one flight) (call_to T c (counter_of words) (counter_of words) flight answer at asks.0))
 
   decides : (words : List ℕ) (start : Start T) (flight : Flight T) (said : Bool) → AtAny code c start flight → is_question (want_of code flight) ≡ true
       → FallsIn (measure c) words words 0 flight (after_of code flight (number_of said))
-  decides words (starts.Robust start) (flights.TheVariants.Robust flight) said at due = call_decides words flight (number_of said) at due
+  decides words (starts.Robust start) (flights.Robust flight) said at due = call_decides words flight (number_of said) at due
   decides words start flight said at due = absurd at
 
   most : (words : List ℕ) (start : Start T) (flight : Flight T) → AtAny code c start flight
@@ -276,13 +283,13 @@ module _ {T : Type 0} (code : Coding T) (c : ℕ) (some : 1 ≤ c) where
 
 module _ {T : Type 0} where
   abbrev Kept : Registry T → Type 0
-  Kept (registries.TheVariants.Owners dead) = Unit {0}
+  Kept (registries.Owners dead) = Unit {0}
   Kept kept = ⊥
 
   abbrev outline : Outline T
   outline =
       record {
-        kind = kinds.TheVariants.Robust;
+        kind = kinds.Robust;
         Such = λ start. Unit {0};
         Kept = Kept;
         At = AtAny;
@@ -293,52 +300,52 @@ module _ {T : Type 0} where
 module _ {T : Type 0} (code : Coding T) (c : ℕ) where
   module _ (start : RobustStart) where
     abbrev Goes : After RobustFlight (Answer T) → Type 0
-    Goes a = OwnAfter outline code c (starts.Robust start) (as_call flights.TheVariants.Robust (λ answer. answer) a)
+    Goes a = OwnAfter outline code c (starts.Robust start) (as_call flights.Robust (λ answer. answer) a)
 
     acquire_goes : (owner : ℕ) (a : After acquiring.Acquire Acquired) → AcquireThen c a
-        → Goes (as_call calls.TheVariants.Acquire acquire_answer (went_on as_it_is owner tt a))
+        → Goes (as_call calls.Acquire acquire_answer (went_on as_it_is owner tt a))
     acquire_goes owner (GoOn next) h = h
     acquire_goes owner (Done result) h = tt
 
     release_goes : (given : GiveBack) (a : After releasing.Release Released) → ReleaseThen c a
-        → Goes (as_call calls.TheVariants.Release release_answer (went_on as_it_is given tt a))
+        → Goes (as_call calls.Release release_answer (went_on as_it_is given tt a))
     release_goes given (GoOn next) h = h
     release_goes given (Done result) h = tt
 
     find_goes : (owner : ℕ) (a : After finding.Find ℕ) → FindThen c a
-        → Goes (as_call calls.TheVariants.Find answers.TheVariants.Number (went_on as_it_is owner tt a))
+        → Goes (as_call calls.Find answers.Number (went_on as_it_is owner tt a))
     find_goes owner (GoOn next) h = h
     find_goes owner (Done result) h = tt
 
     recover_goes : (mode : ReleaseMode) (a : After recovering.Recover ReleaseState) → RecoverThen c a
-        → Goes (as_call calls.TheVariants.Recover answers.TheVariants.State (went_on as_it_is mode tt a))
+        → Goes (as_call calls.Recover answers.State (went_on as_it_is mode tt a))
     recover_goes mode (GoOn next) h = h
     recover_goes mode (Done result) h = tt
 
     borrow_goes : (a : After counting.BorrowedIndices ℕ) → BorrowThen c a
-        → Goes (as_call calls.TheVariants.BorrowedIndices answers.TheVariants.Number (went_on as_it_is tt tt a))
+        → Goes (as_call calls.BorrowedIndices answers.Number (went_on as_it_is tt tt a))
     borrow_goes (GoOn next) h = h
     borrow_goes (Done result) h = tt
 
     call_goes : (flight : RobustFlight) (old : ℕ) → CallAt c flight → Goes (after flight old)
-    call_goes (calls.TheVariants.Acquire run) old at =
+    call_goes (calls.Acquire run) old at =
         acquire_goes run.given (acquire_takes run.call run.call.stage old) (acquire_then_at c run.call run.call.stage old at.0 at.1)
-    call_goes (calls.TheVariants.Release run) old at =
+    call_goes (calls.Release run) old at =
         release_goes run.given (release_takes run.call run.call.stage run.given old) (release_then_at c run.call run.call.stage run.given old at.0 at.1)
-    call_goes (calls.TheVariants.Find run) old at =
+    call_goes (calls.Find run) old at =
         find_goes run.given (find_takes run.call run.call.stage run.given old) (find_then_at c run.call run.call.stage run.given old at)
-    call_goes (calls.TheVariants.Recover run) old at =
+    call_goes (calls.Recover run) old at =
         recover_goes run.given (recover_takes run.call run.call.stage run.given old) (recover_then_at c run.call run.call.stage run.given old at.0 at.1)
-    call_goes (calls.TheVariants.BorrowedIndices run) old at =
+    call_goes (calls.BorrowedIndices run) old at =
         borrow_goes (borrowed_counted run.call (count_after run.call.capacity run.call.count old)) (borrow_then_at c run.call old at.0 at.1)
-    call_goes (calls.TheVariants.IsLocked run) old at = tt
+    call_goes (calls.IsLocked run) old at = tt
 
   goes : (start : Start T) (flight : Flight T) (old : ℕ) → AtAny code c start flight → OwnAfter outline code c start (after_of code flight old)
-  goes (starts.Robust start) (flights.TheVariants.Robust flight) old at = call_goes start flight old at
+  goes (starts.Robust start) (flights.Robust flight) old at = call_goes start flight old at
   goes start flight old at = absurd at
 
   begins : (start : Start T) (kept : Registry T) (flight : Flight T) → Unit {0} → Kept kept
-      → first_of kinds.TheVariants.Robust c start kept ≡ Some flight
+      → first_of kinds.Robust c start kept ≡ Some flight
       → AtAny code c start flight × ((p : ℕ) → Kept (kept_after_begin code c start p kept))
   begins x0 x1 x2 x3 x4 x5 = grind arith
 
@@ -355,7 +362,7 @@ module _ {T : Type 0} (code : Coding T) (c : ℕ) where
   dies : (kept : Registry T) (owner : ℕ) → Kept kept → Kept (kept_after_death kept owner)
   dies x0 x1 x2 = grind arith
 
-  laws : capacity_error kinds.TheVariants.Robust c ≡ None → TableLaws outline code c
+  laws : capacity_error kinds.Robust c ≡ None → TableLaws outline code c
   laws admitted =
       let may = admitted_is c admitted in
       record {
@@ -375,10 +382,10 @@ module _ {T : Type 0} (code : Coding T) (c : ℕ) where
 -- in every run of a robust set, whichever rows refuse turns
 pub room_keeps_ending : {T : Type 0} (refuses : World T → Turn T → Option Refusal)
     → ((w : World T) (turn : Turn T) → refuses w turn ≡ None → IsPossible w turn)
-    → KeepsEndingBy refuses kinds.TheVariants.Robust (λ start. Unit {0}) room_bound
+    → KeepsEndingBy refuses kinds.Robust (λ start. Unit {0}) room_bound
 room_keeps_ending {T} refuses possible =
     keeps_ending_by (outline {T = T}) (λ code c coded admitted. by_table outline code c (laws code c admitted)) refuses possible room_bound (λ code c n. refl)
 
-pub robust_keeps_ending : {T : Type 0} → KeepsEnding T kinds.TheVariants.Robust room_bound
+pub robust_keeps_ending : {T : Type 0} → KeepsEnding T kinds.Robust room_bound
 robust_keeps_ending {T} =
     keeps_ending (outline {T = T}) (λ code c coded admitted. by_table outline code c (laws code c admitted)) (λ start. tt) room_bound (λ code c n. refl)

@@ -12,21 +12,28 @@ use Rattle.steps.specs.declared.ask.After.TheVariants.{GoOn, Done}
 use Rattle.steps.specs.declared.indices.enums.ReleaseMode.{ReleaseMode}
 use Rattle.steps.specs.declared.indices.enums.ReleaseState.{ReleaseState}
 use Rattle.steps.specs.declared.indices.robust.acquire.Acquire as acquiring
-use Rattle.steps.specs.declared.indices.robust.acquire.AcquireStage as acquires
+use Rattle.steps.specs.declared.indices.robust.acquire.AcquireStage.{AcquireStage}
+use Rattle.steps.specs.declared.indices.robust.acquire.AcquireStage.TheVariants as acquires
 use Rattle.steps.specs.declared.indices.robust.find.Find as finding
 use Rattle.steps.specs.declared.indices.robust.find.FindStage as finds
 use Rattle.steps.specs.declared.indices.robust.looks.BorrowedIndices as counting
-use Rattle.steps.specs.declared.indices.robust.parts.Count as counts
-use Rattle.steps.specs.declared.indices.robust.parts.Counted as ends
-use Rattle.steps.specs.declared.indices.robust.parts.Lock as locks
-use Rattle.steps.specs.declared.indices.robust.parts.Raise as raises
+use Rattle.steps.specs.declared.indices.robust.parts.Count.{Count}
+use Rattle.steps.specs.declared.indices.robust.parts.Count.TheVariants as counts
+use Rattle.steps.specs.declared.indices.robust.parts.Counted.{Counted}
+use Rattle.steps.specs.declared.indices.robust.parts.Counted.TheVariants as ends
+use Rattle.steps.specs.declared.indices.robust.parts.Lock.{Lock}
+use Rattle.steps.specs.declared.indices.robust.parts.Lock.TheVariants as locks
+use Rattle.steps.specs.declared.indices.robust.parts.Raise.{Raise}
+use Rattle.steps.specs.declared.indices.robust.parts.Raise.TheVariants as raises
 use Rattle.steps.specs.declared.indices.robust.recover.Recover as recovering
-use Rattle.steps.specs.declared.indices.robust.recover.RecoverStage as recovers
+use Rattle.steps.specs.declared.indices.robust.recover.RecoverStage.{RecoverStage}
+use Rattle.steps.specs.declared.indices.robust.recover.RecoverStage.TheVariants as recovers
 use Rattle.steps.specs.declared.indices.robust.release.GiveBack.{GiveBack}
 use Rattle.steps.specs.declared.indices.robust.release.Release as releasing
-use Rattle.steps.specs.declared.indices.robust.release.ReleaseStage as releases
+use Rattle.steps.specs.declared.indices.robust.release.ReleaseStage.{ReleaseStage}
+use Rattle.steps.specs.declared.indices.robust.release.ReleaseStage.TheVariants as releases
 use Rattle.model.specs.declared.families.indices.robust.calls.RobustFlight.{RobustFlight}
-use Rattle.model.specs.declared.families.indices.robust.calls.RobustFlight as calls
+use Rattle.model.specs.declared.families.indices.robust.calls.RobustFlight.TheVariants as calls
 use Rattle.model.specs.Families.{ask_of}
 use Rattle.model.specs.Families.Indices.Robust.Calls.{want}
 use Rattle.model.specs.Turns.{step_count}
@@ -38,25 +45,25 @@ use Rattle.laws_robust.proofs.Room.{recover_steps, find_steps, rises, shuts, Sta
 -- ---- how many steps a call takes at most before its last one, while the counter stays
 
 abbrev pub own : ℕ → ℕ → RobustFlight → ℕ
-own c now (calls.TheVariants.Acquire run) = acquire_left c now run.call.stage
-own c now (calls.TheVariants.Release run) = release_left c now run.call.stage
-own c now (calls.TheVariants.Find run) = find_left c run.call.stage
-own c now (calls.TheVariants.Recover run) = recover_left c now run.call.stage
-own c now (calls.TheVariants.BorrowedIndices run) = count_left c now run.call.count
-own c now (calls.TheVariants.IsLocked run) = 0
+own c now (calls.Acquire run) = acquire_left c now run.call.stage
+own c now (calls.Release run) = release_left c now run.call.stage
+own c now (calls.Find run) = find_left c run.call.stage
+own c now (calls.Recover run) = recover_left c now run.call.stage
+own c now (calls.BorrowedIndices run) = count_left c now run.call.count
+own c now (calls.IsLocked run) = 0
 
 abbrev pub robust_steps : RobustFlight → ℕ
-robust_steps (calls.TheVariants.Find run) = find_steps run.call.stage
-robust_steps (calls.TheVariants.Recover run) = recover_steps run.call.stage
+robust_steps (calls.Find run) = find_steps run.call.stage
+robust_steps (calls.Recover run) = recover_steps run.call.stage
 robust_steps flight = 1
 
 abbrev pub CallAt : ℕ → RobustFlight → Type 0
-CallAt c (calls.TheVariants.Acquire run) = (run.call.capacity ≡ c) × AcquireAt run.call.stage
-CallAt c (calls.TheVariants.Release run) = (run.call.capacity ≡ c) × ReleaseAt run.call.stage
-CallAt c (calls.TheVariants.Find run) = run.call.capacity ≡ c
-CallAt c (calls.TheVariants.Recover run) = (run.call.capacity ≡ c) × RecoverAt run.call.stage
-CallAt c (calls.TheVariants.BorrowedIndices run) = (run.call.capacity ≡ c) × CountAt run.call.count
-CallAt c (calls.TheVariants.IsLocked run) = Unit {0}
+CallAt c (calls.Acquire run) = (run.call.capacity ≡ c) × AcquireAt run.call.stage
+CallAt c (calls.Release run) = (run.call.capacity ≡ c) × ReleaseAt run.call.stage
+CallAt c (calls.Find run) = run.call.capacity ≡ c
+CallAt c (calls.Recover run) = (run.call.capacity ≡ c) × RecoverAt run.call.stage
+CallAt c (calls.BorrowedIndices run) = (run.call.capacity ≡ c) × CountAt run.call.count
+CallAt c (calls.IsLocked run) = Unit {0}
 
 pub steps_one : (flight : RobustFlight) → robust_steps flight ≤ 1
 steps_one x0 = grind arith
@@ -67,9 +74,9 @@ steps_are x0 = grind arith
 -- ---- the counter stays at a step, or has less room
 
 module _ (c n new : ℕ) where
-  pub raise_moves : (raise : raises.Raise) → RaiseAt raise → new ≡ raise_then raise n → StaysOrMoves c n new
-  raise_moves raises.TheVariants.LoadsCounter at is = inl is
-  raise_moves (raises.TheVariants.ExchangesCounter k) at is = go (n == k) refl
+  pub raise_moves : (raise : Raise) → RaiseAt raise → new ≡ raise_then raise n → StaysOrMoves c n new
+  raise_moves raises.LoadsCounter at is = inl is
+  raise_moves (raises.ExchangesCounter k) at is = go (n == k) refl
     where
       go : (s : Bool) → (n == k) ≡ s → StaysOrMoves c n new
       go true s =
@@ -78,14 +85,14 @@ module _ (c n new : ℕ) where
           inr (rw (next, same) (rises k at))
       go false s = let same : new ≡ n = rw s at is in inl same
 
-  pub count_moves : (count : counts.Count) → CountAt count → new ≡ count_then count n → StaysOrMoves c n new
-  count_moves counts.TheVariants.LoadsCounter at is = inl is
-  count_moves (counts.TheVariants.LoadsCell k index filled) at is = inl is
-  count_moves (counts.TheVariants.ExchangesCounter k filled) at is = raise_moves (raises.TheVariants.ExchangesCounter k) at is
+  pub count_moves : (count : Count) → CountAt count → new ≡ count_then count n → StaysOrMoves c n new
+  count_moves counts.LoadsCounter at is = inl is
+  count_moves (counts.LoadsCell k index filled) at is = inl is
+  count_moves (counts.ExchangesCounter k filled) at is = raise_moves (raises.ExchangesCounter k) at is
 
-  pub lock_moves : (lock : locks.Lock) → LockAt lock → new ≡ lock_then lock n → StaysOrMoves c n new
-  lock_moves (locks.TheVariants.Counts count) at is = count_moves count at is
-  lock_moves (locks.TheVariants.ExchangesCounter k) at is = go (n == k) refl (n == locked) refl
+  pub lock_moves : (lock : Lock) → LockAt lock → new ≡ lock_then lock n → StaysOrMoves c n new
+  lock_moves (locks.Counts count) at is = count_moves count at is
+  lock_moves (locks.ExchangesCounter k) at is = go (n == k) refl (n == locked) refl
     where
       go : (s : Bool) → (n == k) ≡ s → (t : Bool) → (n == locked) ≡ t → StaysOrMoves c n new
       go true s true t =
@@ -96,10 +103,10 @@ module _ (c n new : ℕ) where
           inr (rw shut (shuts n t))
       go false s t e = let same : new ≡ n = rw s at is in inl same
 
-  pub acquire_moves : (stage : acquires.AcquireStage) → AcquireAt stage → new ≡ acquire_then stage n → StaysOrMoves c n new
-  acquire_moves acquires.TheVariants.LoadsCounter at is = inl is
-  acquire_moves (acquires.TheVariants.FillsCell k index) at is = inl is
-  acquire_moves (acquires.TheVariants.ChecksCounter k) at is = go (n == k) refl
+  pub acquire_moves : (stage : AcquireStage) → AcquireAt stage → new ≡ acquire_then stage n → StaysOrMoves c n new
+  acquire_moves acquires.LoadsCounter at is = inl is
+  acquire_moves (acquires.FillsCell k index) at is = inl is
+  acquire_moves (acquires.ChecksCounter k) at is = go (n == k) refl
     where
       go : (s : Bool) → (n == k) ≡ s → StaysOrMoves c n new
       go true s =
@@ -107,49 +114,49 @@ module _ (c n new : ℕ) where
           let next : new ≡ k = rw s at is in
           inl (next ∙ sym same)
       go false s = let same : new ≡ n = rw s at is in inl same
-  acquire_moves (acquires.TheVariants.Raises index raise) at is = raise_moves raise at is
+  acquire_moves (acquires.Raises index raise) at is = raise_moves raise at is
 
-  pub release_moves : (stage : releases.ReleaseStage) → ReleaseAt stage → new ≡ release_then stage n → StaysOrMoves c n new
-  release_moves releases.TheVariants.EmptiesCell at is = inl is
-  release_moves (releases.TheVariants.Raises raise) at is = raise_moves raise at is
-  release_moves (releases.TheVariants.Locks lock) at is = lock_moves lock at is
+  pub release_moves : (stage : ReleaseStage) → ReleaseAt stage → new ≡ release_then stage n → StaysOrMoves c n new
+  release_moves releases.EmptiesCell at is = inl is
+  release_moves (releases.Raises raise) at is = raise_moves raise at is
+  release_moves (releases.Locks lock) at is = lock_moves lock at is
 
 -- ---- no counter that a call keeps becomes that of the lock
 
-abbrev pub RaiseThen : After raises.Raise ReleaseState → Type 0
+abbrev pub RaiseThen : After Raise ReleaseState → Type 0
 RaiseThen (GoOn next) = RaiseAt next
 RaiseThen (Done state) = Unit {0}
 
-pub raise_then_at : (raise : raises.Raise) (old : ℕ) → RaiseThen (raise_after raise old)
+pub raise_then_at : (raise : Raise) (old : ℕ) → RaiseThen (raise_after raise old)
 raise_then_at x0 x1 = grind arith
 
-abbrev pub CountThen : After counts.Count ends.Counted → Type 0
+abbrev pub CountThen : After Count Counted → Type 0
 CountThen (GoOn next) = CountAt next
 CountThen (Done end) = Unit {0}
 
-pub count_then_at : (c : ℕ) (count : counts.Count) (old : ℕ) → CountAt count → CountThen (count_after c count old)
+pub count_then_at : (c : ℕ) (count : Count) (old : ℕ) → CountAt count → CountThen (count_after c count old)
 count_then_at x0 x1 x2 x3 = grind arith
 
-abbrev pub LockThen : After locks.Lock ReleaseState → Type 0
+abbrev pub LockThen : After Lock ReleaseState → Type 0
 LockThen (GoOn next) = LockAt next
 LockThen (Done state) = Unit {0}
 
-counted_then : (a : After counts.Count ends.Counted) → CountThen a → LockThen (lock_counted a)
+counted_then : (a : After Count Counted) → CountThen a → LockThen (lock_counted a)
 counted_then (GoOn next) h = h
-counted_then (Done ends.TheVariants.Locked) h = tt
-counted_then (Done (ends.TheVariants.Filled filled counter)) h = go (filled == 0) refl (counter == greatest) refl
+counted_then (Done ends.Locked) h = tt
+counted_then (Done (ends.Filled filled counter)) h = go (filled == 0) refl (counter == greatest) refl
   where
     go : (z : Bool) → (filled == 0) ≡ z → (g : Bool) → (counter == greatest) ≡ g
-        → LockThen (lock_counted (Done (ends.TheVariants.Filled filled counter)))
+        → LockThen (lock_counted (Done (ends.Filled filled counter)))
     go false z g e = rw z tt
     go true z true g = rw (z, g) tt
     go true z false g = rw (z, g) tt
 
-pub lock_then_at : (c : ℕ) (lock : locks.Lock) (old : ℕ) → LockAt lock → LockThen (lock_after c lock old)
-lock_then_at c (locks.TheVariants.Counts count) old at = counted_then (count_after c count old) (count_then_at c count old at)
-lock_then_at c (locks.TheVariants.ExchangesCounter k) old at = go (old == k) refl
+pub lock_then_at : (c : ℕ) (lock : Lock) (old : ℕ) → LockAt lock → LockThen (lock_after c lock old)
+lock_then_at c (locks.Counts count) old at = counted_then (count_after c count old) (count_then_at c count old at)
+lock_then_at c (locks.ExchangesCounter k) old at = go (old == k) refl
   where
-    go : (t : Bool) → (old == k) ≡ t → LockThen (lock_after c (locks.TheVariants.ExchangesCounter k) old)
+    go : (t : Bool) → (old == k) ≡ t → LockThen (lock_after c (locks.ExchangesCounter k) old)
     go true t = rw t tt
     go false t = rw t tt
 
@@ -158,35 +165,35 @@ module _ (c : ℕ) where
   AcquireThen (GoOn next) = (next.capacity ≡ c) × AcquireAt next.stage
   AcquireThen (Done result) = Unit {0}
 
-  acquire_raised_at : (call : acquiring.Acquire) (index : ℕ) (a : After raises.Raise ReleaseState) → call.capacity ≡ c → RaiseThen a
+  acquire_raised_at : (call : acquiring.Acquire) (index : ℕ) (a : After Raise ReleaseState) → call.capacity ≡ c → RaiseThen a
       → AcquireThen (acquire_raised call index a)
   acquire_raised_at x0 x1 x2 x3 x4 = grind arith
 
-  pub acquire_then_at : (call : acquiring.Acquire) (stage : acquires.AcquireStage) (old : ℕ) → call.capacity ≡ c → AcquireAt stage
+  pub acquire_then_at : (call : acquiring.Acquire) (stage : AcquireStage) (old : ℕ) → call.capacity ≡ c → AcquireAt stage
       → AcquireThen (acquire_takes call stage old)
-  acquire_then_at call acquires.TheVariants.LoadsCounter old cap at = grind arith
-  acquire_then_at call (acquires.TheVariants.FillsCell k index) old cap at = grind arith
-  acquire_then_at call (acquires.TheVariants.ChecksCounter k) old cap at = grind arith
-  acquire_then_at call (acquires.TheVariants.Raises index raise) old cap at =
+  acquire_then_at call acquires.LoadsCounter old cap at = grind arith
+  acquire_then_at call (acquires.FillsCell k index) old cap at = grind arith
+  acquire_then_at call (acquires.ChecksCounter k) old cap at = grind arith
+  acquire_then_at call (acquires.Raises index raise) old cap at =
       acquire_raised_at call index (raise_after raise old) cap (raise_then_at raise old)
 
   abbrev pub ReleaseThen : After releasing.Release Released → Type 0
   ReleaseThen (GoOn next) = (next.capacity ≡ c) × ReleaseAt next.stage
   ReleaseThen (Done result) = Unit {0}
 
-  release_raised_at : (call : releasing.Release) (mode : ReleaseMode) (a : After raises.Raise ReleaseState) → call.capacity ≡ c → RaiseThen a
+  release_raised_at : (call : releasing.Release) (mode : ReleaseMode) (a : After Raise ReleaseState) → call.capacity ≡ c → RaiseThen a
       → ReleaseThen (release_raised call mode a)
   release_raised_at x0 x1 x2 x3 x4 = grind arith
 
-  release_locked_at : (call : releasing.Release) (a : After locks.Lock ReleaseState) → call.capacity ≡ c → LockThen a → ReleaseThen (release_locked call a)
+  release_locked_at : (call : releasing.Release) (a : After Lock ReleaseState) → call.capacity ≡ c → LockThen a → ReleaseThen (release_locked call a)
   release_locked_at x0 x1 x2 x3 = grind arith
 
-  pub release_then_at : (call : releasing.Release) (stage : releases.ReleaseStage) (given : GiveBack) (old : ℕ) → call.capacity ≡ c → ReleaseAt stage
+  pub release_then_at : (call : releasing.Release) (stage : ReleaseStage) (given : GiveBack) (old : ℕ) → call.capacity ≡ c → ReleaseAt stage
       → ReleaseThen (release_takes call stage given old)
-  release_then_at call releases.TheVariants.EmptiesCell given old cap at = grind arith
-  release_then_at call (releases.TheVariants.Raises raise) given old cap at =
+  release_then_at call releases.EmptiesCell given old cap at = grind arith
+  release_then_at call (releases.Raises raise) given old cap at =
       release_raised_at call given.mode (raise_after raise old) cap (raise_then_at raise old)
-  release_then_at call (releases.TheVariants.Locks lock) given old cap at =
+  release_then_at call (releases.Locks lock) given old cap at =
       release_locked_at call (lock_after call.capacity lock old) cap (lock_then_at call.capacity lock old at)
 
   abbrev pub RecoverThen : After recovering.Recover ReleaseState → Type 0
@@ -196,25 +203,25 @@ module _ (c : ℕ) where
   recover_comes_at : (call : recovering.Recover) (index : ℕ) → call.capacity ≡ c → RecoverThen (recover_comes_to call index)
   recover_comes_at x0 x1 x2 = grind arith
 
-  recover_raised_at : (call : recovering.Recover) (index : ℕ) (mode : ReleaseMode) (a : After raises.Raise ReleaseState) → call.capacity ≡ c → RaiseThen a
+  recover_raised_at : (call : recovering.Recover) (index : ℕ) (mode : ReleaseMode) (a : After Raise ReleaseState) → call.capacity ≡ c → RaiseThen a
       → RecoverThen (recover_raised call index mode a)
   recover_raised_at x0 x1 x2 x3 x4 x5 = grind (arith, recover_comes_at)
 
-  recover_locked_at : (call : recovering.Recover) (index : ℕ) (a : After locks.Lock ReleaseState) → call.capacity ≡ c → LockThen a
+  recover_locked_at : (call : recovering.Recover) (index : ℕ) (a : After Lock ReleaseState) → call.capacity ≡ c → LockThen a
       → RecoverThen (recover_locked call index a)
   recover_locked_at x0 x1 x2 x3 x4 = grind (arith, recover_comes_at)
 
-  pub recover_then_at : (call : recovering.Recover) (stage : recovers.RecoverStage) (mode : ReleaseMode) (old : ℕ) → call.capacity ≡ c → RecoverAt stage
+  pub recover_then_at : (call : recovering.Recover) (stage : RecoverStage) (mode : ReleaseMode) (old : ℕ) → call.capacity ≡ c → RecoverAt stage
       → RecoverThen (recover_takes call stage mode old)
-  recover_then_at call recovers.TheVariants.LoadsCounter mode old cap at = grind (arith, recover_comes_at)
-  recover_then_at call (recovers.TheVariants.LoadsCell index) mode old cap at = grind (arith, recover_comes_at)
-  recover_then_at call (recovers.TheVariants.Asks index owner) mode old cap at = grind (arith, recover_comes_at)
-  recover_then_at call (recovers.TheVariants.EmptiesCell index owner) mode old cap at = grind (arith, recover_comes_at)
-  recover_then_at call (recovers.TheVariants.Raises index raise) mode old cap at =
+  recover_then_at call recovers.LoadsCounter mode old cap at = grind (arith, recover_comes_at)
+  recover_then_at call (recovers.LoadsCell index) mode old cap at = grind (arith, recover_comes_at)
+  recover_then_at call (recovers.Asks index owner) mode old cap at = grind (arith, recover_comes_at)
+  recover_then_at call (recovers.EmptiesCell index owner) mode old cap at = grind (arith, recover_comes_at)
+  recover_then_at call (recovers.Raises index raise) mode old cap at =
       recover_raised_at call index mode (raise_after raise old) cap (raise_then_at raise old)
-  recover_then_at call (recovers.TheVariants.Locks index lock) mode old cap at =
+  recover_then_at call (recovers.Locks index lock) mode old cap at =
       recover_locked_at call index (lock_after call.capacity lock old) cap (lock_then_at call.capacity lock old at)
-  recover_then_at call recovers.TheVariants.LoadsCounterAgain mode old cap at = tt
+  recover_then_at call recovers.LoadsCounterAgain mode old cap at = tt
 
   abbrev pub FindThen : After finding.Find ℕ → Type 0
   FindThen (GoOn next) = next.capacity ≡ c
@@ -227,7 +234,7 @@ module _ (c : ℕ) where
   BorrowThen (GoOn next) = (next.capacity ≡ c) × CountAt next.count
   BorrowThen (Done found) = Unit {0}
 
-  borrowed_at : (call : counting.BorrowedIndices) (a : After counts.Count ends.Counted) → call.capacity ≡ c → CountThen a
+  borrowed_at : (call : counting.BorrowedIndices) (a : After Count Counted) → call.capacity ≡ c → CountThen a
       → BorrowThen (borrowed_counted call a)
   borrowed_at x0 x1 x2 x3 = grind arith
 

@@ -11,12 +11,12 @@ use Rattle.laws_robust.proofs.Names.{party_of, Open, span_of, first_row}
 use Rattle.laws_robust.proofs.Names.{number_of, party_at_begin, IsReached, Trace}
 use Rattle.laws_robust.proofs.Names.{opening, Each-nil, Each-append, span_of-own, span_of-death}
 use Rattle.laws_robust.proofs.Names.{MayBegin, MayDie, StandsThere, ComesFrom}
-use Rattle.steps.specs.declared.indices.robust.recover.RecoverStage as recovers
-use Rattle.model.specs.declared.families.Flight as flights
-use Rattle.model.specs.declared.families.Registry as registries
-use Rattle.model.specs.declared.families.indices.robust.RobustStart as starts
-use Rattle.model.specs.declared.families.indices.robust.calls.RobustFlight as calls
-use Rattle.model.specs.declared.turn.Kind as kinds
+use Rattle.steps.specs.declared.indices.robust.recover.RecoverStage.TheVariants as recovers
+use Rattle.model.specs.declared.families.Flight.TheVariants as flights
+use Rattle.model.specs.declared.families.Registry.TheVariants as registries
+use Rattle.model.specs.declared.families.indices.robust.RobustStart.TheVariants as starts
+use Rattle.model.specs.declared.families.indices.robust.calls.RobustFlight.TheVariants as calls
+use Rattle.model.specs.declared.turn.Kind.TheVariants as kinds
 use Rattle.model.specs.Families as families
 use Rattle.model.specs.Families.{begin_of}
 use Rattle.model.specs.declared.turn.Turn.{Turn}
@@ -77,29 +77,29 @@ module _ {T : Type 0} (scene : Scene T) (inv : Inv scene) where
       → Knows c flight (now scene) → StepOf scene start flight
 
   pub step_moves : (start : RobustStart) (flight : RobustFlight) → IsHere scene start → At c (all scene) start flight → Moves start flight
-  step_moves (starts.TheVariants.Acquire owner) (calls.TheVariants.Acquire run) here at =
-      subst (Moves (starts.TheVariants.Acquire owner))
+  step_moves (starts.Acquire owner) (calls.Acquire run) here at =
+      subst (Moves (starts.Acquire owner))
       (sym (ap (λ n. acquire_at n run.given run.call.stage) at.0 ∙ ap (λ o. acquire_at c o run.call.stage) at.1))
       (λ alive s k. acquire_step scene inv owner at.2 (lives owner alive) here run.call.stage at.3 k s)
-  step_moves (starts.TheVariants.Release index owner mode) (calls.TheVariants.Release run) here at =
-      subst (Moves (starts.TheVariants.Release index owner mode))
+  step_moves (starts.Release index owner mode) (calls.Release run) here at =
+      subst (Moves (starts.Release index owner mode))
       (sym (ap
-      (λ n. calls.TheVariants.Release (record { call = record { capacity = n; stage = run.call.stage }; given = run.given; room = tt }))
+      (λ n. calls.Release (record { call = record { capacity = n; stage = run.call.stage }; given = run.given; room = tt }))
       at.0
       ∙ ap
-      (λ (o : GiveBack). calls.TheVariants.Release (record { call = record { capacity = c; stage = run.call.stage }; given = o; room = tt })) at.1))
+      (λ (o : GiveBack). calls.Release (record { call = record { capacity = c; stage = run.call.stage }; given = o; room = tt })) at.1))
       (λ alive s k. release_step scene inv index owner at.2 at.3 (lives owner alive) mode here run.call.stage at.4 k s)
-  step_moves (starts.TheVariants.Find owner) (calls.TheVariants.Find run) here at =
-      subst (Moves (starts.TheVariants.Find owner)) (sym (ap (λ n. find_at n run.given run.call.stage) at.0 ∙ ap (λ o. find_at c o run.call.stage) at.1))
+  step_moves (starts.Find owner) (calls.Find run) here at =
+      subst (Moves (starts.Find owner)) (sym (ap (λ n. find_at n run.given run.call.stage) at.0 ∙ ap (λ o. find_at c o run.call.stage) at.1))
       (λ alive s k. find_step scene inv owner at.2 here run.call.stage at.3 k s)
-  step_moves (starts.TheVariants.Recover mode) (calls.TheVariants.Recover run) here at =
-      subst (Moves (starts.TheVariants.Recover mode))
+  step_moves (starts.Recover mode) (calls.Recover run) here at =
+      subst (Moves (starts.Recover mode))
       (sym (ap (λ n. recover_at n run.given run.call.stage) at.0 ∙ ap (λ m. recover_at c m run.call.stage) at.1))
       (λ alive s k. recover_step scene inv mode here run.call.stage at.2 k s)
-  step_moves starts.TheVariants.BorrowedIndices (calls.TheVariants.BorrowedIndices run) here at =
-      subst (Moves starts.TheVariants.BorrowedIndices) (sym (ap (λ n. borrowed_at n run.call.count) at.0))
+  step_moves starts.BorrowedIndices (calls.BorrowedIndices run) here at =
+      subst (Moves starts.BorrowedIndices) (sym (ap (λ n. borrowed_at n run.call.count) at.0))
       (λ alive s k. borrowed_step scene inv here run.call.count at.1 at.2 k s)
-  step_moves starts.TheVariants.IsLocked (calls.TheVariants.IsLocked run) here at = λ alive s k. looks_step scene inv here at k s
+  step_moves starts.IsLocked (calls.IsLocked run) here at = λ alive s k. looks_step scene inv here at k s
   step_moves start flight here at = absurd at
 
   abbrev Decides : Bool → RobustStart → RobustFlight → Type 0
@@ -110,45 +110,45 @@ module _ {T : Type 0} (scene : Scene T) (inv : Inv scene) where
 
   -- a yes about an owner, where owners die, is of a dead one
   may_tell : (b : GoneBy) (said : Bool) (mode : ReleaseMode) (index owner : ℕ)
-      → MayDecide b scene.set.dead (recover_at c mode (recovers.TheVariants.Asks index owner)) said → number_of said ≢ 0
+      → MayDecide b scene.set.dead (recover_at c mode (recovers.Asks index owner)) said → number_of said ≢ 0
       → MayBeTold b owner events
   may_tell b said mode index owner e ne = grind arith
 
-  find_decides : (said : Bool) (owner : ℕ) → owner < empty → IsHere scene (starts.TheVariants.Find owner)
+  find_decides : (said : Bool) (owner : ℕ) → owner < empty → IsHere scene (starts.Find owner)
       → (stage : FindStage) → FindAt c (all scene) stage
-      → Decides said (starts.TheVariants.Find owner) (find_at c owner stage)
+      → Decides said (starts.Find owner) (find_at c owner stage)
   find_decides x0 x1 x2 x3 x4 x5 x6 x7 x8 x9 = grind (arith, find_decided, number_of)
 
-  recover_decides : (said : Bool) (mode : ReleaseMode) → IsHere scene (starts.TheVariants.Recover mode)
+  recover_decides : (said : Bool) (mode : ReleaseMode) → IsHere scene (starts.Recover mode)
       → (stage : RecoverStage) → RecoverAt c mode (all scene) stage
-      → Decides said (starts.TheVariants.Recover mode) (recover_at c mode stage)
-  recover_decides said mode here recovers.TheVariants.LoadsCounter at frees asks s k = absurd (cc)
-  recover_decides said mode here (recovers.TheVariants.LoadsCell index) at frees asks s k = absurd (cc)
-  recover_decides said mode here (recovers.TheVariants.Asks index owner) at frees asks s k =
+      → Decides said (starts.Recover mode) (recover_at c mode stage)
+  recover_decides said mode here recovers.LoadsCounter at frees asks s k = absurd (cc)
+  recover_decides said mode here (recovers.LoadsCell index) at frees asks s k = absurd (cc)
+  recover_decides said mode here (recovers.Asks index owner) at frees asks s k =
       recover_decided scene inv mode here index owner at k s (number_of said) (may_tell by said mode index owner frees)
-  recover_decides said mode here (recovers.TheVariants.EmptiesCell index owner) at frees asks s k = absurd (cc)
-  recover_decides said mode here (recovers.TheVariants.Raises index raise) at frees asks s k =
+  recover_decides said mode here (recovers.EmptiesCell index owner) at frees asks s k = absurd (cc)
+  recover_decides said mode here (recovers.Raises index raise) at frees asks s k =
       both_ways (is_question (raise_want raise)) (raise_asks_none raise) asks
-  recover_decides said mode here (recovers.TheVariants.Locks index lock) at frees asks s k = both_ways (is_question (lock_want lock)) (lock_asks_none lock) asks
-  recover_decides said mode here recovers.TheVariants.LoadsCounterAgain at frees asks s k = absurd (cc)
+  recover_decides said mode here (recovers.Locks index lock) at frees asks s k = both_ways (is_question (lock_want lock)) (lock_asks_none lock) asks
+  recover_decides said mode here recovers.LoadsCounterAgain at frees asks s k = absurd (cc)
 
   pub decision_moves : (said : Bool) (start : RobustStart) (flight : RobustFlight) → IsHere scene start
       → At c (all scene) start flight → Decides said start flight
-  decision_moves said (starts.TheVariants.Acquire owner) (calls.TheVariants.Acquire run) here at =
+  decision_moves said (starts.Acquire owner) (calls.Acquire run) here at =
       λ frees asks s k. both_ways (is_question (acquire_asks run.call.stage run.given)) (acquire_asks_none run.call.stage run.given) asks
-  decision_moves said (starts.TheVariants.Release index owner mode) (calls.TheVariants.Release run) here at =
+  decision_moves said (starts.Release index owner mode) (calls.Release run) here at =
       λ frees asks s k. both_ways (is_question (release_asks run.call.stage run.given))
       (release_asks_none run.call.stage run.given) asks
-  decision_moves said (starts.TheVariants.Find owner) (calls.TheVariants.Find run) here at =
-      subst (Decides said (starts.TheVariants.Find owner)) (sym (ap (λ n. find_at n run.given run.call.stage) at.0 ∙ ap (λ o. find_at c o run.call.stage) at.1))
+  decision_moves said (starts.Find owner) (calls.Find run) here at =
+      subst (Decides said (starts.Find owner)) (sym (ap (λ n. find_at n run.given run.call.stage) at.0 ∙ ap (λ o. find_at c o run.call.stage) at.1))
       (find_decides said owner at.2 here run.call.stage at.3)
-  decision_moves said (starts.TheVariants.Recover mode) (calls.TheVariants.Recover run) here at =
-      subst (Decides said (starts.TheVariants.Recover mode))
+  decision_moves said (starts.Recover mode) (calls.Recover run) here at =
+      subst (Decides said (starts.Recover mode))
       (sym (ap (λ n. recover_at n run.given run.call.stage) at.0 ∙ ap (λ m. recover_at c m run.call.stage) at.1))
       (recover_decides said mode here run.call.stage at.2)
-  decision_moves said starts.TheVariants.BorrowedIndices (calls.TheVariants.BorrowedIndices run) here at =
+  decision_moves said starts.BorrowedIndices (calls.BorrowedIndices run) here at =
       λ frees asks s k. both_ways (is_question (count_want run.call.count)) (count_asks_none run.call.count) asks
-  decision_moves said starts.TheVariants.IsLocked (calls.TheVariants.IsLocked run) here at = λ frees asks s k. absurd (cc)
+  decision_moves said starts.IsLocked (calls.IsLocked run) here at = λ frees asks s k. absurd (cc)
   decision_moves said start flight here at = absurd at
 
 -- ---- the laws of the family
@@ -194,19 +194,19 @@ module _ {T : Type 0} (by : GoneBy) (code : Coding T) (c : ℕ) (t : Trace T) (s
       pub knows : Knows c flight (now (scene_of p x since))
 
     pub is_there : (start : RobustStart) (flight : RobustFlight)
-        → StandsThere (family_by by code c) t s p x since (Robust start) (flights.TheVariants.Robust flight)
+        → StandsThere (family_by by code c) t s p x since (Robust start) (flights.Robust flight)
         → IsThere start flight
     is_there start flight h = grind arith
 
     -- the rows that it has passed
     pub passes : (flight : RobustFlight) (said : Option Bool)
-        → first_row (going_rows code (registries.TheVariants.Owners s.state.dead) (Some (flights.TheVariants.Robust flight)) said) ≡ None
+        → first_row (going_rows code (registries.Owners s.state.dead) (Some (flights.Robust flight)) said) ≡ None
         → (acts_for_dead s.state.dead flight ≡ false) × (frees_living s.state.dead flight said ≡ false)
     passes flight said r = grind arith
 
     -- it may decide so
     pub decides_by : (b : GoneBy) (flight : RobustFlight) (said : Bool)
-        → first_row (going_rows code (registries.TheVariants.Owners s.state.dead) (Some (flights.TheVariants.Robust flight)) (Some said)) ≡ None
+        → first_row (going_rows code (registries.Owners s.state.dead) (Some (flights.Robust flight)) (Some said)) ≡ None
         → MayDecide b s.state.dead flight said
     decides_by Death flight said r = (passes flight (Some said) r).1
     decides_by Word flight said r = tt
@@ -214,10 +214,10 @@ module _ {T : Type 0} (by : GoneBy) (code : Coding T) (c : ℕ) (t : Trace T) (s
     -- ---- a step
 
     comes : HasRoom by t.world.words → (start : Start T) (flight : Flight T)
-        → first_row (going_rows code (registries.TheVariants.Owners s.state.dead) (Some flight) None) ≡ None
+        → first_row (going_rows code (registries.Owners s.state.dead) (Some flight) None) ≡ None
         → StandsThere (family_by by code c) t s p x since start flight
-        → ComesFrom (family_by by code c) t s p x since code s.state.words (registries.TheVariants.Owners s.state.dead) start flight
-    comes room (Robust start) (flights.TheVariants.Robust flight) r h =
+        → ComesFrom (family_by by code c) t s p x since code s.state.words (registries.Owners s.state.dead) start flight
+    comes room (Robust start) (flights.Robust flight) r h =
         let there = is_there start flight h in
         let moves = step_moves (scene_of p x since) (inv_with room) start flight there.here there.at (passes flight None r).0 there.steps there.knows in
         record {
@@ -232,14 +232,14 @@ module _ {T : Type 0} (by : GoneBy) (code : Coding T) (c : ℕ) (t : Trace T) (s
 
     -- what a call that is one of the set may decide
     abbrev pub MayDecideIn : Flight T → Bool → Type 0
-    MayDecideIn (flights.TheVariants.Robust flight) said = MayDecide by s.state.dead flight said
+    MayDecideIn (flights.Robust flight) said = MayDecide by s.state.dead flight said
     MayDecideIn flight said = Unit {0}
 
     pub decides : HasRoom by t.world.words → (said : Bool) (start : Start T) (flight : Flight T)
         → MayDecideIn flight said → is_question (want_of code flight) ≡ true
         → StandsThere (family_by by code c) t s p x since start flight
-        → DecidesFrom (family_by by code c) t s p x since code (number_of said) s.state.words (registries.TheVariants.Owners s.state.dead) start flight
-    decides room said (Robust start) (flights.TheVariants.Robust flight) r asks h =
+        → DecidesFrom (family_by by code c) t s p x since code (number_of said) s.state.words (registries.Owners s.state.dead) start flight
+    decides room said (Robust start) (flights.Robust flight) r asks h =
         let there = is_there start flight h in
         let moves = decision_moves (scene_of p x since) (inv_with room) said start flight there.here there.at r asks there.steps there.knows in
         record {
@@ -252,7 +252,7 @@ module _ {T : Type 0} (by : GoneBy) (code : Coding T) (c : ℕ) (t : Trace T) (s
 
     -- one that passes the machine's rows may
     pub passes_in : (flight : Flight T) (said : Bool)
-        → first_row (going_rows code (registries.TheVariants.Owners s.state.dead) (Some flight) (Some said)) ≡ None → MayDecideIn flight said
+        → first_row (going_rows code (registries.Owners s.state.dead) (Some flight) (Some said)) ≡ None → MayDecideIn flight said
     passes_in x0 x1 x2 = grind (arith, decides_by)
 
   -- ---- a call begins
@@ -262,11 +262,11 @@ module _ {T : Type 0} (by : GoneBy) (code : Coding T) (c : ℕ) (t : Trace T) (s
         → IsFirst T by c s.state.words t.events p t.world.changes start flight
         → span_of p (t.events ++ Begun p (Robust start) ∷ []) ≡ Open (Robust start) []
         → MayBegin t.world p (Robust start)
-        → frame.Comes (family_by by code c) t p (registries.TheVariants.Owners s.state.dead) s.state.words
-        (party_at_begin (Robust start) (flights.TheVariants.Robust flight) t.world.changes)
+        → frame.Comes (family_by by code c) t p (registries.Owners s.state.dead) s.state.words
+        (party_at_begin (Robust start) (flights.Robust flight) t.world.changes)
         (Begun p (Robust start) ∷ []) t.world.changes
     begins_now start flight known span may =
-        let y : Party T = party_at_begin (Robust start) (flights.TheVariants.Robust flight) t.world.changes in
+        let y : Party T = party_at_begin (Robust start) (flights.Robust flight) t.world.changes in
         let scene = scene_of p y t.world.changes in
         let does = begins scene s.holds.good (Robust start) in
         let shows : Shows scene s.state.words (span_of p t.events) y (Begun p (Robust start) ∷ []) t.world.changes =
@@ -280,7 +280,7 @@ module _ {T : Type 0} (by : GoneBy) (code : Coding T) (c : ℕ) (t : Trace T) (s
                 steps = omega arith;
                 at =
                     at_written c [] (wrote_of p (t.events ++ Begun p (Robust start) ∷ [])) (Robust start)
-                    (flights.TheVariants.Robust flight) (ap wrote_in span) known.at;
+                    (flights.Robust flight) (ap wrote_in span) known.at;
               };
           knows = known.knows;
           seen = inl (refl, refl);
@@ -297,19 +297,19 @@ module _ {T : Type 0} (by : GoneBy) (code : Coding T) (c : ℕ) (t : Trace T) (s
     span_begun start = span_of-own p t.events (Begun p (Robust start) ∷ []) (refl, tt)
 
     begin_comes : (start : Start T) (flight : Flight T) → MayBegin t.world p start
-        → first_of kinds.TheVariants.Robust c start (registries.TheVariants.Owners s.state.dead) ≡ Some flight
-        → first_row ((begin_of kinds.TheVariants.Robust c start).rows (registries.TheVariants.Owners s.state.dead) p) ≡ None
-        → frame.Comes (family_by by code c) t p (kept_after_begin code c start p (registries.TheVariants.Owners s.state.dead)) s.state.words
+        → first_of kinds.Robust c start (registries.Owners s.state.dead) ≡ Some flight
+        → first_row ((begin_of kinds.Robust c start).rows (registries.Owners s.state.dead) p) ≡ None
+        → frame.Comes (family_by by code c) t p (kept_after_begin code c start p (registries.Owners s.state.dead)) s.state.words
         (party_at_begin start flight t.world.changes) (Begun p start ∷ []) t.world.changes
-    begin_comes (Robust start) (flights.TheVariants.Robust flight) may named passed =
-        let own = begins_own T c (registries.TheVariants.Owners s.state.dead) (Robust start) (flights.TheVariants.Robust flight) named in
+    begin_comes (Robust start) (flights.Robust flight) may named passed =
+        let own = begins_own T c (registries.Owners s.state.dead) (Robust start) (flights.Robust flight) named in
         let g = s.holds.good in
         begins_now start flight
         (subst (λ f. IsFirst T by c s.state.words t.events p t.world.changes start f) own.0
         (first_is by c s.state.words t.events p t.world.changes g.some g.owned start own.1 s.state.dead passed
         (ap (λ a. set_acts (wrote_in a)) (span_begun start))))
         (span_begun start) may
-    begin_comes start flight may named passed = absurd (begins_own T c (registries.TheVariants.Owners s.state.dead) start flight named)
+    begin_comes start flight may named passed = absurd (begins_own T c (registries.Owners s.state.dead) start flight named)
 
   -- ---- an owner dies
 
@@ -364,7 +364,7 @@ module _ {T : Type 0} (by : GoneBy) where
       }
 
   pub opening_sound : (code : Coding T) (c parties : ℕ) → 1 ≤ c → c < 2 ^ 32
-      → frame.Sound (family_by by code c) (opening code kinds.TheVariants.Robust c parties)
+      → frame.Sound (family_by by code c) (opening code kinds.Robust c parties)
   opening_sound code c parties some few = laws.opening_sound (outline by) code c (opens code c some few) parties
 
   pub all_turns : AllTurns (outline by) May
@@ -375,5 +375,5 @@ module _ {T : Type 0} (by : GoneBy) where
         few = λ code c t turn s small. has_room by code c t s small;
       }
 
-pub reached_sound : {T : Type 0} (t : Trace T) → t.world.kind ≡ kinds.TheVariants.Robust → IsReached t → frame.Sound (family t.world.coding t.world.capacity) t
+pub reached_sound : {T : Type 0} (t : Trace T) → t.world.kind ≡ kinds.Robust → IsReached t → frame.Sound (family t.world.coding t.world.capacity) t
 reached_sound = laws.reached_sound (outline Death) (May Death) (all_turns Death)

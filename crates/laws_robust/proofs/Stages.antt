@@ -10,8 +10,8 @@ use Rattle.laws_robust.proofs.Names.{answer_in, one_if, old_of, words_after, cha
 use Rattle.laws_robust.proofs.Names.{party_after, ending_of, AreOwn, AllFollow, AreRight, span_of-own}
 use Rattle.steps.specs.Ask.{written}
 use Rattle.steps.specs.declared.ask.Op.TheVariants.{Load, Exchange}
-use Rattle.model.specs.declared.families.Flight as flights
-use Rattle.model.specs.declared.families.Registry as registries
+use Rattle.model.specs.declared.families.Flight.TheVariants as flights
+use Rattle.model.specs.declared.families.Registry.TheVariants as registries
 use Rattle.model.proofs.Turns.{kept_words}
 use Rattle.laws_robust.specs.Gone.{AsksBy, AnswersBy}
 use Rattle.laws_robust.proofs.Core.{counter_of}
@@ -55,7 +55,7 @@ exchange_sets x0 x1 x2 x3 x4 = grind (arith, set, eq-eqb)
 module _ {T : Type 0} where
   -- a call of the kind as one of any
   abbrev pub any_call : After RobustFlight (Answer T) → After (Flight T) (Answer T)
-  any_call after = as_call flights.TheVariants.Robust (λ answer. answer) after
+  any_call after = as_call flights.Robust (λ answer. answer) after
 
   -- events that make a span longer
   abbrev pub Lengthens : List (Event T) → Type 0
@@ -90,7 +90,7 @@ module _ {T : Type 0} (scene : Scene T) where
   abbrev pub party_then : RobustStart → Option Ask → Bool → After RobustFlight (Answer T) → Party T
   party_then start ask back after =
       party_after (party start) since changes (step_count ask) (change_of ws ask)
-      (record { after = any_call after; back = back; wrote = []; kept = registries.TheVariants.Owners scene.set.dead })
+      (record { after = any_call after; back = back; wrote = []; kept = registries.Owners scene.set.dead })
 
   abbrev pub since_then : Option Ask → ℕ
   since_then ask = since + change_of ws ask

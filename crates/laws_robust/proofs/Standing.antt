@@ -3,14 +3,14 @@ use Rattle.laws_robust.proofs.Names.{◌≡◌, ℕ, ◌+◌, ◌*◌, ◌<◌, 
 use Rattle.laws_robust.proofs.Names.{LockIfLastIndex, Default, AcquireStage, FindStage, Count, Lock, Raise}
 use Rattle.laws_robust.proofs.Names.{RecoverStage, ReleaseStage, empty, RobustStart, RobustFlight, SetAct, Fills}
 use Rattle.laws_robust.proofs.Names.{Frees, Asks, Yes, IsOneOf, IsLatest, asked_in, HasJustFreed}
-use Rattle.steps.specs.declared.indices.robust.acquire.AcquireStage as acquires
-use Rattle.steps.specs.declared.indices.robust.find.FindStage as finds
-use Rattle.steps.specs.declared.indices.robust.parts.Count as counts
-use Rattle.steps.specs.declared.indices.robust.parts.Lock as locks
-use Rattle.steps.specs.declared.indices.robust.parts.Raise as raises
-use Rattle.steps.specs.declared.indices.robust.recover.RecoverStage as recovers
-use Rattle.steps.specs.declared.indices.robust.release.ReleaseStage as releases
-use Rattle.model.specs.declared.families.indices.robust.RobustStart as starts
+use Rattle.steps.specs.declared.indices.robust.acquire.AcquireStage.TheVariants as acquires
+use Rattle.steps.specs.declared.indices.robust.find.FindStage.TheVariants as finds
+use Rattle.steps.specs.declared.indices.robust.parts.Count.TheVariants as counts
+use Rattle.steps.specs.declared.indices.robust.parts.Lock.TheVariants as locks
+use Rattle.steps.specs.declared.indices.robust.parts.Raise.TheVariants as raises
+use Rattle.steps.specs.declared.indices.robust.recover.RecoverStage.TheVariants as recovers
+use Rattle.steps.specs.declared.indices.robust.release.ReleaseStage.TheVariants as releases
+use Rattle.model.specs.declared.families.indices.robust.RobustStart.TheVariants as starts
 use Rattle.model.specs.declared.families.indices.robust.calls.RobustFlight.TheVariants.{Acquire, Release, Find}
 use Rattle.model.specs.declared.families.indices.robust.calls.RobustFlight.TheVariants.{Recover, BorrowedIndices}
 use Rattle.model.specs.declared.families.indices.robust.calls.RobustFlight.TheVariants.{IsLocked}
@@ -48,24 +48,24 @@ looking = IsLocked (record { call = record {}; given = tt; room = tt })
 -- ---- how many steps they have taken at most
 
 abbrev pub raise_number : Raise → ℕ
-raise_number raises.TheVariants.LoadsCounter = 0
-raise_number (raises.TheVariants.ExchangesCounter counter) = 1
+raise_number raises.LoadsCounter = 0
+raise_number (raises.ExchangesCounter counter) = 1
 
 abbrev pub count_number : ℕ → Count → ℕ
-count_number c counts.TheVariants.LoadsCounter = 0
-count_number c (counts.TheVariants.LoadsCell counter index filled) = 1 + index
-count_number c (counts.TheVariants.ExchangesCounter counter filled) = 1 + c
+count_number c counts.LoadsCounter = 0
+count_number c (counts.LoadsCell counter index filled) = 1 + index
+count_number c (counts.ExchangesCounter counter filled) = 1 + c
 
 abbrev pub lock_number : ℕ → Lock → ℕ
-lock_number c (locks.TheVariants.Counts count) = count_number c count
-lock_number c (locks.TheVariants.ExchangesCounter counter) = 2 + c
+lock_number c (locks.Counts count) = count_number c count
+lock_number c (locks.ExchangesCounter counter) = 2 + c
 
 abbrev pub acquire_number : ℕ → AcquireStage → ℕ → ℕ
-acquire_number c acquires.TheVariants.LoadsCounter backs = 0
-acquire_number c (acquires.TheVariants.FillsCell counter index) backs =
+acquire_number c acquires.LoadsCounter backs = 0
+acquire_number c (acquires.FillsCell counter index) backs =
     1 + index + backs * (c + 1)
-acquire_number c (acquires.TheVariants.ChecksCounter counter) backs = 1 + c + backs * (c + 1)
-acquire_number c (acquires.TheVariants.Raises index raise) backs =
+acquire_number c (acquires.ChecksCounter counter) backs = 1 + c + backs * (c + 1)
+acquire_number c (acquires.Raises index raise) backs =
     1 + c + raise_number raise + backs * (c + 1)
 
 -- what a turn back takes, and an index of a recovery
@@ -86,30 +86,30 @@ at_least_four c Default = omega arith
 at_least_four c LockIfLastIndex = omega arith
 
 abbrev pub release_number : ℕ → ReleaseMode → ReleaseStage → ℕ → ℕ
-release_number c mode releases.TheVariants.EmptiesCell backs = 0
-release_number c mode (releases.TheVariants.Raises raise) backs =
+release_number c mode releases.EmptiesCell backs = 0
+release_number c mode (releases.Raises raise) backs =
     1 + raise_number raise + backs * for_back c mode
-release_number c mode (releases.TheVariants.Locks lock) backs =
+release_number c mode (releases.Locks lock) backs =
     3 + lock_number c lock + backs * for_back c mode
 
 abbrev pub recover_number : ℕ → ReleaseMode → RecoverStage → ℕ → ℕ
-recover_number c mode recovers.TheVariants.LoadsCounter backs = 0
-recover_number c mode (recovers.TheVariants.LoadsCell index) backs =
+recover_number c mode recovers.LoadsCounter backs = 0
+recover_number c mode (recovers.LoadsCell index) backs =
     1 + index * for_index c mode + backs * for_back c mode
-recover_number c mode (recovers.TheVariants.Asks index owner) backs =
+recover_number c mode (recovers.Asks index owner) backs =
     2 + index * for_index c mode + backs * for_back c mode
-recover_number c mode (recovers.TheVariants.EmptiesCell index owner) backs =
+recover_number c mode (recovers.EmptiesCell index owner) backs =
     2 + index * for_index c mode + backs * for_back c mode
-recover_number c mode (recovers.TheVariants.Raises index raise) backs =
+recover_number c mode (recovers.Raises index raise) backs =
     3 + raise_number raise + index * for_index c mode + backs * for_back c mode
-recover_number c mode (recovers.TheVariants.Locks index lock) backs =
+recover_number c mode (recovers.Locks index lock) backs =
     5 + lock_number c lock + index * for_index c mode + backs * for_back c mode
-recover_number c mode recovers.TheVariants.LoadsCounterAgain backs =
+recover_number c mode recovers.LoadsCounterAgain backs =
     1 + c * for_index c mode + backs * for_back c mode
 
 abbrev pub find_number : FindStage → ℕ
-find_number (finds.TheVariants.LoadsCell index found) = index
-find_number (finds.TheVariants.Asks index found) = index + 1
+find_number (finds.LoadsCell index found) = index
+find_number (finds.Asks index found) = index + 1
 
 abbrev pub number_of : ℕ → RobustFlight → ℕ → ℕ
 number_of c (Acquire run) backs = acquire_number c run.call.stage backs
@@ -122,30 +122,30 @@ number_of c (IsLocked run) backs = 0
 -- ---- where they stand, and what they have done
 
 abbrev pub AcquireAt : ℕ → ℕ → List SetAct → AcquireStage → Type 0
-AcquireAt c owner all acquires.TheVariants.LoadsCounter = all ≡ []
-AcquireAt c owner all (acquires.TheVariants.FillsCell counter index) = (index < c) × (all ≡ [])
-AcquireAt c owner all (acquires.TheVariants.ChecksCounter counter) = all ≡ []
-AcquireAt c owner all (acquires.TheVariants.Raises index raise) =
+AcquireAt c owner all acquires.LoadsCounter = all ≡ []
+AcquireAt c owner all (acquires.FillsCell counter index) = (index < c) × (all ≡ [])
+AcquireAt c owner all (acquires.ChecksCounter counter) = all ≡ []
+AcquireAt c owner all (acquires.Raises index raise) =
     (index < c) × (all ≡ Fills index owner ∷ [])
 
 abbrev pub CountAt : ℕ → Count → Type 0
-CountAt c counts.TheVariants.LoadsCounter = Unit {0}
-CountAt c (counts.TheVariants.LoadsCell counter index filled) = (index < c) × (filled ≤ index)
-CountAt c (counts.TheVariants.ExchangesCounter counter filled) = filled ≤ c
+CountAt c counts.LoadsCounter = Unit {0}
+CountAt c (counts.LoadsCell counter index filled) = (index < c) × (filled ≤ index)
+CountAt c (counts.ExchangesCounter counter filled) = filled ≤ c
 
 abbrev pub LockAt : ℕ → Lock → Type 0
-LockAt c (locks.TheVariants.Counts count) = CountAt c count
-LockAt c (locks.TheVariants.ExchangesCounter counter) = Unit {0}
+LockAt c (locks.Counts count) = CountAt c count
+LockAt c (locks.ExchangesCounter counter) = Unit {0}
 
 abbrev pub ReleaseAt : ℕ → ℕ → ℕ → ReleaseMode → List SetAct → ReleaseStage → Type 0
-ReleaseAt c index owner mode all releases.TheVariants.EmptiesCell = all ≡ []
-ReleaseAt c index owner mode all (releases.TheVariants.Raises raise) = all ≡ Frees index owner ∷ []
-ReleaseAt c index owner mode all (releases.TheVariants.Locks lock) =
+ReleaseAt c index owner mode all releases.EmptiesCell = all ≡ []
+ReleaseAt c index owner mode all (releases.Raises raise) = all ≡ Frees index owner ∷ []
+ReleaseAt c index owner mode all (releases.Locks lock) =
     (mode ≡ LockIfLastIndex) × LockAt c lock × (all ≡ Frees index owner ∷ [])
 
 abbrev pub FindAt : ℕ → List SetAct → FindStage → Type 0
-FindAt c all (finds.TheVariants.LoadsCell index found) = (index < c) × (all ≡ [])
-FindAt c all (finds.TheVariants.Asks index found) = (index < c) × (all ≡ [])
+FindAt c all (finds.LoadsCell index found) = (index < c) × (all ≡ [])
+FindAt c all (finds.Asks index found) = (index < c) × (all ≡ [])
 
 -- a recovery at an index of the set has asked about lower ones than this, and about each that it has freed
 pub record IsInCourse (c index bound : ℕ) (all : List SetAct) : Type 0 where
@@ -154,33 +154,33 @@ pub record IsInCourse (c index bound : ℕ) (all : List SetAct) : Type 0 where
   pub freed : (i owner : ℕ) → IsOneOf (Frees i owner) all → IsOneOf (Asks i owner) all
 
 abbrev pub RecoverAt : ℕ → ReleaseMode → List SetAct → RecoverStage → Type 0
-RecoverAt c mode all recovers.TheVariants.LoadsCounter = all ≡ []
-RecoverAt c mode all (recovers.TheVariants.LoadsCell index) = IsInCourse c index index all
-RecoverAt c mode all (recovers.TheVariants.Asks index owner) =
+RecoverAt c mode all recovers.LoadsCounter = all ≡ []
+RecoverAt c mode all (recovers.LoadsCell index) = IsInCourse c index index all
+RecoverAt c mode all (recovers.Asks index owner) =
     IsInCourse c index (index + 1) all × (owner < empty) × IsLatest (Asks index owner) all
-RecoverAt c mode all (recovers.TheVariants.EmptiesCell index owner) =
+RecoverAt c mode all (recovers.EmptiesCell index owner) =
     IsInCourse c index (index + 1) all × (owner < empty) × IsLatest (Yes index owner) all
     × IsOneOf (Asks index owner) all
-RecoverAt c mode all (recovers.TheVariants.Raises index raise) =
+RecoverAt c mode all (recovers.Raises index raise) =
     IsInCourse c index (index + 1) all × HasJustFreed all
-RecoverAt c mode all (recovers.TheVariants.Locks index lock) =
+RecoverAt c mode all (recovers.Locks index lock) =
     IsInCourse c index (index + 1) all × HasJustFreed all × (mode ≡ LockIfLastIndex) × LockAt c lock
-RecoverAt c mode all recovers.TheVariants.LoadsCounterAgain =
+RecoverAt c mode all recovers.LoadsCounterAgain =
     (i owner : ℕ) → IsOneOf (Frees i owner) all → IsOneOf (Asks i owner) all
 
 -- where a call of this name stands in a set of this capacity, where it has done all this
 abbrev pub At : ℕ → List SetAct → RobustStart → RobustFlight → Type 0
-At c all (starts.TheVariants.Acquire owner) (Acquire run) =
+At c all (starts.Acquire owner) (Acquire run) =
     (run.call.capacity ≡ c) × (run.given ≡ owner) × (owner < empty)
     × AcquireAt c owner all run.call.stage
-At c all (starts.TheVariants.Release index owner mode) (Release run) =
+At c all (starts.Release index owner mode) (Release run) =
     (run.call.capacity ≡ c) × (run.given ≡ record { index = index; owner = owner; mode = mode })
     × (owner < empty) × (index < c) × ReleaseAt c index owner mode all run.call.stage
-At c all (starts.TheVariants.Find owner) (Find run) =
+At c all (starts.Find owner) (Find run) =
     (run.call.capacity ≡ c) × (run.given ≡ owner) × (owner < empty) × FindAt c all run.call.stage
-At c all (starts.TheVariants.Recover mode) (Recover run) =
+At c all (starts.Recover mode) (Recover run) =
     (run.call.capacity ≡ c) × (run.given ≡ mode) × RecoverAt c mode all run.call.stage
-At c all starts.TheVariants.BorrowedIndices (BorrowedIndices run) =
+At c all starts.BorrowedIndices (BorrowedIndices run) =
     (run.call.capacity ≡ c) × CountAt c run.call.count × (all ≡ [])
-At c all starts.TheVariants.IsLocked (IsLocked run) = all ≡ []
+At c all starts.IsLocked (IsLocked run) = all ≡ []
 At c all start flight = ⊥

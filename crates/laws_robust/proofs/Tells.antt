@@ -11,10 +11,10 @@ use Rattle.laws_robust.proofs.Names.{events_of_step, events_of_answer, events_of
 use Rattle.laws_robust.proofs.Names.{ask_of_doing, ending_of, after_turn, World, Trace, flight_in, passes}
 use Rattle.laws_robust.proofs.Names.{must_be_due, StandsThere, stands_there}
 use Rattle.steps.specs.declared.indices.robust.find.Find as find_calls
-use Rattle.model.specs.declared.families.Flight as flights
-use Rattle.model.specs.declared.families.Registry as registries
-use Rattle.model.specs.declared.families.indices.robust.RobustStart as starts
-use Rattle.model.specs.declared.families.indices.robust.calls.RobustFlight as calls
+use Rattle.model.specs.declared.families.Flight.TheVariants as flights
+use Rattle.model.specs.declared.families.Registry.TheVariants as registries
+use Rattle.model.specs.declared.families.indices.robust.RobustStart.TheVariants as starts
+use Rattle.model.specs.declared.families.indices.robust.calls.RobustFlight.TheVariants as calls
 use Rattle.model.proofs.Frame as frame
 use Rattle.laws_robust.proofs.Finds.{find_loads_all, find_asks_all}
 use Rattle.laws_robust.proofs.Invariant.{Scene, Inv, family}
@@ -48,7 +48,7 @@ module _ {T : Type 0} where
       absurd (subst (IsEffectOf turn) is are.0)
 
   done_is : (owner number : ℕ) (r : After find_calls.Find ℕ)
-      → answer_in (any_call {T = T} (as_call calls.TheVariants.Find Number (went_on as_it_is owner tt r))) ≡ Some (Number number)
+      → answer_in (any_call {T = T} (as_call calls.Find Number (went_on as_it_is owner tt r))) ≡ Some (Number number)
       → r ≡ Done number
   done_is owner number (GoOn call) e = absurd (cc)
   done_is owner number (Done found) e = cc
@@ -69,15 +69,15 @@ module _ {T : Type 0} where
     stage_tells : (fits : owner < empty) (number : ℕ) (due : Bool) (stage : FindStage) → FindAt c (all scene) stage → Tells number due (find_at c owner stage)
     stage_tells x0 x1 x2 x3 x4 x5 x6 x7 x8 x9 x10 = grind (arith, find_loads_all, done_is, find_asks_all)
 
-    find_tells : (number : ℕ) (due : Bool) (flight : RobustFlight) → At c (all scene) (starts.TheVariants.Find owner) flight → Tells number due flight
-    find_tells number due (calls.TheVariants.Find run) at =
+    find_tells : (number : ℕ) (due : Bool) (flight : RobustFlight) → At c (all scene) (starts.Find owner) flight → Tells number due flight
+    find_tells number due (calls.Find run) at =
         subst (Tells number due) (sym (ap (λ n. find_at n run.given run.call.stage) at.0 ∙ ap (λ o. find_at c o run.call.stage) at.1))
         (stage_tells at.2 number due run.call.stage at.3)
     find_tells number due flight at = absurd at
 
   robust_name : (start : RobustStart) (owner : ℕ)
-      → ◌≡◌ {A = Start T} (Robust start) (Robust (starts.TheVariants.Find owner))
-      → start ≡ starts.TheVariants.Find owner
+      → ◌≡◌ {A = Start T} (Robust start) (Robust (starts.Find owner))
+      → start ≡ starts.Find owner
   robust_name start owner e = cc
 
   -- ---- a step of a party's call
@@ -90,25 +90,25 @@ module _ {T : Type 0} where
     Wrote kept start flight =
         events_of_step q start
         (step_of t.world.coding t.world.words (beside_of t.world.words kept t.world.latest q) q start flight answer kept)
-        ≡ Finished p (Robust (starts.TheVariants.Find owner)) (Number number) ∷ []
+        ≡ Finished p (Robust (starts.Find owner)) (Number number) ∷ []
 
     wrote_end : (start : RobustStart) (flight : RobustFlight)
-        → Wrote (registries.TheVariants.Owners s.state.dead) (Robust start) (flights.TheVariants.Robust flight)
-        → IsEnd q p (Robust start) (Robust (starts.TheVariants.Find owner)) (answer_in (any_call (after {T = T} flight answer))) (Number number)
+        → Wrote (registries.Owners s.state.dead) (Robust start) (flights.Robust flight)
+        → IsEnd q p (Robust start) (Robust (starts.Find owner)) (answer_in (any_call (after {T = T} flight answer))) (Number number)
     wrote_end start flight e =
-        ends_alone turn q p (effects q flight answer) (Robust start) (Robust (starts.TheVariants.Find owner)) _
+        ends_alone turn q p (effects q flight answer) (Robust start) (Robust (starts.Find owner)) _
         (Number number) (all_effects turn q mine flight answer) e
 
     own_end : (start : Start T) (flight : Flight T) → StandsThere (family code c) t s q x since start flight
-        → Wrote (registries.TheVariants.Owners s.state.dead) start flight → q ≡ p
+        → Wrote (registries.Owners s.state.dead) start flight → q ≡ p
     own_end x0 x1 x2 x3 = grind (arith, wrote_end)
 
     counted : (due : Bool) → (due ≡ true → answer ≢ 0) → (start : Start T) (flight : Flight T)
         → StandsThere (family code c) t s q x since start flight → is_question (want_of t.world.coding flight) ≡ due
         → (due ≡ false → answer ≡ old_of s.state.words (ask_of (want_of t.world.coding flight)))
-        → Wrote (registries.TheVariants.Owners s.state.dead) start flight
+        → Wrote (registries.Owners s.state.dead) start flight
         → IsCount p (IsFilledWith owner) c number t.events
-    counted due told (Robust start) (flights.TheVariants.Robust flight) h asks loads e =
+    counted due told (Robust start) (flights.Robust flight) h asks loads e =
         let there = is_there Death code c t s q x since found start flight h in
         let end = wrote_end start flight e in
         let at = subst (λ a. At c (all (scene_of Death code c t s q x since)) a flight) (robust_name start owner end.name) there.at in
@@ -122,7 +122,7 @@ module _ {T : Type 0} where
       there : StandsThere (family code c) t s q x since x.start flight
       there = stands_there (family code c) t s q x since flight found doing
 
-      by_owners : Wrote (registries.TheVariants.Owners s.state.dead) x.start flight
+      by_owners : Wrote (registries.Owners s.state.dead) x.start flight
       by_owners = subst (λ kept. Wrote kept x.start flight) s.fit.kept e
 
       pub own_party : q ≡ p
@@ -141,7 +141,7 @@ module _ {T : Type 0} where
 
   module _ (code : Coding T) (c : ℕ) (t : Trace T) (s : frame.Sound (family code c) t) (p owner number : ℕ) where
     abbrev Ended : List (Event T) → Type 0
-    Ended es = es ≡ Finished p (Robust (starts.TheVariants.Find owner)) (Number number) ∷ []
+    Ended es = es ≡ Finished p (Robust (starts.Find owner)) (Number number) ∷ []
 
     next_tells : (q : ℕ) → t.world.turns < 2 ^ 64 - 2 → is_due t.world.coding (flight_in t.world q) ≡ false
         → (o : Option (Party T)) → party_of q t.world.latest ≡ o → Ended (events_of_next t.world q o)
@@ -187,7 +187,7 @@ module _ {T : Type 0} where
   not_due w q e = grind arith
 
   tells : (code : Coding T) (c : ℕ) (t : Trace T) (turn : Turn T) → refusal_of t.world turn ≡ None → frame.Sound (family code c) t → (p owner number : ℕ)
-      → events_of t.world turn ≡ Finished p (Robust (starts.TheVariants.Find owner)) (Number number) ∷ []
+      → events_of t.world turn ≡ Finished p (Robust (starts.Find owner)) (Number number) ∷ []
       → turn ≢ Decide p false → IsCount p (IsFilledWith owner) c number t.events
   tells code c t (Begin q start) r s p owner number e ne = absurd (cc)
   tells code c t (Next q) r s p owner number e ne =

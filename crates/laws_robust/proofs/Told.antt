@@ -12,9 +12,9 @@ use Rattle.laws_robust.proofs.Names.{number_of, ask_of_doing, events_of_step, ev
 use Rattle.laws_robust.proofs.Names.{events_of_decision, events_of, ending_of, after_turn, Trace, flight_in}
 use Rattle.laws_robust.proofs.Names.{row_passed, passes, stands_there}
 use Rattle.steps.specs.declared.ask.Want.{Want}
-use Rattle.model.specs.declared.families.Flight as flights
-use Rattle.model.specs.declared.families.Registry as registries
-use Rattle.model.specs.declared.families.indices.robust.RobustStart as starts
+use Rattle.model.specs.declared.families.Flight.TheVariants as flights
+use Rattle.model.specs.declared.families.Registry.TheVariants as registries
+use Rattle.model.specs.declared.families.indices.robust.RobustStart.TheVariants as starts
 use Rattle.model.proofs.Frame as frame
 use Rattle.laws_robust.proofs.Invariant.{family}
 use Rattle.laws_robust.proofs.Knows.{Knows}
@@ -40,7 +40,7 @@ module _ {T : Type 0} (code : Coding T) (c : ℕ) (t : Trace T) (s : frame.Sound
       events_of_step p start (step_of t.world.coding t.world.words (beside_of t.world.words kept t.world.latest p) p start flight answer kept)
 
   abbrev own : Registry T
-  own = registries.TheVariants.Owners s.state.dead
+  own = registries.Owners s.state.dead
 
   same_kept : t.world.kept ≡ own
   same_kept = s.fit.kept
@@ -52,7 +52,7 @@ module _ {T : Type 0} (code : Coding T) (c : ℕ) (t : Trace T) (s : frame.Sound
     pub party : Party T
     pub since : ℕ
     pub flight : RobustFlight
-    pub here : flight_in t.world p ≡ Some (flights.TheVariants.Robust flight)
+    pub here : flight_in t.world p ≡ Some (flights.Robust flight)
     pub due : is_question (want flight) ≡ true
     pub at : At c (all (scene_of Death code c t s p party since)) start flight
     pub knows : Knows c flight (now (scene_of Death code c t s p party since))
@@ -68,14 +68,14 @@ module _ {T : Type 0} (code : Coding T) (c : ℕ) (t : Trace T) (s : frame.Sound
     -- by where its call stands
     abbrev Stops : Party T → ℕ → RobustFlight → Type 0
     Stops x since flight =
-        flight_in t.world p ≡ Some (flights.TheVariants.Robust flight) → is_question (want flight) ≡ true
+        flight_in t.world p ≡ Some (flights.Robust flight) → is_question (want flight) ≡ true
         → Knows c flight (now (scene_of Death code c t s p x since))
         → events_of t.world (Decide p false)
-        ≡ effects p flight 0 ++ ending_of p (Robust (starts.TheVariants.Find owner)) (answer_in (any_call (after {T = T} flight 0)))
+        ≡ effects p flight 0 ++ ending_of p (Robust (starts.Find owner)) (answer_in (any_call (after {T = T} flight 0)))
         → IsStopped p owner t (after_turn t (Decide p false))
 
     find_stops : (x : Party T) (since : ℕ) (flight : RobustFlight)
-        → At c (all (scene_of Death code c t s p x since)) (starts.TheVariants.Find owner) flight → Stops x since flight
+        → At c (all (scene_of Death code c t s p x since)) (starts.Find owner) flight → Stops x since flight
     find_stops x since flight at = grind arith
 
   pub finds_up_to : (turn : Turn T) → refusal_of t.world turn ≡ None → FindsUpTo t turn (after_turn t turn)
@@ -88,14 +88,14 @@ module _ {T : Type 0} (code : Coding T) (c : ℕ) (t : Trace T) (s : frame.Sound
     Hears flight =
         is_question (want flight) ≡ true
         → events_of t.world (Decide p true)
-        ≡ effects p flight 1 ++ ending_of p (Robust (starts.TheVariants.Recover mode)) (answer_in (any_call (after {T = T} flight 1)))
+        ≡ effects p flight 1 ++ ending_of p (Robust (starts.Recover mode)) (answer_in (any_call (after {T = T} flight 1)))
         → IsTold p t (after_turn t (Decide p true))
 
     stage_hears : (capacity : ℕ) (given : ReleaseMode) (stage : RecoverStage) → Hears (recover_at capacity given stage)
     stage_hears x0 x1 x2 x3 x4 = grind (arith, raise_asks_none, lock_asks_none)
 
     recovery_hears : (x : Party T) (since : ℕ) (flight : RobustFlight)
-        → At c (all (scene_of Death code c t s p x since)) (starts.TheVariants.Recover mode) flight → Hears flight
+        → At c (all (scene_of Death code c t s p x since)) (starts.Recover mode) flight → Hears flight
     recovery_hears x0 x1 x2 x3 = grind (arith, stage_hears)
 
   pub yes_tells : (turn : Turn T) → refusal_of t.world turn ≡ None → YesTells t turn (after_turn t turn)

@@ -4,7 +4,7 @@ use Rattle.laws_robust.proofs.Names.{arith, length-replicate, empty, Ask, Start,
 use Rattle.laws_robust.proofs.Names.{Party, Turn, first_of, opening_words}
 use Rattle.laws_robust.proofs.Names.{number_of, after_begin, after_answer}
 use Rattle.laws_robust.proofs.Names.{after_next, after_decision, world_after, World, Trace, opening}
-use Rattle.model.specs.declared.turn.Kind as kinds
+use Rattle.model.specs.declared.turn.Kind.TheVariants as kinds
 use Rattle.laws_robust.specs.Open.{open_refusal, IsReachedOpen}
 use Rattle.model.proofs.Counts.{as_long}
 use Rattle.model.proofs.Reached.{kept_by}
@@ -31,7 +31,7 @@ module _ {T : Type 0} where
   turn_wide : (w : World T) (turn : Turn T) → length (world_after w turn).words ≡ length w.words
   turn_wide x0 x1 = grind (arith, begin_wide, first_of, next_wide, decision_wide)
 
-  pub reached_open_wide : (t : Trace T) → t.world.kind ≡ kinds.TheVariants.Robust → IsReachedOpen t → length t.world.words ≡ t.world.capacity + 1
+  pub reached_open_wide : (t : Trace T) → t.world.kind ≡ kinds.Robust → IsReachedOpen t → length t.world.words ≡ t.world.capacity + 1
   reached_open_wide t is r =
       let w = t.world in
       kept_by {T = T} open_refusal (λ u. length u.world.words ≡ w.capacity + 1) (λ u turn e h. turn_wide u.world turn ∙ h) t

@@ -9,7 +9,7 @@ use Rattle.model.specs.declared.event.Answer.TheVariants.{Index, NoIndex, State}
 use Rattle.model.specs.declared.event.Event.{Event}
 use Rattle.model.specs.declared.event.Event.TheVariants.{Begun, Filled, Granted, FreedOf, Told, Died, Finished}
 use Rattle.model.specs.declared.event.Start.TheVariants.{Robust, Container}
-use Rattle.model.specs.declared.families.container.ContainerStart as containers
+use Rattle.model.specs.declared.families.container.ContainerStart.TheVariants as containers
 use Rattle.model.specs.declared.families.indices.robust.RobustStart.TheVariants.{Acquire, Release, Recover}
 use Rattle.model.specs.Families.Indices.Robust.Promises.{AsksRight, IsFilled, IsUnlocked, HeldThroughout}
 use Rattle.model.specs.Families.Indices.Robust.Promises.{FilledSinceFreed, StillToFree, AnswersRight, IsWellFormed}
@@ -27,7 +27,7 @@ module _ {T : Type 0} where
   abbrev pub gone_after : ℕ → Bool → Event T → Bool
   gone_after owner gone (Died o) = (o == owner) || gone
   gone_after owner gone (Told p index o) = (o == owner) || gone
-  gone_after owner gone (Begun p (Container (containers.TheVariants.Recover o mode))) =
+  gone_after owner gone (Begun p (Container (containers.Recover o mode))) =
       (o == owner) || gone
   gone_after owner gone e = gone
 
@@ -40,7 +40,7 @@ module _ {T : Type 0} where
   abbrev pub GivesBackRight : ℕ → List (Event T) → Span T → Type 0
   GivesBackRight owner before (Open (Robust (Release i o mode)) wrote) =
       is_gone Word owner before ≡ false
-  GivesBackRight owner before (Open (Container (containers.TheVariants.Remove i o mode)) wrote) =
+  GivesBackRight owner before (Open (Container (containers.Remove i o mode)) wrote) =
       is_gone Word owner before ≡ false
   GivesBackRight owner before span = Unit {0}
 
@@ -49,7 +49,7 @@ module _ {T : Type 0} where
   ActsForRight before (Filled p index owner) = is_gone Word owner before ≡ false
   ActsForRight before (Granted p index owner) = is_gone Word owner before ≡ false
   ActsForRight before (FreedOf p index owner) = GivesBackRight owner before (span_of p before)
-  ActsForRight before (Finished p (Container (containers.TheVariants.Add value owner)) (Index index)) =
+  ActsForRight before (Finished p (Container (containers.Add value owner)) (Index index)) =
       is_gone Word owner before ≡ false
   ActsForRight before e = Unit {0}
 

@@ -9,11 +9,11 @@ use Rattle.laws_turns.proofs.Names.{number_of, after_turn, IsReached, Trace, fli
 use Rattle.laws_turns.proofs.Names.{must_be_due, StandsThere, both_ways, robust_keeps, raise_asks_none}
 use Rattle.laws_turns.proofs.Names.{count_asks_none, lock_asks_none, acquire_asks_none, release_asks_none, find_at}
 use Rattle.steps.specs.declared.indices.robust.find.FindStage.{FindStage}
-use Rattle.steps.specs.declared.indices.robust.find.FindStage as finds
+use Rattle.steps.specs.declared.indices.robust.find.FindStage.TheVariants as finds
 use Rattle.steps.specs.declared.indices.robust.recover.RecoverStage.{RecoverStage}
-use Rattle.steps.specs.declared.indices.robust.recover.RecoverStage as recovers
-use Rattle.model.specs.declared.families.indices.robust.calls.RobustFlight as calls
-use Rattle.model.specs.declared.turn.Kind as kinds
+use Rattle.steps.specs.declared.indices.robust.recover.RecoverStage.TheVariants as recovers
+use Rattle.model.specs.declared.families.indices.robust.calls.RobustFlight.TheVariants as calls
+use Rattle.model.specs.declared.turn.Kind.TheVariants as kinds
 use Rattle.model.specs.Families.Indices.Robust.Calls.{want, after}
 use Rattle.model.proofs.Frame as frame
 use Rattle.laws_robust.proofs.Invariant.{family}
@@ -29,13 +29,13 @@ module _ {T : Type 0} (code : Coding T) where
 
   find_done : (c owner : ℕ) (stage : FindStage) (answer : ℕ) → is_question (want (find_at c owner stage)) ≡ true
       → due_by (after {T = T} (find_at c owner stage) answer) ≡ false
-  find_done c owner (finds.TheVariants.LoadsCell i found) answer due = absurd (cc)
-  find_done c owner (finds.TheVariants.Asks i found) answer due = go (answer == 0) (nat_lt (i + 1) c)
+  find_done c owner (finds.LoadsCell i found) answer due = absurd (cc)
+  find_done c owner (finds.Asks i found) answer due = go (answer == 0) (nat_lt (i + 1) c)
     where
-      go : (b more : Bool) → due_by (as_call {A = ℕ} calls.TheVariants.Find Number
+      go : (b more : Bool) → due_by (as_call {A = ℕ} calls.Find Number
           (went_on as_it_is owner tt
           (if b then Done found else
-          (if more then GoOn (record { capacity = c; stage = finds.TheVariants.LoadsCell (i + 1) found }) else Done found))))
+          (if more then GoOn (record { capacity = c; stage = finds.LoadsCell (i + 1) found }) else Done found))))
           ≡ false
       go true more = refl
       go false true = refl
@@ -44,28 +44,28 @@ module _ {T : Type 0} (code : Coding T) where
   recover_done : (c : ℕ) (mode : ReleaseMode) (stage : RecoverStage) (answer : ℕ)
       → is_question (want (recover_at c mode stage)) ≡ true
       → due_by (after {T = T} (recover_at c mode stage) answer) ≡ false
-  recover_done c mode recovers.TheVariants.LoadsCounter answer due = absurd (cc)
-  recover_done c mode (recovers.TheVariants.LoadsCell i) answer due = absurd (cc)
-  recover_done c mode (recovers.TheVariants.Asks i owner) answer due = go (answer == 0) (nat_lt (i + 1) c)
+  recover_done c mode recovers.LoadsCounter answer due = absurd (cc)
+  recover_done c mode (recovers.LoadsCell i) answer due = absurd (cc)
+  recover_done c mode (recovers.Asks i owner) answer due = go (answer == 0) (nat_lt (i + 1) c)
     where
-      go : (b more : Bool) → due_by (as_call {A = ReleaseState} calls.TheVariants.Recover State
+      go : (b more : Bool) → due_by (as_call {A = ReleaseState} calls.Recover State
           (went_on as_it_is mode tt
           (if b then GoOn
-          (record { capacity = c; stage = if more then recovers.TheVariants.LoadsCell (i + 1) else recovers.TheVariants.LoadsCounterAgain })
-          else GoOn (record { capacity = c; stage = recovers.TheVariants.EmptiesCell i owner }))))
+          (record { capacity = c; stage = if more then recovers.LoadsCell (i + 1) else recovers.LoadsCounterAgain })
+          else GoOn (record { capacity = c; stage = recovers.EmptiesCell i owner }))))
           ≡ false
       go true true = refl
       go true false = refl
       go false more = refl
-  recover_done c mode (recovers.TheVariants.EmptiesCell i owner) answer due = absurd (cc)
-  recover_done c mode (recovers.TheVariants.Raises i raise) answer due = both_ways (is_question (raise_want raise)) (raise_asks_none raise) due
-  recover_done c mode (recovers.TheVariants.Locks i lock) answer due = both_ways (is_question (lock_want lock)) (lock_asks_none lock) due
-  recover_done c mode recovers.TheVariants.LoadsCounterAgain answer due = absurd (cc)
+  recover_done c mode (recovers.EmptiesCell i owner) answer due = absurd (cc)
+  recover_done c mode (recovers.Raises i raise) answer due = both_ways (is_question (raise_want raise)) (raise_asks_none raise) due
+  recover_done c mode (recovers.Locks i lock) answer due = both_ways (is_question (lock_want lock)) (lock_asks_none lock) due
+  recover_done c mode recovers.LoadsCounterAgain answer due = absurd (cc)
 
   set_done : (flight : RobustFlight) (answer : ℕ) → is_question (want flight) ≡ true → due_by (after {T = T} flight answer) ≡ false
   set_done x0 x1 x2 = grind (arith, both_ways, acquire_asks_none, release_asks, release_asks_none, find_done, recover_done, count_asks_none)
 
-module _ {T : Type 0} (t : Trace T) (is : t.world.kind ≡ kinds.TheVariants.Robust) (r : IsReached t) where
+module _ {T : Type 0} (t : Trace T) (is : t.world.kind ≡ kinds.Robust) (r : IsReached t) where
   abbrev code : Coding T
   code = t.world.coding
 

@@ -22,7 +22,7 @@ use Rattle.model.specs.declared.event.Start.TheVariants as starts
 use Rattle.model.specs.declared.families.Flight.TheVariants as flights
 use Rattle.model.specs.declared.families.Registry.TheVariants as registries
 use Rattle.model.specs.declared.families.indices.robust.calls.RobustFlight.TheVariants as calls
-use Rattle.model.specs.declared.turn.Kind as kinds
+use Rattle.model.specs.declared.turn.Kind.TheVariants as kinds
 use Rattle.model.specs.Families.Indices.Robust.Steps.{effects, freed}
 use Rattle.laws_robust.proofs.Sound.{reached_sound}
 use Rattle.laws_turns.specs.Questions.{AsksIt, AsksAtOnce}
@@ -169,7 +169,7 @@ module _ {T : Type 0} where
       (decided w dead k p said (party_of p w.latest))
   turn_asks w dead k (Die owner) = (tt, tt)
 
-  pub asks_at_once : (t : Trace T) (turn : Turn T) → t.world.kind ≡ kinds.TheVariants.Robust → IsReached t → AsksAtOnce t (after_turn t turn)
+  pub asks_at_once : (t : Trace T) (turn : Turn T) → t.world.kind ≡ kinds.Robust → IsReached t → AsksAtOnce t (after_turn t turn)
   asks_at_once t turn is r wrote e =
       let s = reached_sound t is r in
       subst (AllByRecursion (AsksIt (world_after t.world turn))) (append_cancel_left t.events (events_of t.world turn) wrote e)

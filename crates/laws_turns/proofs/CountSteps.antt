@@ -9,12 +9,12 @@ use Rattle.laws_turns.proofs.Names.{ask_of, SetAct, words_after, loads, exchange
 use Rattle.laws_turns.proofs.Names.{AcquireAt, change_at}
 use Rattle.std.proofs.Common.{get_or-set_other}
 use Rattle.steps.specs.Ask.{written}
-use Rattle.steps.specs.declared.indices.robust.acquire.AcquireStage as acquires
-use Rattle.steps.specs.declared.indices.robust.parts.Count as counts
-use Rattle.steps.specs.declared.indices.robust.parts.Lock as locks
-use Rattle.steps.specs.declared.indices.robust.parts.Raise as raises
-use Rattle.steps.specs.declared.indices.robust.release.ReleaseStage as releases
-use Rattle.model.specs.declared.families.container.ContainerStart as starts
+use Rattle.steps.specs.declared.indices.robust.acquire.AcquireStage.TheVariants as acquires
+use Rattle.steps.specs.declared.indices.robust.parts.Count.TheVariants as counts
+use Rattle.steps.specs.declared.indices.robust.parts.Lock.TheVariants as locks
+use Rattle.steps.specs.declared.indices.robust.parts.Raise.TheVariants as raises
+use Rattle.steps.specs.declared.indices.robust.release.ReleaseStage.TheVariants as releases
+use Rattle.model.specs.declared.families.container.ContainerStart.TheVariants as starts
 use Rattle.laws_turns.specs.Changes.{change_in}
 
 module _ {T : Type 0} where
@@ -36,49 +36,49 @@ module _ (c : ℕ) (ws : List ℕ) where
   calm_load word = ap (change_at c) (loads_same ws word)
 
   pub raise_calm : (raise : Raise) → IsCalm (ask_of (raise_want raise))
-  raise_calm raises.TheVariants.LoadsCounter = calm_load 0
-  raise_calm (raises.TheVariants.ExchangesCounter counter) = calm_apart (exchanges 0 counter (one_more counter)) (λ e. absurd (omega arith))
+  raise_calm raises.LoadsCounter = calm_load 0
+  raise_calm (raises.ExchangesCounter counter) = calm_apart (exchanges 0 counter (one_more counter)) (λ e. absurd (omega arith))
 
   pub count_calm : (count : Count) → IsCalm (ask_of (count_want count))
-  count_calm counts.TheVariants.LoadsCounter = calm_load 0
-  count_calm (counts.TheVariants.LoadsCell counter index filled) = calm_load (cell_word index)
-  count_calm (counts.TheVariants.ExchangesCounter counter filled) = calm_apart (exchanges 0 counter (one_more counter)) (λ e. absurd (omega arith))
+  count_calm counts.LoadsCounter = calm_load 0
+  count_calm (counts.LoadsCell counter index filled) = calm_load (cell_word index)
+  count_calm (counts.ExchangesCounter counter filled) = calm_apart (exchanges 0 counter (one_more counter)) (λ e. absurd (omega arith))
 
   pub lock_calm : (lock : Lock) → IsCalm (ask_of (lock_want lock))
-  lock_calm (locks.TheVariants.Counts count) = count_calm count
-  lock_calm (locks.TheVariants.ExchangesCounter counter) = calm_apart (exchanges 0 counter locked) (λ e. absurd (omega arith))
+  lock_calm (locks.Counts count) = count_calm count
+  lock_calm (locks.ExchangesCounter counter) = calm_apart (exchanges 0 counter locked) (λ e. absurd (omega arith))
 
   pub acquire_calm : (all : List SetAct) (owner : ℕ) (stage : AcquireStage) → AcquireAt c owner all stage → IsCalm (ask_of (acquire_asks stage owner))
-  acquire_calm all owner acquires.TheVariants.LoadsCounter at = calm_load 0
-  acquire_calm all owner (acquires.TheVariants.FillsCell counter index) at = let below = at.0 in
+  acquire_calm all owner acquires.LoadsCounter at = calm_load 0
+  acquire_calm all owner (acquires.FillsCell counter index) at = let below = at.0 in
       calm_apart (exchanges (cell_word index) empty owner) (λ e. absurd (omega arith))
-  acquire_calm all owner (acquires.TheVariants.ChecksCounter counter) at = calm_apart (exchanges 0 counter counter) (λ e. absurd (omega arith))
-  acquire_calm all owner (acquires.TheVariants.Raises index raise) at = raise_calm raise
+  acquire_calm all owner (acquires.ChecksCounter counter) at = calm_apart (exchanges 0 counter counter) (λ e. absurd (omega arith))
+  acquire_calm all owner (acquires.Raises index raise) at = raise_calm raise
 
   pub release_calm : (given : GiveBack) (stage : ReleaseStage) → given.index < c → IsCalm (ask_of (release_asks stage given))
-  release_calm given releases.TheVariants.EmptiesCell below = calm_apart (exchanges (cell_word given.index) given.owner empty) (λ e. absurd (omega arith))
-  release_calm given (releases.TheVariants.Raises raise) below = raise_calm raise
-  release_calm given (releases.TheVariants.Locks lock) below = lock_calm lock
+  release_calm given releases.EmptiesCell below = calm_apart (exchanges (cell_word given.index) given.owner empty) (λ e. absurd (omega arith))
+  release_calm given (releases.Raises raise) below = raise_calm raise
+  release_calm given (releases.Locks lock) below = lock_calm lock
 
 -- ---- the ends that change nothing
 
 module _ {T : Type 0} (p : ℕ) where
-  pub find_none : (owner : ℕ) (o : Option (Answer T)) → ends_count p (starts.TheVariants.Find owner) o ≡ 0
+  pub find_none : (owner : ℕ) (o : Option (Answer T)) → ends_count p (starts.Find owner) o ≡ 0
   find_none owner None = refl
   find_none owner (Some answer) = refl
 
-  pub get_none : (o : Option (Answer T)) → ends_count p starts.TheVariants.GetState o ≡ 0
+  pub get_none : (o : Option (Answer T)) → ends_count p starts.GetState o ≡ 0
   get_none None = refl
   get_none (Some answer) = refl
 
-  pub update_none : (o : Option (Answer T)) → ends_count p starts.TheVariants.UpdateState o ≡ 0
+  pub update_none : (o : Option (Answer T)) → ends_count p starts.UpdateState o ≡ 0
   update_none None = refl
   update_none (Some answer) = refl
 
-  pub len_none : (o : Option (Answer T)) → ends_count p starts.TheVariants.Len o ≡ 0
+  pub len_none : (o : Option (Answer T)) → ends_count p starts.Len o ≡ 0
   len_none None = refl
   len_none (Some answer) = refl
 
-  pub empty_none : (o : Option (Answer T)) → ends_count p starts.TheVariants.IsEmpty o ≡ 0
+  pub empty_none : (o : Option (Answer T)) → ends_count p starts.IsEmpty o ≡ 0
   empty_none None = refl
   empty_none (Some answer) = refl

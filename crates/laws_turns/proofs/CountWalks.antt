@@ -13,24 +13,24 @@ use Rattle.laws_turns.proofs.Names.{ask_of, is_question, place_of, added, remove
 use Rattle.laws_turns.proofs.Names.{kept_at, as_call, answer_in, words_after, exchanges, change_at, adds_one}
 use Rattle.laws_turns.proofs.Names.{stores_to, both_ways, raise_asks_none, lock_asks_none}
 use Rattle.steps.specs.declared.container.add.Add as add_calls
-use Rattle.steps.specs.declared.container.add.AddStage as adds
+use Rattle.steps.specs.declared.container.add.AddStage.TheVariants as adds
 use Rattle.steps.specs.declared.container.add.Owned.{Owned}
 use Rattle.steps.specs.declared.container.find.FindStage.{FindStage}
 use Rattle.steps.specs.declared.container.recover.DeadOwner.{DeadOwner}
 use Rattle.steps.specs.declared.container.recover.Recover as recover_calls
 use Rattle.steps.specs.declared.container.recover.RecoverStage.{RecoverStage}
-use Rattle.steps.specs.declared.container.recover.RecoverStage as recovers
+use Rattle.steps.specs.declared.container.recover.RecoverStage.TheVariants as recovers
 use Rattle.steps.specs.declared.container.enums.ContainerRemoveError.TheVariants.{ContainerHandleNotOwnedByContainer}
 use Rattle.steps.specs.declared.container.remove.Remove as remove_calls
-use Rattle.steps.specs.declared.container.remove.RemoveStage as removes
+use Rattle.steps.specs.declared.container.remove.RemoveStage.TheVariants as removes
 use Rattle.steps.specs.declared.container.replace.Replace as replace_calls
-use Rattle.steps.specs.declared.container.replace.ReplaceStage as replaces
+use Rattle.steps.specs.declared.container.replace.ReplaceStage.TheVariants as replaces
 use Rattle.steps.specs.declared.copied.Buffer as buffers
 use Rattle.steps.specs.declared.indices.robust.acquire.Acquire.{Acquire}
 use Rattle.steps.specs.Container.Recover.{recover_asks, recover_takes, recover_comes_to, recover_raised}
 use Rattle.steps.specs.Container.Recover.{recover_locked}
-use Rattle.model.specs.declared.families.container.ContainerStart as starts
-use Rattle.model.specs.declared.families.container.calls.ContainerFlight as calls
+use Rattle.model.specs.declared.families.container.ContainerStart.TheVariants as starts
+use Rattle.model.specs.declared.families.container.calls.ContainerFlight.TheVariants as calls
 use Rattle.model.specs.Families.Container.Calls.{want, after}
 use Rattle.laws_container.proofs.Standing.{add_at, remove_at, replace_at, recover_at, AddAt, RemoveAt, RecoverAt, At}
 use Rattle.laws_container.proofs.Standing.{place_is}
@@ -58,8 +58,8 @@ module _ {T : Type 0} (code : Coding T) (c : ℕ) (ws : List ℕ) (state : Optio
   module _ (value : T) (owner : ℕ) where
     abbrev adds_to : After (add_calls.Add T) Added → ℕ
     adds_to a =
-        ends_count {T = T} p (starts.TheVariants.Add value owner)
-        (answer_in (as_call calls.TheVariants.Add added (went_on as_it_is (record { value = value; owner = owner }) tt a)))
+        ends_count {T = T} p (starts.Add value owner)
+        (answer_in (as_call calls.Add added (went_on as_it_is (record { value = value; owner = owner }) tt a)))
 
     abbrev add_call : AddStage → add_calls.Add T
     add_call stage = record { capacity = c; stage = stage; of = record {} }
@@ -71,26 +71,26 @@ module _ {T : Type 0} (code : Coding T) (c : ℕ) (ws : List ℕ) (state : Optio
     add_either true x y = refl
     add_either false x y = refl
 
-    add_ends : (stage : AddStage) (old : ℕ) → ((index : ℕ) → stage ≢ adds.TheVariants.AddsChange index)
-        → EndsNone (starts.TheVariants.Add value owner) (add_at c value owner stage) old
+    add_ends : (stage : AddStage) (old : ℕ) → ((index : ℕ) → stage ≢ adds.AddsChange index)
+        → EndsNone (starts.Add value owner) (add_at c value owner stage) old
     add_ends x0 x1 x2 = grind (arith, acquired_ends, add_either)
 
     module _ (all : List SetAct) (done : List (Act T)) where
       add_calm : (stage : AddStage) → AddAt c code.size all done owner stage
-          → ((index : ℕ) → stage ≢ adds.TheVariants.AddsChange index)
+          → ((index : ℕ) → stage ≢ adds.AddsChange index)
           → IsCalm c ws (ask_of (want code (add_at c value owner stage)))
-      add_calm (adds.TheVariants.Acquires stage) at other = acquire_calm c ws all owner stage at.0
-      add_calm (adds.TheVariants.LoadsCount index) at other = calm_load c ws (count_word c index)
-      add_calm (adds.TheVariants.Hides index count) at other =
+      add_calm (adds.Acquires stage) at other = acquire_calm c ws all owner stage at.0
+      add_calm (adds.LoadsCount index) at other = calm_load c ws (count_word c index)
+      add_calm (adds.Hides index count) at other =
           calm_apart c ws (exchanges (count_word c index) count (one_more count)) (λ e. absurd (omega arith))
-      add_calm (adds.TheVariants.Stores index k) at other =
+      add_calm (adds.Stores index k) at other =
           calm_apart c ws (stores_to (element_word c code.size index k) (get_or (code.words_of value) k 0)) (λ e. absurd (omega arith))
-      add_calm (adds.TheVariants.AddsCount index) at other = calm_apart c ws (adds_one (count_word c index)) (λ e. absurd (omega arith))
-      add_calm (adds.TheVariants.AddsChange index) at other = absurd (other index refl)
+      add_calm (adds.AddsCount index) at other = calm_apart c ws (adds_one (count_word c index)) (λ e. absurd (omega arith))
+      add_calm (adds.AddsChange index) at other = absurd (other index refl)
 
       add_counts : (raised : change_at c (words_after ws (Some (adds_one (change_word c)))) ≡ change_at c ws + 1) (stage : AddStage)
           → AddAt c code.size all done owner stage → (old : ℕ)
-          → StepCounts (starts.TheVariants.Add value owner) (add_at c value owner stage) old
+          → StepCounts (starts.Add value owner) (add_at c value owner stage) old
       add_counts x0 x1 x2 x3 = grind (arith, calmly, add_at, add_calm, add_ends)
 
   -- ---- a remove
@@ -104,8 +104,8 @@ module _ {T : Type 0} (code : Coding T) (c : ℕ) (ws : List ℕ) (state : Optio
 
     abbrev removes_to : After remove_calls.Remove Removed → ℕ
     removes_to a =
-        ends_count {T = T} p (starts.TheVariants.Remove index owner mode)
-        (answer_in {C = ContainerFlight T} (as_call calls.TheVariants.Remove removed (went_on as_it_is give tt a)))
+        ends_count {T = T} p (starts.Remove index owner mode)
+        (answer_in {C = ContainerFlight T} (as_call calls.Remove removed (went_on as_it_is give tt a)))
 
     abbrev remove_call : RemoveStage → remove_calls.Remove
     remove_call stage = record { capacity = c; stage = stage }
@@ -114,8 +114,8 @@ module _ {T : Type 0} (code : Coding T) (c : ℕ) (ws : List ℕ) (state : Optio
     released_ends stage count (GoOn release) = refl
     released_ends stage count (Done (Ok lock)) = go (is_even count)
       where
-        go : (b : Bool) → removes_to (if b then GoOn (remove_call (removes.TheVariants.AddsChange lock)) else GoOn
-            (remove_call (removes.TheVariants.Hides count lock)))
+        go : (b : Bool) → removes_to (if b then GoOn (remove_call (removes.AddsChange lock)) else GoOn
+            (remove_call (removes.Hides count lock)))
             ≡ 0
         go true = refl
         go false = refl
@@ -125,24 +125,24 @@ module _ {T : Type 0} (code : Coding T) (c : ℕ) (ws : List ℕ) (state : Optio
         (raised : change_at c (words_after ws (Some (adds_one (change_word c)))) ≡ change_at c ws + 1)
         (stage : RemoveStage)
         → RemoveAt c code.size all done index owner mode stage → (old : ℕ)
-        → StepCounts (starts.TheVariants.Remove index owner mode) (remove_at c place owner mode stage) old
-    remove_counts all done raised removes.TheVariants.Refuses at old =
-        calmly (starts.TheVariants.Remove index owner mode) (remove_at c place owner mode removes.TheVariants.Refuses) old refl refl
-    remove_counts all done raised removes.TheVariants.LoadsCount at old =
-        calmly (starts.TheVariants.Remove index owner mode)
-        (remove_at c place owner mode removes.TheVariants.LoadsCount) old (calm_load c ws (count_word c place)) refl
-    remove_counts all done raised (removes.TheVariants.Releases count stage) at old =
+        → StepCounts (starts.Remove index owner mode) (remove_at c place owner mode stage) old
+    remove_counts all done raised removes.Refuses at old =
+        calmly (starts.Remove index owner mode) (remove_at c place owner mode removes.Refuses) old refl refl
+    remove_counts all done raised removes.LoadsCount at old =
+        calmly (starts.Remove index owner mode)
+        (remove_at c place owner mode removes.LoadsCount) old (calm_load c ws (count_word c place)) refl
+    remove_counts all done raised (removes.Releases count stage) at old =
         let same = place_is c index at.0 in
         let below = at.0 in
-        calmly (starts.TheVariants.Remove index owner mode)
-        (remove_at c place owner mode (removes.TheVariants.Releases count stage)) old
+        calmly (starts.Remove index owner mode)
+        (remove_at c place owner mode (removes.Releases count stage)) old
         (release_calm c ws give stage (omega arith))
-        (released_ends (removes.TheVariants.Releases count stage) count (release_takes (inner_release c stage) stage give old))
-    remove_counts all done raised (removes.TheVariants.Hides count lock) at old =
-        calmly (starts.TheVariants.Remove index owner mode)
-        (remove_at c place owner mode (removes.TheVariants.Hides count lock)) old
+        (released_ends (removes.Releases count stage) count (release_takes (inner_release c stage) stage give old))
+    remove_counts all done raised (removes.Hides count lock) at old =
+        calmly (starts.Remove index owner mode)
+        (remove_at c place owner mode (removes.Hides count lock)) old
         (calm_apart c ws (exchanges (count_word c place) count (one_more count)) (λ e. absurd (omega arith))) refl
-    remove_counts all done raised (removes.TheVariants.AddsChange lock) at old = raised
+    remove_counts all done raised (removes.AddsChange lock) at old = raised
 
   -- ---- a replace
 
@@ -155,8 +155,8 @@ module _ {T : Type 0} (code : Coding T) (c : ℕ) (ws : List ℕ) (state : Optio
 
     abbrev replaces_to : After (replace_calls.Replace T) Replaced → ℕ
     replaces_to a =
-        ends_count {T = T} p (starts.TheVariants.Replace index value owner)
-        (answer_in (as_call calls.TheVariants.Replace replaced (went_on as_it_is new_value tt a)))
+        ends_count {T = T} p (starts.Replace index value owner)
+        (answer_in (as_call calls.Replace replaced (went_on as_it_is new_value tt a)))
 
     abbrev replace_call : ReplaceStage → replace_calls.Replace T
     replace_call stage = record { capacity = c; stage = stage; of = record {} }
@@ -165,40 +165,40 @@ module _ {T : Type 0} (code : Coding T) (c : ℕ) (ws : List ℕ) (state : Optio
     replaces_at stage = replace_at c put_at value owner stage
 
     abbrev Replaces : ReplaceStage → ℕ → Type 0
-    Replaces stage old = StepCounts (starts.TheVariants.Replace index value owner) (replaces_at stage) old
+    Replaces stage old = StepCounts (starts.Replace index value owner) (replaces_at stage) old
 
     replace_either : (b : Bool) (x y : ReplaceStage) → replaces_to (if b then GoOn (replace_call x) else GoOn (replace_call y)) ≡ 0
     replace_either true x y = refl
     replace_either false x y = refl
 
     replace_refused : (b : Bool)
-        → replaces_to (if b then GoOn (replace_call replaces.TheVariants.LoadsCount) else Done (Err ContainerHandleNotOwnedByContainer)) ≡ 0
+        → replaces_to (if b then GoOn (replace_call replaces.LoadsCount) else Done (Err ContainerHandleNotOwnedByContainer)) ≡ 0
     replace_refused true = refl
     replace_refused false = refl
 
     replace_counts : (raised : change_at c (words_after ws (Some (adds_one (change_word c)))) ≡ change_at c ws + 1)
         (stage : ReplaceStage) (old : ℕ)
         → Replaces stage old
-    replace_counts raised replaces.TheVariants.Refuses old =
-        calmly (starts.TheVariants.Replace index value owner) (replaces_at replaces.TheVariants.Refuses) old refl refl
-    replace_counts raised replaces.TheVariants.LoadsCell old =
-        calmly (starts.TheVariants.Replace index value owner) (replaces_at replaces.TheVariants.LoadsCell) old
+    replace_counts raised replaces.Refuses old =
+        calmly (starts.Replace index value owner) (replaces_at replaces.Refuses) old refl refl
+    replace_counts raised replaces.LoadsCell old =
+        calmly (starts.Replace index value owner) (replaces_at replaces.LoadsCell) old
         (calm_load c ws (cell_word put_at)) (replace_refused (old == owner))
-    replace_counts raised replaces.TheVariants.LoadsCount old =
-        calmly (starts.TheVariants.Replace index value owner) (replaces_at replaces.TheVariants.LoadsCount) old
+    replace_counts raised replaces.LoadsCount old =
+        calmly (starts.Replace index value owner) (replaces_at replaces.LoadsCount) old
         (calm_load c ws (count_word c put_at))
-        (replace_either (is_even old) (replaces.TheVariants.Stores 0) (replaces.TheVariants.Hides old))
-    replace_counts raised (replaces.TheVariants.Hides count) old =
-        calmly (starts.TheVariants.Replace index value owner) (replaces_at (replaces.TheVariants.Hides count)) old
+        (replace_either (is_even old) (replaces.Stores 0) (replaces.Hides old))
+    replace_counts raised (replaces.Hides count) old =
+        calmly (starts.Replace index value owner) (replaces_at (replaces.Hides count)) old
         (calm_apart c ws (exchanges (count_word c put_at) count (one_more count)) (λ e. absurd (omega arith))) refl
-    replace_counts raised (replaces.TheVariants.Stores k) old =
-        calmly (starts.TheVariants.Replace index value owner) (replaces_at (replaces.TheVariants.Stores k)) old
+    replace_counts raised (replaces.Stores k) old =
+        calmly (starts.Replace index value owner) (replaces_at (replaces.Stores k)) old
         (calm_apart c ws (stores_to (element_word c code.size put_at k) (get_or (code.words_of value) k 0)) (λ e. absurd (omega arith)))
-        (replace_either (nat_lt (k + 1) code.size) (replaces.TheVariants.Stores (k + 1)) replaces.TheVariants.AddsCount)
-    replace_counts raised replaces.TheVariants.AddsCount old =
-        calmly (starts.TheVariants.Replace index value owner) (replaces_at replaces.TheVariants.AddsCount) old
+        (replace_either (nat_lt (k + 1) code.size) (replaces.Stores (k + 1)) replaces.AddsCount)
+    replace_counts raised replaces.AddsCount old =
+        calmly (starts.Replace index value owner) (replaces_at replaces.AddsCount) old
         (calm_apart c ws (adds_one (count_word c put_at)) (λ e. absurd (omega arith))) refl
-    replace_counts raised replaces.TheVariants.AddsChange old = raised
+    replace_counts raised replaces.AddsChange old = raised
 
   -- ---- a recovery
 
@@ -216,8 +216,8 @@ module _ {T : Type 0} (code : Coding T) (c : ℕ) (ws : List ℕ) (state : Optio
     abbrev Quiet : After (recover_calls.Recover T (buffers.Buffer 128)) ReleaseState → Type 0
     Quiet a =
         (kept : buffers.Buffer 128)
-        → ends_count {T = T} p (starts.TheVariants.Recover owner mode)
-        (answer_in (as_call calls.TheVariants.Recover State (went_on as_it_is dead_owner kept a)))
+        → ends_count {T = T} p (starts.Recover owner mode)
+        (answer_in (as_call calls.Recover State (went_on as_it_is dead_owner kept a)))
         ≡ 0
 
     either_quiet : (b : Bool) (x y : After (recover_calls.Recover T (buffers.Buffer 128)) ReleaseState) → Quiet x → Quiet y → Quiet (if b then x else y)
@@ -232,7 +232,7 @@ module _ {T : Type 0} (code : Coding T) (c : ℕ) (ws : List ℕ) (state : Optio
     locked_quiet stage i (Done lock) kept = refl
 
     recover_quiet : (stage : RecoverStage) (old : ℕ)
-        → ((lock : ReleaseState) → stage ≢ recovers.TheVariants.AddsChange lock)
+        → ((lock : ReleaseState) → stage ≢ recovers.AddsChange lock)
         → Quiet (recover_takes code.size (recover_call stage) stage dead_owner old)
     recover_quiet x0 x1 x2 = grind (arith, either_quiet, locked, raised_quiet, locked_quiet)
 
@@ -240,39 +240,39 @@ module _ {T : Type 0} (code : Coding T) (c : ℕ) (ws : List ℕ) (state : Optio
         (raised : change_at c (words_after ws (Some (adds_one (change_word c)))) ≡ change_at c ws + 1)
         (stage : RecoverStage)
         → RecoverAt c code.size all done owner mode stage → (old : ℕ)
-        → StepCounts (starts.TheVariants.Recover owner mode) (recovers_at stage) old
+        → StepCounts (starts.Recover owner mode) (recovers_at stage) old
     recover_counts all done raised stage at old = go stage at
       where
         calm_so : (stage : RecoverStage) → IsCalm c ws (ask_of (recover_asks code.size c stage owner))
-            → ((lock : ReleaseState) → stage ≢ recovers.TheVariants.AddsChange lock)
-            → StepCounts (starts.TheVariants.Recover owner mode) (recovers_at stage) old
+            → ((lock : ReleaseState) → stage ≢ recovers.AddsChange lock)
+            → StepCounts (starts.Recover owner mode) (recovers_at stage) old
         calm_so x0 x1 x2 = grind (arith, calmly, recover_quiet, recover_keeps, kept_at)
 
         go : (stage : RecoverStage) → RecoverAt c code.size all done owner mode stage
-            → StepCounts (starts.TheVariants.Recover owner mode) (recovers_at stage) old
-        go recovers.TheVariants.LoadsCounter at = calm_so recovers.TheVariants.LoadsCounter (calm_load c ws 0) (λ lock e. absurd (cc))
-        go (recovers.TheVariants.LoadsCell i) at = calm_so (recovers.TheVariants.LoadsCell i) (calm_load c ws (cell_word i)) (λ lock e. absurd (cc))
-        go (recovers.TheVariants.LoadsCount i) at = calm_so (recovers.TheVariants.LoadsCount i) (calm_load c ws (count_word c i)) (λ lock e. absurd (cc))
-        go (recovers.TheVariants.LoadsWord i count k) at =
-            calm_so (recovers.TheVariants.LoadsWord i count k) (calm_load c ws (element_word c code.size i k)) (λ lock e. absurd (cc))
-        go (recovers.TheVariants.ChecksCount i count) at =
-            calm_so (recovers.TheVariants.ChecksCount i count)
+            → StepCounts (starts.Recover owner mode) (recovers_at stage) old
+        go recovers.LoadsCounter at = calm_so recovers.LoadsCounter (calm_load c ws 0) (λ lock e. absurd (cc))
+        go (recovers.LoadsCell i) at = calm_so (recovers.LoadsCell i) (calm_load c ws (cell_word i)) (λ lock e. absurd (cc))
+        go (recovers.LoadsCount i) at = calm_so (recovers.LoadsCount i) (calm_load c ws (count_word c i)) (λ lock e. absurd (cc))
+        go (recovers.LoadsWord i count k) at =
+            calm_so (recovers.LoadsWord i count k) (calm_load c ws (element_word c code.size i k)) (λ lock e. absurd (cc))
+        go (recovers.ChecksCount i count) at =
+            calm_so (recovers.ChecksCount i count)
             (calm_apart c ws (exchanges (count_word c i) count count) (λ e. absurd (omega arith)))
             (λ lock e. absurd (cc))
-        go (recovers.TheVariants.Asks i count) at = calm_so (recovers.TheVariants.Asks i count) refl (λ lock e. absurd (cc))
-        go (recovers.TheVariants.EmptiesCell i count) at =
+        go (recovers.Asks i count) at = calm_so (recovers.Asks i count) refl (λ lock e. absurd (cc))
+        go (recovers.EmptiesCell i count) at =
             let below = at.0.within in
-            calm_so (recovers.TheVariants.EmptiesCell i count)
+            calm_so (recovers.EmptiesCell i count)
             (calm_apart c ws (exchanges (cell_word i) owner empty) (λ e. absurd (omega arith)))
             (λ lock e. absurd (cc))
-        go (recovers.TheVariants.Hides i count) at =
-            calm_so (recovers.TheVariants.Hides i count)
+        go (recovers.Hides i count) at =
+            calm_so (recovers.Hides i count)
             (calm_apart c ws (exchanges (count_word c i) count (one_more count)) (λ e. absurd (omega arith)))
             (λ lock e. absurd (cc))
-        go (recovers.TheVariants.Raises i raise) at = calm_so (recovers.TheVariants.Raises i raise) (raise_calm c ws raise) (λ lock e. absurd (cc))
-        go (recovers.TheVariants.Locks i lock) at = calm_so (recovers.TheVariants.Locks i lock) (lock_calm c ws lock) (λ lock e. absurd (cc))
-        go recovers.TheVariants.LoadsCounterAgain at = calm_so recovers.TheVariants.LoadsCounterAgain (calm_load c ws 0) (λ lock e. absurd (cc))
-        go (recovers.TheVariants.AddsChange lock) at = raised
+        go (recovers.Raises i raise) at = calm_so (recovers.Raises i raise) (raise_calm c ws raise) (λ lock e. absurd (cc))
+        go (recovers.Locks i lock) at = calm_so (recovers.Locks i lock) (lock_calm c ws lock) (λ lock e. absurd (cc))
+        go recovers.LoadsCounterAgain at = calm_so recovers.LoadsCounterAgain (calm_load c ws 0) (λ lock e. absurd (cc))
+        go (recovers.AddsChange lock) at = raised
 
   -- ---- the calls that change nothing
 
@@ -288,48 +288,48 @@ module _ {T : Type 0} (code : Coding T) (c : ℕ) (ws : List ℕ) (state : Optio
     pub step_counts : (start : ContainerStart T) (flight : ContainerFlight T) → At c code.size all done start flight
         → change_at c (words_after ws (Some (adds_one (change_word c)))) ≡ change_at c ws + 1 → (old : ℕ)
         → StepCounts start flight old
-    step_counts (starts.TheVariants.Add value owner) (calls.TheVariants.Add run) at =
+    step_counts (starts.Add value owner) (calls.Add run) at =
         subst (λ f. change_at c (words_after ws (Some (adds_one (change_word c)))) ≡ change_at c ws + 1 → (old : ℕ)
-        → StepCounts (starts.TheVariants.Add value owner) f old)
+        → StepCounts (starts.Add value owner) f old)
         (sym (ap (λ n. add_at n run.given.value run.given.owner run.call.stage) at.0 ∙ ap (λ (o : Owned T). add_at c o.value o.owner run.call.stage) at.1))
         (λ raised old. add_counts value owner all done raised run.call.stage at.3 old)
-    step_counts (starts.TheVariants.Remove index owner mode) (calls.TheVariants.Remove run) at =
+    step_counts (starts.Remove index owner mode) (calls.Remove run) at =
         subst (λ f. change_at c (words_after ws (Some (adds_one (change_word c)))) ≡ change_at c ws + 1 → (old : ℕ)
-        → StepCounts (starts.TheVariants.Remove index owner mode) f old)
+        → StepCounts (starts.Remove index owner mode) f old)
         (sym (ap (λ n. remove_at n run.given.index run.given.owner run.given.mode run.call.stage) at.0
         ∙ ap (λ (o : GiveBack). remove_at c o.index o.owner o.mode run.call.stage) at.1))
         (λ raised old. remove_counts index owner mode all done raised run.call.stage at.3 old)
-    step_counts (starts.TheVariants.Replace index value owner) (calls.TheVariants.Replace run) at =
+    step_counts (starts.Replace index value owner) (calls.Replace run) at =
         subst (λ f. change_at c (words_after ws (Some (adds_one (change_word c)))) ≡ change_at c ws + 1 → (old : ℕ)
-        → StepCounts (starts.TheVariants.Replace index value owner) f old)
+        → StepCounts (starts.Replace index value owner) f old)
         (sym (ap (λ n. replace_at n run.given.index run.given.value run.given.owner run.call.stage) at.0
         ∙ ap (λ (o : Replacement T). replace_at c o.index o.value o.owner run.call.stage) at.1))
         (λ raised old. replace_counts index value owner raised run.call.stage old)
-    step_counts (starts.TheVariants.Recover owner mode) (calls.TheVariants.Recover run) at =
+    step_counts (starts.Recover owner mode) (calls.Recover run) at =
         subst (λ f. change_at c (words_after ws (Some (adds_one (change_word c)))) ≡ change_at c ws + 1 → (old : ℕ)
-        → StepCounts (starts.TheVariants.Recover owner mode) f old)
+        → StepCounts (starts.Recover owner mode) f old)
         (sym (ap (λ n. recover_at n run.given.owner run.given.mode run.room run.call.stage) at.0
         ∙ ap (λ (o : DeadOwner). recover_at c o.owner o.mode run.room run.call.stage) at.1))
         (λ raised old. recover_counts owner mode run.room all done raised run.call.stage at.3 old)
-    step_counts (starts.TheVariants.Find owner) (calls.TheVariants.Find run) at = λ raised old.
-        calmly (starts.TheVariants.Find owner) (calls.TheVariants.Find run) old
+    step_counts (starts.Find owner) (calls.Find run) at = λ raised old.
+        calmly (starts.Find owner) (calls.Find run) old
         (subst (λ n. IsCalm c ws (ask_of (find_asks code.size n run.call.stage))) (sym at.0) (find_calm run.call.stage))
         (find_none p owner _)
-    step_counts starts.TheVariants.GetState (calls.TheVariants.Look which call) at = λ raised old.
-        calmly starts.TheVariants.GetState (calls.TheVariants.Look which call) old
+    step_counts starts.GetState (calls.Look which call) at = λ raised old.
+        calmly starts.GetState (calls.Look which call) old
         (subst (λ n. IsCalm c ws (ask_of (look_asks code.size n call.stage))) (sym at.0) (look_calm call.stage))
         (get_none p _)
-    step_counts starts.TheVariants.UpdateState (calls.TheVariants.Look which call) at = λ raised old.
-        calmly starts.TheVariants.UpdateState (calls.TheVariants.Look which call) old
+    step_counts starts.UpdateState (calls.Look which call) at = λ raised old.
+        calmly starts.UpdateState (calls.Look which call) old
         (subst (λ n. IsCalm c ws (ask_of (look_asks code.size n call.stage))) (sym at.0) (look_calm call.stage))
         (update_none p _)
-    step_counts starts.TheVariants.Len (calls.TheVariants.Count which run) at =
-        λ raised old. calmly starts.TheVariants.Len (calls.TheVariants.Count which run) old (count_calm c ws run.call.count) (len_none p _)
-    step_counts starts.TheVariants.IsEmpty (calls.TheVariants.Count which run) at =
-        λ raised old. calmly starts.TheVariants.IsEmpty (calls.TheVariants.Count which run) old
+    step_counts starts.Len (calls.Count which run) at =
+        λ raised old. calmly starts.Len (calls.Count which run) old (count_calm c ws run.call.count) (len_none p _)
+    step_counts starts.IsEmpty (calls.Count which run) at =
+        λ raised old. calmly starts.IsEmpty (calls.Count which run) old
         (count_calm c ws run.call.count) (empty_none p _)
-    step_counts starts.TheVariants.IsLocked (calls.TheVariants.IsLocked run) at =
-        λ raised old. calmly starts.TheVariants.IsLocked (calls.TheVariants.IsLocked run) old (calm_load c ws 0) refl
+    step_counts starts.IsLocked (calls.IsLocked run) at =
+        λ raised old. calmly starts.IsLocked (calls.IsLocked run) old (calm_load c ws 0) refl
     step_counts start flight at = absurd at
 
 -- ---- a decision
@@ -338,47 +338,47 @@ module _ {T : Type 0} (code : Coding T) (state : Option (ContainerState T)) (p a
   pub decision_counts : (start : ContainerStart T) (flight : ContainerFlight T) (c z : ℕ) (all : List SetAct) (done : List (Act T))
       → At c z all done start flight → is_question (want code flight) ≡ true
       → ends_count p start (answer_in (after code state flight answer)) ≡ 0
-  decision_counts (starts.TheVariants.Add value owner) (calls.TheVariants.Add run) c z all done at due =
+  decision_counts (starts.Add value owner) (calls.Add run) c z all done at due =
       both_ways (is_question (add_asks code.words_of code.size run.call.capacity run.call.stage run.given))
       (add_asks_none code run.call.capacity run.call.stage run.given) due
-  decision_counts (starts.TheVariants.Remove index owner mode) (calls.TheVariants.Remove run) c z all done at due =
+  decision_counts (starts.Remove index owner mode) (calls.Remove run) c z all done at due =
       both_ways (is_question (remove_asks run.call.capacity run.call.stage run.given))
       (remove_asks_none run.call.capacity run.call.stage run.given) due
-  decision_counts (starts.TheVariants.Replace index value owner) (calls.TheVariants.Replace run) c z all done at due =
+  decision_counts (starts.Replace index value owner) (calls.Replace run) c z all done at due =
       both_ways (is_question (replace_asks code.words_of code.size run.call.capacity run.call.stage run.given))
       (replace_asks_none code run.call.capacity run.call.stage run.given) due
-  decision_counts (starts.TheVariants.Recover owner mode) (calls.TheVariants.Recover run) c z all done at due = go run.call.stage due
+  decision_counts (starts.Recover owner mode) (calls.Recover run) c z all done at due = go run.call.stage due
     where
       go : (stage : RecoverStage)
           → is_question (recover_asks code.size run.call.capacity stage run.given.owner) ≡ true
-          → ends_count p (starts.TheVariants.Recover owner mode)
-          (answer_in (after code state (calls.TheVariants.Recover (record run { call = record run.call { stage = stage } })) answer))
+          → ends_count p (starts.Recover owner mode)
+          (answer_in (after code state (calls.Recover (record run { call = record run.call { stage = stage } })) answer))
           ≡ 0
-      go recovers.TheVariants.LoadsCounter due = absurd (cc)
-      go (recovers.TheVariants.LoadsCell index) due = absurd (cc)
-      go (recovers.TheVariants.LoadsCount index) due = absurd (cc)
-      go (recovers.TheVariants.LoadsWord index count at) due = absurd (cc)
-      go (recovers.TheVariants.ChecksCount index count) due = absurd (cc)
-      go (recovers.TheVariants.Asks index count) due = by (answer == 0)
+      go recovers.LoadsCounter due = absurd (cc)
+      go (recovers.LoadsCell index) due = absurd (cc)
+      go (recovers.LoadsCount index) due = absurd (cc)
+      go (recovers.LoadsWord index count at) due = absurd (cc)
+      go (recovers.ChecksCount index count) due = absurd (cc)
+      go (recovers.Asks index count) due = by (answer == 0)
         where
-          by : (b : Bool) → ends_count {T = T} p (starts.TheVariants.Recover owner mode)
-              (answer_in (as_call calls.TheVariants.Recover State
+          by : (b : Bool) → ends_count {T = T} p (starts.Recover owner mode)
+              (answer_in (as_call calls.Recover State
               (went_on as_it_is run.given run.room
-              (if b then recover_comes_to (record run.call { stage = recovers.TheVariants.Asks index count })
-              (index + 1) else GoOn (record run.call { stage = recovers.TheVariants.EmptiesCell index count })))))
+              (if b then recover_comes_to (record run.call { stage = recovers.Asks index count })
+              (index + 1) else GoOn (record run.call { stage = recovers.EmptiesCell index count })))))
               ≡ 0
           by true = refl
           by false = refl
-      go (recovers.TheVariants.EmptiesCell index count) due = absurd (cc)
-      go (recovers.TheVariants.Hides index count) due = absurd (cc)
-      go (recovers.TheVariants.Raises index raise) due = both_ways (is_question (raise_want raise)) (raise_asks_none raise) due
-      go (recovers.TheVariants.Locks index lock) due = both_ways (is_question (lock_want lock)) (lock_asks_none lock) due
-      go recovers.TheVariants.LoadsCounterAgain due = absurd (cc)
-      go (recovers.TheVariants.AddsChange lock) due = absurd (cc)
-  decision_counts (starts.TheVariants.Find owner) (calls.TheVariants.Find run) c z all done at due = find_none p owner _
-  decision_counts starts.TheVariants.GetState (calls.TheVariants.Look which call) c z all done at due = get_none p _
-  decision_counts starts.TheVariants.UpdateState (calls.TheVariants.Look which call) c z all done at due = update_none p _
-  decision_counts starts.TheVariants.Len (calls.TheVariants.Count which run) c z all done at due = len_none p _
-  decision_counts starts.TheVariants.IsEmpty (calls.TheVariants.Count which run) c z all done at due = empty_none p _
-  decision_counts starts.TheVariants.IsLocked (calls.TheVariants.IsLocked run) c z all done at due = absurd (cc)
+      go (recovers.EmptiesCell index count) due = absurd (cc)
+      go (recovers.Hides index count) due = absurd (cc)
+      go (recovers.Raises index raise) due = both_ways (is_question (raise_want raise)) (raise_asks_none raise) due
+      go (recovers.Locks index lock) due = both_ways (is_question (lock_want lock)) (lock_asks_none lock) due
+      go recovers.LoadsCounterAgain due = absurd (cc)
+      go (recovers.AddsChange lock) due = absurd (cc)
+  decision_counts (starts.Find owner) (calls.Find run) c z all done at due = find_none p owner _
+  decision_counts starts.GetState (calls.Look which call) c z all done at due = get_none p _
+  decision_counts starts.UpdateState (calls.Look which call) c z all done at due = update_none p _
+  decision_counts starts.Len (calls.Count which run) c z all done at due = len_none p _
+  decision_counts starts.IsEmpty (calls.Count which run) c z all done at due = empty_none p _
+  decision_counts starts.IsLocked (calls.IsLocked run) c z all done at due = absurd (cc)
   decision_counts start flight c z all done at due = absurd at

@@ -12,9 +12,9 @@ use Rattle.laws_turns.proofs.Names.{ask_of_doing, step_in, after_turn, IsReached
 use Rattle.laws_turns.proofs.Names.{kept_by_runs, reached_more, turn_making, passes, may_next}
 use Rattle.laws_turns.proofs.Names.{StandsThere, change_at, change_set, shown, adds_one}
 use Rattle.laws_turns.proofs.Names.{all_effects, dying, Coding}
-use Rattle.model.specs.declared.families.Flight as flights
-use Rattle.model.specs.declared.families.Registry as registries
-use Rattle.model.specs.declared.turn.Kind as kinds
+use Rattle.model.specs.declared.families.Flight.TheVariants as flights
+use Rattle.model.specs.declared.families.Registry.TheVariants as registries
+use Rattle.model.specs.declared.turn.Kind.TheVariants as kinds
 use Rattle.model.specs.Families.Container.Calls.{want, after}
 use Rattle.model.specs.Families.Container.Steps.{effects}
 use Rattle.model.specs.Coding.{IsCoding}
@@ -72,7 +72,7 @@ module _ {T : Type 0} (terms : Terms) (t : Trace T) (s : frame.Sound (family_by 
   same_words : t.world.words ≡ s.state.words
   same_words = s.fit.words
 
-  same_kept : t.world.kept ≡ registries.TheVariants.Container s.state.dead s.state.states
+  same_kept : t.world.kept ≡ registries.Container s.state.dead s.state.states
   same_kept = s.fit.kept
 
   -- the words that a turn leaves
@@ -98,7 +98,7 @@ module _ {T : Type 0} (terms : Terms) (t : Trace T) (s : frame.Sound (family_by 
       (step_of t.world.coding t.world.words (beside_of t.world.words kept t.world.latest p) p start flight answer kept)
 
   abbrev now_kept : Registry T
-  now_kept = registries.TheVariants.Container s.state.dead s.state.states
+  now_kept = registries.Container s.state.dead s.state.states
 
   same_answer : (a : After (ContainerFlight T) (Answer T)) → answer_in (any_call a) ≡ answer_in a
   same_answer (GoOn flight) = refl
@@ -106,7 +106,7 @@ module _ {T : Type 0} (terms : Terms) (t : Trace T) (s : frame.Sound (family_by 
 
   module _ (p : ℕ) (turn : Turn T) (mine : IsParty turn p) (answer : ℕ)
       (ask : Option Ask) (asks : ask_in t.world turn ≡ ask) where
-    counted : (start : ContainerStart T) (flight : ContainerFlight T) → Wrote p turn answer now_kept (Container start) (flights.TheVariants.Container flight)
+    counted : (start : ContainerStart T) (flight : ContainerFlight T) → Wrote p turn answer now_kept (Container start) (flights.Container flight)
         → change_at c (words_after s.state.words ask)
         ≡ change_at c s.state.words + ends_count p start (answer_in (after t.world.coding (state_of p s.state.states) flight answer))
         → CountsChanges (after_turn t turn)
@@ -125,7 +125,7 @@ module _ {T : Type 0} (terms : Terms) (t : Trace T) (s : frame.Sound (family_by 
     by_step : (x : Party T) (since : ℕ) → party_of p t.world.latest ≡ Some x → (start : Start T) (flight : Flight T)
         → StandsThere fam t s p x since start flight → ask_in t.world (Next p) ≡ ask_of (want_of t.world.coding flight)
         → Wrote p (Next p) (old_of s.state.words (ask_of (want_of t.world.coding flight))) now_kept start flight → CountsChanges (after_turn t (Next p))
-    by_step x since found (Container start) (flights.TheVariants.Container flight) stands asks wrote =
+    by_step x since found (Container start) (flights.Container flight) stands asks wrote =
         let there = is_there shown terms t.world.coding c t s p x since found start flight stands in
         counted p (Next p) refl (old_of s.state.words (ask_of (want t.world.coding flight))) (ask_of (want t.world.coding flight)) asks start flight wrote
         (step_counts t.world.coding c s.state.words (state_of p s.state.states) p _ _ start flight there.at
@@ -151,7 +151,7 @@ module _ {T : Type 0} (terms : Terms) (t : Trace T) (s : frame.Sound (family_by 
         → (start : Start T) (flight : Flight T) → StandsThere fam t s p x since start flight
         → is_question (want_of t.world.coding flight) ≡ true
         → Wrote p (Decide p said) (number_of said) now_kept start flight → CountsChanges (after_turn t (Decide p said))
-    by_decision x since found (Container start) (flights.TheVariants.Container flight) stands due wrote =
+    by_decision x since found (Container start) (flights.Container flight) stands due wrote =
         let there = is_there shown terms t.world.coding c t s p x since found start flight stands in
         let none = decision_counts t.world.coding (state_of p s.state.states) p (number_of said) start flight c t.world.coding.size _ _ there.at due in
         counted p (Decide p said) refl (number_of said) None refl start flight wrote (omega arith)
@@ -177,8 +177,8 @@ module _ {T : Type 0} (terms : Terms) (t : Trace T) (s : frame.Sound (family_by 
 -- ---- every run
 
 module _ {T : Type 0} where
-  pub counts_first : (code : Coding T) (c parties : ℕ) → IsCoding code → capacity_error kinds.TheVariants.Container c ≡ None
-      → CountsChanges (opening code kinds.TheVariants.Container c parties)
+  pub counts_first : (code : Coding T) (c parties : ℕ) → IsCoding code → capacity_error kinds.Container c ≡ None
+      → CountsChanges (opening code kinds.Container c parties)
   counts_first code c parties coded admitted =
       let may = admitted_is c admitted in
       let few = (opens dying code c coded may.0 may.1).elements.change refl in
@@ -194,7 +194,7 @@ module _ {T : Type 0} where
       omega arith
 
   abbrev HasCounted : Trace T → Type 0
-  HasCounted t = IsReached t × (t.world.kind ≡ kinds.TheVariants.Container → CountsChanges t)
+  HasCounted t = IsReached t × (t.world.kind ≡ kinds.Container → CountsChanges t)
 
   turn_more : (u : Trace T) (turn : Turn T) → refusal_of u.world turn ≡ None → HasCounted u → HasCounted (after_turn u turn)
   turn_more u turn free h = (
@@ -206,7 +206,7 @@ module _ {T : Type 0} where
         turn_counts dying u s (few_changes u s (h.1 is) passed.turns) (h.1 is) turn (allowed_by u.world turn passed.on),
   )
 
-  pub counts_changes : (t : Trace T) → t.world.kind ≡ kinds.TheVariants.Container → IsReached t → CountsChanges t
+  pub counts_changes : (t : Trace T) → t.world.kind ≡ kinds.Container → IsReached t → CountsChanges t
   counts_changes t is r =
       (kept_by_runs HasCounted turn_more t
       (λ queue queued. (

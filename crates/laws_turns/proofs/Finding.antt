@@ -8,11 +8,11 @@ use Rattle.laws_turns.proofs.Names.{GoesOn, as_it_is, as_call, refusal_of, old_o
 use Rattle.laws_turns.proofs.Names.{flight_in, turn_making, StandsThere, cell, robust_keeps, find_at, FindAt}
 use Rattle.steps.specs.declared.indices.robust.find.Find as find_calls
 use Rattle.steps.specs.declared.indices.robust.find.FindStage.{FindStage}
-use Rattle.steps.specs.declared.indices.robust.find.FindStage as finds
+use Rattle.steps.specs.declared.indices.robust.find.FindStage.TheVariants as finds
 use Rattle.steps.specs.Indices.Robust.Find.{at_find, find_comes_to}
-use Rattle.model.specs.declared.families.indices.robust.RobustStart as starts
-use Rattle.model.specs.declared.families.indices.robust.calls.RobustFlight as calls
-use Rattle.model.specs.declared.turn.Kind as kinds
+use Rattle.model.specs.declared.families.indices.robust.RobustStart.TheVariants as starts
+use Rattle.model.specs.declared.families.indices.robust.calls.RobustFlight.TheVariants as calls
+use Rattle.model.specs.declared.turn.Kind.TheVariants as kinds
 use Rattle.model.specs.Families.Indices.Robust.Calls.{want, after}
 use Rattle.model.proofs.Frame as frame
 use Rattle.laws_robust.proofs.Invariant.{family}
@@ -30,29 +30,29 @@ module _ {T : Type 0} (code : Coding T) where
 
   module _ (c owner i found : ℕ) where
     abbrev at_cell : find_calls.Find
-    at_cell = record { capacity = c; stage = finds.TheVariants.LoadsCell i found }
+    at_cell = record { capacity = c; stage = finds.LoadsCell i found }
 
     abbrev asks_by : After find_calls.Find ℕ → Option ℕ
-    asks_by a = asked_of code (left_by (any_call {T = T} (as_call calls.TheVariants.Find Number (went_on as_it_is owner tt a))))
+    asks_by a = asked_of code (left_by (any_call {T = T} (as_call calls.Find Number (went_on as_it_is owner tt a))))
 
     -- the next cell and the end put no question
     next_asks_none : asks_by (find_comes_to at_cell (i + 1) found) ≡ None
     next_asks_none = go (nat_lt (i + 1) c)
       where
-        go : (b : Bool) → asks_by (if b then GoOn (at_find at_cell (finds.TheVariants.LoadsCell (i + 1) found)) else Done found) ≡ None
+        go : (b : Bool) → asks_by (if b then GoOn (at_find at_cell (finds.LoadsCell (i + 1) found)) else Done found) ≡ None
         go true = refl
         go false = refl
 
     by_owner : (b : Bool)
-        → asks_by (if b then GoOn (at_find at_cell (finds.TheVariants.Asks i (one_more found))) else find_comes_to at_cell (i + 1) found)
+        → asks_by (if b then GoOn (at_find at_cell (finds.Asks i (one_more found))) else find_comes_to at_cell (i + 1) found)
         ≡ (if b then Some i else None)
     by_owner true = refl
     by_owner false = next_asks_none
 
-    pub cell_asks : owner < empty → (o : Option ℕ) → asks_then (find_at c owner (finds.TheVariants.LoadsCell i found)) (cell_of o) ≡ index_if owner i o
+    pub cell_asks : owner < empty → (o : Option ℕ) → asks_then (find_at c owner (finds.LoadsCell i found)) (cell_of o) ≡ index_if owner i o
     cell_asks x0 x1 = grind (arith, by_owner, empty, ne_eqb)
 
-module _ {T : Type 0} (t : Trace T) (is : t.world.kind ≡ kinds.TheVariants.Robust) (r : IsReached t) where
+module _ {T : Type 0} (t : Trace T) (is : t.world.kind ≡ kinds.Robust) (r : IsReached t) where
   abbrev code : Coding T
   code = t.world.coding
 
@@ -79,13 +79,13 @@ module _ {T : Type 0} (t : Trace T) (is : t.world.kind ≡ kinds.TheVariants.Rob
     stage_asks : (all : List SetAct) → owner < empty → (stage : FindStage) → FindAt c all stage → Asks (find_at c owner stage)
     stage_asks x0 x1 x2 x3 x4 = grind (arith, some_ask, loads_cell, find_at, cell_is, cell_asks)
 
-    find_asks : (all : List SetAct) (flight : RobustFlight) → At c all (starts.TheVariants.Find owner) flight → Asks flight
+    find_asks : (all : List SetAct) (flight : RobustFlight) → At c all (starts.Find owner) flight → Asks flight
     find_asks x0 x1 x2 = grind (arith, find_at, stage_asks)
 
   robust_is : (a b : RobustStart) → ◌≡◌ {A = Start T} (Robust a) (Robust b) → a ≡ b
   robust_is a b e = cc
 
-  module _ (p owner index : ℕ) (under : IsIn p (Robust (starts.TheVariants.Find owner)) t) (goes : GoesOn t.world (Next p) (after_turn t (Next p)).world) where
+  module _ (p owner index : ℕ) (under : IsIn p (Robust (starts.Find owner)) t) (goes : GoesOn t.world (Next p) (after_turn t (Next p)).world) where
     abbrev Left : Flight T → Type 0
     Left flight =
         ask_of (want_of code flight) ≡ Some (loads_cell index)

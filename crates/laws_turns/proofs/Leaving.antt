@@ -4,7 +4,7 @@ use Rattle.laws_turns.proofs.Names.{Answer, Start, Flight, Registry, Party, Next
 use Rattle.laws_turns.proofs.Names.{step_of, doing_of, flight_of, old_of, number_of, ask_of_doing, step_in, after_answer}
 use Rattle.laws_turns.proofs.Names.{after_next, after_decision, world_after, doing_after, World, Trace, flight_in, party_put_same}
 use Rattle.laws_turns.proofs.Names.{Coding, Step}
-use Rattle.model.specs.declared.families.Registry as registries
+use Rattle.model.specs.declared.families.Registry.TheVariants as registries
 use Rattle.model.specs.Turns.{after_step}
 use Rattle.model.proofs.Frame as frame
 use Rattle.laws_container.proofs.Invariant.{ContainerNow, family_by}
@@ -23,7 +23,7 @@ module _ {T : Type 0} where
   -- a call of the container goes on as its table says
   told : (terms : Terms) (code z : Coding T) (c : ℕ) (words : List ℕ) (beside : Option (ℕ × ℕ)) (s : ContainerNow T)
       (p : ℕ) (start : Start T) (flight : Flight T) (answer : ℕ) (kept : Registry T)
-      → kept ≡ registries.TheVariants.Container s.dead s.states → (family_by terms code c).At s p start flight
+      → kept ≡ registries.Container s.dead s.states → (family_by terms code c).At s p start flight
       → (step_of z words beside p start flight answer kept).after ≡ goes_of z p flight answer kept
   told x0 x1 x2 x3 x4 x5 x6 x7 x8 x9 x10 x11 x12 = grind arith
 

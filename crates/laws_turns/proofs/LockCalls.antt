@@ -10,11 +10,11 @@ use Rattle.laws_turns.proofs.Names.{answer_in, old_of, ending_of, IsReached, Tra
 use Rattle.laws_turns.proofs.Names.{both_ways, Scene, Inv, Knows, raise_asks_none, lock_asks_none, IsHere, all, now}
 use Rattle.steps.specs.declared.indices.robust.recover.Recover as recover_calls
 use Rattle.steps.specs.declared.indices.robust.recover.RecoverStage.{RecoverStage}
-use Rattle.steps.specs.declared.indices.robust.recover.RecoverStage as recovers
+use Rattle.steps.specs.declared.indices.robust.recover.RecoverStage.TheVariants as recovers
 use Rattle.steps.specs.Indices.Robust.Recover.{recover_asks, recover_takes}
-use Rattle.model.specs.declared.families.indices.robust.RobustStart as starts
-use Rattle.model.specs.declared.families.indices.robust.calls.RobustFlight as calls
-use Rattle.model.specs.declared.turn.Kind as kinds
+use Rattle.model.specs.declared.families.indices.robust.RobustStart.TheVariants as starts
+use Rattle.model.specs.declared.families.indices.robust.calls.RobustFlight.TheVariants as calls
+use Rattle.model.specs.declared.turn.Kind.TheVariants as kinds
 use Rattle.model.specs.Families.Indices.Robust.Calls.{want, after}
 use Rattle.model.specs.Families.Indices.Robust.Steps.{effects}
 use Rattle.model.proofs.Frame as frame
@@ -101,21 +101,21 @@ module _ {T : Type 0} (c p : ℕ) (events : List (Event T)) where
     did = recover_effects p stage answer
 
     abbrev as_any : After recover_calls.Recover ReleaseState → After (Flight T) (Answer T)
-    as_any a = any_call (as_call calls.TheVariants.Recover State (went_on as_it_is mode tt a))
+    as_any a = any_call (as_call calls.Recover State (went_on as_it_is mode tt a))
 
     abbrev ends : After recover_calls.Recover ReleaseState → List (Event T)
-    ends a = ending_of p (Robust (starts.TheVariants.Recover mode)) (answer_in (as_any a))
+    ends a = ending_of p (Robust (starts.Recover mode)) (answer_in (as_any a))
 
     knows : (a : After recover_calls.Recover ReleaseState) → Tells c mode p (events ++ did) a → FlightKnows c p (left_by (as_any a)) (events ++ (did ++ ends a))
     knows x0 x1 = grind (arith, append-nil)
 
     ends_right : (m : ReleaseMode) (a : After recover_calls.Recover ReleaseState) → Tells c m p (events ++ did) a
         → AreRight LocksRight (events ++ did)
-        (ending_of p (Robust (starts.TheVariants.Recover m))
-        (answer_in (any_call {T = T} (as_call calls.TheVariants.Recover State (went_on as_it_is m tt a)))))
+        (ending_of p (Robust (starts.Recover m))
+        (answer_in (any_call {T = T} (as_call calls.Recover State (went_on as_it_is m tt a)))))
     ends_right x0 x1 x2 = grind arith
 
-    pub recovered : Tells c mode p (events ++ did) outcome → Leaves (starts.TheVariants.Recover mode) (recover_at c mode stage) answer
+    pub recovered : Tells c mode p (events ++ did) outcome → Leaves (starts.Recover mode) (recover_at c mode stage) answer
     recovered x0 = grind (arith, knows, right_append, ends, free_right, effects_free, ends_right)
 
 -- ---- a step of any call
@@ -127,7 +127,7 @@ module _ {T : Type 0} where
       → FlightKnows c p (left_by (any_call (as_call f g (went_on h given room a)))) es
   goes_known x0 x1 x2 x3 x4 x5 x6 x7 x8 x9 = grind arith
 
-module _ {T : Type 0} (t : Trace T) (is : t.world.kind ≡ kinds.TheVariants.Robust) (r : IsReached t) where
+module _ {T : Type 0} (t : Trace T) (is : t.world.kind ≡ kinds.Robust) (r : IsReached t) where
   abbrev c : ℕ
   c = t.world.capacity
 
@@ -151,61 +151,61 @@ module _ {T : Type 0} (t : Trace T) (is : t.world.kind ≡ kinds.TheVariants.Rob
     abbrev StepLeaves : RobustStart → RobustFlight → Type 0
     StepLeaves start call = Knows c call (now scene) → KnowsNow call → Leaves c p t.events start call (old_of s.state.words (ask_of (want call)))
 
-    recover_leaves : (mode : ReleaseMode) → IsHere scene (starts.TheVariants.Recover mode) → (stage : RecoverStage)
-        → RecoverAt c mode (all scene) stage → StepLeaves (starts.TheVariants.Recover mode) (recover_at c mode stage)
+    recover_leaves : (mode : ReleaseMode) → IsHere scene (starts.Recover mode) → (stage : RecoverStage)
+        → RecoverAt c mode (all scene) stage → StepLeaves (starts.Recover mode) (recover_at c mode stage)
     recover_leaves mode here stage at k h =
         recovered c p t.events mode stage (old_of s.state.words (ask_of (recover_asks stage))) (steps scene inv mode here refl stage at k h)
 
     others_leave : (start : RobustStart) (call : RobustFlight) (answer : ℕ) → At c (all scene) start call
-        → ((mode : ReleaseMode) → start ≢ starts.TheVariants.Recover mode) → Leaves c p t.events start call answer
+        → ((mode : ReleaseMode) → start ≢ starts.Recover mode) → Leaves c p t.events start call answer
     others_leave x0 x1 x2 x3 x4 = grind (arith, freely, goes_known, as_it_is)
 
     pub step_leaves : (start : RobustStart) (call : RobustFlight) → IsHere scene start → At c (all scene) start call → StepLeaves start call
-    step_leaves (starts.TheVariants.Recover mode) (calls.TheVariants.Recover run) here at =
-        subst (StepLeaves (starts.TheVariants.Recover mode))
+    step_leaves (starts.Recover mode) (calls.Recover run) here at =
+        subst (StepLeaves (starts.Recover mode))
         (sym (ap (λ n. recover_at n run.given run.call.stage) at.0 ∙ ap (λ m. recover_at c m run.call.stage) at.1))
         (recover_leaves mode here run.call.stage at.2)
-    step_leaves (starts.TheVariants.Acquire owner) call here at =
-        λ k h. others_leave (starts.TheVariants.Acquire owner) call (old_of s.state.words (ask_of (want call))) at (λ mode e. absurd (cc))
-    step_leaves (starts.TheVariants.Release index owner mode) call here at =
-        λ k h. others_leave (starts.TheVariants.Release index owner mode) call
+    step_leaves (starts.Acquire owner) call here at =
+        λ k h. others_leave (starts.Acquire owner) call (old_of s.state.words (ask_of (want call))) at (λ mode e. absurd (cc))
+    step_leaves (starts.Release index owner mode) call here at =
+        λ k h. others_leave (starts.Release index owner mode) call
         (old_of s.state.words (ask_of (want call))) at (λ mode e. absurd (cc))
-    step_leaves (starts.TheVariants.Find owner) call here at =
-        λ k h. others_leave (starts.TheVariants.Find owner) call (old_of s.state.words (ask_of (want call))) at (λ mode e. absurd (cc))
-    step_leaves starts.TheVariants.BorrowedIndices call here at =
-        λ k h. others_leave starts.TheVariants.BorrowedIndices call (old_of s.state.words (ask_of (want call))) at (λ mode e. absurd (cc))
-    step_leaves starts.TheVariants.IsLocked call here at =
-        λ k h. others_leave starts.TheVariants.IsLocked call (old_of s.state.words (ask_of (want call))) at (λ mode e. absurd (cc))
+    step_leaves (starts.Find owner) call here at =
+        λ k h. others_leave (starts.Find owner) call (old_of s.state.words (ask_of (want call))) at (λ mode e. absurd (cc))
+    step_leaves starts.BorrowedIndices call here at =
+        λ k h. others_leave starts.BorrowedIndices call (old_of s.state.words (ask_of (want call))) at (λ mode e. absurd (cc))
+    step_leaves starts.IsLocked call here at =
+        λ k h. others_leave starts.IsLocked call (old_of s.state.words (ask_of (want call))) at (λ mode e. absurd (cc))
     step_leaves start call here at = absurd at
 
     -- handed a decision
     abbrev DecisionLeaves : ℕ → RobustStart → RobustFlight → Type 0
     DecisionLeaves answer start call = is_question (want call) ≡ true → KnowsNow call → Leaves c p t.events start call answer
 
-    recover_decides : (answer : ℕ) (mode : ReleaseMode) → IsHere scene (starts.TheVariants.Recover mode)
-        → (stage : RecoverStage) → DecisionLeaves answer (starts.TheVariants.Recover mode) (recover_at c mode stage)
-    recover_decides answer mode here recovers.TheVariants.LoadsCounter due h = absurd (cc)
-    recover_decides answer mode here (recovers.TheVariants.LoadsCell index) due h = absurd (cc)
-    recover_decides answer mode here (recovers.TheVariants.Asks index owner) due h =
-        recovered c p t.events mode (recovers.TheVariants.Asks index owner) answer (decided scene inv mode here refl index owner answer h)
-    recover_decides answer mode here (recovers.TheVariants.EmptiesCell index owner) due h = absurd (cc)
-    recover_decides answer mode here (recovers.TheVariants.Raises index raise) due h = both_ways (is_question (raise_want raise)) (raise_asks_none raise) due
-    recover_decides answer mode here (recovers.TheVariants.Locks index lock) due h = both_ways (is_question (lock_want lock)) (lock_asks_none lock) due
-    recover_decides answer mode here recovers.TheVariants.LoadsCounterAgain due h = absurd (cc)
+    recover_decides : (answer : ℕ) (mode : ReleaseMode) → IsHere scene (starts.Recover mode)
+        → (stage : RecoverStage) → DecisionLeaves answer (starts.Recover mode) (recover_at c mode stage)
+    recover_decides answer mode here recovers.LoadsCounter due h = absurd (cc)
+    recover_decides answer mode here (recovers.LoadsCell index) due h = absurd (cc)
+    recover_decides answer mode here (recovers.Asks index owner) due h =
+        recovered c p t.events mode (recovers.Asks index owner) answer (decided scene inv mode here refl index owner answer h)
+    recover_decides answer mode here (recovers.EmptiesCell index owner) due h = absurd (cc)
+    recover_decides answer mode here (recovers.Raises index raise) due h = both_ways (is_question (raise_want raise)) (raise_asks_none raise) due
+    recover_decides answer mode here (recovers.Locks index lock) due h = both_ways (is_question (lock_want lock)) (lock_asks_none lock) due
+    recover_decides answer mode here recovers.LoadsCounterAgain due h = absurd (cc)
 
     pub decision_leaves : (answer : ℕ) (start : RobustStart) (call : RobustFlight) → IsHere scene start
         → At c (all scene) start call → DecisionLeaves answer start call
-    decision_leaves answer (starts.TheVariants.Recover mode) (calls.TheVariants.Recover run) here at =
-        subst (DecisionLeaves answer (starts.TheVariants.Recover mode))
+    decision_leaves answer (starts.Recover mode) (calls.Recover run) here at =
+        subst (DecisionLeaves answer (starts.Recover mode))
         (sym (ap (λ n. recover_at n run.given run.call.stage) at.0 ∙ ap (λ m. recover_at c m run.call.stage) at.1))
         (recover_decides answer mode here run.call.stage)
-    decision_leaves answer (starts.TheVariants.Acquire owner) call here at =
-        λ due h. others_leave (starts.TheVariants.Acquire owner) call answer at (λ mode e. absurd (cc))
-    decision_leaves answer (starts.TheVariants.Release index owner mode) call here at =
-        λ due h. others_leave (starts.TheVariants.Release index owner mode) call answer at (λ mode e. absurd (cc))
-    decision_leaves answer (starts.TheVariants.Find owner) call here at =
-        λ due h. others_leave (starts.TheVariants.Find owner) call answer at (λ mode e. absurd (cc))
-    decision_leaves answer starts.TheVariants.BorrowedIndices call here at =
-        λ due h. others_leave starts.TheVariants.BorrowedIndices call answer at (λ mode e. absurd (cc))
-    decision_leaves answer starts.TheVariants.IsLocked call here at = λ due h. others_leave starts.TheVariants.IsLocked call answer at (λ mode e. absurd (cc))
+    decision_leaves answer (starts.Acquire owner) call here at =
+        λ due h. others_leave (starts.Acquire owner) call answer at (λ mode e. absurd (cc))
+    decision_leaves answer (starts.Release index owner mode) call here at =
+        λ due h. others_leave (starts.Release index owner mode) call answer at (λ mode e. absurd (cc))
+    decision_leaves answer (starts.Find owner) call here at =
+        λ due h. others_leave (starts.Find owner) call answer at (λ mode e. absurd (cc))
+    decision_leaves answer starts.BorrowedIndices call here at =
+        λ due h. others_leave starts.BorrowedIndices call answer at (λ mode e. absurd (cc))
+    decision_leaves answer starts.IsLocked call here at = λ due h. others_leave starts.IsLocked call answer at (λ mode e. absurd (cc))
     decision_leaves answer start call here at = absurd at

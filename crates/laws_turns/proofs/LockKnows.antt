@@ -5,9 +5,9 @@ use Rattle.laws_turns.proofs.Names.{◌≡◌, ℕ, inl, Option, Some, List, ◌
 use Rattle.laws_turns.proofs.Names.{RobustFlight, Frees, set_acts_of, IsOneOf, BeginsNone, LockSays, NoIndex}
 use Rattle.laws_turns.proofs.Names.{FilledBut, FoundFilled, filled_then, says_later}
 use Rattle.steps.specs.declared.indices.robust.recover.RecoverStage.{RecoverStage}
-use Rattle.steps.specs.declared.indices.robust.recover.RecoverStage as recovers
-use Rattle.model.specs.declared.families.Flight as flights
-use Rattle.model.specs.declared.families.indices.robust.calls.RobustFlight as calls
+use Rattle.steps.specs.declared.indices.robust.recover.RecoverStage.TheVariants as recovers
+use Rattle.model.specs.declared.families.Flight.TheVariants as flights
+use Rattle.model.specs.declared.families.indices.robust.calls.RobustFlight.TheVariants as calls
 use Rattle.model.proofs.Locks.{locked_later}
 
 module _ {T : Type 0} where
@@ -16,21 +16,21 @@ module _ {T : Type 0} where
   Settled mode p events = (owner : ℕ) → FilledBut ⊥ mode p owner NoIndex events
 
   abbrev pub StageKnows : ℕ → ReleaseMode → ℕ → RecoverStage → List (Event T) → Type 0
-  StageKnows c mode p recovers.TheVariants.LoadsCounter events = Settled mode p events
-  StageKnows c mode p (recovers.TheVariants.LoadsCell index) events = Settled mode p events
-  StageKnows c mode p (recovers.TheVariants.Asks index owner) events = Settled mode p events
-  StageKnows c mode p (recovers.TheVariants.EmptiesCell index owner) events = Settled mode p events
-  StageKnows c mode p (recovers.TheVariants.Raises index raise) events = Unit {0}
-  StageKnows c mode p (recovers.TheVariants.Locks index lock) events =
+  StageKnows c mode p recovers.LoadsCounter events = Settled mode p events
+  StageKnows c mode p (recovers.LoadsCell index) events = Settled mode p events
+  StageKnows c mode p (recovers.Asks index owner) events = Settled mode p events
+  StageKnows c mode p (recovers.EmptiesCell index owner) events = Settled mode p events
+  StageKnows c mode p (recovers.Raises index raise) events = Unit {0}
+  StageKnows c mode p (recovers.Locks index lock) events =
       LockSays c (FoundFilled p events) lock
-  StageKnows c mode p recovers.TheVariants.LoadsCounterAgain events = Settled mode p events
+  StageKnows c mode p recovers.LoadsCounterAgain events = Settled mode p events
 
   abbrev pub CallKnows : ℕ → ℕ → RobustFlight → List (Event T) → Type 0
-  CallKnows c p (calls.TheVariants.Recover run) events = StageKnows c run.given p run.call.stage events
+  CallKnows c p (calls.Recover run) events = StageKnows c run.given p run.call.stage events
   CallKnows c p call events = Unit {0}
 
   abbrev pub FlightKnows : ℕ → ℕ → Option (Flight T) → List (Event T) → Type 0
-  FlightKnows c p (Some (flights.TheVariants.Robust call)) events = CallKnows c p call events
+  FlightKnows c p (Some (flights.Robust call)) events = CallKnows c p call events
   FlightKnows c p flight events = Unit {0}
 
   -- ---- once events are there in which it frees nothing
@@ -55,5 +55,5 @@ module _ {T : Type 0} where
     call_later x0 x1 = grind (arith, stage_later)
 
     pub flight_later : (o : Option (Flight T)) → FlightKnows c p o events → FlightKnows c p o (events ++ es)
-    flight_later (Some (flights.TheVariants.Robust call)) h = call_later call h
+    flight_later (Some (flights.Robust call)) h = call_later call h
     flight_later o h = tt

@@ -10,13 +10,13 @@ use Rattle.laws_turns.proofs.Names.{recover_effects, BeginsNone, old_of, words_a
 use Rattle.laws_turns.proofs.Names.{counter_of, is_shut, unlocked, IsWorn, Scene, Inv, LockSays, Knows, IsHere}
 use Rattle.laws_turns.proofs.Names.{Lengthens, all, now, set_acts_more, LockAt, NoIndex, FoundFilled, filled_locked}
 use Rattle.laws_turns.proofs.Names.{filled_last, filled_each}
-use Rattle.steps.specs.declared.indices.enums.ReleaseState as states
-use Rattle.steps.specs.declared.indices.robust.parts.Count as counts
-use Rattle.steps.specs.declared.indices.robust.parts.Lock as parts
-use Rattle.steps.specs.declared.indices.robust.parts.Raise as raises
+use Rattle.steps.specs.declared.indices.enums.ReleaseState.TheVariants as states
+use Rattle.steps.specs.declared.indices.robust.parts.Count.TheVariants as counts
+use Rattle.steps.specs.declared.indices.robust.parts.Lock.TheVariants as parts
+use Rattle.steps.specs.declared.indices.robust.parts.Raise.TheVariants as raises
 use Rattle.steps.specs.declared.indices.robust.recover.Recover as calls
 use Rattle.steps.specs.declared.indices.robust.recover.RecoverStage.{RecoverStage}
-use Rattle.steps.specs.declared.indices.robust.recover.RecoverStage as recovers
+use Rattle.steps.specs.declared.indices.robust.recover.RecoverStage.TheVariants as recovers
 use Rattle.steps.specs.Indices.Robust.Recover.{recover_asks, recover_takes, recover_comes_to, recover_raised}
 use Rattle.steps.specs.Indices.Robust.Recover.{recover_locked}
 use Rattle.model.specs.declared.event.Event.TheVariants.{Locked}
@@ -54,7 +54,7 @@ module _ {T : Type 0} (scene : Scene T) (inv : Inv scene) (mode : ReleaseMode) (
   comes_to : (stage : RecoverStage) (did : List (Event T)) (index : ℕ) → Settled mode p (events ++ did) → Leads did (recover_comes_to (call_at stage) index)
   comes_to stage did index h = go (nat_lt index c)
     where
-      go : (b : Bool) → StageKnows c mode p (if b then recovers.TheVariants.LoadsCell index else recovers.TheVariants.LoadsCounterAgain) (events ++ did)
+      go : (b : Bool) → StageKnows c mode p (if b then recovers.LoadsCell index else recovers.LoadsCounterAgain) (events ++ did)
       go true = h
       go false = h
 
@@ -76,10 +76,10 @@ module _ {T : Type 0} (scene : Scene T) (inv : Inv scene) (mode : ReleaseMode) (
   -- ---- the lock
 
   module _ (index : ℕ) (lock : Lock) (may_lock : mode ≡ LockIfLastIndex) (at : LockAt c lock)
-      (k : Knows c (recover_at c mode (recovers.TheVariants.Locks index lock)) (now scene))
+      (k : Knows c (recover_at c mode (recovers.Locks index lock)) (now scene))
       (f : LockSays c (FoundFilled p events) lock) where
     abbrev locks_to : Option Ask → Bool → List (Event T) → After Lock ReleaseState → Type 0
-    locks_to ask back did r = Leads did (recover_locked (call_at (recovers.TheVariants.Locks index lock)) index r)
+    locks_to ask back did r = Leads did (recover_locked (call_at (recovers.Locks index lock)) index r)
 
     said : IsSaid scene inv (FoundFilled p events)
     said =
@@ -98,12 +98,12 @@ module _ {T : Type 0} (scene : Scene T) (inv : Inv scene) (mode : ReleaseMode) (
     locks_step =
         lock_step scene inv (FoundFilled p events) said locks_to lock at k.paid k.scanned f
         (λ next ask back stays next_at paid scanned says few. subst (λ es. LockSays c (FoundFilled p es) next) (sym (append-nil events)) says)
-        (λ ask same shut paid few. comes_to (recovers.TheVariants.Locks index lock) [] (index + 1)
+        (λ ask same shut paid few. comes_to (recovers.Locks index lock) [] (index + 1)
         (calm (λ owner. filled_locked p owner ⊥ mode NoIndex events (is_shut scene inv shut))))
-        (λ filled ask stays open_now more says paid few. comes_to (recovers.TheVariants.Locks index lock) []
+        (λ filled ask stays open_now more says paid few. comes_to (recovers.Locks index lock) []
         (index + 1) (calm (λ owner. filled_last p owner ⊥ mode NoIndex events (says more))))
         (λ ask stays open_now worn paid few. absurd (subst (λ b. IsWorn b (words_after ws ask)) dies worn))
-        (λ ask none less new paid few. comes_to (recovers.TheVariants.Locks index lock) (Locked p ∷ []) (index + 1)
+        (λ ask none less new paid few. comes_to (recovers.Locks index lock) (Locked p ∷ []) (index + 1)
         (λ owner. filled_locked p owner ⊥ mode NoIndex (events ++ Locked p ∷ [])
         (fold-append locked_after false events (Locked p ∷ []))))
 
@@ -115,10 +115,10 @@ module _ {T : Type 0} (scene : Scene T) (inv : Inv scene) (mode : ReleaseMode) (
 
   -- ---- the second look at the counter
 
-  again : Settled mode p events → (b : Bool) → (counter_of ws == locked) ≡ b → EndSays mode (if b then states.TheVariants.Locked else Unlocked) p (events ++ [])
-  again h b e = subst (EndSays mode (if b then states.TheVariants.Locked else Unlocked) p) (sym (append-nil events)) (go mode refl b e)
+  again : Settled mode p events → (b : Bool) → (counter_of ws == locked) ≡ b → EndSays mode (if b then states.Locked else Unlocked) p (events ++ [])
+  again h b e = subst (EndSays mode (if b then states.Locked else Unlocked) p) (sym (append-nil events)) (go mode refl b e)
     where
-      go : (m : ReleaseMode) → mode ≡ m → (b : Bool) → (counter_of ws == locked) ≡ b → EndSays m (if b then states.TheVariants.Locked else Unlocked) p events
+      go : (m : ReleaseMode) → mode ≡ m → (b : Bool) → (counter_of ws == locked) ≡ b → EndSays m (if b then states.Locked else Unlocked) p events
       go LockIfLastIndex is true t = tt
       go Default is true t = tt
       go Default is false t = tt
@@ -137,51 +137,51 @@ module _ {T : Type 0} (scene : Scene T) (inv : Inv scene) (mode : ReleaseMode) (
       (recover_takes (call_at stage) stage mode (old_of ws (ask_of (recover_asks stage))))
 
   pub decided : (index owner answer : ℕ) → Settled mode p events
-      → Leads (recover_effects p (recovers.TheVariants.Asks index owner) answer)
-      (recover_takes (call_at (recovers.TheVariants.Asks index owner)) (recovers.TheVariants.Asks index owner) mode answer)
+      → Leads (recover_effects p (recovers.Asks index owner) answer)
+      (recover_takes (call_at (recovers.Asks index owner)) (recovers.Asks index owner) mode answer)
   decided index owner answer h = go (answer == 0)
     where
       go : (b : Bool) → Leads (if b then [] else Told p index owner ∷ [])
-          (if b then recover_comes_to (call_at (recovers.TheVariants.Asks index owner)) (index + 1) else GoOn
-          (record { capacity = c; stage = recovers.TheVariants.EmptiesCell index owner }))
-      go true = comes_to (recovers.TheVariants.Asks index owner) [] (index + 1) (calm h)
+          (if b then recover_comes_to (call_at (recovers.Asks index owner)) (index + 1) else GoOn
+          (record { capacity = c; stage = recovers.EmptiesCell index owner }))
+      go true = comes_to (recovers.Asks index owner) [] (index + 1) (calm h)
       go false = once (Told p index owner) _ (refl, tt) tt (λ start w. refl) refl (λ i o e. absurd (cc)) h
 
   pub steps : (stage : RecoverStage) → Steps stage
-  steps recovers.TheVariants.LoadsCounter at k h = go (counter_of ws == locked)
+  steps recovers.LoadsCounter at k h = go (counter_of ws == locked)
     where
-      shut : (m : ReleaseMode) → EndSays m states.TheVariants.Locked p (events ++ [])
+      shut : (m : ReleaseMode) → EndSays m states.Locked p (events ++ [])
       shut LockIfLastIndex = tt
       shut Default = tt
 
-      go : (b : Bool) → Leads [] (if b then Done states.TheVariants.Locked else recover_comes_to (call_at recovers.TheVariants.LoadsCounter) 0)
+      go : (b : Bool) → Leads [] (if b then Done states.Locked else recover_comes_to (call_at recovers.LoadsCounter) 0)
       go true = shut mode
-      go false = comes_to recovers.TheVariants.LoadsCounter [] 0 (calm h)
-  steps (recovers.TheVariants.LoadsCell index) at k h =
-      go (old_of ws (ask_of (recover_asks (recovers.TheVariants.LoadsCell index))))
-      (old_of ws (ask_of (recover_asks (recovers.TheVariants.LoadsCell index))) == empty)
+      go false = comes_to recovers.LoadsCounter [] 0 (calm h)
+  steps (recovers.LoadsCell index) at k h =
+      go (old_of ws (ask_of (recover_asks (recovers.LoadsCell index))))
+      (old_of ws (ask_of (recover_asks (recovers.LoadsCell index))) == empty)
     where
       go : (old : ℕ) (b : Bool)
           → Leads (if b then [] else Asked p index old ∷ [])
-          (if b then recover_comes_to (call_at (recovers.TheVariants.LoadsCell index)) (index + 1) else GoOn
-          (record { capacity = c; stage = recovers.TheVariants.Asks index old }))
-      go old true = comes_to (recovers.TheVariants.LoadsCell index) [] (index + 1) (calm h)
+          (if b then recover_comes_to (call_at (recovers.LoadsCell index)) (index + 1) else GoOn
+          (record { capacity = c; stage = recovers.Asks index old }))
+      go old true = comes_to (recovers.LoadsCell index) [] (index + 1) (calm h)
       go old false = once (Asked p index old) _ (refl, tt) tt (λ start w. refl) refl (λ i o e. absurd (cc)) h
-  steps (recovers.TheVariants.Asks index owner) at k h = decided index owner 0 h
-  steps (recovers.TheVariants.EmptiesCell index owner) at k h = go (old_of ws (ask_of (recover_asks (recovers.TheVariants.EmptiesCell index owner))) == owner)
+  steps (recovers.Asks index owner) at k h = decided index owner 0 h
+  steps (recovers.EmptiesCell index owner) at k h = go (old_of ws (ask_of (recover_asks (recovers.EmptiesCell index owner))) == owner)
     where
       go : (b : Bool) → Leads (if b then FreedOf p index owner ∷ [] else [])
-          (if b then GoOn (record { capacity = c; stage = recovers.TheVariants.Raises index raises.TheVariants.LoadsCounter })
-          else recover_comes_to (call_at (recovers.TheVariants.EmptiesCell index owner)) (index + 1))
+          (if b then GoOn (record { capacity = c; stage = recovers.Raises index raises.LoadsCounter })
+          else recover_comes_to (call_at (recovers.EmptiesCell index owner)) (index + 1))
       go x0 = grind (arith, comes_to, calm)
-  steps (recovers.TheVariants.Raises index raise) at k h =
-      raise_steps index (recovers.TheVariants.Raises index raise) mode refl (raise_after raise (old_of ws (ask_of (raise_want raise))))
-  steps (recovers.TheVariants.Locks index (parts.TheVariants.Counts counts.TheVariants.LoadsCounter)) at k h =
-      locks_step index (parts.TheVariants.Counts counts.TheVariants.LoadsCounter) at.2 at.3 k h
-  steps (recovers.TheVariants.Locks index (parts.TheVariants.Counts (counts.TheVariants.LoadsCell number i filled))) at k h =
-      locks_step index (parts.TheVariants.Counts (counts.TheVariants.LoadsCell number i filled)) at.2 at.3 k h
-  steps (recovers.TheVariants.Locks index (parts.TheVariants.Counts (counts.TheVariants.ExchangesCounter number filled))) at k h =
-      locks_step index (parts.TheVariants.Counts (counts.TheVariants.ExchangesCounter number filled)) at.2 at.3 k h
-  steps (recovers.TheVariants.Locks index (parts.TheVariants.ExchangesCounter number)) at k h =
-      locks_step index (parts.TheVariants.ExchangesCounter number) at.2 at.3 k h
-  steps recovers.TheVariants.LoadsCounterAgain at k h = again h (counter_of ws == locked) refl
+  steps (recovers.Raises index raise) at k h =
+      raise_steps index (recovers.Raises index raise) mode refl (raise_after raise (old_of ws (ask_of (raise_want raise))))
+  steps (recovers.Locks index (parts.Counts counts.LoadsCounter)) at k h =
+      locks_step index (parts.Counts counts.LoadsCounter) at.2 at.3 k h
+  steps (recovers.Locks index (parts.Counts (counts.LoadsCell number i filled))) at k h =
+      locks_step index (parts.Counts (counts.LoadsCell number i filled)) at.2 at.3 k h
+  steps (recovers.Locks index (parts.Counts (counts.ExchangesCounter number filled))) at k h =
+      locks_step index (parts.Counts (counts.ExchangesCounter number filled)) at.2 at.3 k h
+  steps (recovers.Locks index (parts.ExchangesCounter number)) at k h =
+      locks_step index (parts.ExchangesCounter number) at.2 at.3 k h
+  steps recovers.LoadsCounterAgain at k h = again h (counter_of ws == locked) refl

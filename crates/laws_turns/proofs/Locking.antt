@@ -13,9 +13,9 @@ use Rattle.laws_turns.proofs.Names.{reached_more, turn_making, AreOwn, AreRight,
 use Rattle.laws_turns.proofs.Names.{span_of-own, span_of-other, span_of-death, passes, may_next, may_decide}
 use Rattle.laws_turns.proofs.Names.{must_be_due, StandsThere, Death, robust_keeps, filled_none}
 use Rattle.steps.specs.declared.indices.robust.recover.RecoverStage.{RecoverStage}
-use Rattle.model.specs.declared.families.Flight as flights
-use Rattle.model.specs.declared.families.Registry as registries
-use Rattle.model.specs.declared.turn.Kind as kinds
+use Rattle.model.specs.declared.families.Flight.TheVariants as flights
+use Rattle.model.specs.declared.families.Registry.TheVariants as registries
+use Rattle.model.specs.declared.turn.Kind.TheVariants as kinds
 use Rattle.model.specs.Families.Indices.Robust.Calls.{want, after}
 use Rattle.model.specs.Families.Indices.Robust.Steps.{effects}
 use Rattle.model.proofs.Frame as frame
@@ -34,7 +34,7 @@ module _ {T : Type 0} where
     pub known : (p : ℕ) → FlightKnows t.world.capacity p (flight_in t.world p) t.events
     pub right : Each LocksRight t.events
 
-module _ {T : Type 0} (t : Trace T) (is : t.world.kind ≡ kinds.TheVariants.Robust) (r : IsReached t) (h : Extra t) where
+module _ {T : Type 0} (t : Trace T) (is : t.world.kind ≡ kinds.Robust) (r : IsReached t) (h : Extra t) where
   abbrev c : ℕ
   c = t.world.capacity
 
@@ -44,7 +44,7 @@ module _ {T : Type 0} (t : Trace T) (is : t.world.kind ≡ kinds.TheVariants.Rob
   abbrev s : frame.Sound (family t.world.coding t.world.capacity) t
   s = reached_sound t is r
 
-  same_kept : t.world.kept ≡ registries.TheVariants.Owners s.state.dead
+  same_kept : t.world.kept ≡ registries.Owners s.state.dead
   same_kept = s.fit.kept
 
   same_words : t.world.words ≡ s.state.words
@@ -78,7 +78,7 @@ module _ {T : Type 0} (t : Trace T) (is : t.world.kind ≡ kinds.TheVariants.Rob
         (step_of t.world.coding t.world.words (beside_of t.world.words kept t.world.latest p) p start flight answer kept))
 
     leaves_it : (start : RobustStart) (call : RobustFlight) → Leaves c p t.events start call answer
-        → Comes (registries.TheVariants.Owners s.state.dead) (Robust start) (flights.TheVariants.Robust call)
+        → Comes (registries.Owners s.state.dead) (Robust start) (flights.Robust call)
         → ((q : ℕ) → FlightKnows c q (flight_in (world_after t.world turn) q) (t.events ++ events_of t.world turn))
         × AreRight LocksRight t.events (events_of t.world turn)
     leaves_it x0 x1 x2 x3 = grind (arith, known_by, all_own, effects, after, effects_own)
@@ -98,9 +98,9 @@ module _ {T : Type 0} (t : Trace T) (is : t.world.kind ≡ kinds.TheVariants.Rob
     by_step : (x : Party T) (since : ℕ) (found : party_of p t.world.latest ≡ Some x) (start : Start T) (flight : Flight T)
         → StandsThere fam t s p x since start flight → FlightKnows c p (Some flight) t.events
         → Comes (Next p) p (λ q its. its) (old_of s.state.words (ask_of (want_of t.world.coding flight)))
-        (registries.TheVariants.Owners s.state.dead) start flight
+        (registries.Owners s.state.dead) start flight
         → Extra (after_turn t (Next p))
-    by_step x since found (Robust start) (flights.TheVariants.Robust call) stands knows comes =
+    by_step x since found (Robust start) (flights.Robust call) stands knows comes =
         let small = (passes t.world (Next p) free).turns in
         let there = is_there Death t.world.coding c t s p x since found start call stands in
         after_it (Next p) p (λ q its. its) (old_of s.state.words (ask_of (want call)))
@@ -134,9 +134,9 @@ module _ {T : Type 0} (t : Trace T) (is : t.world.kind ≡ kinds.TheVariants.Rob
     by_decision : (x : Party T) (since : ℕ) (found : party_of p t.world.latest ≡ Some x) (start : Start T) (flight : Flight T)
         → StandsThere fam t s p x since start flight → is_question (want_of t.world.coding flight) ≡ true
         → FlightKnows c p (Some flight) t.events
-        → Comes (Decide p said) p (λ q its. its) (number_of said) (registries.TheVariants.Owners s.state.dead) start flight
+        → Comes (Decide p said) p (λ q its. its) (number_of said) (registries.Owners s.state.dead) start flight
         → Extra (after_turn t (Decide p said))
-    by_decision x since found (Robust start) (flights.TheVariants.Robust call) stands due knows comes =
+    by_decision x since found (Robust start) (flights.Robust call) stands due knows comes =
         let small = (passes t.world (Decide p said) free).turns in
         let there = is_there Death t.world.coding c t s p x since found start call stands in
         after_it (Decide p said) p (λ q its. its) (number_of said)
@@ -168,7 +168,7 @@ module _ {T : Type 0} (t : Trace T) (is : t.world.kind ≡ kinds.TheVariants.Rob
     abbrev new : Trace T
     new = after_turn t (Begin p start)
 
-    is_new : new.world.kind ≡ kinds.TheVariants.Robust
+    is_new : new.world.kind ≡ kinds.Robust
     is_new = (turn_making t.world (Begin p start)).kind ∙ is
 
     s_new : frame.Sound (family new.world.coding new.world.capacity) new
@@ -219,9 +219,9 @@ module _ {T : Type 0} (t : Trace T) (is : t.world.kind ≡ kinds.TheVariants.Rob
 
 module _ {T : Type 0} where
   abbrev HasKept : Trace T → Type 0
-  HasKept t = IsReached t × (t.world.kind ≡ kinds.TheVariants.Robust → Extra t)
+  HasKept t = IsReached t × (t.world.kind ≡ kinds.Robust → Extra t)
 
-  pub locks : (t : Trace T) → t.world.kind ≡ kinds.TheVariants.Robust → IsReached t → Each LocksRight t.events
+  pub locks : (t : Trace T) → t.world.kind ≡ kinds.Robust → IsReached t → Each LocksRight t.events
   locks t is r =
       ((kept_by_runs HasKept
       (λ u turn free h. (

@@ -7,8 +7,8 @@ use Rattle.laws_turns.proofs.Names.{state_in, state_of, with_state, fresh, Each,
 use Rattle.laws_turns.proofs.Names.{after_turn, IsReached, Trace, flight_in, found_put_same, kept_by_runs}
 use Rattle.laws_turns.proofs.Names.{reached_more, turn_making, Each-nil, passes, party_put_same, flight_of, doing_of, shown, dying, may_go_on, IsOwn}
 use Rattle.laws_turns.proofs.Names.{begins_own, Coding}
-use Rattle.model.specs.declared.families.container.ContainerStart as starts
-use Rattle.model.specs.declared.turn.Kind as kinds
+use Rattle.model.specs.declared.families.container.ContainerStart.TheVariants as starts
+use Rattle.model.specs.declared.turn.Kind.TheVariants as kinds
 use Rattle.model.specs.Turns.{party_at_begin}
 use Rattle.model.specs.World.{opening, opened}
 use Rattle.model.proofs.Frame as frame
@@ -51,7 +51,7 @@ module _ {T : Type 0} (terms : Terms) (t : Trace T) (s : frame.Sound (family_by 
     begun_now = grind (arith, eq-eqb)
 
     update_first : (o : Option (ContainerState T)) → own ≡ o
-        → SeesFirst starts.TheVariants.UpdateState
+        → SeesFirst starts.UpdateState
         (state_of p (if is_some o then states else with_state p (fresh t.world.coding t.world.capacity) states))
     update_first x0 x1 = grind (arith, rests, found_put_same, fresh, begun_now)
 
@@ -80,7 +80,7 @@ module _ {T : Type 0} (terms : Terms) (t : Trace T) (s : frame.Sound (family_by 
         let kept : (world_after t.world (Begin p start)).kept ≡ kept_after_begin t.world.coding t.world.capacity start p (now_kept terms t s may counts h) =
         ap (λ o. (after_begin t.world p start o).kept) e ∙ ap (kept_after_begin t.world.coding t.world.capacity start p) (same_kept terms t s may counts h)
         in
-        let named : first_of kinds.TheVariants.Container t.world.capacity start t.world.kept ≡ Some flight =
+        let named : first_of kinds.Container t.world.capacity start t.world.kept ≡ Some flight =
         subst (λ kind. first_of kind t.world.capacity start t.world.kept ≡ Some flight) s.kind e in
         let sees = begun_sees start flight (begins_own t.world.capacity t.world.kept start flight named) in
         after_it terms t s may counts h (Begin p start) tt
@@ -106,13 +106,13 @@ module _ {T : Type 0} (terms : Terms) (t : Trace T) (s : frame.Sound (family_by 
 
 module _ {T : Type 0} where
   abbrev HasMet : Trace T → Type 0
-  HasMet t = IsReached t × (t.world.kind ≡ kinds.TheVariants.Container → Extra t)
+  HasMet t = IsReached t × (t.world.kind ≡ kinds.Container → Extra t)
 
-  pub first_known : (code : Coding T) (c parties : ℕ) → Extra (opening code kinds.TheVariants.Container c parties)
+  pub first_known : (code : Coding T) (c parties : ℕ) → Extra (opening code kinds.Container c parties)
   first_known code c parties =
       record { known = λ p. record { least = omega arith; most = omega arith; now = omega arith }; right = Each-nil MeetsChanges }
 
-  pub meets_changes : (t : Trace T) → t.world.kind ≡ kinds.TheVariants.Container → IsReached t → Each MeetsChanges t.events
+  pub meets_changes : (t : Trace T) → t.world.kind ≡ kinds.Container → IsReached t → Each MeetsChanges t.events
   meets_changes t is r =
       ((kept_by_runs HasMet
       (λ u turn free h. (

@@ -10,7 +10,7 @@ use Rattle.laws_turns.proofs.Names.{World, Trace, kept_opened}
 use Rattle.model.specs.declared.families.Registry.TheVariants as registries
 use Rattle.model.specs.declared.families.loan.Book.{Book}
 use Rattle.model.specs.declared.families.loan.LoanStart.{LoanStart}
-use Rattle.model.specs.declared.turn.Kind as kinds
+use Rattle.model.specs.declared.turn.Kind.TheVariants as kinds
 use Rattle.model.specs.Families.Loan.Calls.{after}
 use Rattle.model.specs.Families.Loan.Opening.{taken_from, asks_for}
 use Rattle.model.specs.Families.Loan.Steps.{book_after, ended_book, wrote}
@@ -64,7 +64,7 @@ module _ {T : Type 0} where
 
   -- ---- and as long as the number that it was made with
 
-  pub queue_is : (t : Trace T) → t.world.kind ≡ kinds.TheVariants.Loan → (r : IsReached t) → queue_in t.world.kept ≡ Some r.queue
+  pub queue_is : (t : Trace T) → t.world.kind ≡ kinds.Loan → (r : IsReached t) → queue_in t.world.kept ≡ Some r.queue
   queue_is t is r =
       subst (λ (u : Trace T). queue_in u.world.kept ≡ Some r.queue) (sym r.is)
       (run_keeps refusal_of (λ u. queue_in u.world.kept ≡ Some r.queue) (λ u turn e h. keeps_queue u.world turn ∙ h)

@@ -8,12 +8,12 @@ use Rattle.laws_turns.proofs.Names.{ContainerStart, ContainerFlight, LookOf, Tur
 use Rattle.laws_turns.proofs.Names.{looked, look_shows, look_came, settled_if, Act, questions, SetAct, as_it_is}
 use Rattle.laws_turns.proofs.Names.{kept_at, IsParty, IsEffectOf, as_call, answer_in, ending_of, AreRight, looks_as}
 use Rattle.laws_turns.proofs.Names.{all_effects}
-use Rattle.steps.specs.declared.container.look.LookStage as stages
+use Rattle.steps.specs.declared.container.look.LookStage.TheVariants as stages
 use Rattle.steps.specs.Container.Find.{find_after}
 use Rattle.steps.specs.Container.Look as look_steps
-use Rattle.model.specs.declared.families.container.ContainerStart as starts
-use Rattle.model.specs.declared.families.container.calls.ContainerFlight as calls
-use Rattle.model.specs.declared.families.container.calls.LookOf as kinds
+use Rattle.model.specs.declared.families.container.ContainerStart.TheVariants as starts
+use Rattle.model.specs.declared.families.container.calls.ContainerFlight.TheVariants as calls
+use Rattle.model.specs.declared.families.container.calls.LookOf.TheVariants as kinds
 use Rattle.model.specs.Families.Container.Calls.{after, counted}
 use Rattle.model.specs.Families.Container.Steps.{effects}
 use Rattle.laws_container.proofs.Stages.{any_call}
@@ -92,37 +92,37 @@ module _ {T : Type 0} (code : Coding T) (p : ℕ) (events : List (Event T)) (sta
       (flight : ContainerFlight T) (answer : ℕ)
       → At c z all done start flight → IsNoLook start → Within (seen_by p events) (seen_number state)
       → Leaves state start flight answer
-  others_leave c z all done (starts.TheVariants.Add value owner) (calls.TheVariants.Add run) answer at other within =
-      freely (starts.TheVariants.Add value owner) (calls.TheVariants.Add run) answer tt within
-      (λ s h. goes_sees s state calls.TheVariants.Add added as_it_is run.given run.room
+  others_leave c z all done (starts.Add value owner) (calls.Add run) answer at other within =
+      freely (starts.Add value owner) (calls.Add run) answer tt within
+      (λ s h. goes_sees s state calls.Add added as_it_is run.given run.room
       (add_after code.size run.call answer) (λ r. h) h)
-  others_leave c z all done (starts.TheVariants.Remove index owner mode) (calls.TheVariants.Remove run) answer at other within =
-      freely (starts.TheVariants.Remove index owner mode) (calls.TheVariants.Remove run) answer tt within
-      (λ s h. goes_sees s state calls.TheVariants.Remove removed as_it_is run.given run.room
+  others_leave c z all done (starts.Remove index owner mode) (calls.Remove run) answer at other within =
+      freely (starts.Remove index owner mode) (calls.Remove run) answer tt within
+      (λ s h. goes_sees s state calls.Remove removed as_it_is run.given run.room
       (remove_after run.call run.given answer) (λ r. h) h)
-  others_leave c z all done (starts.TheVariants.Replace index value owner) (calls.TheVariants.Replace run) answer at other within =
-      freely (starts.TheVariants.Replace index value owner) (calls.TheVariants.Replace run) answer tt within
-      (λ s h. goes_sees s state calls.TheVariants.Replace replaced as_it_is run.given run.room
+  others_leave c z all done (starts.Replace index value owner) (calls.Replace run) answer at other within =
+      freely (starts.Replace index value owner) (calls.Replace run) answer tt within
+      (λ s h. goes_sees s state calls.Replace replaced as_it_is run.given run.room
       (replace_after code.size run.call run.given answer) (λ r. h) h)
-  others_leave c z all done (starts.TheVariants.Find owner) (calls.TheVariants.Find run) answer at other within =
-      freely (starts.TheVariants.Find owner) (calls.TheVariants.Find run) answer tt within
-      (λ s h. goes_sees s state calls.TheVariants.Find Number as_it_is run.given
+  others_leave c z all done (starts.Find owner) (calls.Find run) answer at other within =
+      freely (starts.Find owner) (calls.Find run) answer tt within
+      (λ s h. goes_sees s state calls.Find Number as_it_is run.given
       (find_kept kept_at run.call run.room answer) (find_after code.size run.call run.given answer) (λ r. h) h)
-  others_leave c z all done (starts.TheVariants.Recover owner mode) (calls.TheVariants.Recover run) answer at other within =
-      freely (starts.TheVariants.Recover owner mode) (calls.TheVariants.Recover run) answer tt within
-      (λ s h. goes_sees s state calls.TheVariants.Recover State as_it_is run.given
+  others_leave c z all done (starts.Recover owner mode) (calls.Recover run) answer at other within =
+      freely (starts.Recover owner mode) (calls.Recover run) answer tt within
+      (λ s h. goes_sees s state calls.Recover State as_it_is run.given
       (recover_kept kept_at run.call run.room answer) (recover_after code.size run.call run.given answer) (λ r. h)
       h)
-  others_leave c z all done starts.TheVariants.Len (calls.TheVariants.Count which run) answer at other within =
-      freely starts.TheVariants.Len (calls.TheVariants.Count which run) answer tt within
-      (λ s h. goes_sees s state (λ r. calls.TheVariants.Count which r) (counted which) as_it_is run.given run.room (borrowed_after run.call answer) (λ r. h) h)
-  others_leave c z all done starts.TheVariants.IsEmpty (calls.TheVariants.Count which run) answer at other within =
-      freely starts.TheVariants.IsEmpty (calls.TheVariants.Count which run) answer tt within
-      (λ s h. goes_sees s state (λ r. calls.TheVariants.Count which r) (counted which) as_it_is run.given run.room (borrowed_after run.call answer) (λ r. h) h)
-  others_leave c z all done starts.TheVariants.IsLocked (calls.TheVariants.IsLocked run) answer at other within =
-      freely starts.TheVariants.IsLocked (calls.TheVariants.IsLocked run) answer tt within (λ s h. h)
-  others_leave c z all done starts.TheVariants.GetState flight answer at other within = absurd other
-  others_leave c z all done starts.TheVariants.UpdateState flight answer at other within = absurd other
+  others_leave c z all done starts.Len (calls.Count which run) answer at other within =
+      freely starts.Len (calls.Count which run) answer tt within
+      (λ s h. goes_sees s state (λ r. calls.Count which r) (counted which) as_it_is run.given run.room (borrowed_after run.call answer) (λ r. h) h)
+  others_leave c z all done starts.IsEmpty (calls.Count which run) answer at other within =
+      freely starts.IsEmpty (calls.Count which run) answer tt within
+      (λ s h. goes_sees s state (λ r. calls.Count which r) (counted which) as_it_is run.given run.room (borrowed_after run.call answer) (λ r. h) h)
+  others_leave c z all done starts.IsLocked (calls.IsLocked run) answer at other within =
+      freely starts.IsLocked (calls.IsLocked run) answer tt within (λ s h. h)
+  others_leave c z all done starts.GetState flight answer at other within = absurd other
+  others_leave c z all done starts.UpdateState flight answer at other within = absurd other
   others_leave c z all done start flight answer at other within = absurd at
 
 -- ---- a look
@@ -130,7 +130,7 @@ module _ {T : Type 0} (code : Coding T) (p : ℕ) (events : List (Event T)) (sta
 module _ {T : Type 0} (code : Coding T) (p : ℕ) (events : List (Event T)) (st : ContainerState T) (turn : Turn T)
     (mine : IsParty turn p) (which : LookOf) (call : Look T) (old : ℕ) where
   abbrev look : ContainerFlight T
-  look = calls.TheVariants.Look which call
+  look = calls.Look which call
 
   abbrev now : Seen
   now = seen_by p events
@@ -186,41 +186,41 @@ module _ {T : Type 0} (code : Coding T) (p : ℕ) (events : List (Event T)) (st 
 
   looks_so : (which : LookOf) (r : After (Look T) Bool) → Out seen_now after_it which r → So which r
   looks_so which (GoOn next) out = goes_on code p events st turn mine which call old (looks_as which) next out
-  looks_so kinds.TheVariants.GetState (Done changed) out =
-      let e : Event T = Finished p (Container starts.TheVariants.GetState) (looked kinds.TheVariants.GetState after_it changed) in (
-        sees_end code p events st turn mine kinds.TheVariants.GetState call old e (up_to_date seen_now) _
-            (own_end code p events st turn mine kinds.TheVariants.GetState call old seen_now (up_to_date seen_now)) out,
-        with_end code p events st turn mine kinds.TheVariants.GetState call old e tt,
+  looks_so kinds.GetState (Done changed) out =
+      let e : Event T = Finished p (Container starts.GetState) (looked kinds.GetState after_it changed) in (
+        sees_end code p events st turn mine kinds.GetState call old e (up_to_date seen_now) _
+            (own_end code p events st turn mine kinds.GetState call old seen_now (up_to_date seen_now)) out,
+        with_end code p events st turn mine kinds.GetState call old e tt,
       )
-  looks_so kinds.TheVariants.UpdateState (Done true) out =
-      let e : Event T = Finished p (Container starts.TheVariants.UpdateState) (Truth true) in
-      let same = changes_now code p events st turn mine kinds.TheVariants.UpdateState call old in
+  looks_so kinds.UpdateState (Done true) out =
+      let e : Event T = Finished p (Container starts.UpdateState) (Truth true) in
+      let same = changes_now code p events st turn mine kinds.UpdateState call old in
       let less = out.0 in (
-        sees_end code p events st turn mine kinds.TheVariants.UpdateState call old e (up_to_date seen_now) _
-            (own_end code p events st turn mine kinds.TheVariants.UpdateState call old seen_now (up_to_date seen_now))
+        sees_end code p events st turn mine kinds.UpdateState call old e (up_to_date seen_now) _
+            (own_end code p events st turn mine kinds.UpdateState call old seen_now (up_to_date seen_now))
             out.1,
-        with_end code p events st turn mine kinds.TheVariants.UpdateState call old e
+        with_end code p events st turn mine kinds.UpdateState call old e
             (subst (λ (s : Seen). s.least
-            < changes_of (events ++ look_wrote code p events st turn mine kinds.TheVariants.UpdateState call old))
-            (sym (seen_did code p events (Some st) turn mine (calls.TheVariants.Look kinds.TheVariants.UpdateState call) old))
+            < changes_of (events ++ look_wrote code p events st turn mine kinds.UpdateState call old))
+            (sym (seen_did code p events (Some st) turn mine (calls.Look kinds.UpdateState call) old))
             (omega arith)),
       )
-  looks_so kinds.TheVariants.UpdateState (Done false) out =
-      let e : Event T = Finished p (Container starts.TheVariants.UpdateState) (Truth false) in
-      let same = changes_now code p events st turn mine kinds.TheVariants.UpdateState call old in (
-        sees_end code p events st turn mine kinds.TheVariants.UpdateState call old e (record seen_now { changes = seen_now.changes + 0 }) _ refl
+  looks_so kinds.UpdateState (Done false) out =
+      let e : Event T = Finished p (Container starts.UpdateState) (Truth false) in
+      let same = changes_now code p events st turn mine kinds.UpdateState call old in (
+        sees_end code p events st turn mine kinds.UpdateState call old e (record seen_now { changes = seen_now.changes + 0 }) _ refl
             (within_later seen_now (record seen_now { changes = seen_now.changes + 0 })
             (record { begun = refl; least = refl; most = refl; changes = omega arith }) _ out.1),
-        with_end code p events st turn mine kinds.TheVariants.UpdateState call old e
+        with_end code p events st turn mine kinds.UpdateState call old e
             (same ∙ (out.0 ∙ ap (λ (s : Seen). s.most)
-            (sym (seen_did code p events (Some st) turn mine (calls.TheVariants.Look kinds.TheVariants.UpdateState call) old)))),
+            (sym (seen_did code p events (Some st) turn mine (calls.Look kinds.UpdateState call) old)))),
       )
 
   -- a step of a look, which loads the number of changes first
-  pub look_leaves : (which : LookOf) → LookSees which call.stage seen_now (Some st) → (call.stage ≡ stages.TheVariants.LoadsChange → old ≡ seen_now.changes)
+  pub look_leaves : (which : LookOf) → LookSees which call.stage seen_now (Some st) → (call.stage ≡ stages.LoadsChange → old ≡ seen_now.changes)
       → Leaves code p events (Some st) turn mine
       (Some (settled_if (look_steps.look_after code.size call st.seen old) after_it)) (looks_as which)
-      (calls.TheVariants.Look which call) old
+      (calls.Look which call) old
   look_leaves which sees loads =
       let h =
       looks_so which (look_steps.look_after code.size call st.seen old)
@@ -231,5 +231,5 @@ module _ {T : Type 0} (code : Coding T) (p : ℕ) (events : List (Event T)) (st 
 module _ {T : Type 0} (code : Coding T) (p : ℕ) (events : List (Event T)) (turn : Turn T) (mine : IsParty turn p)
     (call : Look T) (old : ℕ) (which : LookOf) where
   pub look_stays : (start : ContainerStart T) → LookSees {T = T} which call.stage (seen_by p events) None
-      → Leaves code p events None turn mine None start (calls.TheVariants.Look which call) old
+      → Leaves code p events None turn mine None start (calls.Look which call) old
   look_stays x0 x1 = grind (arith, seen_by, append-nil)

@@ -5,11 +5,11 @@ use Rattle.laws_turns.proofs.Names.{◌∷◌, ◌++◌, fold, if◌then◌else�
 use Rattle.laws_turns.proofs.Names.{fold-append, LookStage, ContainerState, AllByRecursion, Answer, Number, Truth}
 use Rattle.laws_turns.proofs.Names.{Turn, ContainerStart, IsEffectOf, whose, Event, Begun, Finished, Container}
 use Rattle.laws_turns.proofs.Names.{Flight, ContainerFlight, LookOf, AreOwn}
-use Rattle.steps.specs.declared.container.look.LookStage as stages
-use Rattle.model.specs.declared.families.Flight as flights
+use Rattle.steps.specs.declared.container.look.LookStage.TheVariants as stages
+use Rattle.model.specs.declared.families.Flight.TheVariants as flights
 use Rattle.model.specs.declared.families.container.ContainerStart.TheVariants.{GetState, UpdateState}
-use Rattle.model.specs.declared.families.container.calls.ContainerFlight as calls
-use Rattle.model.specs.declared.families.container.calls.LookOf as kinds
+use Rattle.model.specs.declared.families.container.calls.ContainerFlight.TheVariants as calls
+use Rattle.model.specs.declared.families.container.calls.LookOf.TheVariants as kinds
 use Rattle.laws_turns.specs.Changes.{Seen, change_in, changes_of, seen_after, seen_by}
 
 -- ---- what is known
@@ -36,28 +36,28 @@ module _ {T : Type 0} where
 
   -- a look that has loaded the number of changes
   abbrev pub HasLoaded : LookOf → Seen → Option (ContainerState T) → Type 0
-  HasLoaded kinds.TheVariants.GetState s state = Met s (found_number state)
-  HasLoaded kinds.TheVariants.UpdateState s state =
+  HasLoaded kinds.GetState s state = Met s (found_number state)
+  HasLoaded kinds.UpdateState s state =
       Within s (seen_number state) × Met s (found_number state) × (s.least < found_number state)
 
   -- and one that is to load it
   abbrev pub IsToLoad : LookOf → Seen → Option (ContainerState T) → Type 0
-  IsToLoad kinds.TheVariants.GetState s state = (s.begun ≤ s.changes) × (seen_number state ≡ 0)
-  IsToLoad kinds.TheVariants.UpdateState s state =
+  IsToLoad kinds.GetState s state = (s.begun ≤ s.changes) × (seen_number state ≡ 0)
+  IsToLoad kinds.UpdateState s state =
       Within s (seen_number state) × (s.begun ≤ s.changes)
 
   abbrev pub LookSees : LookOf → LookStage → Seen → Option (ContainerState T) → Type 0
-  LookSees which stages.TheVariants.LoadsChange s state = IsToLoad which s state
-  LookSees which (stages.TheVariants.LoadsCount index) s state = HasLoaded which s state
-  LookSees which (stages.TheVariants.LoadsWord index count at) s state = HasLoaded which s state
-  LookSees which (stages.TheVariants.ChecksCount index count) s state = HasLoaded which s state
+  LookSees which stages.LoadsChange s state = IsToLoad which s state
+  LookSees which (stages.LoadsCount index) s state = HasLoaded which s state
+  LookSees which (stages.LoadsWord index count at) s state = HasLoaded which s state
+  LookSees which (stages.ChecksCount index count) s state = HasLoaded which s state
 
   abbrev pub CallSees : ContainerFlight T → Seen → Option (ContainerState T) → Type 0
-  CallSees (calls.TheVariants.Look which call) s state = LookSees which call.stage s state
+  CallSees (calls.Look which call) s state = LookSees which call.stage s state
   CallSees flight s state = Within s (seen_number state)
 
   abbrev pub FlightSees : Option (Flight T) → Seen → Option (ContainerState T) → Type 0
-  FlightSees (Some (flights.TheVariants.Container flight)) s state = CallSees flight s state
+  FlightSees (Some (flights.Container flight)) s state = CallSees flight s state
   FlightSees flight s state = Within s (seen_number state)
 
 -- ---- once there are more changes

@@ -3,9 +3,9 @@ use Rattle.laws_turns.proofs.Names.{◌≡◌, ◌≢◌, ℕ, ◌+◌, ◌<◌,
 use Rattle.laws_turns.proofs.Names.{slice_index_or, refl, arith, nat_tests, After, GoOn, Done, Look, LookStage}
 use Rattle.laws_turns.proofs.Names.{ContainerState, is_even, at_look, look_comes_to, look_finds, look_takes}
 use Rattle.laws_turns.proofs.Names.{look_keeps, LookOf, settled_if}
-use Rattle.steps.specs.declared.container.look.LookStage as stages
+use Rattle.steps.specs.declared.container.look.LookStage.TheVariants as stages
 use Rattle.steps.specs.Container.State.{Showing, with_count, with_word, with_value}
-use Rattle.model.specs.declared.families.container.calls.LookOf as kinds
+use Rattle.model.specs.declared.families.container.calls.LookOf.TheVariants as kinds
 use Rattle.laws_turns.specs.Changes.{Seen, up_to_date}
 use Rattle.laws_turns.proofs.SeenKnows.{Within, HasLoaded, IsToLoad, LookSees}
 
@@ -13,11 +13,11 @@ module _ {T : Type 0} where
   -- what a look comes to that has found this and leaves this state, before its end is counted
   abbrev pub Out : Seen → ContainerState T → LookOf → After (Look T) Bool → Type 0
   Out s state which (GoOn call) = LookSees which call.stage s (Some state)
-  Out s state kinds.TheVariants.GetState (Done changed) =
+  Out s state kinds.GetState (Done changed) =
       Within (up_to_date s) (settled_if {T = T} (Done changed) state).seen.change
-  Out s state kinds.TheVariants.UpdateState (Done true) =
+  Out s state kinds.UpdateState (Done true) =
       (s.least < s.changes) × Within (up_to_date s) state.shown.change
-  Out s state kinds.TheVariants.UpdateState (Done false) =
+  Out s state kinds.UpdateState (Done false) =
       (s.changes ≡ s.most) × Within s state.seen.change
 
 module _ {T : Type 0} (value_of : List ℕ → T) (size : ℕ) (s : Seen) (call : Look T) where
@@ -27,14 +27,14 @@ module _ {T : Type 0} (value_of : List ℕ → T) (size : ℕ) (s : Seen) (call 
   comes_out : (state : ContainerState T) (which : LookOf) (index : ℕ) → HasLoaded which s (Some state) → Out s state which (look_comes_to call index)
   comes_out state which index h = go (nat_lt index call.capacity)
     where
-      go : (b : Bool) → Out s state which (if b then at_look call (stages.TheVariants.LoadsCount index) else Done true)
+      go : (b : Bool) → Out s state which (if b then at_look call (stages.LoadsCount index) else Done true)
       go true = h
       go false = done_out state which h
 
   finds_out : (state : ContainerState T) (which : LookOf) (index count : ℕ) → HasLoaded which s (Some state) → Out s state which (look_finds call index count)
   finds_out state which index count h = go (is_even count)
     where
-      go : (b : Bool) → Out s state which (if b then look_comes_to call (index + 1) else at_look call (stages.TheVariants.LoadsWord index count 0))
+      go : (b : Bool) → Out s state which (if b then look_comes_to call (index + 1) else at_look call (stages.LoadsWord index count 0))
       go true = comes_out state which (index + 1) h
       go false = h
 
@@ -69,10 +69,10 @@ module _ {T : Type 0} (value_of : List ℕ → T) (size : ℕ) (s : Seen) (call 
   Steps stage state which old = Out s (then_shows state (look_keeps value_of size stage state.shown old)) which (look_takes size call stage state.seen old)
 
   pub step_out : (stage : LookStage) (state : ContainerState T) (which : LookOf) (old : ℕ)
-      → LookSees which stage s (Some state) → (stage ≡ stages.TheVariants.LoadsChange → old ≡ s.changes)
+      → LookSees which stage s (Some state) → (stage ≡ stages.LoadsChange → old ≡ s.changes)
       → Steps stage state which old
-  step_out stages.TheVariants.LoadsChange state which old h loads = change_out state old (loads refl) which h
-  step_out (stages.TheVariants.LoadsCount index) state which old h loads = go (old == slice_index_or state.seen.counts index 0)
+  step_out stages.LoadsChange state which old h loads = change_out state old (loads refl) which h
+  step_out (stages.LoadsCount index) state which old h loads = go (old == slice_index_or state.seen.counts index 0)
     where
       go : (b : Bool) → Out s (then_shows state (with_count state.shown index old)) which
           (if b then look_comes_to call (index + 1) else look_finds call index old)
@@ -82,14 +82,14 @@ module _ {T : Type 0} (value_of : List ℕ → T) (size : ℕ) (s : Seen) (call 
       go false =
           finds_out (then_shows state (with_count state.shown index old)) which index old
           (still_loaded state which (with_count state.shown index old) refl h)
-  step_out (stages.TheVariants.LoadsWord index count at) state which old h loads = go (nat_lt (at + 1) size)
+  step_out (stages.LoadsWord index count at) state which old h loads = go (nat_lt (at + 1) size)
     where
       go : (b : Bool) → Out s (then_shows state (with_word state.shown at old)) which
-          (if b then at_look call (stages.TheVariants.LoadsWord index count (at + 1)) else at_look call
-          (stages.TheVariants.ChecksCount index count))
+          (if b then at_look call (stages.LoadsWord index count (at + 1)) else at_look call
+          (stages.ChecksCount index count))
       go true = still_loaded state which (with_word state.shown at old) refl h
       go false = still_loaded state which (with_word state.shown at old) refl h
-  step_out (stages.TheVariants.ChecksCount index count) state which old h loads = go (old == count)
+  step_out (stages.ChecksCount index count) state which old h loads = go (old == count)
     where
       go : (b : Bool)
           → Out s (then_shows state (if b then with_value value_of size state.shown index count else with_count state.shown index old))

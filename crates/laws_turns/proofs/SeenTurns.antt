@@ -13,16 +13,16 @@ use Rattle.laws_turns.proofs.Names.{ask_of_doing, step_in, after_answer, after_n
 use Rattle.laws_turns.proofs.Names.{after_turn, Trace, flight_in, AreOwn, AreRight, Each-append}
 use Rattle.laws_turns.proofs.Names.{may_next, StandsThere, both_ways, shown}
 use Rattle.laws_turns.proofs.Names.{looks_as, written_same, all_effects}
-use Rattle.steps.specs.declared.container.look.LookStage as stages
+use Rattle.steps.specs.declared.container.look.LookStage.TheVariants as stages
 use Rattle.steps.specs.Container.Look as look_steps
 use Rattle.model.specs.Families.Container.Steps.{effects}
 use Rattle.laws_container.proofs.Allowed.{IsAllowed}
 use Rattle.laws_container.proofs.KeptStates.{keeps_states}
 use Rattle.laws_container.proofs.Stages.{any_call}
-use Rattle.model.specs.declared.families.Flight as flights
-use Rattle.model.specs.declared.families.Registry as registries
-use Rattle.model.specs.declared.families.container.ContainerStart as starts
-use Rattle.model.specs.declared.families.container.calls.ContainerFlight as calls
+use Rattle.model.specs.declared.families.Flight.TheVariants as flights
+use Rattle.model.specs.declared.families.Registry.TheVariants as registries
+use Rattle.model.specs.declared.families.container.ContainerStart.TheVariants as starts
+use Rattle.model.specs.declared.families.container.calls.ContainerFlight.TheVariants as calls
 use Rattle.model.specs.Families.Container.Calls.{want, after}
 use Rattle.model.proofs.Frame as frame
 use Rattle.laws_container.proofs.Invariant.{family_by}
@@ -50,7 +50,7 @@ module _ {T : Type 0} (terms : Terms) (t : Trace T) (s : frame.Sound (family_by 
   fam = family_by terms t.world.coding t.world.capacity
 
   abbrev pub now_kept : Registry T
-  now_kept = registries.TheVariants.Container s.state.dead s.state.states
+  now_kept = registries.Container s.state.dead s.state.states
 
   same_words : t.world.words ≡ s.state.words
   same_words = s.fit.words
@@ -125,7 +125,7 @@ module _ {T : Type 0} (terms : Terms) (t : Trace T) (s : frame.Sound (family_by 
     leaves_it : (start : ContainerStart T) (flight : ContainerFlight T) (new : Option (ContainerState T))
         → Leaves t.world.coding p t.events state turn its new start flight answer
         → state_in (world_after t.world turn).kept p ≡ new
-        → Comes now_kept (Container start) (flights.TheVariants.Container flight) → Extra (after_turn t turn)
+        → Comes now_kept (Container start) (flights.Container flight) → Extra (after_turn t turn)
     leaves_it start flight new leaves new_is comes =
         let es = wrote_by t.world.coding p t.events state turn its start flight answer in
         let outcome = answer_in (any_call (after t.world.coding state flight answer)) in
@@ -147,7 +147,7 @@ module _ {T : Type 0} (terms : Terms) (t : Trace T) (s : frame.Sound (family_by 
     other_call : (start : ContainerStart T) (flight : ContainerFlight T) (all : List SetAct) (done : List (Act T))
         → At t.world.capacity t.world.coding.size all done start flight → IsNoLook start
         → is_look_of t.world p turn ≡ false → Within (seen_by p t.events) (seen_number state)
-        → Comes now_kept (Container start) (flights.TheVariants.Container flight) → Extra (after_turn t turn)
+        → Comes now_kept (Container start) (flights.Container flight) → Extra (after_turn t turn)
     other_call start flight all done at other rests within comes =
         leaves_it start flight state
         (others_leave t.world.coding p t.events state turn its t.world.capacity t.world.coding.size all done start
@@ -162,8 +162,8 @@ module _ {T : Type 0} (terms : Terms) (t : Trace T) (s : frame.Sound (family_by 
       left (Some st) = Some (settled_if (look_steps.look_after t.world.coding.size call st.seen answer) (look_shows t.world.coding call st answer))
 
       look_leaves_so : (o : Option (ContainerState T)) → LookSees which call.stage (seen_by p t.events) o
-          → (call.stage ≡ stages.TheVariants.LoadsChange → answer ≡ (seen_by p t.events).changes)
-          → Leaves t.world.coding p t.events o turn its (left o) (looks_as which) (calls.TheVariants.Look which call) answer
+          → (call.stage ≡ stages.LoadsChange → answer ≡ (seen_by p t.events).changes)
+          → Leaves t.world.coding p t.events o turn its (left o) (looks_as which) (calls.Look which call) answer
       look_leaves_so None sees loads = look_stays t.world.coding p t.events turn its call answer which (looks_as which) sees
       look_leaves_so (Some st) sees loads = look_leaves t.world.coding p t.events st turn its call answer which sees loads
 
@@ -174,11 +174,11 @@ module _ {T : Type 0} (terms : Terms) (t : Trace T) (s : frame.Sound (family_by 
 
       look_call : (start : ContainerStart T) → start ≡ looks_as which
           → LookSees which call.stage (seen_by p t.events) state
-          → (call.stage ≡ stages.TheVariants.LoadsChange → answer ≡ (seen_by p t.events).changes)
-          → Comes now_kept (Container start) (flights.TheVariants.Container (calls.TheVariants.Look which call)) → Extra (after_turn t turn)
+          → (call.stage ≡ stages.LoadsChange → answer ≡ (seen_by p t.events).changes)
+          → Comes now_kept (Container start) (flights.Container (calls.Look which call)) → Extra (after_turn t turn)
       look_call start name sees loads comes =
-          leaves_it start (calls.TheVariants.Look which call) (left state)
-          (subst (λ a. Leaves t.world.coding p t.events state turn its (left state) a (calls.TheVariants.Look which call) answer)
+          leaves_it start (calls.Look which call) (left state)
+          (subst (λ a. Leaves t.world.coding p t.events state turn its (left state) a (calls.Look which call) answer)
           (sym name) (look_leaves_so state sees loads))
           (ap (λ kept. state_in kept p) comes.2 ∙ writes_so state refl) comes
 
@@ -191,7 +191,7 @@ module _ {T : Type 0} (terms : Terms) (t : Trace T) (s : frame.Sound (family_by 
 
   not_looking : (start : ContainerStart T) (flight : ContainerFlight T) (all : List SetAct) (done : List (Act T))
       → At t.world.capacity t.world.coding.size all done start flight → IsNoLook start
-      → is_looking {T = T} (Some (flights.TheVariants.Container flight)) ≡ false
+      → is_looking {T = T} (Some (flights.Container flight)) ≡ false
   not_looking x0 x1 x2 x3 x4 x5 = grind arith
 
   -- ---- a step
@@ -203,17 +203,17 @@ module _ {T : Type 0} (terms : Terms) (t : Trace T) (s : frame.Sound (family_by 
     abbrev StepComes : ContainerStart T → ContainerFlight T → Type 0
     StepComes start flight =
         Comes (Next p) free p refl (λ q its. its) on_next (old_of s.state.words (ask_of (want t.world.coding flight)))
-        now_kept (Container start) (flights.TheVariants.Container flight)
+        now_kept (Container start) (flights.Container flight)
 
     -- a look loads the number of changes
     loads_changes : (which : LookOf) (call : Look T) → call.capacity ≡ t.world.capacity
-        → call.stage ≡ stages.TheVariants.LoadsChange
-        → old_of s.state.words (ask_of (want t.world.coding (calls.TheVariants.Look which call))) ≡ (seen_by p t.events).changes
+        → call.stage ≡ stages.LoadsChange
+        → old_of s.state.words (ask_of (want t.world.coding (calls.Look which call))) ≡ (seen_by p t.events).changes
     loads_changes x0 x1 x2 x3 = grind (arith, same_words, counts, changes_are)
 
     step_other : (start : ContainerStart T) (flight : ContainerFlight T) (all : List SetAct) (done : List (Act T))
         → At t.world.capacity t.world.coding.size all done start flight
-        → flight_in t.world p ≡ Some (flights.TheVariants.Container flight)
+        → flight_in t.world p ≡ Some (flights.Container flight)
         → IsNoLook start → CallSees flight (seen_by p t.events) (state_of p s.state.states) → StepComes start flight → Extra (after_turn t (Next p))
     step_other start flight all done at flies other sees comes =
         other_call (Next p) free p refl (λ q its. its) on_next (old_of s.state.words (ask_of (want t.world.coding flight))) start flight all done at other
@@ -223,29 +223,29 @@ module _ {T : Type 0} (terms : Terms) (t : Trace T) (s : frame.Sound (family_by 
 
     step_by : (start : ContainerStart T) (flight : ContainerFlight T) (all : List SetAct) (done : List (Act T))
         → At t.world.capacity t.world.coding.size all done start flight
-        → flight_in t.world p ≡ Some (flights.TheVariants.Container flight)
+        → flight_in t.world p ≡ Some (flights.Container flight)
         → CallSees flight (seen_by p t.events) (state_of p s.state.states) → StepComes start flight → Extra (after_turn t (Next p))
-    step_by starts.TheVariants.GetState (calls.TheVariants.Look which call) all done at flies sees comes =
-        look_call (Next p) free p refl (λ q its. its) on_next _ which call starts.TheVariants.GetState
+    step_by starts.GetState (calls.Look which call) all done at flies sees comes =
+        look_call (Next p) free p refl (λ q its. its) on_next _ which call starts.GetState
         (ap looks_as (sym at.1)) sees (loads_changes which call at.0) comes
-    step_by starts.TheVariants.UpdateState (calls.TheVariants.Look which call) all done at flies sees comes =
-        look_call (Next p) free p refl (λ q its. its) on_next _ which call starts.TheVariants.UpdateState
+    step_by starts.UpdateState (calls.Look which call) all done at flies sees comes =
+        look_call (Next p) free p refl (λ q its. its) on_next _ which call starts.UpdateState
         (ap looks_as (sym at.1)) sees (loads_changes which call at.0) comes
-    step_by starts.TheVariants.GetState flight all done at flies sees comes = absurd at
-    step_by starts.TheVariants.UpdateState flight all done at flies sees comes = absurd at
-    step_by (starts.TheVariants.Add value owner) flight all done at flies sees comes =
-        step_other (starts.TheVariants.Add value owner) flight all done at flies tt sees comes
-    step_by (starts.TheVariants.Remove index owner mode) flight all done at flies sees comes =
-        step_other (starts.TheVariants.Remove index owner mode) flight all done at flies tt sees comes
-    step_by (starts.TheVariants.Replace index value owner) flight all done at flies sees comes =
-        step_other (starts.TheVariants.Replace index value owner) flight all done at flies tt sees comes
-    step_by (starts.TheVariants.Find owner) flight all done at flies sees comes =
-        step_other (starts.TheVariants.Find owner) flight all done at flies tt sees comes
-    step_by (starts.TheVariants.Recover owner mode) flight all done at flies sees comes =
-        step_other (starts.TheVariants.Recover owner mode) flight all done at flies tt sees comes
-    step_by starts.TheVariants.Len flight all done at flies sees comes = step_other starts.TheVariants.Len flight all done at flies tt sees comes
-    step_by starts.TheVariants.IsEmpty flight all done at flies sees comes = step_other starts.TheVariants.IsEmpty flight all done at flies tt sees comes
-    step_by starts.TheVariants.IsLocked flight all done at flies sees comes = step_other starts.TheVariants.IsLocked flight all done at flies tt sees comes
+    step_by starts.GetState flight all done at flies sees comes = absurd at
+    step_by starts.UpdateState flight all done at flies sees comes = absurd at
+    step_by (starts.Add value owner) flight all done at flies sees comes =
+        step_other (starts.Add value owner) flight all done at flies tt sees comes
+    step_by (starts.Remove index owner mode) flight all done at flies sees comes =
+        step_other (starts.Remove index owner mode) flight all done at flies tt sees comes
+    step_by (starts.Replace index value owner) flight all done at flies sees comes =
+        step_other (starts.Replace index value owner) flight all done at flies tt sees comes
+    step_by (starts.Find owner) flight all done at flies sees comes =
+        step_other (starts.Find owner) flight all done at flies tt sees comes
+    step_by (starts.Recover owner mode) flight all done at flies sees comes =
+        step_other (starts.Recover owner mode) flight all done at flies tt sees comes
+    step_by starts.Len flight all done at flies sees comes = step_other starts.Len flight all done at flies tt sees comes
+    step_by starts.IsEmpty flight all done at flies sees comes = step_other starts.IsEmpty flight all done at flies tt sees comes
+    step_by starts.IsLocked flight all done at flies sees comes = step_other starts.IsLocked flight all done at flies tt sees comes
 
     by_step : (x : Party T) (since : ℕ) → party_of p t.world.latest ≡ Some x → (start : Start T) (flight : Flight T)
         → StandsThere fam t s p x since start flight → flight_in t.world p ≡ Some flight
@@ -289,7 +289,7 @@ module _ {T : Type 0} (terms : Terms) (t : Trace T) (s : frame.Sound (family_by 
     decided_other : (start : ContainerStart T) (flight : ContainerFlight T) (all : List SetAct) (done : List (Act T))
         → At t.world.capacity t.world.coding.size all done start flight → IsNoLook start
         → CallSees flight (seen_by p t.events) (state_of p s.state.states)
-        → DecisionComes now_kept (Container start) (flights.TheVariants.Container flight)
+        → DecisionComes now_kept (Container start) (flights.Container flight)
         → Extra (after_turn t (Decide p said))
     decided_other start flight all done at other sees comes =
         other_call (Decide p said) free p refl (λ q its. its) (λ q ne. refl) (number_of said) start flight all done
@@ -300,7 +300,7 @@ module _ {T : Type 0} (terms : Terms) (t : Trace T) (s : frame.Sound (family_by 
         → At t.world.capacity t.world.coding.size all done start flight
         → is_question (want t.world.coding flight) ≡ true
         → CallSees flight (seen_by p t.events) (state_of p s.state.states)
-        → DecisionComes now_kept (Container start) (flights.TheVariants.Container flight)
+        → DecisionComes now_kept (Container start) (flights.Container flight)
         → Extra (after_turn t (Decide p said))
     decided_by x0 x1 x2 x3 x4 x5 x6 x7 = grind (arith, both_ways, look_asks_none, decided_other)
 

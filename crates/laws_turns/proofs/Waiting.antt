@@ -8,8 +8,8 @@ use Rattle.laws_turns.proofs.Names.{StandsThere, raise_asks_none, count_asks_non
 use Rattle.steps.specs.declared.container.find.FindStage.{FindStage}
 use Rattle.steps.specs.declared.container.recover.RecoverStage.{RecoverStage}
 use Rattle.steps.specs.Container.Recover.{recover_asks}
-use Rattle.model.specs.declared.families.Flight as flights
-use Rattle.model.specs.declared.turn.Kind as kinds
+use Rattle.model.specs.declared.families.Flight.TheVariants as flights
+use Rattle.model.specs.declared.turn.Kind.TheVariants as kinds
 use Rattle.model.specs.Families.Container.Calls.{want}
 use Rattle.model.specs.Families.Container.Questions.{question_in, find_question, recover_question}
 use Rattle.model.specs.Families.Container.Promises.{TellsRight}
@@ -29,10 +29,10 @@ module _ {T : Type 0} (code : Coding T) where
       → is_question (recover_asks size c stage owner) ≡ is_some (recover_question code stage value)
   recover_waits x0 x1 x2 x3 x4 = grind (arith, raise_asks_none, lock_asks_none)
 
-  call_waits : (flight : ContainerFlight T) → is_question (want code flight) ≡ is_some (question_in code (Some (flights.TheVariants.Container flight)))
+  call_waits : (flight : ContainerFlight T) → is_question (want code flight) ≡ is_some (question_in code (Some (flights.Container flight)))
   call_waits x0 = grind (arith, add_asks_none, remove_asks_none, replace_asks_none, find_waits, recover_waits, look_asks_none, count_asks_none)
 
-module _ {T : Type 0} (t : Trace T) (is : t.world.kind ≡ kinds.TheVariants.Container) (r : IsReached t) where
+module _ {T : Type 0} (t : Trace T) (is : t.world.kind ≡ kinds.Container) (r : IsReached t) where
   s : frame.Sound (family t.world.coding t.world.capacity) t
   s = reached_sound shown t is r
 
@@ -48,7 +48,7 @@ module _ {T : Type 0} (t : Trace T) (is : t.world.kind ≡ kinds.TheVariants.Con
   waits p = by_flight p (flight_in t.world p) refl
 
 -- and after a decision it asks about none
-module _ {T : Type 0} (t : Trace T) (is : t.world.kind ≡ kinds.TheVariants.Container) (r : IsReached t) where
+module _ {T : Type 0} (t : Trace T) (is : t.world.kind ≡ kinds.Container) (r : IsReached t) where
   pub answered : (turn : Turn T) → refusal_of t.world turn ≡ None → IsAnswered turn (after_turn t turn)
   answered turn free p said name =
       let new = after_turn t turn in

@@ -12,7 +12,7 @@ use Rattle.model.specs.declared.event.Answer.TheVariants.{Index}
 use Rattle.model.specs.declared.families.Flight.TheVariants as flights
 use Rattle.model.specs.declared.families.container.ContainerStart.TheVariants as containers
 use Rattle.model.specs.declared.families.indices.robust.RobustStart.TheVariants.{Acquire, Find, Recover}
-use Rattle.model.specs.declared.turn.Kind as kinds
+use Rattle.model.specs.declared.turn.Kind.TheVariants as kinds
 use Rattle.model.proofs.Runs.{begins, ran}
 use Rattle.laws_robust.proofs.Standing.{recover_at}
 use Rattle.laws_turns.specs.Changes.{changes_of, CountsChanges, MeetsChanges}
@@ -37,7 +37,7 @@ abbrev recover : Start ℕ
 recover = Robust (Recover Default)
 
 abbrev recovers_it : Trace ℕ
-recovers_it = ran one_word kinds.TheVariants.Robust 2 2 (one_filled ++ Die 1 ∷ begins 1 recover 1)
+recovers_it = ran one_word kinds.Robust 2 2 (one_filled ++ Die 1 ∷ begins 1 recover 1)
 
 abbrev asks_it : Trace ℕ
 asks_it = after_turn recovers_it (Next 1)
@@ -59,7 +59,7 @@ abbrev find : Start ℕ
 find = Robust (Find 1)
 
 abbrev begins_find : Trace ℕ
-begins_find = ran one_word kinds.TheVariants.Robust 2 2 (one_filled ++ Begin 1 find ∷ [])
+begins_find = ran one_word kinds.Robust 2 2 (one_filled ++ Begin 1 find ∷ [])
 
 abbrev asks_find : Trace ℕ
 asks_find = after_turn begins_find (Next 1)
@@ -163,7 +163,7 @@ no_false_by_add h = apart h
 -- 5 is added, and a recovery of an owner who has nothing comes to its end
 abbrev counted : Trace ℕ
 counted =
-    ran one_word kinds.TheVariants.Container 1 2
+    ran one_word kinds.Container 1 2
     (begins 0 (Container (containers.Add 5 1)) 8 ++ Die 3 ∷ begins 1 (Container (containers.Recover 3 Default)) 4)
 
 pub two_changes : changes_of counted.events ≡ 2
@@ -184,5 +184,5 @@ no_missed_change h = apart h
 
 -- ---- a channel of four slots whose submission queue has room for two
 
-pub queue_of_two : queue_in {T = ℕ} (kept_opened kinds.TheVariants.Loan 4 2) ≡ Some 2
+pub queue_of_two : queue_in {T = ℕ} (kept_opened kinds.Loan 4 2) ≡ Some 2
 queue_of_two = refl

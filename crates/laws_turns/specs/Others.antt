@@ -1,7 +1,7 @@
 -- What a turn leaves as it was: the calls of the other parties, and how long a channel's submission queue is.
 use Rattle.std.specs.Prelude.{◌≡◌, ℕ, Option, Some, None}
 use Rattle.model.specs.declared.families.Registry.{Registry}
-use Rattle.model.specs.declared.families.Registry as registries
+use Rattle.model.specs.declared.families.Registry.TheVariants as registries
 use Rattle.model.specs.declared.turn.Turn.{Turn}
 use Rattle.model.specs.Promises.Turns.{IsParty}
 use Rattle.model.specs.World.{World, flight_in}
@@ -13,7 +13,7 @@ module _ {T : Type 0} where
 
   -- how many indices a channel's submission queue has room for
   abbrev pub queue_in : Registry T → Option ℕ
-  queue_in (registries.TheVariants.Loan book) = Some book.queue
+  queue_in (registries.Loan book) = Some book.queue
   queue_in kept = None
 
   abbrev pub KeepsQueue : World T → World T → Type 0

@@ -6,10 +6,10 @@ use Rattle.std.proofs.lemmas.List.Concat.{flat_map-append}
 use Rattle.std.proofs.lemmas.List.Sums.{fold-append}
 use Rattle.laws_value.proofs.Names.{Event, Start, Flight, AtomicStart, AtomicFlight, Party, Coding, IsCoding}
 use Rattle.laws_value.proofs.Names.{Scene}
-use Rattle.model.specs.declared.event.Start as any_starts
-use Rattle.model.specs.declared.families.Flight as flights
-use Rattle.model.specs.declared.families.Registry as registries
-use Rattle.model.specs.declared.turn.Kind as kinds
+use Rattle.model.specs.declared.event.Start.TheVariants as any_starts
+use Rattle.model.specs.declared.families.Flight.TheVariants as flights
+use Rattle.model.specs.declared.families.Registry.TheVariants as registries
+use Rattle.model.specs.declared.turn.Kind.TheVariants as kinds
 use Rattle.model.specs.Families.Atomic.Objects.{value_after}
 use Rattle.model.specs.Families.Atomic.Promises.{value_of_zeros, value_in, AnswersRight, promise}
 use Rattle.model.specs.Families.Atomic.Reading.{holder_after, holder_of}
@@ -47,15 +47,15 @@ module _ {T : Type 0} where
   -- ---- the family of the single value
 
   abbrev number : ℕ → Flight T → ℕ → ℕ
-  number size (flights.TheVariants.Atomic flight) backs = number_of size flight backs
+  number size (flights.Atomic flight) backs = number_of size flight backs
   number size flight backs = 0
 
   abbrev pub FlightAt : Coding T → Option ℕ → Core → ℕ → Start T → Flight T → Type 0
-  FlightAt code holder k p (any_starts.TheVariants.Atomic start) (flights.TheVariants.Atomic flight) = At code holder k p start flight
+  FlightAt code holder k p (any_starts.Atomic start) (flights.Atomic flight) = At code holder k p start flight
   FlightAt code holder k p start flight = ⊥
 
   abbrev pub Knowing : Core → ℕ → ℕ → ℕ → Flight T → Type 0
-  Knowing k since changes backs (flights.TheVariants.Atomic flight) = KnowsFlight k since changes backs flight
+  Knowing k since changes backs (flights.Atomic flight) = KnowsFlight k since changes backs flight
   Knowing k since changes backs flight = ⊥
 
   -- what a turn preserves, where the value and the holder become these
@@ -76,12 +76,12 @@ module _ {T : Type 0} where
   abbrev pub outline : Outline T
   outline =
       record {
-        kind = kinds.TheVariants.Atomic;
+        kind = kinds.Atomic;
         no_loan = refl;
         promise = promise;
         State = Value;
         words = λ s. layout s.holder s.core;
-        kept = λ s. registries.TheVariants.Atomic s.holder;
+        kept = λ s. registries.Atomic s.holder;
         Holds = λ code c s latest events turns. Holds code s.holder s.core events turns;
         written = λ c s p flight. [];
         number = λ code c. number code.size;

@@ -1,10 +1,10 @@
 -- What a call of the single value knows where it stands: of the words, and of the counts.
 use Rattle.std.proofs.Common.{◌≡◌, ℕ, ◌+◌, ◌-◌, ◌*◌, ◌^◌, ◌<◌, ◌≤◌, Option, Some, List, length, get_or, arith}
 use Rattle.laws_value.proofs.Names.{StoreStage, LoadStage, cell_word, before_version, AtomicStart, AtomicFlight, Coding}
-use Rattle.steps.specs.declared.atomic.StoreStage as storing
-use Rattle.steps.specs.declared.atomic.LoadStage as loading
+use Rattle.steps.specs.declared.atomic.StoreStage.TheVariants as storing
+use Rattle.steps.specs.declared.atomic.LoadStage.TheVariants as loading
 use Rattle.steps.specs.declared.copied.Buffer as buffers
-use Rattle.model.specs.declared.families.atomic.AtomicStart as starts
+use Rattle.model.specs.declared.families.atomic.AtomicStart.TheVariants as starts
 use Rattle.model.specs.declared.families.atomic.calls.AtomicFlight.TheVariants.{Acquire, Release, Store, Load}
 use Rattle.laws_value.proofs.Core.{Core, GoesUp, IsFilled}
 
@@ -21,14 +21,14 @@ load_at room stage =
 -- ---- how many steps they have taken at most
 
 abbrev pub store_number : ℕ → StoreStage → ℕ
-store_number size storing.TheVariants.LoadsVersion = 0
-store_number size (storing.TheVariants.StoresCell cell at) = 1 + at
-store_number size storing.TheVariants.AddsVersion = 1 + size
+store_number size storing.LoadsVersion = 0
+store_number size (storing.StoresCell cell at) = 1 + at
+store_number size storing.AddsVersion = 1 + size
 
 abbrev pub load_number : ℕ → LoadStage → ℕ → ℕ
-load_number size loading.TheVariants.LoadsVersion backs = 0
-load_number size (loading.TheVariants.LoadsCell version cell at) backs = 1 + at + backs * (1 + size)
-load_number size (loading.TheVariants.ChecksVersion version) backs = 1 + size + backs * (1 + size)
+load_number size loading.LoadsVersion backs = 0
+load_number size (loading.LoadsCell version cell at) backs = 1 + at + backs * (1 + size)
+load_number size (loading.ChecksVersion version) backs = 1 + size + backs * (1 + size)
 
 abbrev pub number_of : {T : Type 0} → ℕ → AtomicFlight T → ℕ → ℕ
 number_of size (Acquire run) backs = 0
@@ -40,10 +40,10 @@ number_of size (Load run) backs = load_number size run.call.stage backs
 
 -- of a store of these words: the version that it found is not the last
 abbrev pub KnowsStore : ℕ → Core → List ℕ → StoreStage → Type 0
-KnowsStore size k words storing.TheVariants.LoadsVersion = Unit {0}
-KnowsStore size k words (storing.TheVariants.StoresCell cell at) =
+KnowsStore size k words storing.LoadsVersion = Unit {0}
+KnowsStore size k words (storing.StoresCell cell at) =
     (cell ≡ cell_word size k.version) × (at < size) × IsFilled size k words at × (k.version < 2 ^ 64 - 1)
-KnowsStore size k words storing.TheVariants.AddsVersion = IsFilled size k words size × (k.version < 2 ^ 64 - 1)
+KnowsStore size k words storing.AddsVersion = IsFilled size k words size × (k.version < 2 ^ 64 - 1)
 
 -- so many words of the value that stands are in the room
 abbrev pub IsCopied : Core → buffers.Buffer 128 → ℕ → Type 0
@@ -51,29 +51,29 @@ IsCopied k room count = (i : ℕ) → i < count → get_or room.words i 0 ≡ ge
 
 -- while the version is the one that was loaded, the room has words of the value that stands
 abbrev pub KnowsLoad : ℕ → Core → buffers.Buffer 128 → LoadStage → Type 0
-KnowsLoad size k room loading.TheVariants.LoadsVersion = length room.words ≡ 128
-KnowsLoad size k room (loading.TheVariants.LoadsCell version cell at) =
+KnowsLoad size k room loading.LoadsVersion = length room.words ≡ 128
+KnowsLoad size k room (loading.LoadsCell version cell at) =
     (length room.words ≡ 128) × (cell ≡ cell_word size (before_version version)) × (at < size)
     × (version ≤ k.version) × (version ≡ k.version → IsCopied k room at)
-KnowsLoad size k room (loading.TheVariants.ChecksVersion version) =
+KnowsLoad size k room (loading.ChecksVersion version) =
     (length room.words ≡ 128) × (version ≤ k.version) × (version ≡ k.version → IsCopied k room size)
 
 -- each turn back is paid by a change since the call began, and so is each move
 -- of the version since it was loaded, which is to be the next turn back
 abbrev pub KnowsBacks : Core → ℕ → ℕ → ℕ → LoadStage → Type 0
-KnowsBacks k since changes backs loading.TheVariants.LoadsVersion = backs + since ≤ changes
-KnowsBacks k since changes backs (loading.TheVariants.LoadsCell version cell at) =
+KnowsBacks k since changes backs loading.LoadsVersion = backs + since ≤ changes
+KnowsBacks k since changes backs (loading.LoadsCell version cell at) =
     (version ≤ k.version) × (backs + since + k.version ≤ changes + version)
-KnowsBacks k since changes backs (loading.TheVariants.ChecksVersion version) =
+KnowsBacks k since changes backs (loading.ChecksVersion version) =
     (version ≤ k.version) × (backs + since + k.version ≤ changes + version)
 
 -- where a call under way stands
 abbrev pub At : {T : Type 0} → Coding T → Option ℕ → Core → ℕ → AtomicStart T → AtomicFlight T → Type 0
-At code holder k p starts.TheVariants.AcquireProducer (Acquire run) = run.call.word ≡ 1
-At code holder k p starts.TheVariants.ReleaseProducer (Release run) = (run.call.word ≡ 1) × (holder ≡ Some p)
-At code holder k p (starts.TheVariants.Store value) (Store run) =
+At code holder k p starts.AcquireProducer (Acquire run) = run.call.word ≡ 1
+At code holder k p starts.ReleaseProducer (Release run) = (run.call.word ≡ 1) × (holder ≡ Some p)
+At code holder k p (starts.Store value) (Store run) =
     (holder ≡ Some p) × (run.given ≡ value) × KnowsStore code.size k (code.words_of value) run.call.stage
-At code holder k p starts.TheVariants.Load (Load run) = KnowsLoad code.size k run.room run.call.stage
+At code holder k p starts.Load (Load run) = KnowsLoad code.size k run.room run.call.stage
 At code holder k p start flight = ⊥
 
 -- what it knows of the counts: a call without a loop has not turned back

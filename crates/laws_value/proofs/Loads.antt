@@ -5,10 +5,10 @@ use Rattle.laws_value.proofs.Names.{nat_tests, Ask, After, GoOn, Done, LoadStage
 use Rattle.laws_value.proofs.Names.{Answer, AtomicFlight, IsCoding, after, goes_back, change_of, Scene, Inv}
 use Rattle.std.proofs.lemmas.List.{set-get_or}
 use Rattle.steps.specs.declared.ask.Op.TheVariants.{Load, Exchange}
-use Rattle.steps.specs.declared.atomic.LoadStage as loading
+use Rattle.steps.specs.declared.atomic.LoadStage.TheVariants as loading
 use Rattle.steps.specs.declared.copied.Buffer as buffers
-use Rattle.model.specs.declared.event.Answer as answers
-use Rattle.model.specs.declared.families.atomic.AtomicStart as starts
+use Rattle.model.specs.declared.event.Answer.TheVariants as answers
+use Rattle.model.specs.declared.families.atomic.AtomicStart.TheVariants as starts
 use Rattle.model.specs.Families.Queues.Calls.{kept_at, read_in}
 use Rattle.laws_queues.proofs.Queues.Core.{one_more}
 use Rattle.laws_value.proofs.Core.{Core, Good, layout, same_words}
@@ -32,12 +32,12 @@ module _ {T : Type 0} (scene : Scene T Value) (inv : Inv outline scene) (small :
   coded = inv.holds.coded
 
   abbrev Does : Option Ask → Bool → After (AtomicFlight T) (Answer T) → Type 0
-  Does ask back after = Comes scene starts.TheVariants.Load ask back after
+  Does ask back after = Comes scene starts.Load ask back after
 
   abbrev DoesOf : buffers.Buffer 128 → LoadStage → Type 0
-  DoesOf room stage = StepOf scene starts.TheVariants.Load (load_at room stage)
+  DoesOf room stage = StepOf scene starts.Load (load_at room stage)
 
-  loads : (room : buffers.Buffer 128) → length room.words ≡ 128 → steps ≤ 0 → backs + since ≤ changes → DoesOf room loading.TheVariants.LoadsVersion
+  loads : (room : buffers.Buffer 128) → length room.words ≡ 128 → steps ≤ 0 → backs + since ≤ changes → DoesOf room loading.LoadsVersion
   loads x0 x1 x2 x3 = grind arith
 
   -- ---- the cell
@@ -71,25 +71,25 @@ module _ {T : Type 0} (scene : Scene T Value) (inv : Inv outline scene) (small :
         → KnowsBacks k (since + change_of (layout ho k) loads_word) (changes_then scene loads_word) (backs + 0) stage
         → Does loads_word false (GoOn (load_at room_then stage))
     loaded_word stage knows s paid =
-        quiet scene inv false starts.TheVariants.Load loads_word (load_at room_then stage) k refl refl g
+        quiet scene inv false starts.Load loads_word (load_at room_then stage) k refl refl g
         (set-get_or (layout ho k) place 0) s knows paid (λ q ne st f h. h)
 
     abbrev next_cell : LoadStage
-    next_cell = loading.TheVariants.LoadsCell version (cell_word code.size (before_version version)) (at + 1)
+    next_cell = loading.LoadsCell version (cell_word code.size (before_version version)) (at + 1)
 
     loads_cell : version ≤ k.version → backs + since + k.version ≤ changes + version
         → steps ≤ 1 + at + backs * (1 + code.size)
-        → DoesOf room (loading.TheVariants.LoadsCell version (cell_word code.size (before_version version)) at)
+        → DoesOf room (loading.LoadsCell version (cell_word code.size (before_version version)) at)
     loads_cell low paid s = go (nat_lt (at + 1) code.size) refl
       where
         long_then : length room_then.words ≡ 128
         long_then = length-set room.words at found ∙ long
 
-        go : (t : Bool) → nat_lt (at + 1) code.size ≡ t → DoesOf room (loading.TheVariants.LoadsCell version (cell_word code.size (before_version version)) at)
+        go : (t : Bool) → nat_lt (at + 1) code.size ≡ t → DoesOf room (loading.LoadsCell version (cell_word code.size (before_version version)) at)
         go true t =
             let next : at + 1 < code.size = grind (arith, nat_tests) in
             let goes : after code
-            (load_at room (loading.TheVariants.LoadsCell version (cell_word code.size (before_version version)) at))
+            (load_at room (loading.LoadsCell version (cell_word code.size (before_version version)) at))
             found
             ≡ GoOn (load_at room_then next_cell) =
             rw t refl in
@@ -98,12 +98,12 @@ module _ {T : Type 0} (scene : Scene T Value) (inv : Inv outline scene) (small :
         go false t =
             let last : at + 1 ≡ code.size = grind (arith, nat_tests) in
             let goes : after code
-            (load_at room (loading.TheVariants.LoadsCell version (cell_word code.size (before_version version)) at))
+            (load_at room (loading.LoadsCell version (cell_word code.size (before_version version)) at))
             found
-            ≡ GoOn (load_at room_then (loading.TheVariants.ChecksVersion version)) =
+            ≡ GoOn (load_at room_then (loading.ChecksVersion version)) =
             rw t refl in
             subst (λ a. Does loads_word false a) (sym goes)
-            (loaded_word (loading.TheVariants.ChecksVersion version)
+            (loaded_word (loading.ChecksVersion version)
             (long_then, low, λ same. subst (λ n. IsCopied k room_then n) last (copied_more same)) (omega arith)
             (low, omega arith))
 
@@ -116,32 +116,32 @@ module _ {T : Type 0} (scene : Scene T Value) (inv : Inv outline scene) (small :
   value_is x0 x1 x2 = grind (arith, length, false, whole_room, nat_tests)
 
   ends : (version : ℕ) → backs + since ≤ changes → steps ≤ 1 + code.size + backs * (1 + code.size)
-      → Does (checks version) false (Done (answers.TheVariants.Loaded (code.value_of k.now)))
+      → Does (checks version) false (Done (answers.Loaded (code.value_of k.now)))
   ends x0 x1 x2 = grind arith
 
   abbrev checking : ℕ → LoadStage
-  checking version = loading.TheVariants.ChecksVersion version
+  checking version = loading.ChecksVersion version
 
   checks_version : (room : buffers.Buffer 128) (version : ℕ) → length room.words ≡ 128 → version ≤ k.version
       → (version ≡ k.version → IsCopied k room code.size) → backs + since + k.version ≤ changes + version
       → steps ≤ 1 + code.size + backs * (1 + code.size)
-      → DoesOf room (loading.TheVariants.ChecksVersion version)
+      → DoesOf room (loading.ChecksVersion version)
   checks_version room version long low copied paid s = go (k.version == version) refl
     where
       go : (b : Bool) → (k.version == version) ≡ b → DoesOf room (checking version)
       go true t =
           let same : version ≡ k.version = grind (arith, nat_tests) in
-          let goes : after code (load_at room (checking version)) k.version ≡ Done (answers.TheVariants.Loaded (read_in code room)) = rw t refl in
+          let goes : after code (load_at room (checking version)) k.version ≡ Done (answers.Loaded (read_in code room)) = rw t refl in
           let back : goes_back {T = T} (load_at room (checking version)) k.version ≡ false = rw t refl in
           subst (λ a. Does (checks version) (goes_back {T = T} (load_at room (checking version)) k.version) a) (sym goes)
-          (subst (λ b. Does (checks version) b (Done (answers.TheVariants.Loaded (read_in code room)))) (sym back)
-          (subst (λ x. Does (checks version) false (Done (answers.TheVariants.Loaded x)))
+          (subst (λ b. Does (checks version) b (Done (answers.Loaded (read_in code room)))) (sym back)
+          (subst (λ x. Does (checks version) false (Done (answers.Loaded x)))
           (sym (value_is room long (copied same))) (ends version (omega arith) s)))
       go false t = grind arith
 
   pub load_step : (room : buffers.Buffer 128) (stage : LoadStage) → KnowsLoad code.size k room stage
       → KnowsBacks k since changes backs stage → steps ≤ load_number code.size stage backs → DoesOf room stage
-  load_step room loading.TheVariants.LoadsVersion knows paid s = loads room knows s paid
-  load_step room (loading.TheVariants.LoadsCell version cell at) knows paid s =
-      subst (λ n. DoesOf room (loading.TheVariants.LoadsCell version n at)) (sym knows.1) (loads_cell room version at knows.0 knows.2 knows.4 knows.3 paid.1 s)
-  load_step room (loading.TheVariants.ChecksVersion version) knows paid s = checks_version room version knows.0 knows.1 knows.2 paid.1 s
+  load_step room loading.LoadsVersion knows paid s = loads room knows s paid
+  load_step room (loading.LoadsCell version cell at) knows paid s =
+      subst (λ n. DoesOf room (loading.LoadsCell version n at)) (sym knows.1) (loads_cell room version at knows.0 knows.2 knows.4 knows.3 paid.1 s)
+  load_step room (loading.ChecksVersion version) knows paid s = checks_version room version knows.0 knows.1 knows.2 paid.1 s

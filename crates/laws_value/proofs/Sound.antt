@@ -8,10 +8,10 @@ use Rattle.std.specs.List.{AllByRecursion}
 use Rattle.laws_value.proofs.Names.{cell_word, Ask, Next, Answer, Event, Start, Atomic, Flight, AtomicStart}
 use Rattle.laws_value.proofs.Names.{AtomicFlight, Party, Coding, IsCoding, old_of, ask_of, want, after, scene_of}
 use Rattle.laws_value.proofs.Names.{inv_of}
-use Rattle.model.specs.declared.families.Registry as registries
-use Rattle.model.specs.declared.turn.Kind as kinds
+use Rattle.model.specs.declared.families.Registry.TheVariants as registries
+use Rattle.model.specs.declared.turn.Kind.TheVariants as kinds
 use Rattle.model.specs.declared.turn.Turn.{Turn}
-use Rattle.model.specs.declared.families.Flight as flights
+use Rattle.model.specs.declared.families.Flight.TheVariants as flights
 use Rattle.model.specs.Promises.{IsKeptBy, IsKept}
 use Rattle.model.specs.Promises.Families.{promise_of}
 use Rattle.model.specs.World.{Trace, opening}
@@ -89,13 +89,13 @@ module _ {T : Type 0} (code : Coding T) (c : ℕ) (t : Trace T) (s : frame.Sound
   writes : (p : ℕ) (x : Party T) (since : ℕ) → t.world.turns < 2 ^ 64 - 2 → (start : Start T) (flight : Flight T)
       → StandsThere (family code c) t s p x since start flight
       → laws.Writes outline t (Next p)
-      (step_from t p t.world.coding (layout s.state.holder s.state.core) (registries.TheVariants.Atomic s.state.holder) start flight)
-  writes p x since small (Atomic start) (flights.TheVariants.Atomic flight) here =
+      (step_from t p t.world.coding (layout s.state.holder s.state.core) (registries.Atomic s.state.holder) start flight)
+  writes p x since small (Atomic start) (flights.Atomic flight) here =
       let words = layout s.state.holder s.state.core in
       let low = s.holds.reached in
       let moves =
       step_moves (scene_of outline code c t s p x.steps x.backs since) (inv_of outline code c t s p x.steps x.backs since) start flight here.at here.steps
-      here.knows (any_fresh s.state.core.version (flights.TheVariants.Atomic flight) (omega arith)) in
+      here.knows (any_fresh s.state.core.version (flights.Atomic flight) (omega arith)) in
       let z = t.world.coding in
       let old = old_of words (ask_of (want z flight)) in
       let outcome : Option (Answer T) = answer_in (after z flight old) in
@@ -183,15 +183,15 @@ module _ {T : Type 0} where
   pub fresh_laws : (code : Coding T) (c : ℕ) → frame.LawsWhere (family code c) IsFreshTurn
   fresh_laws code c = laws.laws outline code c IsFreshTurn (turns code c)
 
-  pub opening_sound : (code : Coding T) (c parties : ℕ) → IsCoding code → frame.Sound (family code c) (opening code kinds.TheVariants.Atomic c parties)
+  pub opening_sound : (code : Coding T) (c parties : ℕ) → IsCoding code → frame.Sound (family code c) (opening code kinds.Atomic c parties)
   opening_sound code c parties coded = laws.opening_sound outline code c (opens code c coded) parties
 
   -- what is proved of every run of the single value
-  pub value_keeps : Keeps T kinds.TheVariants.Atomic
+  pub value_keeps : Keeps T kinds.Atomic
   value_keeps = laws.keeps outline IsFreshTurn all_turns (λ code c coded admitted. owed code c)
 
   -- where turns have no bound, and no store finds the last version
-  pub sound_on : (t : Trace T) → t.world.kind ≡ kinds.TheVariants.Atomic → IsCoding t.world.coding → IsFreshRun t
+  pub sound_on : (t : Trace T) → t.world.kind ≡ kinds.Atomic → IsCoding t.world.coding → IsFreshRun t
       → frame.Sound (family t.world.coding t.world.capacity) t
   sound_on t is coded r =
       let w = t.world in
@@ -200,7 +200,7 @@ module _ {T : Type 0} where
       (run_sound F IsFreshTurn (fresh_laws w.coding w.capacity) r.turns (opening w.coding w.kind w.capacity w.parties) r.fresh
       (subst (λ kind. frame.Sound F (opening w.coding kind w.capacity w.parties)) (sym is) (opening_sound w.coding w.capacity w.parties coded)))
 
-  pub kept_on : (t : Trace T) → t.world.kind ≡ kinds.TheVariants.Atomic → IsCoding t.world.coding → IsFreshRun t → IsKept t
+  pub kept_on : (t : Trace T) → t.world.kind ≡ kinds.Atomic → IsCoding t.world.coding → IsFreshRun t → IsKept t
   kept_on t is coded r =
       let s = sound_on t is coded r in
       subst (λ P. IsKeptBy P t) (sym (ap (promise_of {T = T}) is))

@@ -3,8 +3,8 @@ use Rattle.std.proofs.Common.{◌≡◌, ◌≢◌, ℕ, ◌+◌, ◌≤◌, Boo
 use Rattle.laws_value.proofs.Names.{Ask, After, GoOn, Done, Answer, Event, Atomic, Flight, AtomicStart, AtomicFlight}
 use Rattle.laws_value.proofs.Names.{Party, ask_of, want, after, goes_back, old_of, change_of, Scene, Inv}
 use Rattle.model.specs.declared.event.Event.TheVariants.{Finished}
-use Rattle.model.specs.declared.families.Flight as flights
-use Rattle.model.specs.declared.families.Registry as registries
+use Rattle.model.specs.declared.families.Flight.TheVariants as flights
+use Rattle.model.specs.declared.families.Registry.TheVariants as registries
 use Rattle.model.specs.Families.Atomic.Bounds.{most_steps}
 use Rattle.model.specs.Families.Atomic.Reading.{holder_after}
 use Rattle.model.specs.Families.Atomic.Roles.{GrantsRight}
@@ -21,7 +21,7 @@ use Rattle.laws_value.proofs.Knows.{At, KnowsFlight}
 module _ {T : Type 0} where
   -- a call of the value as one of any family
   abbrev pub any_call : After (AtomicFlight T) (Answer T) → After (Flight T) (Answer T)
-  any_call after = as_call flights.TheVariants.Atomic (λ answer. answer) after
+  any_call after = as_call flights.Atomic (λ answer. answer) after
 
   -- the events of a step, the end of the call last
   abbrev pub told_after : ℕ → AtomicStart T → After (AtomicFlight T) (Answer T) → List (Event T)
@@ -38,7 +38,7 @@ module _ {T : Type 0} (scene : Scene T Value) where
   abbrev pub party_then : AtomicStart T → Option Ask → Bool → After (AtomicFlight T) (Answer T) → Party T
   party_then start ask back after =
       families.party_then outline scene (Atomic start) ask
-      (record { after = any_call after; back = back; wrote = []; kept = registries.TheVariants.Atomic ho })
+      (record { after = any_call after; back = back; wrote = []; kept = registries.Atomic ho })
 
   -- how often words have changed then
   abbrev pub changes_then : Option Ask → ℕ
@@ -65,7 +65,7 @@ module _ {T : Type 0} (scene : Scene T Value) where
     pub quiet :
         (back : Bool) (start : AtomicStart T) (ask : Option Ask) (flight : AtomicFlight T) (k' : Core)
         → k'.version ≡ k.version → k'.now ≡ k.now → Good code.size k' → words_after words ask ≡ layout ho k'
-        → scene.steps + step_count ask ≤ (family code scene.capacity).number [] (flights.TheVariants.Atomic flight) (scene.backs + one_if back)
+        → scene.steps + step_count ask ≤ (family code scene.capacity).number [] (flights.Atomic flight) (scene.backs + one_if back)
         → At code ho k' p start flight
         → KnowsFlight k' (scene.since + change_of words ask) (changes_then ask) (scene.backs + one_if back) flight
         → ((q : ℕ) → q ≢ p → (s : AtomicStart T) (f : AtomicFlight T) → At code ho k q s f → At code ho k' q s f)

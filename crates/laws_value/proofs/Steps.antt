@@ -3,11 +3,11 @@ use Rattle.std.proofs.Common.{◌≡◌, ℕ, ◌+◌, ◌-◌, ◌^◌, ◌<◌
 use Rattle.std.proofs.Common.{get_or, length, refl, sym, ap, subst, ◌∙◌, arith}
 use Rattle.laws_value.proofs.Names.{Start, Atomic, Flight, AtomicStart, AtomicFlight, Party, Next, Coding}
 use Rattle.laws_value.proofs.Names.{ask_of, want, old_of, Scene, Inv, scene_of, inv_of}
-use Rattle.model.specs.declared.families.Flight as flights
-use Rattle.model.specs.declared.families.Registry as registries
+use Rattle.model.specs.declared.families.Flight.TheVariants as flights
+use Rattle.model.specs.declared.families.Registry.TheVariants as registries
 use Rattle.model.specs.declared.families.atomic.AtomicStart.TheVariants.{AcquireProducer, ReleaseProducer, Store, Load}
-use Rattle.model.specs.declared.families.atomic.calls.AtomicFlight as calls
-use Rattle.model.specs.declared.turn.Kind as kinds
+use Rattle.model.specs.declared.families.atomic.calls.AtomicFlight.TheVariants as calls
+use Rattle.model.specs.declared.turn.Kind.TheVariants as kinds
 use Rattle.model.specs.Families.{begin_of, first_of}
 use Rattle.model.specs.Rows.{first_row}
 use Rattle.model.specs.World.{Trace}
@@ -32,19 +32,19 @@ module _ {T : Type 0} (scene : Scene T Value) (inv : Inv outline scene) where
   pub step_moves : (start : AtomicStart T) (flight : AtomicFlight T) → At code ho k p start flight
       → scene.steps ≤ number_of code.size flight scene.backs
       → KnowsFlight k scene.since scene.changes scene.backs flight
-      → IsFreshCall k.version (flights.TheVariants.Atomic flight) → StepOf scene start flight
-  step_moves AcquireProducer (calls.TheVariants.Acquire run) at s b fresh = grind arith
-  step_moves ReleaseProducer (calls.TheVariants.Release run) at s b fresh = grind arith
-  step_moves (Store value) (calls.TheVariants.Store run) at s b fresh =
+      → IsFreshCall k.version (flights.Atomic flight) → StepOf scene start flight
+  step_moves AcquireProducer (calls.Acquire run) at s b fresh = grind arith
+  step_moves ReleaseProducer (calls.Release run) at s b fresh = grind arith
+  step_moves (Store value) (calls.Store run) at s b fresh =
       subst (λ v. StepOf scene (Store value) (store_at v run.call.stage)) (sym at.1) (store_step scene inv value at.0 b run.call.stage fresh at.2 s)
-  step_moves Load (calls.TheVariants.Load run) at s b fresh = load_step scene inv inv.holds.within run.room run.call.stage at b s
+  step_moves Load (calls.Load run) at s b fresh = load_step scene inv inv.holds.within run.room run.call.stage at b s
   step_moves start flight at s b fresh = absurd at
 
 -- ---- a store that is to load the version finds another than the last
 
 found_fresh : {T : Type 0} (z : Coding T) (words : List ℕ) (flight : AtomicFlight T)
-    → IsFreshCall (old_of words (ask_of (want z flight))) (flights.TheVariants.Atomic flight)
-    → IsFreshCall (get_or words 0 0) (flights.TheVariants.Atomic flight)
+    → IsFreshCall (old_of words (ask_of (want z flight))) (flights.Atomic flight)
+    → IsFreshCall (get_or words 0 0) (flights.Atomic flight)
 found_fresh x0 x1 x2 x3 = grind arith
 
 module _ {T : Type 0} (code : Coding T) (c : ℕ) (t : Trace T) (s : frame.Sound (family code c) t) where
@@ -64,10 +64,10 @@ module _ {T : Type 0} (code : Coding T) (c : ℕ) (t : Trace T) (s : frame.Sound
 module _ {T : Type 0} (code : Coding T) (c : ℕ) (t : Trace T) (s : frame.Sound (family code c) t) (p : ℕ) where
   pub step_shows : (x : Party T) (since : ℕ) → IsFreshTurn t (Next p) → (start : Start T) (flight : Flight T)
       → StandsThere (family code c) t s p x since start flight → families.StepOf outline (scene_of outline code c t s p x.steps x.backs since) start flight
-  step_shows x since fresh (Atomic start) (flights.TheVariants.Atomic flight) here =
+  step_shows x since fresh (Atomic start) (flights.Atomic flight) here =
       let low =
-      subst (λ n. IsFreshCall n (flights.TheVariants.Atomic flight)) (version_is code c t s)
-      (found_fresh t.world.coding t.world.words flight (fresh (flights.TheVariants.Atomic flight) here.found)) in
+      subst (λ n. IsFreshCall n (flights.Atomic flight)) (version_is code c t s)
+      (found_fresh t.world.coding t.world.words flight (fresh (flights.Atomic flight) here.found)) in
       let moves =
       step_moves (scene_of outline code c t s p x.steps x.backs since) (inv_of outline code c t s p x.steps x.backs since)
       start flight here.at here.steps here.knows low in
@@ -75,8 +75,8 @@ module _ {T : Type 0} (code : Coding T) (c : ℕ) (t : Trace T) (s : frame.Sound
   step_shows x since fresh start flight here = absurd here.at
 
   pub begin_shows : (start : Start T) (flight : Flight T)
-      → first_of kinds.TheVariants.Atomic c start (registries.TheVariants.Atomic s.state.holder) ≡ Some flight
-      → first_row ((begin_of kinds.TheVariants.Atomic c start).rows (registries.TheVariants.Atomic s.state.holder) p) ≡ None
+      → first_of kinds.Atomic c start (registries.Atomic s.state.holder) ≡ Some flight
+      → first_row ((begin_of kinds.Atomic c start).rows (registries.Atomic s.state.holder) p) ≡ None
       → families.Begins outline (scene_of outline code c t s p 0 0 t.world.changes) start flight
   begin_shows start flight e rows =
       record {

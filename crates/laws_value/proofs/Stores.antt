@@ -4,10 +4,10 @@ use Rattle.std.proofs.Common.{[], ◌∷◌, get_or, refl, sym, ap, subst, arith
 use Rattle.laws_value.proofs.Names.{nat_tests, Ask, After, GoOn, StoreStage, cell_word, word_at, Answer, Atomic}
 use Rattle.laws_value.proofs.Names.{AtomicFlight, IsCoding, after, change_of, Scene, Inv}
 use Rattle.steps.specs.declared.ask.Op.TheVariants.{Store, Add}
-use Rattle.steps.specs.declared.atomic.StoreStage as storing
-use Rattle.model.specs.declared.event.Answer as answers
+use Rattle.steps.specs.declared.atomic.StoreStage.TheVariants as storing
+use Rattle.model.specs.declared.event.Answer.TheVariants as answers
 use Rattle.model.specs.declared.event.Event.TheVariants.{Acted}
-use Rattle.model.specs.declared.families.atomic.AtomicStart as starts
+use Rattle.model.specs.declared.families.atomic.AtomicStart.TheVariants as starts
 use Rattle.laws_queues.proofs.Queues.Keeping.{clash}
 use Rattle.laws_queues.proofs.Queues.Knows.{IsFreshStore}
 use Rattle.laws_value.proofs.Core as core
@@ -31,19 +31,19 @@ module _ {T : Type 0} (scene : Scene T Value) (inv : Inv outline scene) (value :
   coded = inv.holds.coded
 
   abbrev Does : Option Ask → After (AtomicFlight T) (Answer T) → Type 0
-  Does ask after = Comes scene (starts.TheVariants.Store value) ask false after
+  Does ask after = Comes scene (starts.Store value) ask false after
 
   abbrev DoesOf : StoreStage → Type 0
-  DoesOf stage = StepOf scene (starts.TheVariants.Store value) (store_at value stage)
+  DoesOf stage = StepOf scene (starts.Store value) (store_at value stage)
 
   abbrev adds_one : Option Ask
   adds_one = Some (record { word = 0; op = Add 1 })
 
-  loads : k.version < 2 ^ 64 - 1 → steps ≤ 0 → DoesOf storing.TheVariants.LoadsVersion
+  loads : k.version < 2 ^ 64 - 1 → steps ≤ 0 → DoesOf storing.LoadsVersion
   loads x0 x1 = grind arith
 
   abbrev cell : ℕ → StoreStage
-  cell at = storing.TheVariants.StoresCell (cell_word code.size k.version) at
+  cell at = storing.StoresCell (cell_word code.size k.version) at
 
   abbrev word : ℕ → ℕ
   word at = get_or (code.words_of value) at 0
@@ -59,7 +59,7 @@ module _ {T : Type 0} (scene : Scene T Value) (inv : Inv outline scene) (value :
       → KnowsStore code.size (then_core at) (code.words_of value) stage → 1 + at + 1 ≤ store_number code.size stage
       → Does (stores_word at) (GoOn (store_at value stage))
   stored_word at below s stage knows more =
-      quiet scene inv false (starts.TheVariants.Store value) (stores_word at) (store_at value stage) (then_core at)
+      quiet scene inv false (starts.Store value) (stores_word at) (store_at value stage) (then_core at)
       refl refl (fills code.size k at (word at) below g)
       (core.set_at k.version (free ho) k.cells (word_at (cell_word code.size k.version) at)
       (code.size * (k.version % 2) + at) (word at) (asked_place code.size k.version at coded.few below))
@@ -88,14 +88,14 @@ module _ {T : Type 0} (scene : Scene T Value) (inv : Inv outline scene) (value :
       go false t =
           let last : at + 1 ≡ code.size = grind (arith, nat_tests) in
           let goes : after code (store_at value (cell at)) (get_or (layout ho k) (word_at (cell_word code.size k.version) at) 0)
-          ≡ GoOn (store_at value storing.TheVariants.AddsVersion) =
+          ≡ GoOn (store_at value storing.AddsVersion) =
           rw t refl in
           subst (λ a. Does (stores_word at) a) (sym goes)
-          (stored_word at below s storing.TheVariants.AddsVersion
+          (stored_word at below s storing.AddsVersion
           (subst (λ n. IsFilled code.size (then_core at) (code.words_of value) n) last filled_more, fresh)
           (omega arith))
 
-  adds : IsFilled code.size k (code.words_of value) code.size → k.version < 2 ^ 64 - 1 → steps ≤ 1 + code.size → DoesOf storing.TheVariants.AddsVersion
+  adds : IsFilled code.size k (code.words_of value) code.size → k.version < 2 ^ 64 - 1 → steps ≤ 1 + code.size → DoesOf storing.AddsVersion
   adds whole fresh s =
       let low = inv.holds.reached in
       let next : (k.version + 1) % 2 ^ 64 ≡ k.version + 1 = omega arith in
@@ -129,8 +129,8 @@ module _ {T : Type 0} (scene : Scene T Value) (inv : Inv outline scene) (value :
           stands = ((refl, refl), ((refl, refl), tt));
           here =
               record {
-                answer = answers.TheVariants.Truth true;
-                wrote = Acted p (Atomic (starts.TheVariants.Store value)) (answers.TheVariants.Truth true) ∷ [];
+                answer = answers.Truth true;
+                wrote = Acted p (Atomic (starts.Store value)) (answers.Truth true) ∷ [];
                 span = refl;
                 steps = omega arith;
               };
@@ -140,7 +140,7 @@ module _ {T : Type 0} (scene : Scene T Value) (inv : Inv outline scene) (value :
 
   pub store_step : (stage : StoreStage) → IsFreshStore k.version stage
       → KnowsStore code.size k (code.words_of value) stage → steps ≤ store_number code.size stage → DoesOf stage
-  store_step storing.TheVariants.LoadsVersion fresh knows s = loads fresh s
-  store_step (storing.TheVariants.StoresCell at_word at) fresh knows s =
-      subst (λ n. DoesOf (storing.TheVariants.StoresCell n at)) (sym knows.0) (stores_cell at knows.1 knows.2 knows.3 s)
-  store_step storing.TheVariants.AddsVersion fresh knows s = adds knows.0 knows.1 s
+  store_step storing.LoadsVersion fresh knows s = loads fresh s
+  store_step (storing.StoresCell at_word at) fresh knows s =
+      subst (λ n. DoesOf (storing.StoresCell n at)) (sym knows.0) (stores_cell at knows.1 knows.2 knows.3 s)
+  store_step storing.AddsVersion fresh knows s = adds knows.0 knows.1 s

@@ -1,9 +1,14 @@
 -- What is known of a whole call on a set, whichever it is.
-use Rattle.std.proofs.Common.{arith}
-use Rattle.lock_free.proofs.Names.{◌≡◌, ℕ, Option, Some, None, IfSome, List, [], ◌∷◌, ◌++◌, sym, ap, ◌∙◌}
+use Rattle.std.proofs.Common.{◌⊎◌, inr, arith}
+use Rattle.lock_free.proofs.Names.{◌≡◌, ◌≤◌, ◌+◌, inl, ℕ, Option, Some, None, IfSome, List, [], ◌∷◌, ◌++◌, sym, ap, ◌∙◌}
 use Rattle.lock_free.proofs.Names.{append_assoc, Answer, Event, Begun, Finished, Start, Kind, one_word, View, Called}
 use Rattle.lock_free.proofs.Names.{Calling, Ends, called}
 use Rattle.lock_free.specs.Driven.{HasDone, HasMade}
+
+-- one operation aside at most
+pub aside_most : {n m : ℕ} → (m ≡ n) ⊎ (m ≡ n + 1) → m ≤ n + 1
+aside_most (inl same) = omega arith
+aside_most (inr more) = omega arith
 
 module _ {C M E : Type 0} (kind : Kind) (call : Calling ℕ C M E)
     (own : (o : Option ℕ) (p : ℕ) → call.by o p → IfSome o (λ q. q ≡ p)) (base w : View ℕ) (e : E) (m : M)
@@ -18,6 +23,7 @@ module _ {C M E : Type 0} (kind : Kind) (call : Calling ℕ C M E)
         alone = ends.alone;
         history = ends.history;
         ran = ends.ran;
+        aside = aside_most ends.aside;
         all = ends.all;
       }
     where

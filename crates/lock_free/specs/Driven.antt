@@ -1,5 +1,5 @@
 -- What a seat knows before and after a whole call on a set, whichever call it is.
-use Rattle.std.specs.Prelude.{◌≡◌, ◌<◌, ℕ, Some, None, IfSome, List, [], sum_by}
+use Rattle.std.specs.Prelude.{◌≡◌, ◌<◌, ◌≤◌, ℕ, ◌+◌, Some, None, IfSome, List, [], sum_by}
 use Rattle.model.specs.declared.event.Answer.{Answer}
 use Rattle.model.specs.declared.event.Event.{Event}
 use Rattle.model.specs.declared.event.Start.{Start}
@@ -25,6 +25,7 @@ pub record HasDone (kind : Kind) (old new : View ℕ) : Type 0 where
   pub alone : new.other ≡ []
   pub history : IsHistory one_word kind old.capacity new.seen
   pub ran : Continues one_word kind old.capacity old new
+  pub aside : new.aside ≤ old.aside + 1
   pub all : IsAll old.share → (f : Event ℕ → ℕ) → sum_by f new.seen ≡ sum_by f new.made
 
 -- one call of the history, by a party of the pass, which wrote this

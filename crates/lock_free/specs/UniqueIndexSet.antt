@@ -1,6 +1,6 @@
 -- The words of the contracts of a unique index set: what names it, which pass is for it, and
 -- what a pass or a held index knows of the set's history.
-use Rattle.std.specs.Prelude.{◌≡◌, ℕ, ◌-◌, ◌^◌, ◌||◌, Option, Some, List, if◌then◌else◌, nat_lt}
+use Rattle.std.specs.Prelude.{◌≡◌, ◌≤◌, ℕ, ◌+◌, ◌-◌, ◌^◌, ◌||◌, Option, Some, List, if◌then◌else◌, nat_lt}
 use Rattle.steps.specs.Enums.{capacity_refusal}
 use Rattle.steps.specs.declared.enums.UniqueIndexCreationError.{UniqueIndexCreationError}
 use Rattle.steps.specs.declared.enums.UniqueIndexCreationError.TheVariants.{ProvidedCapacityGreaterThanMaxCapacity}
@@ -63,6 +63,8 @@ pub record SamePass (old new : Pass) : Type 0 where
   pub share : share new ≡ share old
   pub sound : IsSound (view new)
   pub first : AreFirst (view old).turns (view new).turns
+  -- at most one operation was no step of a call
+  pub aside : (view new).aside ≤ (view old).aside + 1
   pub all : MissesNothing new
 
 -- what a join leaves of a pass, which has what both had

@@ -1,6 +1,6 @@
 -- The words of the contracts of a robust unique index set: what names it, which pass is for it, and
 -- what a pass knows of the set's history.
-use Rattle.std.specs.Prelude.{◌≡◌, ℕ, ◌-◌, ◌^◌, ◌||◌, Option, Some, List, if◌then◌else◌, nat_lt}
+use Rattle.std.specs.Prelude.{◌≡◌, ◌≤◌, ℕ, ◌+◌, ◌-◌, ◌^◌, ◌||◌, Option, Some, List, if◌then◌else◌, nat_lt}
 use Rattle.steps.specs.Enums.{capacity_refusal}
 use Rattle.steps.specs.declared.enums.UniqueIndexCreationError.{UniqueIndexCreationError}
 use Rattle.steps.specs.declared.enums.UniqueIndexCreationError.TheVariants.{ProvidedCapacityGreaterThanMaxCapacity}
@@ -55,10 +55,15 @@ HasHistory p = IsHistory one_word kinds.Robust (set_of p).capacity (history p)
 abbrev pub MissesNothing : Pass → Type 0
 MissesNothing p = passes.MissesNothing (view p)
 
--- what each call leaves of a pass, and what the pass knows from then on
-pub record SamePass (old new : Pass) : Type 0 where
+-- what a call leaves of a pass, and what the pass knows from then on; at most so many operations were no steps of a call
+pub record LeavesPass (most : ℕ) (old new : Pass) : Type 0 where
   pub set : set_of new ≡ set_of old
   pub goes : passes.Goes (view old) (view new)
+  pub aside : (view new).aside ≤ (view old).aside + most
+
+-- the same of each call but a find, which looks once a cell, beside one call
+abbrev pub SamePass : Pass → Pass → Type 0
+SamePass old new = LeavesPass 1 old new
 
 -- what a join leaves of a pass, which has what both had
 pub record PassJoins (old other new : Pass) : Type 0 where

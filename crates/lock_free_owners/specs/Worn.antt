@@ -5,7 +5,7 @@ use Rattle.model.specs.declared.event.Event.{Event}
 use Rattle.model.specs.declared.event.Event.TheVariants.{Begun, Filled, FreedOf}
 use Rattle.model.specs.declared.event.Start.{Start}
 use Rattle.model.specs.declared.event.Start.TheVariants.{Robust, Container}
-use Rattle.model.specs.declared.families.container.ContainerStart as containers
+use Rattle.model.specs.declared.families.container.ContainerStart.TheVariants as containers
 use Rattle.model.specs.declared.families.indices.robust.RobustStart.TheVariants.{Release, Recover, BorrowedIndices}
 use Rattle.model.specs.Reading.{Each, Span, Open, span_of}
 
@@ -17,8 +17,8 @@ module _ {T : Type 0} where
   change (Filled p index owner) = 1
   change (FreedOf p index owner) = 1
   change (Begun p (Robust BorrowedIndices)) = 1
-  change (Begun p (Container containers.TheVariants.Len)) = 1
-  change (Begun p (Container containers.TheVariants.IsEmpty)) = 1
+  change (Begun p (Container containers.Len)) = 1
+  change (Begun p (Container containers.IsEmpty)) = 1
   change e = 0
 
   abbrev pub changes : List (Event T) → ℕ
@@ -30,8 +30,8 @@ module _ {T : Type 0} where
   abbrev pub may_lock : Start T → Bool
   may_lock (Robust (Release index owner LockIfLastIndex)) = true
   may_lock (Robust (Recover LockIfLastIndex)) = true
-  may_lock (Container (containers.TheVariants.Remove index owner LockIfLastIndex)) = true
-  may_lock (Container (containers.TheVariants.Recover owner LockIfLastIndex)) = true
+  may_lock (Container (containers.Remove index owner LockIfLastIndex)) = true
+  may_lock (Container (containers.Recover owner LockIfLastIndex)) = true
   may_lock start = false
 
   -- such a call is under way

@@ -16,3 +16,4 @@ pub mod Positions
 pub mod Closes
 pub mod Reads
 pub mod Handles
+pub mod Ends

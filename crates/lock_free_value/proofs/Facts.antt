@@ -1,5 +1,5 @@
 -- What is known of whole calls on a value.
-use Rattle.std.proofs.Common.{◌≡◌, inl, inr, ℕ, ◌+◌, ◌-◌, ◌^◌, ◌<◌, Bool, true, false, Some, None, List, [], ◌∷◌}
+use Rattle.std.proofs.Common.{◌≡◌, ◌≤◌, inl, inr, ℕ, ◌+◌, ◌-◌, ◌^◌, ◌<◌, Bool, true, false, Some, None, List, [], ◌∷◌}
 use Rattle.std.proofs.Common.{◌++◌, length, replicate, slice_index, sum_by, refl, sym, ap, subst, ◌∙◌, append_assoc}
 use Rattle.std.proofs.Common.{append-nil, length-append, arith}
 use Rattle.model.proofs.Readings.{Each-less}
@@ -10,7 +10,8 @@ use Rattle.lock_free_value.proofs.Names.{stores_value, last_or, IsLast}
 use Rattle.steps.specs.declared.ask.Ask.{Ask}
 use Rattle.steps.specs.declared.ask.Op.TheVariants.{Load as Loads}
 use Rattle.steps.specs.declared.ask.Want.TheVariants as wants
-use Rattle.steps.specs.declared.atomic.StoreStage as stages
+use Rattle.steps.specs.declared.atomic.StoreStage.{StoreStage}
+use Rattle.steps.specs.declared.atomic.StoreStage.TheVariants as stages
 use Rattle.steps.specs.Atomic.{store_asks}
 use Rattle.model.specs.declared.event.Answer.{Answer}
 use Rattle.model.specs.declared.event.Start.{Start}
@@ -43,18 +44,19 @@ module _ {T : Type 0} where
   moved x0 x1 x2 x3 x4 x5 x6 x7 = grind (arith, sum_by-append, takes_producer, gives_producer, sum_by)
 
 -- a store is left out where its first load finds the last version
-ends_at : {T : Type 0} (code : Coding T) (x : T) (stage : stages.StoreStage) (n : ℕ) (a : Ask)
+ends_at : {T : Type 0} (code : Coding T) (x : T) (stage : StoreStage) (n : ℕ) (a : Ask)
     → store_skips stage n ≡ true → store_asks code.words_of stage x ≡ wants.Ask a → (a.word ≡ 0) × (n ≡ 2 ^ 64 - 1)
-ends_at code x stages.TheVariants.LoadsVersion n a t e =
+ends_at code x stages.LoadsVersion n a t e =
     (let is : record { word = 0; op = Loads } ≡ a = cc in (ap (λ (z : Ask). z.word) (sym is), grind (arith, nat_tests)))
-ends_at code x (stages.TheVariants.StoresCell cell at) n a t e = absurd (cc)
-ends_at code x stages.TheVariants.AddsVersion n a t e = absurd (cc)
+ends_at code x (stages.StoresCell cell at) n a t e = absurd (cc)
+ends_at code x stages.AddsVersion n a t e = absurd (cc)
 
 module _ {T : Type 0} (code : Coding T) (base w : View T) (idle : base.going ≡ None) (one : base.capacity ≡ 1) where
   -- ---- what every call leaves
 
   pub record Leaves : Type 0 where
     pub goes : Goes base w
+    pub aside : w.aside ≤ base.aside + 1
     pub knows : Knows code kinds.Atomic 1 w
     pub sized : w.capacity ≡ 1
     pub quiet : w.going ≡ None
@@ -80,6 +82,7 @@ module _ {T : Type 0} (code : Coding T) (base w : View T) (idle : base.going ≡
                 first = looked.ran.first;
                 all = λ whole. looked.all (subst IsAll looked.share whole);
               };
+          aside = (let once = left.asked in let all = looked.aside in omega arith);
           knows = subst (λ n. Knows code kinds.Atomic n w) one looked.ran.knows;
           sized = looked.capacity ∙ one;
           quiet = looked.going ∙ idle;

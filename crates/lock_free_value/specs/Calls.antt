@@ -1,5 +1,5 @@
 -- Which value a pass is for, and what it knows of the value's history.
-use Rattle.std.specs.Prelude.{◌≡◌, ◌+◌, ◌-◌, ◌^◌, length}
+use Rattle.std.specs.Prelude.{◌≡◌, ◌≤◌, ◌+◌, ◌-◌, ◌^◌, length}
 use Rattle.laws_value.specs.Stored.{stored}
 use Rattle.atomic_table.specs.Seated.{TableId}
 use Rattle.steps.specs.declared.words.Words.{Ghosts}
@@ -62,6 +62,8 @@ module _ {T : Type 0} {words : Ghosts T} where
   pub record IsSame (old new : Held T (ValueRule T) words) : Type 0 where
     pub table : table_of new ≡ table_of old
     pub goes : Goes (seen old) (seen new)
+    -- at most one operation was no step of a call
+    pub aside : (seen new).aside ≤ (seen old).aside + 1
 
   -- the same of a pass and of the producer, by their seats
   abbrev pub SamePass : Pass T words → Pass T words → Type 0

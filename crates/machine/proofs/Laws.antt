@@ -3,7 +3,7 @@ use Rattle.std.proofs.Common.{◌≡◌, ℕ, ◌+◌, None, List, [], ◌∷◌
 use Rattle.std.proofs.lemmas.Grind.{replicate_next}
 use Rattle.model.specs.declared.turn.Kind.{Kind}
 use Rattle.model.specs.declared.turn.Kind.TheVariants.{IndexQueue, Overflow, Queue, Atomic, Bits, Counts, Indices, Robust, Container, Loan}
-use Rattle.model.specs.declared.families.queues.QueueKind as queue_kinds
+use Rattle.model.specs.declared.families.queues.QueueKind.TheVariants as queue_kinds
 use Rattle.model.specs.declared.turn.Turn.{Turn}
 use Rattle.model.specs.Refusals.{refusal_of}
 use Rattle.model.specs.Turns.{after_turn, after_turns, AreAllowed, IsReached}
@@ -20,9 +20,9 @@ use Rattle.laws_queues.proofs.Queues.Sound.{queue_keeps}
 use Rattle.laws_robust.proofs.Justified.{robust_keeps}
 
 pub laws_of : {T : Type 0} (kind : Kind) → Keeps T kind
-laws_of IndexQueue = queue_keeps queue_kinds.TheVariants.IndexQueue
-laws_of Overflow = queue_keeps queue_kinds.TheVariants.Overflow
-laws_of Queue = queue_keeps queue_kinds.TheVariants.Queue
+laws_of IndexQueue = queue_keeps queue_kinds.IndexQueue
+laws_of Overflow = queue_keeps queue_kinds.Overflow
+laws_of Queue = queue_keeps queue_kinds.Queue
 laws_of Atomic = value_keeps
 laws_of Bits = bits_keep
 laws_of Counts = counts_keep

@@ -3,7 +3,7 @@ use Rattle.std.proofs.Common.{Option, Some, None, refl}
 use Rattle.std.specs.Prelude.{IfSome}
 use Rattle.model.specs.declared.turn.Kind.{Kind}
 use Rattle.model.specs.declared.turn.Kind.TheVariants.{IndexQueue, Overflow, Queue, Atomic, Bits, Counts, Indices, Robust, Container, Loan}
-use Rattle.model.specs.declared.families.queues.QueueKind as queue_kinds
+use Rattle.model.specs.declared.families.queues.QueueKind.TheVariants as queue_kinds
 use Rattle.model.specs.LockFree.{IsLockFree, KeepsEnding, IsLockFreeOf, KeepsEndingOf, IsDefault, HasLockFreeRuns, lock_free_bound, default_bound}
 use Rattle.model.specs.LockFree.{default_container_bound}
 use Rattle.model.proofs.LockFree.Machines.{one_call_ends, one_call_ends_of, machines}
@@ -17,9 +17,9 @@ use Rattle.laws_robust.proofs.LockFree.{default_keeps_ending}
 use Rattle.laws_value.proofs.LockFree.{value_keeps_ending}
 
 pub keep_ending : (T : Type 0) (kind : Kind) → IfSome (lock_free_bound kind) (KeepsEnding T kind)
-keep_ending T IndexQueue = queue_keeps_ending queue_kinds.TheVariants.IndexQueue
-keep_ending T Overflow = queue_keeps_ending queue_kinds.TheVariants.Overflow
-keep_ending T Queue = queue_keeps_ending queue_kinds.TheVariants.Queue
+keep_ending T IndexQueue = queue_keeps_ending queue_kinds.IndexQueue
+keep_ending T Overflow = queue_keeps_ending queue_kinds.Overflow
+keep_ending T Queue = queue_keeps_ending queue_kinds.Queue
 keep_ending T Atomic = value_keeps_ending
 keep_ending T Bits = bits_keep_ending
 keep_ending T Counts = counts_keep_ending

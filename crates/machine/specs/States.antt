@@ -2,7 +2,7 @@
 use Rattle.std.specs.Prelude.{◌≡◌, ℕ, ◌<◌, ◌≤◌, Option, Some, None, []}
 use Rattle.steps.specs.declared.container.state.ContainerState.{ContainerState}
 use Rattle.model.specs.declared.families.Registry.{Registry}
-use Rattle.model.specs.declared.families.Registry as registries
+use Rattle.model.specs.declared.families.Registry.TheVariants as registries
 use Rattle.model.specs.Families.Container.States.{state_of}
 
 module _ {T : Type 0} where
@@ -18,6 +18,6 @@ module _ {T : Type 0} where
 
   -- in what a machine of so many parties keeps; other kinds have no states
   abbrev pub IsStateIn : Registry T → ℕ → ℕ → Option (ContainerState T) → Type 0
-  IsStateIn (registries.TheVariants.Container dead states) parties p found =
+  IsStateIn (registries.Container dead states) parties p found =
       IsFound parties p found (state_of p states)
   IsStateIn kept parties p found = found ≡ None

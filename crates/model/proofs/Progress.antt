@@ -2,7 +2,7 @@
 use Rattle.model.proofs.Names.{IsKept, Kind, Option, Progresses, Promise, QueueKind, QueueStart, Span, Start, Trace}
 use Rattle.model.proofs.Names.{arith, promise_of, ℕ, ◌*◌, ◌+◌, ◌-◌, ◌≡◌, ◌≤◌}
 use Rattle.model.specs.declared.event.Start.TheVariants as starts
-use Rattle.model.specs.declared.families.queues.QueueKind as queue_kinds
+use Rattle.model.specs.declared.families.queues.QueueKind.TheVariants as queue_kinds
 use Rattle.model.specs.declared.families.queues.QueueStart.TheVariants as queues
 use Rattle.model.specs.declared.party.Progress.{Progress}
 use Rattle.model.specs.Families.Atomic.Promises as value_promises
@@ -41,20 +41,20 @@ module _ {T : Type 0} where
   queue_guaranteed kind capacity size (starts.Queues start) = of_call kind start
     where
       push : (kind : QueueKind) (index : ℕ) → IsGuaranteed (queue_promises.promise kind) capacity size (pushing index) (of_push size kind)
-      push queue_kinds.TheVariants.IndexQueue index = λ backs. at_most _
-      push queue_kinds.TheVariants.Overflow index = λ backs. at_most _
-      push queue_kinds.TheVariants.Queue index = λ backs. at_most _
+      push queue_kinds.IndexQueue index = λ backs. at_most _
+      push queue_kinds.Overflow index = λ backs. at_most _
+      push queue_kinds.Queue index = λ backs. at_most _
 
       push_value : (kind : QueueKind) (value : T)
           → IsGuaranteed (queue_promises.promise kind) capacity size (starts.Queues (queues.Push value)) (of_push size kind)
-      push_value queue_kinds.TheVariants.IndexQueue value = λ backs. at_most _
-      push_value queue_kinds.TheVariants.Overflow value = λ backs. at_most _
-      push_value queue_kinds.TheVariants.Queue value = λ backs. at_most _
+      push_value queue_kinds.IndexQueue value = λ backs. at_most _
+      push_value queue_kinds.Overflow value = λ backs. at_most _
+      push_value queue_kinds.Queue value = λ backs. at_most _
 
       pop : (kind : QueueKind) → IsGuaranteed (queue_promises.promise kind) capacity size popping (of_pop size kind)
-      pop queue_kinds.TheVariants.IndexQueue = λ backs. at_most _
-      pop queue_kinds.TheVariants.Overflow = λ backs. omega arith
-      pop queue_kinds.TheVariants.Queue = λ backs. at_most _
+      pop queue_kinds.IndexQueue = λ backs. at_most _
+      pop queue_kinds.Overflow = λ backs. omega arith
+      pop queue_kinds.Queue = λ backs. at_most _
 
       of_call : (kind : QueueKind) (start : QueueStart T)
           → IsGuaranteed (queue_promises.promise kind) capacity size (starts.Queues start) (in_queue size kind (starts.Queues start))

@@ -6,7 +6,7 @@ use Rattle.model.specs.declared.event.Item.TheVariants.{Value}
 use Rattle.model.specs.declared.event.Answer.TheVariants.{Popped}
 use Rattle.model.specs.declared.families.queues.QueueStart.TheVariants.{Push, Pop, Len}
 use Rattle.model.specs.declared.families.queues.QueueKind.TheVariants.{Queue}
-use Rattle.model.specs.declared.turn.Kind as any_kinds
+use Rattle.model.specs.declared.turn.Kind.TheVariants as any_kinds
 use Rattle.model.specs.Families.Queues.Book.{waiting_in, IsBook}
 use Rattle.model.proofs.Runs.{two_words, nexts, begins, roles, roles_told, ran}
 
@@ -31,10 +31,10 @@ told =
     ∷ Finished 0 (Queues Len) (Number 1)
     ∷ []
 
-pub stopped_in_a_cell : (ran two_words any_kinds.TheVariants.Queue 1 2 turns).events ≡ told
+pub stopped_in_a_cell : (ran two_words any_kinds.Queue 1 2 turns).events ≡ told
 stopped_in_a_cell = refl
 
-pub stopped_words : (ran two_words any_kinds.TheVariants.Queue 1 2 turns).world.words ≡ 1 ∷ 0 ∷ 0 ∷ 0 ∷ 1 ∷ 2 ∷ []
+pub stopped_words : (ran two_words any_kinds.Queue 1 2 turns).world.words ≡ 1 ∷ 0 ∷ 0 ∷ 0 ∷ 1 ∷ 2 ∷ []
 stopped_words = refl
 
 pub value_waits : waiting_in two_words Queue 1 (1 ∷ 0 ∷ 0 ∷ 0 ∷ 1 ∷ 2 ∷ []) ≡ Value 18446744073709551618 ∷ []
@@ -55,14 +55,14 @@ pop_told =
     ∷ Finished 1 (Queues Pop) (Popped 18446744073709551618)
     ∷ []
 
-pub pop_reads_both : (ran two_words any_kinds.TheVariants.Queue 1 2 (turns ++ pop_turns)).events ≡ told ++ pop_told
+pub pop_reads_both : (ran two_words any_kinds.Queue 1 2 (turns ++ pop_turns)).events ≡ told ++ pop_told
 pop_reads_both = refl
 
 -- ---- what they refuse
 
 -- a pop that hands its value out before it moves the read position
 pub no_early_pop : IsBook two_words Queue (record {
-  world = (ran two_words any_kinds.TheVariants.Queue 1 2 turns).world;
+  world = (ran two_words any_kinds.Queue 1 2 turns).world;
   events = told ++ Begun 1 (Queues Pop) ∷ HandedOut 1 (Value 18446744073709551618) ∷ [];
 }) → ⊥
 no_early_pop book = let read = book.read in cc
@@ -72,7 +72,7 @@ abbrev half_pushed : List (Turn ℕ)
 half_pushed = roles ++ begins 0 (Queues (Push 18446744073709551618)) 3
 
 pub no_early_push : IsBook two_words Queue (record {
-  world = (ran two_words any_kinds.TheVariants.Queue 1 2 half_pushed).world;
+  world = (ran two_words any_kinds.Queue 1 2 half_pushed).world;
   events = roles_told ++ Begun 0 (Queues (Push 18446744073709551618)) ∷ Published 0 (Value 18446744073709551618) ∷ [];
 }) → ⊥
 no_early_push book = let write = book.write in cc

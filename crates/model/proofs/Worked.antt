@@ -4,9 +4,9 @@ use Rattle.model.proofs.Names.{Number, Open, PoppedIndex, PoppedNone, Published,
 use Rattle.model.proofs.Names.{Turn, [], arith, bounded_list, false, length, moments, one_word, progress_in, promise_of}
 use Rattle.model.proofs.Names.{refl, subst, sym, true, waiting, ℕ, ◌++◌, ◌∷◌, ◌≡◌}
 use Rattle.model.specs.declared.event.Item.TheVariants.{Index}
-use Rattle.model.specs.declared.families.Registry as registries
+use Rattle.model.specs.declared.families.Registry.TheVariants as registries
 use Rattle.model.specs.declared.families.queues.QueueStart.TheVariants.{AcquireProducer, Pop, Len}
-use Rattle.model.specs.declared.families.queues.QueueKind as kinds
+use Rattle.model.specs.declared.families.queues.QueueKind.TheVariants as kinds
 use Rattle.model.specs.declared.turn.Kind.TheVariants.{IndexQueue, Overflow}
 use Rattle.model.specs.Families.Queues.Book.{AnswersRight}
 use Rattle.model.specs.Families.Queues.Lengths.{TellsLength}
@@ -175,10 +175,10 @@ pub no_bounded_push_hands_out : Stands {T = ℕ} (promise_of IndexQueue) 1 (Hand
 no_bounded_push_hands_out stands = let h : Queues (PushIndex 5) ≡ Queues Pop = stands.0 in cc
 
 -- a push that an overflowing queue loses, and one that it publishes without a place for it
-pub no_lost_overflow : wrote {T = ℕ} kinds.TheVariants.Overflow 1 (Queues (PushIndex 5)) PoppedNone (Acted 0 (Queues (PushIndex 5)) PoppedNone ∷ []) → ⊥
+pub no_lost_overflow : wrote {T = ℕ} kinds.Overflow 1 (Queues (PushIndex 5)) PoppedNone (Acted 0 (Queues (PushIndex 5)) PoppedNone ∷ []) → ⊥
 no_lost_overflow wrote = let p = wrote.published in cc
 
-pub no_place : wrote {T = ℕ} kinds.TheVariants.Overflow 0 (Queues (PushIndex 5)) (PoppedIndex 5)
+pub no_place : wrote {T = ℕ} kinds.Overflow 0 (Queues (PushIndex 5)) (PoppedIndex 5)
     (Published 0 (Index 5) ∷ Acted 0 (Queues (PushIndex 5)) (PoppedIndex 5) ∷ [])
     → ⊥
 no_place wrote = let p = wrote.published in cc
@@ -204,7 +204,7 @@ pub no_silent_end : Stands {T = ℕ} (promise_of IndexQueue) 1 (Finished 0 (Queu
 no_silent_end stands = let h = stands.1 in let m = h.moments in cc
 
 -- a push that answers true and publishes nothing
-pub no_lost_push : wrote {T = ℕ} kinds.TheVariants.IndexQueue 1 (Queues (PushIndex 5)) (Truth true) (Acted 0 (Queues (PushIndex 5)) (Truth true) ∷ []) → ⊥
+pub no_lost_push : wrote {T = ℕ} kinds.IndexQueue 1 (Queues (PushIndex 5)) (Truth true) (Acted 0 (Queues (PushIndex 5)) (Truth true) ∷ []) → ⊥
 no_lost_push wrote = let p = wrote.published in cc
 
 -- a pop that answers None while a value waits
@@ -250,7 +250,7 @@ no_lost_role right = cc
 
 -- a machine that forgets who has acquired the role
 pub no_forgotten_holder : KeepsHolders {T = ℕ}
-    (registries.TheVariants.Queues (record { producer = None; consumer = None }))
+    (registries.Queues (record { producer = None; consumer = None }))
     (Finished 0 (Queues AcquireProducer) (Truth true) ∷ [])
     → ⊥
 no_forgotten_holder kept = let lost = kept.0 in cc

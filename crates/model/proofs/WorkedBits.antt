@@ -8,11 +8,11 @@ use Rattle.std.specs.Prelude.{cond}
 use Rattle.steps.specs.Bits.BitSet.{place_after, at_most}
 use Rattle.model.specs.declared.event.Start.TheVariants.{Bits}
 use Rattle.model.specs.declared.event.Answer.TheVariants.{Done, ResetNone, Reset}
-use Rattle.model.specs.declared.event.Event as told
+use Rattle.model.specs.declared.event.Event.TheVariants as told
 use Rattle.model.specs.declared.event.Event.TheVariants.{Cleared, Counted, TakenOut}
-use Rattle.model.specs.declared.families.Registry as registries
+use Rattle.model.specs.declared.families.Registry.TheVariants as registries
 use Rattle.model.specs.declared.families.bits.BitsStart.TheVariants.{Set, ResetNext, ResetAll}
-use Rattle.model.specs.declared.turn.Kind as kinds
+use Rattle.model.specs.declared.turn.Kind.TheVariants as kinds
 use Rattle.model.specs.Families.Bits.Promises.{IsBitSet, IsCountingSet, AnswersCount, HasCleared, HasTaken, CameTo, BitsWrote, bits_stand, counts_stand}
 use Rattle.model.specs.Families.Bits.Reading.{is_set_of, is_clear_of, sets, clears, standing, position_after, count_at}
 
@@ -22,16 +22,16 @@ set_of kind capacity turns = run turns (opening one_word kind capacity 2)
 -- ---- worked runs
 
 -- 64 bits to a word, after the reset position
-four_words : length (set_of kinds.TheVariants.Bits 130 []).world.words ≡ 4
+four_words : length (set_of kinds.Bits 130 []).world.words ≡ 4
 four_words = refl
 
-no_words : (set_of kinds.TheVariants.Counts 0 []).world.words ≡ []
+no_words : (set_of kinds.Counts 0 []).world.words ≡ []
 no_words = refl
 
 -- a set turns back where another bit of its element was set
 abbrev neighbours : Trace ℕ
 neighbours =
-    set_of kinds.TheVariants.Bits 70
+    set_of kinds.Bits 70
     (Begin 0 (Bits (Set 3))
     ∷ Next 0
     ∷ Begin 1 (Bits (Set 40))
@@ -44,9 +44,9 @@ neighbours =
 neighbours_told : neighbours.events
     ≡ Begun 0 (Bits (Set 3))
     ∷ Begun 1 (Bits (Set 40))
-    ∷ told.TheVariants.Set 1 40
+    ∷ told.Set 1 40
     ∷ Finished 1 (Bits (Set 40)) (Truth true)
-    ∷ told.TheVariants.Set 0 3
+    ∷ told.Set 0 3
     ∷ Finished 0 (Bits (Set 3)) (Truth true)
     ∷ []
 neighbours_told = refl
@@ -60,7 +60,7 @@ neighbours_counted = refl
 -- a reset of all clears two bits of one element in one turn
 abbrev cleared_twice : Trace ℕ
 cleared_twice =
-    set_of kinds.TheVariants.Bits 8
+    set_of kinds.Bits 8
     (Begin 0 (Bits (Set 3))
     ∷ Next 0
     ∷ Next 0
@@ -73,10 +73,10 @@ cleared_twice =
 
 cleared_twice_told : cleared_twice.events
     ≡ Begun 0 (Bits (Set 3))
-    ∷ told.TheVariants.Set 0 3
+    ∷ told.Set 0 3
     ∷ Finished 0 (Bits (Set 3)) (Truth true)
     ∷ Begun 0 (Bits (Set 1))
-    ∷ told.TheVariants.Set 0 1
+    ∷ told.Set 0 1
     ∷ Finished 0 (Bits (Set 1)) (Truth true)
     ∷ Begun 0 (Bits ResetAll)
     ∷ Cleared 0 1
@@ -88,7 +88,7 @@ cleared_twice_told = refl
 -- a reset of the next bit goes round
 abbrev round : Trace ℕ
 round =
-    set_of kinds.TheVariants.Bits 2
+    set_of kinds.Bits 2
     (Begin 0 (Bits (Set 0))
     ∷ Next 0
     ∷ Next 0
@@ -105,7 +105,7 @@ round =
 
 round_told : round.events
     ≡ Begun 0 (Bits (Set 0))
-    ∷ told.TheVariants.Set 0 0
+    ∷ told.Set 0 0
     ∷ Finished 0 (Bits (Set 0)) (Truth true)
     ∷ Begun 0 (Bits ResetNext)
     ∷ Cleared 0 0
@@ -118,7 +118,7 @@ round_told = refl
 -- counts
 abbrev counted : Trace ℕ
 counted =
-    set_of kinds.TheVariants.Counts 2
+    set_of kinds.Counts 2
     (Begin 0 (Bits (Set 1))
     ∷ Next 0
     ∷ Begin 0 (Bits (Set 1))
@@ -142,10 +142,10 @@ counted_told : counted.events
 counted_told = refl
 
 -- a place past the capacity, and a call that counts have not
-past_the_capacity : refusal_of (set_of kinds.TheVariants.Bits 8 []).world (Begin 0 (Bits (Set 8))) ≡ Some BadIndex
+past_the_capacity : refusal_of (set_of kinds.Bits 8 []).world (Begin 0 (Bits (Set 8))) ≡ Some BadIndex
 past_the_capacity = refl
 
-no_next_of_counts : refusal_of (set_of kinds.TheVariants.Counts 8 []).world (Begin 0 (Bits ResetNext)) ≡ Some WrongCall
+no_next_of_counts : refusal_of (set_of kinds.Counts 8 []).world (Begin 0 (Bits ResetNext)) ≡ Some WrongCall
 no_next_of_counts = refl
 
 -- ---- histories that are refused
@@ -161,7 +161,7 @@ with_events kind words events =
             capacity = 2;
             parties = 2;
             words = words;
-            kept = registries.TheVariants.Nothing;
+            kept = registries.Nothing;
             latest = [];
             changes = 0;
             turns = 0;
@@ -170,16 +170,16 @@ with_events kind words events =
     }
 
 -- a bit that stands and that nobody set, and one that is lost
-stands_unset : IsBitSet (with_events kinds.TheVariants.Bits (0 ∷ 1 ∷ []) []) → ⊥
+stands_unset : IsBitSet (with_events kinds.Bits (0 ∷ 1 ∷ []) []) → ⊥
 stands_unset k = let e = k.conserved 0 in cc
 
-bit_lost : IsBitSet (with_events kinds.TheVariants.Bits (0 ∷ 0 ∷ []) (told.TheVariants.Set 0 1 ∷ [])) → ⊥
+bit_lost : IsBitSet (with_events kinds.Bits (0 ∷ 0 ∷ []) (told.Set 0 1 ∷ [])) → ⊥
 bit_lost k = let e = k.conserved 1 in cc
 
-set_twice : IsBitSet (with_events kinds.TheVariants.Bits (0 ∷ 2 ∷ []) (told.TheVariants.Set 0 1 ∷ told.TheVariants.Set 1 1 ∷ [])) → ⊥
+set_twice : IsBitSet (with_events kinds.Bits (0 ∷ 2 ∷ []) (told.Set 0 1 ∷ told.Set 1 1 ∷ [])) → ⊥
 set_twice k = let e = k.conserved 1 in cc
 
-set_past_the_capacity : IsBitSet (with_events kinds.TheVariants.Bits (0 ∷ 4 ∷ []) (told.TheVariants.Set 0 2 ∷ [])) → ⊥
+set_past_the_capacity : IsBitSet (with_events kinds.Bits (0 ∷ 4 ∷ []) (told.Set 0 2 ∷ [])) → ⊥
 set_past_the_capacity k = let e = k.within 2 (omega arith) in cc
 
 -- a bit that was set in none of the events stood at no moment
@@ -191,14 +191,14 @@ abbrev false_set : List (Event ℕ)
 false_set =
     Begun 0 (Bits (Set 1)) ∷ Finished 0 (Bits (Set 1)) (Truth false) ∷ []
 
-false_without_bit : IsBitSet (with_events kinds.TheVariants.Bits (0 ∷ 0 ∷ []) false_set) → ⊥
+false_without_bit : IsBitSet (with_events kinds.Bits (0 ∷ 0 ∷ []) false_set) → ⊥
 false_without_bit k = never_stood 0 1 (Begun 0 (Bits (Set 1)) ∷ []) refl (k.answers (Begun 0 (Bits (Set 1)) ∷ []) [] _ refl)
 
 -- a set that answers true and sets nothing, or the bit beside its own
 true_without_event : BitsWrote {T = ℕ} 2 (Bits (Set 1)) (Truth true) [] → ⊥
 true_without_event w = let e = w.0 in cc
 
-other_bit : BitsWrote {T = ℕ} 2 (Bits (Set 1)) (Truth true) (told.TheVariants.Set 0 0 ∷ []) → ⊥
+other_bit : BitsWrote {T = ℕ} 2 (Bits (Set 1)) (Truth true) (told.Set 0 0 ∷ []) → ⊥
 other_bit w = let e = w.1 in cc
 
 -- a reset of the next bit that answers another one than it has cleared
@@ -208,7 +208,7 @@ other_answer w = let e = w.1 in cc
 -- a reset of the next bit that answers the second of two that stand, though the position is the first
 abbrev skipping : List (Event ℕ)
 skipping =
-    told.TheVariants.Set 1 0 ∷ told.TheVariants.Set 1 1 ∷ Begun 0 (Bits ResetNext) ∷ Cleared 0 1 ∷ []
+    told.Set 1 0 ∷ told.Set 1 1 ∷ Begun 0 (Bits ResetNext) ∷ Cleared 0 1 ∷ []
 
 -- none of these moves the position
 abbrev Leave : List (Event ℕ) → Type 0
@@ -226,13 +226,13 @@ left_there n (x ∷ xs) h = left_there (position_after n x) xs h.1 ∙ h.0 n
 first_stood : (part rest : List (Event ℕ)) → skipping ≡ part ++ rest → BeginsNone 0 rest → standing 0 part ≡ 0 → ⊥
 first_stood [] rest is within clear = let none = subst (BeginsNone 0) (sym is) within in absurd (none.0 refl)
 first_stood (a ∷ part) rest is within clear =
-    let first : told.TheVariants.Set 1 0 ≡ a = cc in
-    let here : standing 0 (told.TheVariants.Set 1 0 ∷ part) ≡ 0 = subst (λ (x : Event ℕ). standing 0 (x ∷ part) ≡ 0) (sym first) clear in
-    let one : sets 0 (told.TheVariants.Set 1 0 ∷ part) ≡ 1 + sets 0 part =
-    sum_by-cons (λ (e : Event ℕ). cond (is_set_of 0 e) 1 0) (told.TheVariants.Set 1 0) part in
+    let first : told.Set 1 0 ≡ a = cc in
+    let here : standing 0 (told.Set 1 0 ∷ part) ≡ 0 = subst (λ (x : Event ℕ). standing 0 (x ∷ part) ≡ 0) (sym first) clear in
+    let one : sets 0 (told.Set 1 0 ∷ part) ≡ 1 + sets 0 part =
+    sum_by-cons (λ (e : Event ℕ). cond (is_set_of 0 e) 1 0) (told.Set 1 0) part in
     let all : clears 0 skipping ≡ clears 0 (a ∷ part) + clears 0 rest =
     ap (clears 0) is ∙ sum_by-append (λ (e : Event ℕ). cond (is_clear_of 0 e) 1 0) (a ∷ part) rest in
-    let none : 0 ≡ clears 0 (told.TheVariants.Set 1 0 ∷ part) + clears 0 rest =
+    let none : 0 ≡ clears 0 (told.Set 1 0 ∷ part) + clears 0 rest =
     subst (λ (x : Event ℕ). 0 ≡ clears 0 (x ∷ part) + clears 0 rest) (sym first) all in
     absurd (omega arith)
 
@@ -262,14 +262,14 @@ clears_again stands = let e = stands 1 (omega arith) in cc
 abbrev stays : List (Event ℕ) → List (Event ℕ) → Type 0
 stays before since = HasCleared 2 before since
 
-left_standing : stays (told.TheVariants.Set 0 1 ∷ []) [] → ⊥
+left_standing : stays (told.Set 0 1 ∷ []) [] → ⊥
 left_standing cleared = let e = cleared 1 (omega arith) refl in absurd (omega arith)
 
 -- a count that nobody counted, and one of which too much was taken out
-counts_uncounted : IsCountingSet (with_events kinds.TheVariants.Counts (1 ∷ 0 ∷ []) []) → ⊥
+counts_uncounted : IsCountingSet (with_events kinds.Counts (1 ∷ 0 ∷ []) []) → ⊥
 counts_uncounted k = let e = k.conserved 0 in cc
 
-taken_too_much : IsCountingSet (with_events kinds.TheVariants.Counts (0 ∷ 0 ∷ []) (Counted 0 1 ∷ TakenOut 1 1 2 ∷ [])) → ⊥
+taken_too_much : IsCountingSet (with_events kinds.Counts (0 ∷ 0 ∷ []) (Counted 0 1 ∷ TakenOut 1 1 2 ∷ [])) → ⊥
 taken_too_much k = let e = k.conserved 1 in cc
 
 -- a set that answers the count after it
@@ -277,7 +277,7 @@ abbrev late_count : List (Event ℕ)
 late_count =
     Begun 0 (Bits (Set 1)) ∷ Counted 0 1 ∷ Finished 0 (Bits (Set 1)) (Number 1) ∷ []
 
-count_after : IsCountingSet (with_events kinds.TheVariants.Counts (0 ∷ 1 ∷ []) late_count) → ⊥
+count_after : IsCountingSet (with_events kinds.Counts (0 ∷ 1 ∷ []) late_count) → ⊥
 count_after k = go right.before right.is right.count
   where
     right : AnswersCount {T = ℕ} 0 1 1 (Begun 0 (Bits (Set 1)) ∷ Counted 0 1 ∷ [])

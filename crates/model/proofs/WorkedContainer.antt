@@ -5,11 +5,11 @@ use Rattle.model.proofs.Names.{OwnerLives, ReleaseMode, Some, Start, State, Told
 use Rattle.model.proofs.Names.{WrongCall, [], ap, arith, false, is_look_of, length, progress_in, refl, refusal_of}
 use Rattle.model.proofs.Names.{state_in, true, ℕ, ◌++◌, ◌+◌, ◌-◌, ◌^◌, ◌∷◌, ◌≡◌}
 use Rattle.steps.specs.declared.container.enums.ContainerRemoveError.TheVariants.{ContainerHandleNotOwnedByContainer}
-use Rattle.steps.specs.declared.indices.enums.ReleaseState as states
+use Rattle.steps.specs.declared.indices.enums.ReleaseState.TheVariants as states
 use Rattle.model.specs.declared.event.Answer.TheVariants.{Done, Index, NotRemoved}
 use Rattle.model.specs.declared.event.Event.TheVariants.{Placed, Hidden, Copied, Shown}
 use Rattle.model.specs.declared.families.container.ContainerStart.TheVariants.{Add, Remove, Replace, Find, Recover, GetState, UpdateState, IsLocked}
-use Rattle.model.specs.declared.turn.Kind as kinds
+use Rattle.model.specs.declared.turn.Kind.TheVariants as kinds
 use Rattle.model.specs.Families.Container.Keeping.{steps_of}
 use Rattle.model.specs.Families.Container.Looks.{shows}
 use Rattle.model.specs.Families.Container.Promises.{ContainsRight, FindsUpTo}
@@ -43,7 +43,7 @@ abbrev is_locked : Start ℕ
 is_locked = Container IsLocked
 
 abbrev ran_on : ℕ → List (Turn ℕ) → Trace ℕ
-ran_on capacity turns = ran two_words kinds.TheVariants.Container capacity 2 turns
+ran_on capacity turns = ran two_words kinds.Container capacity 2 turns
 
 -- what the party's state shows at an index
 abbrev shown_to : Option (ContainerState ℕ) → ℕ → Option ℕ
@@ -76,7 +76,7 @@ pub half_written_events : (ran_on 1 half_written).events
     ∷ Begun 1 (recover 1)
     ∷ Shown 1 0
     ∷ FreedOf 1 0 1
-    ∷ Finished 1 (recover 1) (State states.TheVariants.Unlocked)
+    ∷ Finished 1 (recover 1) (State states.Unlocked)
     ∷ Begun 1 (add 7 2)
     ∷ Filled 1 0 2
     ∷ Granted 1 0 2
@@ -118,7 +118,7 @@ pub seen_late_events : (ran_on 1 seen_late).events
     ∷ Copied 1 0 5
     ∷ Finished 1 get_state (Number 1)
     ∷ Hidden 0 0
-    ∷ Finished 0 (remove 0 1 Default) (State states.TheVariants.Unlocked)
+    ∷ Finished 0 (remove 0 1 Default) (State states.Unlocked)
     ∷ []
 seen_late_events = refl
 
@@ -235,7 +235,7 @@ pub looked_again_events : (ran_on 2 looked_again).events
     ∷ Begun 0 (remove 0 8192 Default)
     ∷ FreedOf 0 0 8192
     ∷ Hidden 0 0
-    ∷ Finished 0 (remove 0 8192 Default) (State states.TheVariants.Unlocked)
+    ∷ Finished 0 (remove 0 8192 Default) (State states.Unlocked)
     ∷ Begun 0 update_state
     ∷ Finished 0 update_state (Truth true)
     ∷ []
@@ -285,7 +285,7 @@ pub asked_events : (ran_on 2 asked).events
     ∷ Hidden 1 0
     ∷ Copied 1 1 6
     ∷ Asked 1 1 1
-    ∷ Finished 1 (recover 1) (State states.TheVariants.Unlocked)
+    ∷ Finished 1 (recover 1) (State states.Unlocked)
     ∷ []
 asked_events = refl
 

@@ -3,13 +3,13 @@ use Rattle.model.proofs.Names.{BadIndex, Begin, Begun, Claimed, Default, Event, 
 use Rattle.model.proofs.Names.{Locked, Next, None, Number, Open, Option, Some, Stands, Start, State, Trace, Truth, Turn}
 use Rattle.model.proofs.Names.{WrongCall, [], ap, arith, get_or, length, one_word, opening, progress_in, promise_of}
 use Rattle.model.proofs.Names.{refl, refusal_of, run, true, ℕ, ◌*◌, ◌+◌, ◌^◌, ◌∷◌, ◌≡◌}
-use Rattle.steps.specs.declared.indices.enums.ReleaseState as states
-use Rattle.steps.specs.declared.indices.enums.UniqueIndexSetAcquireFailure as failures
+use Rattle.steps.specs.declared.indices.enums.ReleaseState.TheVariants as states
+use Rattle.steps.specs.declared.indices.enums.UniqueIndexSetAcquireFailure.TheVariants as failures
 use Rattle.model.specs.declared.event.Answer.TheVariants.{Index, NoIndex}
 use Rattle.model.specs.declared.event.Start.TheVariants.{Indices}
 use Rattle.model.specs.declared.families.Registry.TheVariants as registries
 use Rattle.model.specs.declared.families.indices.IndexStart.TheVariants.{Acquire, Release, BorrowedIndices, IsLocked}
-use Rattle.model.specs.declared.turn.Kind as kinds
+use Rattle.model.specs.declared.turn.Kind.TheVariants as kinds
 use Rattle.model.specs.declared.turn.Refusal.TheVariants.{NotHeld}
 use Rattle.model.specs.Families.Indices.Promises.{HoldsRight, AnswersRight}
 use Rattle.model.specs.Families.Indices.Reading.{holder_of, tally_of}
@@ -25,7 +25,7 @@ abbrev release_or_lock : ℕ → Start ℕ
 release_or_lock index = Indices (Release index LockIfLastIndex)
 
 abbrev opened : ℕ → Trace ℕ
-opened capacity = opening one_word kinds.TheVariants.Indices capacity 2
+opened capacity = opening one_word kinds.Indices capacity 2
 
 -- ---- a release that falls back: another party has exchanged the head, so it subtracts
 
@@ -63,7 +63,7 @@ told =
     ∷ Begun 1 acquire
     ∷ Claimed 1 1
     ∷ Finished 1 acquire (Index 1)
-    ∷ Finished 0 (release 0) (State states.TheVariants.Unlocked)
+    ∷ Finished 0 (release 0) (State states.Unlocked)
     ∷ Begun 1 acquire
     ∷ Claimed 1 0
     ∷ Finished 1 acquire (Index 0)
@@ -119,9 +119,9 @@ pub locks_events : (run locks (opened 3)).events
     ∷ Begun 0 (release_or_lock 0)
     ∷ Freed 0 0
     ∷ Locked 0
-    ∷ Finished 0 (release_or_lock 0) (State states.TheVariants.Locked)
+    ∷ Finished 0 (release_or_lock 0) (State states.Locked)
     ∷ Begun 0 acquire
-    ∷ Finished 0 acquire (NoIndex failures.TheVariants.IsLocked)
+    ∷ Finished 0 acquire (NoIndex failures.IsLocked)
     ∷ Begun 1 (Indices BorrowedIndices)
     ∷ Finished 1 (Indices BorrowedIndices) (Number 0)
     ∷ Begun 0 (Indices IsLocked)
@@ -143,7 +143,7 @@ not_held_by_it = refl
 pub past_the_capacity : refusal_of (opened 2).world (Begin 0 (release 2)) ≡ Some BadIndex
 past_the_capacity = refl
 
-pub no_call_of_a_queue : refusal_of (opening {T = ℕ} one_word kinds.TheVariants.Queue 2 2).world (Begin 0 acquire) ≡ Some WrongCall
+pub no_call_of_a_queue : refusal_of (opening {T = ℕ} one_word kinds.Queue 2 2).world (Begin 0 acquire) ≡ Some WrongCall
 no_call_of_a_queue = refl
 
 -- ---- what they refuse
@@ -160,12 +160,12 @@ no_lock_over_a_holder : HoldsRight 2 held (Locked 1) → ⊥
 no_lock_over_a_holder h = let free = h.0 1 in cc
 
 -- OutOfIndices of a set that nobody uses
-no_empty_set : AnswersRight 1 (Begun 0 acquire ∷ []) (Finished 0 acquire (NoIndex failures.TheVariants.OutOfIndices)) → ⊥
+no_empty_set : AnswersRight 1 (Begun 0 acquire ∷ []) (Finished 0 acquire (NoIndex failures.OutOfIndices)) → ⊥
 no_empty_set h = omega arith
 
 -- a release that says that it has not locked, though nothing else is in use
 no_missed_lock : AnswersRight 1 (Claimed 0 0 ∷ Begun 0 (release_or_lock 0) ∷ Freed 0 0 ∷ [])
-    (Finished 0 (release_or_lock 0) (State states.TheVariants.Unlocked))
+    (Finished 0 (release_or_lock 0) (State states.Unlocked))
     → ⊥
 no_missed_lock h = omega arith
 
@@ -178,9 +178,9 @@ claimed_in None = 0
 claimed_in (Some d) = get_or d.claimed 0 0
 
 -- a release that ends and has freed nothing
-no_silent_release : Stands (promise_of kinds.TheVariants.Indices) 1 (Finished 0 (release 0) (State states.TheVariants.Unlocked)) (Open (release 0) []) → ⊥
+no_silent_release : Stands (promise_of kinds.Indices) 1 (Finished 0 (release 0) (State states.Unlocked)) (Open (release 0) []) → ⊥
 no_silent_release h = let none = ap freed_in h.1 in cc
 
 -- an acquire that ends with an index and has claimed another
-no_other_index : Stands (promise_of kinds.TheVariants.Indices) 2 (Finished 0 acquire (Index 0)) (Open acquire (Claimed 0 1 ∷ [])) → ⊥
+no_other_index : Stands (promise_of kinds.Indices) 2 (Finished 0 acquire (Index 0)) (Open acquire (Claimed 0 1 ∷ [])) → ⊥
 no_other_index h = let other = ap claimed_in h.1 in omega arith

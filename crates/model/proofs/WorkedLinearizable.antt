@@ -6,7 +6,7 @@ use Rattle.model.proofs.Names.{◌≤◌}
 use Rattle.std.proofs.Common.{All}
 use Rattle.std.proofs.lemmas.List.Elements.{All-from_recursion}
 use Rattle.std.specs.List.{AllPairs, Contains}
-use Rattle.model.specs.declared.families.queues.QueueKind as kinds
+use Rattle.model.specs.declared.families.queues.QueueKind.TheVariants as kinds
 use Rattle.model.specs.declared.families.queues.QueueStart.TheVariants.{Pop}
 use Rattle.model.specs.Linearizable.{calls_of, Precedes}
 use Rattle.model.specs.Linearized.{is_push_or_pop, as_list}
@@ -58,7 +58,7 @@ two_calls = refl
 abbrev inside_around : List (Call ℕ × Answer ℕ)
 inside_around = entry inside PoppedNone ∷ entry around (Truth true) ∷ []
 
-pub pop_inside_push : IsLinearizable (as_list kinds.TheVariants.IndexQueue 1) overlapping
+pub pop_inside_push : IsLinearizable (as_list kinds.IndexQueue 1) overlapping
 pop_inside_push =
     record {
       sequential = inside_around;
@@ -85,7 +85,7 @@ finished = called 1 1 pop (responded 2 (PoppedIndex 5))
 abbrev unfinished_finished : List (Call ℕ × Answer ℕ)
 unfinished_finished = entry unfinished (Truth true) ∷ entry finished (PoppedIndex 5) ∷ []
 
-pub pop_of_pending_push : IsLinearizable (as_list kinds.TheVariants.IndexQueue 1) pending
+pub pop_of_pending_push : IsLinearizable (as_list kinds.IndexQueue 1) pending
 pop_of_pending_push =
     record {
       sequential = unfinished_finished;
@@ -153,7 +153,7 @@ refuted (x ∷ y ∷ z ∷ rest) legal invoked first second once real_time =
     (either pushed popped z.0 (invoked 2 x (omega arith)).1)
     (once 0 1 x (omega arith) (omega arith)) (once 0 2 x (omega arith) (omega arith)) (once 1 2 x (omega arith) (omega arith))
 
-pub no_lost_value : IsLinearizable (as_list kinds.TheVariants.IndexQueue 1) too_late → ⊥
+pub no_lost_value : IsLinearizable (as_list kinds.IndexQueue 1) too_late → ⊥
 no_lost_value h =
     refuted h.sequential h.legal h.invoked
     (h.completed 0 pushed (omega arith) refl)

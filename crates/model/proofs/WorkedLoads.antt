@@ -1,7 +1,7 @@
 -- Loads at small sizes, and the calls that are under way in a small machine.
 use Rattle.std.proofs.Common.{◌≡◌, ◌<◌, ◌≤◌, ℕ, ◌+◌, ◌*◌, ◌^◌, Option, Some, None, List, [], ◌∷◌, ◌++◌, refl, arith}
-use Rattle.model.specs.declared.event.Start as starts
-use Rattle.model.specs.declared.families.queues.QueueStart as queues
+use Rattle.model.specs.declared.event.Start.TheVariants as starts
+use Rattle.model.specs.declared.families.queues.QueueStart.TheVariants as queues
 use Rattle.model.specs.declared.turn.Kind.TheVariants.{IndexQueue, Overflow, Queue, Atomic, Bits, Counts, Indices}
 use Rattle.model.specs.declared.turn.Turn.{Turn}
 use Rattle.model.specs.declared.turn.Turn.TheVariants.{Begin}
@@ -36,9 +36,9 @@ owners = (refl, refl)
 -- two parties have a push and a length under way, and both end in eight steps, where the load is 22
 abbrev started : Trace ℕ
 started =
-    run_on (begins 0 (starts.TheVariants.Queues queues.TheVariants.AcquireProducer) 1
-    ++ (Begin 0 (starts.TheVariants.Queues (queues.TheVariants.PushIndex 7))
-    ∷ Begin 1 (starts.TheVariants.Queues queues.TheVariants.Len) ∷ [])) (opening one_word IndexQueue 1 2)
+    run_on (begins 0 (starts.Queues queues.AcquireProducer) 1
+    ++ (Begin 0 (starts.Queues (queues.PushIndex 7))
+    ∷ Begin 1 (starts.Queues queues.Len) ∷ [])) (opening one_word IndexQueue 1 2)
 
 abbrev both : List (Turn ℕ)
 both = nexts 0 4 ++ nexts 1 4

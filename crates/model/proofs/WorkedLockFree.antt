@@ -5,10 +5,10 @@ use Rattle.model.proofs.Names.{AllByRecursion, AreAllowedOn, Begin, Bool, Bound,
 use Rattle.model.proofs.Names.{IsReachedOn, Kind, List, Next, None, Option, QueueStart, Refusal, Some, Trace, Turn, []}
 use Rattle.model.proofs.Names.{after_turn, after_turns, arith, call_refusal, ends, false, nat_lt, nat_tests, one_word}
 use Rattle.model.proofs.Names.{opening, refl, run_on, steps_in, suc, true, zero, ℕ, ◌&&◌, ◌++◌, ◌<◌, ◌∷◌, ◌≡◌}
-use Rattle.model.specs.declared.event.Start as starts
-use Rattle.model.specs.declared.families.atomic.AtomicStart as atomics
-use Rattle.model.specs.declared.families.bits.BitsStart as bits
-use Rattle.model.specs.declared.families.queues.QueueStart as queues
+use Rattle.model.specs.declared.event.Start.TheVariants as starts
+use Rattle.model.specs.declared.families.atomic.AtomicStart.TheVariants as atomics
+use Rattle.model.specs.declared.families.bits.BitsStart.TheVariants as bits
+use Rattle.model.specs.declared.families.queues.QueueStart.TheVariants as queues
 use Rattle.model.specs.declared.turn.Kind.TheVariants.{IndexQueue, Overflow, Queue, Atomic, Bits, Counts, Robust}
 use Rattle.model.specs.LockFree.{IsLockFree}
 use Rattle.model.proofs.Runs.{nexts, begins}
@@ -100,15 +100,15 @@ from kind capacity parties before = run_on before (opening one_word kind capacit
 
 abbrev measured : QueueStart ℕ → List (Turn ℕ)
 measured push =
-    begins 2 (starts.TheVariants.Queues queues.TheVariants.AcquireProducer) 1
-    ++ (begins 0 (starts.TheVariants.Queues queues.TheVariants.Len) 1
-    ++ (begins 1 (starts.TheVariants.Queues queues.TheVariants.Len) 1 ++ begins 2 (starts.TheVariants.Queues push) 4))
+    begins 2 (starts.Queues queues.AcquireProducer) 1
+    ++ (begins 0 (starts.Queues queues.Len) 1
+    ++ (begins 1 (starts.Queues queues.Len) 1 ++ begins 2 (starts.Queues push) 4))
 
 pub index_queue : (bound : Bound) → bound 2 1 1 < 10 → IsLockFree ℕ IndexQueue bound → ⊥
 index_queue =
-    no_less (from IndexQueue 1 3 (measured (queues.TheVariants.PushIndex 7))) IndexQueue 1 2 10 2 (nexts 0 5 ++ nexts 1 5)
+    no_less (from IndexQueue 1 3 (measured (queues.PushIndex 7))) IndexQueue 1 2 10 2 (nexts 0 5 ++ nexts 1 5)
     (record {
-      reached = record { coded = one_word_codes; admitted = refl; turns = measured (queues.TheVariants.PushIndex 7); is = refl };
+      reached = record { coded = one_word_codes; admitted = refl; turns = measured (queues.PushIndex 7); is = refl };
       is = refl;
       capacity = refl;
       size = refl;
@@ -121,9 +121,9 @@ index_queue =
 
 pub queue : (bound : Bound) → bound 2 1 1 < 10 → IsLockFree ℕ Queue bound → ⊥
 queue =
-    no_less (from Queue 1 3 (measured (queues.TheVariants.Push 7))) Queue 1 2 10 2 (nexts 0 5 ++ nexts 1 5)
+    no_less (from Queue 1 3 (measured (queues.Push 7))) Queue 1 2 10 2 (nexts 0 5 ++ nexts 1 5)
     (record {
-      reached = record { coded = one_word_codes; admitted = refl; turns = measured (queues.TheVariants.Push 7); is = refl };
+      reached = record { coded = one_word_codes; admitted = refl; turns = measured (queues.Push 7); is = refl };
       is = refl;
       capacity = refl;
       size = refl;
@@ -138,9 +138,9 @@ queue =
 
 abbrev pub full : List (Turn ℕ)
 full =
-    begins 0 (starts.TheVariants.Queues queues.TheVariants.AcquireProducer) 1
-    ++ (begins 0 (starts.TheVariants.Queues (queues.TheVariants.PushIndex 7)) 4
-    ++ (Begin 0 (starts.TheVariants.Queues (queues.TheVariants.PushIndex 8)) ∷ []))
+    begins 0 (starts.Queues queues.AcquireProducer) 1
+    ++ (begins 0 (starts.Queues (queues.PushIndex 7)) 4
+    ++ (Begin 0 (starts.Queues (queues.PushIndex 8)) ∷ []))
 
 pub overflow : (bound : Bound) → bound 1 1 1 < 5 → IsLockFree ℕ Overflow bound → ⊥
 overflow =
@@ -161,10 +161,10 @@ overflow =
 
 abbrev stale : List (Turn ℕ)
 stale =
-    begins 2 (starts.TheVariants.Atomic atomics.TheVariants.AcquireProducer) 1
-    ++ (begins 0 (starts.TheVariants.Atomic atomics.TheVariants.Load) 1
-    ++ (begins 1 (starts.TheVariants.Atomic atomics.TheVariants.Load) 1
-    ++ begins 2 (starts.TheVariants.Atomic (atomics.TheVariants.Store 7)) 3))
+    begins 2 (starts.Atomic atomics.AcquireProducer) 1
+    ++ (begins 0 (starts.Atomic atomics.Load) 1
+    ++ (begins 1 (starts.Atomic atomics.Load) 1
+    ++ begins 2 (starts.Atomic (atomics.Store 7)) 3))
 
 pub value : (bound : Bound) → bound 2 1 1 < 6 → IsLockFree ℕ Atomic bound → ⊥
 value =
@@ -185,7 +185,7 @@ value =
 
 abbrev last_set : List (Turn ℕ)
 last_set =
-    begins 1 (starts.TheVariants.Bits (bits.TheVariants.Set 2)) 2 ++ (Begin 0 (starts.TheVariants.Bits bits.TheVariants.ResetNext) ∷ [])
+    begins 1 (starts.Bits (bits.Set 2)) 2 ++ (Begin 0 (starts.Bits bits.ResetNext) ∷ [])
 
 pub bit_set : (bound : Bound) → bound 1 3 1 < 5 → IsLockFree ℕ Bits bound → ⊥
 bit_set =
@@ -204,7 +204,7 @@ bit_set =
 
 abbrev resets : List (Turn ℕ)
 resets =
-    Begin 0 (starts.TheVariants.Bits bits.TheVariants.ResetAll) ∷ Begin 1 (starts.TheVariants.Bits bits.TheVariants.ResetAll) ∷ []
+    Begin 0 (starts.Bits bits.ResetAll) ∷ Begin 1 (starts.Bits bits.ResetAll) ∷ []
 
 pub counts : (bound : Bound) → bound 2 3 1 < 4 → IsLockFree ℕ Counts bound → ⊥
 counts =

@@ -4,7 +4,7 @@ use Rattle.model.proofs.Names.{List, LockIfLastIndex, Some, Trace, Turn, false, 
 use Rattle.model.proofs.Names.{◌≡◌}
 use Rattle.model.specs.declared.event.Start.TheVariants.{Robust}
 use Rattle.model.specs.declared.families.indices.robust.RobustStart.TheVariants.{Acquire, Release}
-use Rattle.model.specs.declared.turn.Kind as kinds
+use Rattle.model.specs.declared.turn.Kind.TheVariants as kinds
 use Rattle.model.proofs.Runs.{nexts, begins, ran}
 
 -- each has emptied its cell, and has counted that no cell has an owner
@@ -20,7 +20,7 @@ abbrev pub round : List (Turn ℕ)
 round = nexts 0 5 ++ nexts 1 5
 
 abbrev after_three : Trace ℕ
-after_three = ran one_word kinds.TheVariants.Robust 2 2 (both_count ++ (round ++ (round ++ round)))
+after_three = ran one_word kinds.Robust 2 2 (both_count ++ (round ++ (round ++ round)))
 
 pub first_goes_back : progress_in after_three.world 0 ≡ Some (record { steps = 22; backs = 3; others = 6; finished = false })
 first_goes_back = refl

@@ -7,14 +7,14 @@ use Rattle.model.proofs.Names.{Turn, Undecided, WrongCall, Yes, [], arith, count
 use Rattle.model.proofs.Names.{inl, ne_eqb, one_word, opening, progress_in, refl, refusal_of, set_acts_of, subst, sym}
 use Rattle.model.proofs.Names.{true, ℕ, ◌++◌, ◌-◌, ◌^◌, ◌∷◌, ◌≡◌}
 use Rattle.std.specs.Prelude.{fold}
-use Rattle.steps.specs.declared.indices.enums.ReleaseState as states
-use Rattle.steps.specs.declared.indices.enums.UniqueIndexSetAcquireFailure as failures
+use Rattle.steps.specs.declared.indices.enums.ReleaseState.TheVariants as states
+use Rattle.steps.specs.declared.indices.enums.UniqueIndexSetAcquireFailure.TheVariants as failures
 use Rattle.model.specs.declared.event.Answer.TheVariants.{Index, NoIndex}
-use Rattle.model.specs.declared.event.Event as events
+use Rattle.model.specs.declared.event.Event.TheVariants as events
 use Rattle.model.specs.declared.event.Start.TheVariants.{Robust}
 use Rattle.model.specs.declared.families.Registry.TheVariants as registries
 use Rattle.model.specs.declared.families.indices.robust.RobustStart.TheVariants.{Acquire, Release, Find, Recover, BorrowedIndices}
-use Rattle.model.specs.declared.turn.Kind as kinds
+use Rattle.model.specs.declared.turn.Kind.TheVariants as kinds
 use Rattle.model.specs.Families.Indices.Robust.Promises.{HoldsRight}
 use Rattle.model.specs.Families.Indices.Robust.Promises.{AsksRight, AnswersRight, HasRecovered, FreesRight}
 use Rattle.model.specs.Families.Indices.Robust.Promises.{IsWellFormed}
@@ -35,7 +35,7 @@ abbrev recover : Start ℕ
 recover = Robust (Recover Default)
 
 abbrev ran_on : ℕ → List (Turn ℕ) → Trace ℕ
-ran_on capacity turns = ran one_word kinds.TheVariants.Robust capacity 2 turns
+ran_on capacity turns = ran one_word kinds.Robust capacity 2 turns
 
 -- ---- an acquire that meets the lock late: the release has read the cell as empty before it is filled
 
@@ -57,9 +57,9 @@ pub late_events : (ran_on 1 late).events
     ∷ FreedOf 0 0 313
     ∷ Begun 1 (acquire 7)
     ∷ Filled 1 0 7
-    ∷ events.TheVariants.Locked 0
-    ∷ Finished 0 (release 0 313 LockIfLastIndex) (State states.TheVariants.Locked)
-    ∷ Finished 1 (acquire 7) (NoIndex failures.TheVariants.IsLocked)
+    ∷ events.Locked 0
+    ∷ Finished 0 (release 0 313 LockIfLastIndex) (State states.Locked)
+    ∷ Finished 1 (acquire 7) (NoIndex failures.IsLocked)
     ∷ Begun 1 (find 7)
     ∷ Finished 1 (find 7) (Number 1)
     ∷ []
@@ -110,7 +110,7 @@ pub with_death_events : (ran_on 3 with_death).events
     ∷ Asked 1 2 1
     ∷ Told 1 2 1
     ∷ FreedOf 1 2 1
-    ∷ Finished 1 recover (State states.TheVariants.Unlocked)
+    ∷ Finished 1 recover (State states.Unlocked)
     ∷ []
 with_death_events = refl
 
@@ -162,7 +162,7 @@ dead_dies_no_more = refl
 pub another_dies : refusal_of (ran_on 1 (Die 9 ∷ Die 7 ∷ [])).world (Die 8) ≡ None
 another_dies = refl
 
-pub no_owner_of_bits : refusal_of (opening {T = ℕ} one_word kinds.TheVariants.Bits 2 2).world (Die 7) ≡ Some WrongCall
+pub no_owner_of_bits : refusal_of (opening {T = ℕ} one_word kinds.Bits 2 2).world (Die 7) ≡ Some WrongCall
 no_owner_of_bits = refl
 
 pub greatest_is_no_owner : refusal_of (ran_on 1 []).world (Begin 0 (acquire (2 ^ 64 - 1))) ≡ Some WrongCall
@@ -189,7 +189,7 @@ no_second_holder : HoldsRight held (Granted 0 0 9) → ⊥
 no_second_holder free = cc
 
 -- a lock while an index is held
-no_lock_over_a_holder : HoldsRight held (events.TheVariants.Locked 0) → ⊥
+no_lock_over_a_holder : HoldsRight held (events.Locked 0) → ⊥
 no_lock_over_a_holder free = let none = free 0 in cc
 
 -- an acquire that fills a filled cell
@@ -205,7 +205,7 @@ no_yes_of_the_living : AsksRight held (Told 0 0 7) → ⊥
 no_yes_of_the_living died = cc
 
 -- a grant after the lock
-no_grant_once_locked : SetDoes {T = ℕ} 1 (Filled 1 0 7 ∷ events.TheVariants.Locked 0 ∷ []) (Granted 1 0 7) → ⊥
+no_grant_once_locked : SetDoes {T = ℕ} 1 (Filled 1 0 7 ∷ events.Locked 0 ∷ []) (Granted 1 0 7) → ⊥
 no_grant_once_locked unlocked = cc
 
 -- a recovery that frees before a yes
@@ -283,7 +283,7 @@ abbrev alone : List (Event ℕ)
 alone = Begun 0 (acquire 7) ∷ []
 
 -- OutOfIndices of a set that nobody uses
-no_empty_set : AnswersRight 1 alone (Finished 0 (acquire 7) (NoIndex failures.TheVariants.OutOfIndices)) → ⊥
+no_empty_set : AnswersRight 1 alone (Finished 0 (acquire 7) (NoIndex failures.OutOfIndices)) → ⊥
 no_empty_set right = never_filled 0 0 alone (refl, tt) (right.1 0 (omega arith))
 
 no_set_act : (one : SetAct) (before after : List SetAct) → [] ≡ before ++ one ∷ after → ⊥
@@ -313,7 +313,7 @@ no_moment i (a ∷ b ∷ c ∷ []) rest is one filled =
     cc
 no_moment i (a ∷ b ∷ c ∷ d ∷ ds) rest is one filled = cc
 
-never_locks : AnswersRight 1 last_one (Finished 1 (release 0 7 LockIfLastIndex) (State states.TheVariants.Unlocked)) → ⊥
+never_locks : AnswersRight 1 last_one (Finished 1 (release 0 7 LockIfLastIndex) (State states.Unlocked)) → ⊥
 never_locks x0 = grind (arith, no_moment)
 
 -- ---- a well-formed run: an acquire, its release, and an acquire again

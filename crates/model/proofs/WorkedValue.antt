@@ -2,11 +2,11 @@
 use Rattle.model.proofs.Names.{Acted, Ask, Begun, Event, Finished, IsLegal, List, None, Open, Option, Some, Stands}
 use Rattle.model.proofs.Names.{Trace, Truth, Turn, [], ap, arith, moments, progress_in, promise_of, refl, true, ℕ, ◌++◌}
 use Rattle.model.proofs.Names.{◌<◌, ◌∷◌, ◌≡◌}
-use Rattle.steps.specs.declared.ask.Op as ops
+use Rattle.steps.specs.declared.ask.Op.TheVariants as ops
 use Rattle.model.specs.declared.event.Start.TheVariants.{Atomic}
 use Rattle.model.specs.declared.event.Answer.TheVariants.{Loaded}
 use Rattle.model.specs.declared.families.atomic.AtomicStart.TheVariants.{AcquireProducer, Store, Load}
-use Rattle.model.specs.declared.turn.Kind as kinds
+use Rattle.model.specs.declared.turn.Kind.TheVariants as kinds
 use Rattle.model.specs.Families.Atomic.Promises.{value_of_zeros, value_in, ActsRight, IsValue}
 use Rattle.model.proofs.Runs.{two_words, nexts, begins, ran}
 
@@ -38,14 +38,14 @@ told =
     ∷ Finished 1 (Atomic Load) (Loaded second)
     ∷ []
 
-pub stopped_load : (ran two_words kinds.TheVariants.Atomic 1 2 turns).events ≡ told
+pub stopped_load : (ran two_words kinds.Atomic 1 2 turns).events ≡ told
 stopped_load = refl
 
-pub stopped_load_words : (ran two_words kinds.TheVariants.Atomic 1 2 turns).world.words ≡ 3 ∷ 0 ∷ 3 ∷ 4 ∷ 1 ∷ 2 ∷ []
+pub stopped_load_words : (ran two_words kinds.Atomic 1 2 turns).world.words ≡ 3 ∷ 0 ∷ 3 ∷ 4 ∷ 1 ∷ 2 ∷ []
 stopped_load_words = refl
 
 -- it turned back once
-pub stopped_load_counts : progress_in (ran two_words kinds.TheVariants.Atomic 1 2 turns).world 1
+pub stopped_load_counts : progress_in (ran two_words kinds.Atomic 1 2 turns).world 1
     ≡ Some (record { steps = 7; backs = 1; others = 6; finished = true })
 stopped_load_counts = refl
 
@@ -62,7 +62,7 @@ no_torn_load : IsLegal (value_of_zeros two_words) ((Atomic (Store first), Truth 
 no_torn_load e = cc
 
 -- a load that ends and has not acted
-no_silent_load : Stands (promise_of kinds.TheVariants.Atomic) 1 (Finished 1 (Atomic Load) (Loaded second)) (Open (Atomic Load) []) → ⊥
+no_silent_load : Stands (promise_of kinds.Atomic) 1 (Finished 1 (Atomic Load) (Loaded second)) (Open (Atomic Load) []) → ⊥
 no_silent_load h = let none = h.1 in cc
 
 -- a store that acts as it stores a word, and a load that acts as it loads one
@@ -74,16 +74,16 @@ not_first : (n : ℕ) → 0 < n → n ≡ 0 → ⊥
 not_first n some e = absurd (omega arith)
 
 pub no_early_store : (t : Trace ℕ)
-    → ActsRight t (Some (record { word = 4; op = ops.TheVariants.Store 1 })) (λ q. q ≡ 0) (Acted 0 (Atomic (Store first)) (Truth true))
+    → ActsRight t (Some (record { word = 4; op = ops.Store 1 })) (λ q. q ≡ 0) (Acted 0 (Atomic (Store first)) (Truth true))
     → ⊥
 no_early_store t h = not_first 4 (omega arith) (ap word_of h.1)
 
-pub no_unchecked_load : (t : Trace ℕ) → ActsRight t (Some (record { word = 3; op = ops.TheVariants.Load })) (λ q. q ≡ 1) (Acted 1 (Atomic Load) (Loaded 0)) → ⊥
+pub no_unchecked_load : (t : Trace ℕ) → ActsRight t (Some (record { word = 3; op = ops.Load })) (λ q. q ≡ 1) (Acted 1 (Atomic Load) (Loaded 0)) → ⊥
 no_unchecked_load t h = not_first 3 (omega arith) (ap word_of h.1)
 
 -- a store has stored its words, and the events say that it has acted
 abbrev stored : Trace ℕ
-stored = ran two_words kinds.TheVariants.Atomic 1 2 (begins 0 (Atomic AcquireProducer) 1 ++ begins 0 (Atomic (Store first)) 3)
+stored = ran two_words kinds.Atomic 1 2 (begins 0 (Atomic AcquireProducer) 1 ++ begins 0 (Atomic (Store first)) 3)
 
 pub no_act_before_the_add : IsValue (record { world = stored.world; events = stored.events ++ Acted 0 (Atomic (Store first)) (Truth true) ∷ [] }) → ⊥
 no_act_before_the_add h = let cell = h.cell in cc

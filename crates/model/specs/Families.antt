@@ -4,18 +4,18 @@ use Rattle.steps.specs.declared.ask.After.{After}
 use Rattle.steps.specs.declared.ask.After.TheVariants.{GoOn}
 use Rattle.steps.specs.declared.ask.Ask.{Ask}
 use Rattle.steps.specs.declared.ask.Want.{Want}
-use Rattle.steps.specs.declared.ask.Want as wants
+use Rattle.steps.specs.declared.ask.Want.TheVariants as wants
 use Rattle.model.specs.declared.event.Answer.{Answer}
 use Rattle.model.specs.declared.event.Start.{Start}
-use Rattle.model.specs.declared.event.Start as starts
+use Rattle.model.specs.declared.event.Start.TheVariants as starts
 use Rattle.model.specs.declared.families.Flight.{Flight}
-use Rattle.model.specs.declared.families.Flight as flights
+use Rattle.model.specs.declared.families.Flight.TheVariants as flights
 use Rattle.model.specs.declared.families.Registry.{Registry}
-use Rattle.model.specs.declared.families.Registry as registries
-use Rattle.model.specs.declared.families.queues.QueueKind as queue_kinds
+use Rattle.model.specs.declared.families.Registry.TheVariants as registries
+use Rattle.model.specs.declared.families.queues.QueueKind.TheVariants as queue_kinds
 use Rattle.model.specs.declared.party.Party.{Party}
 use Rattle.model.specs.declared.turn.Kind.{Kind}
-use Rattle.model.specs.declared.turn.Kind as kinds
+use Rattle.model.specs.declared.turn.Kind.TheVariants as kinds
 use Rattle.model.specs.declared.turn.Kind.TheVariants.{IndexQueue, Overflow, Queue}
 use Rattle.model.specs.declared.turn.Refusal.{Refusal}
 use Rattle.model.specs.declared.turn.Refusal.TheVariants.{WrongCall, OwnerIsDead}
@@ -54,32 +54,32 @@ use Rattle.model.specs.Families.Queues.Steps as queue_steps
 -- ---- the opening
 
 abbrev pub opening_of : Kind → Opening
-opening_of IndexQueue = queue_opening.opening queue_kinds.TheVariants.IndexQueue
-opening_of Overflow = queue_opening.opening queue_kinds.TheVariants.Overflow
-opening_of Queue = queue_opening.opening queue_kinds.TheVariants.Queue
-opening_of kinds.TheVariants.Atomic = atomic_opening.opening
-opening_of kinds.TheVariants.Bits = bits_opening.bits_opening
-opening_of kinds.TheVariants.Counts = bits_opening.counts_opening
-opening_of kinds.TheVariants.Indices = index_opening.opening
-opening_of kinds.TheVariants.Robust = robust_opening.opening
-opening_of kinds.TheVariants.Container = container_opening.opening
-opening_of kinds.TheVariants.Loan = loan_opening.opening
+opening_of IndexQueue = queue_opening.opening queue_kinds.IndexQueue
+opening_of Overflow = queue_opening.opening queue_kinds.Overflow
+opening_of Queue = queue_opening.opening queue_kinds.Queue
+opening_of kinds.Atomic = atomic_opening.opening
+opening_of kinds.Bits = bits_opening.bits_opening
+opening_of kinds.Counts = bits_opening.counts_opening
+opening_of kinds.Indices = index_opening.opening
+opening_of kinds.Robust = robust_opening.opening
+opening_of kinds.Container = container_opening.opening
+opening_of kinds.Loan = loan_opening.opening
 
 -- ---- a call begins
 
 module _ {T : Type 0} where
   abbrev pub begin_of : Kind → ℕ → Start T → Beginning (Flight T) (Registry T)
-  begin_of kind capacity (starts.TheVariants.Queues start) =
+  begin_of kind capacity (starts.Queues start) =
       queue_opening.begin kind capacity start
-  begin_of kind capacity (starts.TheVariants.Atomic start) = atomic_opening.begin kind start
-  begin_of kind capacity (starts.TheVariants.Bits start) = bits_opening.begin kind capacity start
-  begin_of kind capacity (starts.TheVariants.Indices start) =
+  begin_of kind capacity (starts.Atomic start) = atomic_opening.begin kind start
+  begin_of kind capacity (starts.Bits start) = bits_opening.begin kind capacity start
+  begin_of kind capacity (starts.Indices start) =
       index_opening.begin kind capacity start
-  begin_of kind capacity (starts.TheVariants.Robust start) =
+  begin_of kind capacity (starts.Robust start) =
       robust_opening.begin kind capacity start
-  begin_of kind capacity (starts.TheVariants.Container start) =
+  begin_of kind capacity (starts.Container start) =
       container_opening.begin kind capacity start
-  begin_of kind capacity (starts.TheVariants.Loan start) = loan_opening.begin kind capacity start
+  begin_of kind capacity (starts.Loan start) = loan_opening.begin kind capacity start
 
   -- the call that begins, or None where the kind has no such call
   abbrev pub first_of : Kind → ℕ → Start T → Registry T → Option (Flight T)
@@ -93,9 +93,9 @@ module _ {T : Type 0} where
 
   -- what a family keeps once the party has begun the call
   abbrev pub kept_after_begin : Coding T → ℕ → Start T → ℕ → Registry T → Registry T
-  kept_after_begin code capacity (starts.TheVariants.Container start) p kept =
+  kept_after_begin code capacity (starts.Container start) p kept =
       container_opening.keeps code capacity start p kept
-  kept_after_begin code capacity (starts.TheVariants.Loan start) p kept =
+  kept_after_begin code capacity (starts.Loan start) p kept =
       loan_opening.keeps start kept
   kept_after_begin code capacity start p kept = kept
 
@@ -103,24 +103,24 @@ module _ {T : Type 0} where
 
 -- the operation that it asks for, if any
 abbrev pub ask_of : Want (Unit {0}) → Option Ask
-ask_of (wants.TheVariants.Ask ask) = Some ask
-ask_of (wants.TheVariants.Question question) = None
-ask_of wants.TheVariants.Nothing = None
+ask_of (wants.Ask ask) = Some ask
+ask_of (wants.Question question) = None
+ask_of wants.Nothing = None
 
 abbrev pub is_question : Want (Unit {0}) → Bool
-is_question (wants.TheVariants.Ask ask) = false
-is_question (wants.TheVariants.Question question) = true
-is_question wants.TheVariants.Nothing = false
+is_question (wants.Ask ask) = false
+is_question (wants.Question question) = true
+is_question wants.Nothing = false
 
 module _ {T : Type 0} where
   abbrev pub going_of : Coding T → Flight T → Going (Flight T) T
-  going_of code (flights.TheVariants.Queues flight) = queue_calls.going code flight
-  going_of code (flights.TheVariants.Atomic flight) = atomic_calls.going code flight
-  going_of code (flights.TheVariants.Bits flight) = bits_calls.going flight
-  going_of code (flights.TheVariants.Indices flight) = index_calls.going flight
-  going_of code (flights.TheVariants.Robust flight) = robust_calls.going flight
-  going_of code (flights.TheVariants.Container flight) = container_calls.going code flight
-  going_of code (flights.TheVariants.Loan flight) = loan_calls.going flight
+  going_of code (flights.Queues flight) = queue_calls.going code flight
+  going_of code (flights.Atomic flight) = atomic_calls.going code flight
+  going_of code (flights.Bits flight) = bits_calls.going flight
+  going_of code (flights.Indices flight) = index_calls.going flight
+  going_of code (flights.Robust flight) = robust_calls.going flight
+  going_of code (flights.Container flight) = container_calls.going code flight
+  going_of code (flights.Loan flight) = loan_calls.going flight
 
   -- what a call under way wants next
   abbrev pub want_of : Coding T → Flight T → Want (Unit {0})
@@ -132,9 +132,9 @@ module _ {T : Type 0} where
 
   -- and how a party's call goes on where this is kept: a look from what the party's state has seen
   abbrev pub goes_of : Coding T → ℕ → Flight T → ℕ → Registry T → After (Flight T) (Answer T)
-  goes_of code p (flights.TheVariants.Container flight) old kept =
+  goes_of code p (flights.Container flight) old kept =
       container_calls.goes code p flight old kept
-  goes_of code p (flights.TheVariants.Loan flight) old kept = loan_calls.goes flight old kept
+  goes_of code p (flights.Loan flight) old kept = loan_calls.goes flight old kept
   goes_of code p flight old kept = after_of code flight old
 
   -- how many events its next step writes at most, apart from the end of the call
@@ -149,42 +149,42 @@ module _ {T : Type 0} where
 
   -- what a step of this party has to know of the others
   abbrev pub beside_of : List ℕ → Registry T → List (ℕ × Party T) → ℕ → Option (ℕ × ℕ)
-  beside_of words (registries.TheVariants.Queues roles) latest p =
+  beside_of words (registries.Queues roles) latest p =
       queue_steps.beside roles words latest p
-  beside_of words (registries.TheVariants.Loan book) latest p = loan_steps.beside book words latest p
+  beside_of words (registries.Loan book) latest p = loan_steps.beside book words latest p
   beside_of words kept latest p = None
 
   -- What the step of a call comes to, in these words and from this old value of its word. Where the
   -- name, the call and what is kept are not of one family, nothing happens.
   abbrev pub step_of : Coding T → List ℕ → Option (ℕ × ℕ) → ℕ → Start T → Flight T → ℕ → Registry T
       → Step (Flight T) (Registry T) T
-  step_of code words beside p (starts.TheVariants.Queues start) (flights.TheVariants.Queues flight)
-      old (registries.TheVariants.Queues roles) =
-      as_step flights.TheVariants.Queues registries.TheVariants.Queues
+  step_of code words beside p (starts.Queues start) (flights.Queues flight)
+      old (registries.Queues roles) =
+      as_step flights.Queues registries.Queues
       (queue_steps.step code words beside p start flight old roles)
-  step_of code words beside p (starts.TheVariants.Atomic start) (flights.TheVariants.Atomic flight)
-      old (registries.TheVariants.Atomic producer) =
-      as_step flights.TheVariants.Atomic registries.TheVariants.Atomic
+  step_of code words beside p (starts.Atomic start) (flights.Atomic flight)
+      old (registries.Atomic producer) =
+      as_step flights.Atomic registries.Atomic
       (atomic_steps.step code p start flight old producer)
-  step_of code words beside p (starts.TheVariants.Bits start) (flights.TheVariants.Bits flight) old
-      registries.TheVariants.Nothing =
-      as_step flights.TheVariants.Bits (λ _. registries.TheVariants.Nothing)
+  step_of code words beside p (starts.Bits start) (flights.Bits flight) old
+      registries.Nothing =
+      as_step flights.Bits (λ _. registries.Nothing)
       (bits_steps.step p flight old)
-  step_of code words beside p (starts.TheVariants.Indices start) (flights.TheVariants.Indices flight)
-      old (registries.TheVariants.Indices holders) =
-      as_step flights.TheVariants.Indices registries.TheVariants.Indices
+  step_of code words beside p (starts.Indices start) (flights.Indices flight)
+      old (registries.Indices holders) =
+      as_step flights.Indices registries.Indices
       (index_steps.step p flight old holders)
-  step_of code words beside p (starts.TheVariants.Robust start) (flights.TheVariants.Robust flight)
-      old (registries.TheVariants.Owners dead) =
-      as_step flights.TheVariants.Robust registries.TheVariants.Owners
+  step_of code words beside p (starts.Robust start) (flights.Robust flight)
+      old (registries.Owners dead) =
+      as_step flights.Robust registries.Owners
       (robust_steps.step p flight old dead)
-  step_of code words beside p (starts.TheVariants.Container start)
-      (flights.TheVariants.Container flight) old (registries.TheVariants.Container dead states) =
-      as_step flights.TheVariants.Container (λ kept. registries.TheVariants.Container kept.0 kept.1)
+  step_of code words beside p (starts.Container start)
+      (flights.Container flight) old (registries.Container dead states) =
+      as_step flights.Container (λ kept. registries.Container kept.0 kept.1)
       (container_steps.step code p flight old dead states)
-  step_of code words beside p (starts.TheVariants.Loan start) (flights.TheVariants.Loan flight) old
-      (registries.TheVariants.Loan book) =
-      as_step flights.TheVariants.Loan registries.TheVariants.Loan
+  step_of code words beside p (starts.Loan start) (flights.Loan flight) old
+      (registries.Loan book) =
+      as_step flights.Loan registries.Loan
       (loan_steps.step words beside p start flight old book)
   step_of code words beside p start flight old kept =
       record { after = GoOn flight; back = false; wrote = []; kept = kept }
@@ -193,21 +193,21 @@ module _ {T : Type 0} where
 
 -- whether a structure has owners
 abbrev pub has_owners : {T : Type 0} → Registry T → Bool
-has_owners (registries.TheVariants.Owners dead) = true
-has_owners (registries.TheVariants.Container dead states) = true
-has_owners (registries.TheVariants.Loan book) = true
+has_owners (registries.Owners dead) = true
+has_owners (registries.Container dead states) = true
+has_owners (registries.Loan book) = true
 has_owners kept = false
 
 -- whether the owner is dead
 abbrev pub is_dead : {T : Type 0} → Registry T → ℕ → Bool
-is_dead (registries.TheVariants.Owners dead) owner = has_died owner dead
-is_dead (registries.TheVariants.Container dead states) owner = has_died owner dead
-is_dead (registries.TheVariants.Loan book) owner = has_died owner book.dead
+is_dead (registries.Owners dead) owner = has_died owner dead
+is_dead (registries.Container dead states) owner = has_died owner dead
+is_dead (registries.Loan book) owner = has_died owner book.dead
 is_dead kept owner = false
 
 -- whether the owner would be a party, and there is none of this number
 abbrev pub lacks_party : {T : Type 0} → Registry T → ℕ → ℕ → Bool
-lacks_party (registries.TheVariants.Loan book) parties owner = nat_le parties owner
+lacks_party (registries.Loan book) parties owner = nat_le parties owner
 lacks_party kept parties owner = false
 
 -- what is tested of an owner who is to die
@@ -217,10 +217,10 @@ death_rows kept owner =
 
 -- what a family keeps once the owner is dead
 abbrev pub kept_after_death : {T : Type 0} → Registry T → ℕ → Registry T
-kept_after_death (registries.TheVariants.Owners dead) owner =
-    registries.TheVariants.Owners (dead_with owner dead)
-kept_after_death (registries.TheVariants.Container dead states) owner =
-    registries.TheVariants.Container (dead_with owner dead) states
-kept_after_death (registries.TheVariants.Loan book) owner =
-    registries.TheVariants.Loan (record book { dead = dead_with owner book.dead })
+kept_after_death (registries.Owners dead) owner =
+    registries.Owners (dead_with owner dead)
+kept_after_death (registries.Container dead states) owner =
+    registries.Container (dead_with owner dead) states
+kept_after_death (registries.Loan book) owner =
+    registries.Loan (record book { dead = dead_with owner book.dead })
 kept_after_death kept owner = kept

@@ -5,7 +5,7 @@ use Rattle.model.specs.declared.event.Start.{Start}
 use Rattle.model.specs.declared.event.Start.TheVariants as starts
 use Rattle.model.specs.declared.families.atomic.AtomicStart.TheVariants.{Store, Load}
 use Rattle.model.specs.declared.families.queues.QueueKind.{QueueKind}
-use Rattle.model.specs.declared.families.queues.QueueKind as queue_kinds
+use Rattle.model.specs.declared.families.queues.QueueKind.TheVariants as queue_kinds
 use Rattle.model.specs.declared.families.queues.QueueStart.TheVariants.{PushIndex, Push, Pop}
 use Rattle.model.specs.declared.turn.Kind.{Kind}
 use Rattle.model.specs.declared.turn.Kind.TheVariants.{IndexQueue, Overflow, Queue, Atomic}
@@ -38,11 +38,11 @@ module _ {T : Type 0} where
   -- pushes and pops are, and stores and loads; of the other kinds nothing is said
   abbrev pub IsLinearized : Kind → Trace T → Type 0
   IsLinearized IndexQueue t =
-      IsLinearizable (as_list queue_kinds.TheVariants.IndexQueue t.world.capacity) t.events
+      IsLinearizable (as_list queue_kinds.IndexQueue t.world.capacity) t.events
   IsLinearized Overflow t =
-      IsLinearizable (as_list queue_kinds.TheVariants.Overflow t.world.capacity) t.events
+      IsLinearizable (as_list queue_kinds.Overflow t.world.capacity) t.events
   IsLinearized Queue t =
-      IsLinearizable (as_list queue_kinds.TheVariants.Queue t.world.capacity) t.events
+      IsLinearizable (as_list queue_kinds.Queue t.world.capacity) t.events
   IsLinearized Atomic t = IsLinearizable (as_value t.world.coding) t.events
   IsLinearized kind t = Unit {0}
 

@@ -7,7 +7,7 @@ use Rattle.model.specs.declared.event.Event.{Event}
 use Rattle.model.specs.declared.event.Event.TheVariants.{Finished}
 use Rattle.model.specs.declared.event.Start.{Start}
 use Rattle.model.specs.declared.event.Start.TheVariants.{Robust, Container}
-use Rattle.model.specs.declared.families.container.ContainerStart as containers
+use Rattle.model.specs.declared.families.container.ContainerStart.TheVariants as containers
 use Rattle.model.specs.declared.families.indices.robust.RobustStart.TheVariants.{Release, Recover}
 use Rattle.model.specs.declared.turn.Kind.{Kind}
 use Rattle.model.specs.declared.turn.Kind.TheVariants.{IndexQueue, Overflow, Queue, Atomic, Bits, Counts, Indices}
@@ -140,6 +140,6 @@ default_container_bound n capacity size = stretch n (max 2 capacity) (capacity *
 abbrev pub IsDefault : {T : Type 0} → Start T → Type 0
 IsDefault (Robust (Release index owner LockIfLastIndex)) = ⊥
 IsDefault (Robust (Recover LockIfLastIndex)) = ⊥
-IsDefault (Container (containers.TheVariants.Remove index owner LockIfLastIndex)) = ⊥
-IsDefault (Container (containers.TheVariants.Recover owner LockIfLastIndex)) = ⊥
+IsDefault (Container (containers.Remove index owner LockIfLastIndex)) = ⊥
+IsDefault (Container (containers.Recover owner LockIfLastIndex)) = ⊥
 IsDefault start = Unit {0}

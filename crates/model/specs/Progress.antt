@@ -5,8 +5,8 @@ use Rattle.steps.specs.declared.indices.enums.ReleaseMode.TheVariants.{LockIfLas
 use Rattle.model.specs.declared.event.Start.{Start}
 use Rattle.model.specs.declared.event.Start.TheVariants as starts
 use Rattle.model.specs.declared.families.Flight.{Flight}
-use Rattle.model.specs.declared.families.Flight as flights
-use Rattle.model.specs.declared.families.atomic.calls.AtomicFlight as atomic_flights
+use Rattle.model.specs.declared.families.Flight.TheVariants as flights
+use Rattle.model.specs.declared.families.atomic.calls.AtomicFlight.TheVariants as atomic_flights
 use Rattle.model.specs.declared.families.atomic.AtomicStart.{AtomicStart}
 use Rattle.model.specs.declared.families.atomic.AtomicStart.TheVariants as atomics
 use Rattle.model.specs.declared.families.bits.BitsStart.{BitsStart}
@@ -19,9 +19,9 @@ use Rattle.model.specs.declared.families.indices.robust.RobustStart.{RobustStart
 use Rattle.model.specs.declared.families.indices.robust.RobustStart.TheVariants as robust
 use Rattle.model.specs.declared.families.loan.LoanStart.{LoanStart}
 use Rattle.model.specs.declared.families.loan.LoanStart.TheVariants as loans
-use Rattle.model.specs.declared.families.queues.calls.QueueFlight as queue_flights
+use Rattle.model.specs.declared.families.queues.calls.QueueFlight.TheVariants as queue_flights
 use Rattle.model.specs.declared.families.queues.QueueKind.{QueueKind}
-use Rattle.model.specs.declared.families.queues.QueueKind as queue_kinds
+use Rattle.model.specs.declared.families.queues.QueueKind.TheVariants as queue_kinds
 use Rattle.model.specs.declared.families.queues.QueueStart.{QueueStart}
 use Rattle.model.specs.declared.families.queues.QueueStart.TheVariants as queues
 use Rattle.model.specs.declared.party.Progress.{Progress}
@@ -61,14 +61,14 @@ module _ {T : Type 0} where
 -- ---- which of the two each call has, with its constants
 
 abbrev pub of_push : ℕ → QueueKind → Guarantee
-of_push size queue_kinds.TheVariants.IndexQueue = WaitFree 4
-of_push size queue_kinds.TheVariants.Overflow = WaitFree 6
-of_push size queue_kinds.TheVariants.Queue = WaitFree (3 + size)
+of_push size queue_kinds.IndexQueue = WaitFree 4
+of_push size queue_kinds.Overflow = WaitFree 6
+of_push size queue_kinds.Queue = WaitFree (3 + size)
 
 abbrev pub of_pop : ℕ → QueueKind → Guarantee
-of_pop size queue_kinds.TheVariants.IndexQueue = WaitFree 4
-of_pop size queue_kinds.TheVariants.Overflow = ObstructionFree 4 2
-of_pop size queue_kinds.TheVariants.Queue = WaitFree (3 + size)
+of_pop size queue_kinds.IndexQueue = WaitFree 4
+of_pop size queue_kinds.Overflow = ObstructionFree 4 2
+of_pop size queue_kinds.Queue = WaitFree (3 + size)
 
 module _ {T : Type 0} where
   abbrev pub of_queue : ℕ → QueueKind → QueueStart T → Guarantee
@@ -184,9 +184,9 @@ module _ {T : Type 0} where
 
   -- the guarantee of a kind's call, at this capacity, where a value has so many words
   abbrev pub guarantee_of : Kind → ℕ → ℕ → Start T → Guarantee
-  guarantee_of IndexQueue capacity size start = in_queue size queue_kinds.TheVariants.IndexQueue start
-  guarantee_of Overflow capacity size start = in_queue size queue_kinds.TheVariants.Overflow start
-  guarantee_of Queue capacity size start = in_queue size queue_kinds.TheVariants.Queue start
+  guarantee_of IndexQueue capacity size start = in_queue size queue_kinds.IndexQueue start
+  guarantee_of Overflow capacity size start = in_queue size queue_kinds.Overflow start
+  guarantee_of Queue capacity size start = in_queue size queue_kinds.Queue start
   guarantee_of Atomic capacity size start = in_value size start
   guarantee_of Bits capacity size start = in_bits capacity start
   guarantee_of Counts capacity size start = in_counts capacity start
@@ -226,8 +226,8 @@ module _ {T : Type 0} where
 
   -- the lengths of a queue and the load of the single value
   abbrev pub Looks : Flight T → Type 0
-  Looks (flights.TheVariants.Queues (queue_flights.TheVariants.Length which run)) = Unit {0}
-  Looks (flights.TheVariants.Atomic (atomic_flights.TheVariants.Load run)) = Unit {0}
+  Looks (flights.Queues (queue_flights.Length which run)) = Unit {0}
+  Looks (flights.Atomic (atomic_flights.Load run)) = Unit {0}
   Looks flight = ⊥
 
   -- what the call asks for leaves the words, whatever they are

@@ -7,11 +7,13 @@ use Rattle.model.proofs.Names.{length, map, one_word, opening, refl, slice_index
 use Rattle.model.proofs.Reached.{reached_opening}
 use Rattle.model.specs.declared.event.Answer.{Answer}
 use Rattle.model.specs.declared.event.Event.{Event}
-use Rattle.model.specs.declared.event.Event as events
+use Rattle.model.specs.declared.event.Event.TheVariants as events
 use Rattle.model.specs.declared.event.Start.TheVariants.{Bits}
-use Rattle.model.specs.declared.families.Flight as flights
-use Rattle.model.specs.declared.families.Registry as registries
-use Rattle.model.specs.declared.turn.Kind as kinds
+use Rattle.model.specs.declared.families.Flight.{Flight}
+use Rattle.model.specs.declared.families.Flight.TheVariants as flights
+use Rattle.model.specs.declared.families.Registry.{Registry}
+use Rattle.model.specs.declared.families.Registry.TheVariants as registries
+use Rattle.model.specs.declared.turn.Kind.TheVariants as kinds
 use Rattle.model.specs.declared.turn.Refusal.TheVariants.{BadIndex, WrongCall}
 use Rattle.model.specs.Families.{begin_rows}
 use Rattle.model.specs.Families.Bits.Steps.{effects_of}
@@ -34,8 +36,8 @@ use Rattle.pages.proofs.Told as tellings
 pub coded : IsCoding one_word
 coded = grind arith
 
-abbrev pub nothing : registries.Registry ℕ
-nothing = registries.TheVariants.Nothing
+abbrev pub nothing : Registry ℕ
+nothing = registries.Nothing
 
 pub passes_row : (b : Bool) → b ≡ false → first_row ((false, WrongCall) ∷ (b, BadIndex) ∷ []) ≡ None
 passes_row b e = rw e refl
@@ -47,15 +49,15 @@ module _ (c : ℕ) (some : 0 < c) where
   abbrev BitsPage : Type 0
   BitsPage = machine.World bits.Call bits.Stage bits.Answer
 
-  abbrev bits_flight : ℕ → bits.Stage → flights.Flight ℕ
-  bits_flight found stage = flights.TheVariants.Bits (bits_bridge.flight c found stage)
+  abbrev bits_flight : ℕ → bits.Stage → Flight ℕ
+  bits_flight found stage = flights.Bits (bits_bridge.flight c found stage)
 
   -- what a reset of all has handed out so far
   abbrev HandsAt : bits.Stage → List ℕ → Type 0
   HandsAt (bits.AllSwapsElement word places) items = items ≡ places
   HandsAt stage items = Unit {0}
 
-  abbrev BitsRelated : List (Event ℕ) → registries.Registry ℕ → BitsPage → Type 0
+  abbrev BitsRelated : List (Event ℕ) → Registry ℕ → BitsPage → Type 0
   BitsRelated events k w = (k ≡ nothing) × IsRead (bits.bit_set c) bits_bridge.reading HandsAt events w
 
   abbrev WritesBits : ℕ → List (Event ℕ) → List ℕ → Type 0
@@ -69,40 +71,40 @@ module _ (c : ℕ) (some : 0 < c) where
   writes_none : (p : ℕ) → WritesBits p [] []
   writes_none p = record { quiet = λ before. refl; own = λ acc. sym (append-nil acc); others = λ q acc ne. refl }
 
-  writes_all : (p : ℕ) (bs : List ℕ) → WritesBits p (map (λ b. events.TheVariants.Cleared p b) bs) bs
+  writes_all : (p : ℕ) (bs : List ℕ) → WritesBits p (map (λ b. events.Cleared p b) bs) bs
   writes_all p bs = record { quiet = quiet bs; own = own bs; others = others bs }
     where
-      quiet : (bs : List ℕ) (before : List (Event ℕ)) → told bits_bridge.reading before (map (λ b. events.TheVariants.Cleared p b) bs) ≡ []
+      quiet : (bs : List ℕ) (before : List (Event ℕ)) → told bits_bridge.reading before (map (λ b. events.Cleared p b) bs) ≡ []
       quiet [] before = refl
-      quiet (b ∷ bs) before = quiet bs (before ++ events.TheVariants.Cleared p b ∷ [])
+      quiet (b ∷ bs) before = quiet bs (before ++ events.Cleared p b ∷ [])
 
-      own : (bs acc : List ℕ) → fold (handed_after bits_bridge.reading p) acc (map (λ b. events.TheVariants.Cleared p b) bs) ≡ acc ++ bs
+      own : (bs acc : List ℕ) → fold (handed_after bits_bridge.reading p) acc (map (λ b. events.Cleared p b) bs) ≡ acc ++ bs
       own [] acc = sym (append-nil acc)
       own (b ∷ bs) acc =
           let t : (p == p) ≡ true = grind (arith, nat_tests) in
-          ap (λ t. fold (handed_after bits_bridge.reading p) (cond t (acc ++ b ∷ []) acc) (map (λ b. events.TheVariants.Cleared p b) bs)) t
+          ap (λ t. fold (handed_after bits_bridge.reading p) (cond t (acc ++ b ∷ []) acc) (map (λ b. events.Cleared p b) bs)) t
           ∙ (own bs (acc ++ b ∷ []) ∙ append_assoc acc (b ∷ []) bs)
 
       others : (bs : List ℕ) (q : ℕ) (acc : List ℕ) → q ≢ p
-          → fold (handed_after bits_bridge.reading q) acc (map (λ b. events.TheVariants.Cleared p b) bs) ≡ acc
+          → fold (handed_after bits_bridge.reading q) acc (map (λ b. events.Cleared p b) bs) ≡ acc
       others [] q acc ne = refl
       others (b ∷ bs) q acc ne =
           let t : (p == q) ≡ false = grind (arith, nat_tests) in
-          ap (λ t. fold (handed_after bits_bridge.reading q) (cond t (acc ++ b ∷ []) acc) (map (λ b. events.TheVariants.Cleared p b) bs)) t
+          ap (λ t. fold (handed_after bits_bridge.reading q) (cond t (acc ++ b ∷ []) acc) (map (λ b. events.Cleared p b) bs)) t
           ∙ others bs q acc ne
 
   writes : (p found : ℕ) (stage : bits.Stage) (old : ℕ) → WritesBits p (effects_of p (bits_bridge.flight c found stage) old) (items_of stage old)
   writes p found (bits.SetLoadsElement place) old = writes_none p
   writes p found (bits.SetExchangesElement place element) old = go (old == element)
     where
-      go : (b : Bool) → WritesBits p (cond b (events.TheVariants.Set p place ∷ []) []) []
+      go : (b : Bool) → WritesBits p (cond b (events.Set p place ∷ []) []) []
       go true = record { quiet = λ before. refl; own = λ acc. sym (append-nil acc); others = λ q acc ne. refl }
       go false = writes_none p
   writes p found bits.NextLoadsPosition old = writes_none p
   writes p found (bits.NextLoadsElement start passed) old = writes_none p
   writes p found (bits.NextExchangesElement start passed element) old = go (old == element)
     where
-      go : (b : Bool) → WritesBits p (cond b (events.TheVariants.Cleared p (bits.place_after c start passed) ∷ []) [])
+      go : (b : Bool) → WritesBits p (cond b (events.Cleared p (bits.place_after c start passed) ∷ []) [])
           (cond b (bits.place_after c start passed ∷ []) [])
       go true = writes_all p (bits.place_after c start passed ∷ [])
       go false = writes_none p
@@ -219,12 +221,12 @@ module _ (c : ℕ) (some : 0 < c) where
       go false t = tt
 
   bits_went : (found : ℕ) (a : machine.After bits.Stage bits.Answer)
-      → as_call flights.TheVariants.Bits (λ (answer : Answer ℕ). answer) (bits_bridge.went c found a)
+      → as_call flights.Bits (λ (answer : Answer ℕ). answer) (bits_bridge.went c found a)
       ≡ went (bits_flight found) bits_bridge.answered a
   bits_went found (machine.GoOn stage) = refl
   bits_went found (machine.Done answer) = refl
 
-  bits_relation : Relation ℕ (bits.bit_set c) kinds.TheVariants.Bits c
+  bits_relation : Relation ℕ (bits.bit_set c) kinds.Bits c
   bits_relation =
       record {
         call_at = bits_law.call_at;
@@ -243,11 +245,11 @@ module _ (c : ℕ) (some : 0 < c) where
         keeps = λ k p call. refl;
         refuses =
             λ events k w p call related may. subst
-            (λ k. is_some (first_row (begin_rows kinds.TheVariants.Bits c k p (Bits (bits_bridge.bits_start call)))) ≡ true)
+            (λ k. is_some (first_row (begin_rows kinds.Bits c k p (Bits (bits_bridge.bits_start call)))) ≡ true)
             (sym related.0) (refuses p call may);
         admits =
             λ events k w p call related known may free rule. subst
-            (λ k. first_row (begin_rows kinds.TheVariants.Bits c k p (Bits (bits_bridge.bits_start call))) ≡ None)
+            (λ k. first_row (begin_rows kinds.Bits c k p (Bits (bits_bridge.bits_start call))) ≡ None)
             (sym related.0) (admits p call may);
         begun = λ events k w p call related may free rule. (
           related.0,
@@ -257,7 +259,7 @@ module _ (c : ℕ) (some : 0 < c) where
         asks = bits_asks c;
         rows = λ k r stage. refl;
         steps = λ events k w beside p r stage related known pending fits.
-            subst (λ k. StepsRight ℕ (bits.bit_set c) kinds.TheVariants.Bits c bits_law.call_at (λ call. Bits (bits_bridge.bits_start call)) bits_flight
+            subst (λ k. StepsRight ℕ (bits.bit_set c) kinds.Bits c bits_law.call_at (λ call. Bits (bits_bridge.bits_start call)) bits_flight
             bits_bridge.answered (bits_bridge.Fits c) (λ events k. Unit {0}) BitsRelated events w p stage
             (step_of one_word w.words beside p (Bits (bits_bridge.bits_start (bits_law.call_at stage))) (bits_flight r stage)
             (slice_index w.words (bits.does c stage).0) k))
@@ -274,20 +276,20 @@ module _ (c : ℕ) (some : 0 < c) where
       first_fits bits.ResetNext = tt
       first_fits bits.ResetAll = omega arith
 
-      begins : (k : registries.Registry ℕ) (call : bits.Call)
-          → first_of kinds.TheVariants.Bits c (Bits (bits_bridge.bits_start call)) k ≡ Some (bits_flight 0 (bits.first call))
+      begins : (k : Registry ℕ) (call : bits.Call)
+          → first_of kinds.Bits c (Bits (bits_bridge.bits_start call)) k ≡ Some (bits_flight 0 (bits.first call))
       begins k (bits.Set place) = refl
       begins k bits.ResetNext = refl
       begins k bits.ResetAll = refl
 
       refuses : (p : ℕ) (call : bits.Call) → bits.may c p call ≡ false
-          → is_some (first_row (begin_rows kinds.TheVariants.Bits c nothing p (Bits (bits_bridge.bits_start call)))) ≡ true
+          → is_some (first_row (begin_rows kinds.Bits c nothing p (Bits (bits_bridge.bits_start call)))) ≡ true
       refuses p (bits.Set place) may = fails_row (nat_le c place) (grind (arith, nat_tests))
       refuses p bits.ResetNext may = absurd (cc)
       refuses p bits.ResetAll may = absurd (cc)
 
       admits : (p : ℕ) (call : bits.Call) → bits.may c p call ≡ true
-          → first_row (begin_rows kinds.TheVariants.Bits c nothing p (Bits (bits_bridge.bits_start call))) ≡ None
+          → first_row (begin_rows kinds.Bits c nothing p (Bits (bits_bridge.bits_start call))) ≡ None
       admits p (bits.Set place) may = passes_row (nat_le c place) (grind (arith, nat_tests))
       admits p bits.ResetNext may = refl
       admits p bits.ResetAll may = refl
@@ -304,14 +306,14 @@ module _ (c : ℕ) (some : 0 < c) where
 
       steps : (events : List (Event ℕ)) (w : BitsPage) (beside : Option (ℕ × ℕ)) (p r : ℕ) (stage : bits.Stage)
           → IsRead (bits.bit_set c) bits_bridge.reading HandsAt events w → w.pending p ≡ Some stage → bits_bridge.Fits c stage
-          → StepsRight ℕ (bits.bit_set c) kinds.TheVariants.Bits c bits_law.call_at (λ call. Bits (bits_bridge.bits_start call)) bits_flight
+          → StepsRight ℕ (bits.bit_set c) kinds.Bits c bits_law.call_at (λ call. Bits (bits_bridge.bits_start call)) bits_flight
           bits_bridge.answered (bits_bridge.Fits c) (λ events k. Unit {0}) BitsRelated events w p stage
           (step_of one_word w.words beside p (Bits (bits_bridge.bits_start (bits_law.call_at stage))) (bits_flight r stage)
           (slice_index w.words (bits.does c stage).0) nothing)
       steps events w beside p r stage read pending fits =
           let old = slice_index w.words (bits.does c stage).0 in
           let a = (bits.does c stage).2 old in
-          let is = ap (as_call flights.TheVariants.Bits (λ (answer : Answer ℕ). answer)) (bits_after c r stage old) ∙ bits_went old a in
+          let is = ap (as_call flights.Bits (λ (answer : Answer ℕ). answer)) (bits_after c r stage old) ∙ bits_went old a in
           record {
             room = old;
             after_is = is;
@@ -327,27 +329,27 @@ module _ (c : ℕ) (some : 0 < c) where
           }
 
   bits_same_turns : (parties : ℕ) (turns : List (machine.Turn bits.Call))
-      → map (relates.as_turn ℕ (bits.bit_set c) kinds.TheVariants.Bits c bits_relation parties) turns ≡ map bits_bridge.as_turn turns
+      → map (relates.as_turn ℕ (bits.bit_set c) kinds.Bits c bits_relation parties) turns ≡ map bits_bridge.as_turn turns
   unfolding bits_relation
   bits_same_turns parties [] = refl
   bits_same_turns parties (machine.Begin p call ∷ turns) = ap (λ ts. bits_bridge.as_turn (machine.Begin p call) ∷ ts) (bits_same_turns parties turns)
   bits_same_turns parties (machine.Next p ∷ turns) = ap (λ ts. bits_bridge.as_turn (machine.Next p) ∷ ts) (bits_same_turns parties turns)
 
   bits_within : (parties : ℕ) (turns : List (machine.Turn bits.Call)) → bits_bridge.AreWithin parties turns
-      → AllByRecursion (IsWithin ℕ (bits.bit_set c) kinds.TheVariants.Bits c bits_relation parties) turns
+      → AllByRecursion (IsWithin ℕ (bits.bit_set c) kinds.Bits c bits_relation parties) turns
   bits_within parties [] within = tt
   bits_within parties (machine.Begin p call ∷ turns) within = (within.0, bits_within parties turns within.1)
   bits_within parties (machine.Next p ∷ turns) within = (tt, bits_within parties turns within.1)
 
   bits_rules : (parties : ℕ) (turns : List (machine.Turn bits.Call)) (w : BitsPage)
-      → AllRules ℕ (bits.bit_set c) kinds.TheVariants.Bits c bits_relation parties w turns
+      → AllRules ℕ (bits.bit_set c) kinds.Bits c bits_relation parties w turns
   unfolding bits_relation
   bits_rules parties [] w = tt
   bits_rules parties (turn ∷ turns) w = (tt, bits_rules parties turns (machine.turned (bits.bit_set c) w turn))
 
   bits_opens : (parties : ℕ) → c < 2 ^ 32
-      → Meets ℕ (bits.bit_set c) kinds.TheVariants.Bits c bits_relation parties (machine.opening (bits.bit_set c)) 0
-      (opening one_word kinds.TheVariants.Bits c parties)
+      → Meets ℕ (bits.bit_set c) kinds.Bits c bits_relation parties (machine.opening (bits.bit_set c)) 0
+      (opening one_word kinds.Bits c parties)
   unfolding bits_relation
   bits_opens parties few =
       record {
@@ -358,21 +360,21 @@ module _ (c : ℕ) (some : 0 < c) where
         events = [];
         few = omega arith;
         is = refl;
-        reached = reached_opening one_word kinds.TheVariants.Bits c parties coded (grind (arith, nat_tests));
+        reached = reached_opening one_word kinds.Bits c parties coded (grind (arith, nat_tests));
         related = (refl, record { history = refl; hands = λ p. tt });
         matches = λ p. refl;
       }
 
   bits_meets : (parties : ℕ) (turns : List (machine.Turn bits.Call)) → c < 2 ^ 32 → bits_bridge.AreWithin parties turns → length turns < 2 ^ 63
-      → Meets ℕ (bits.bit_set c) kinds.TheVariants.Bits c bits_relation parties
+      → Meets ℕ (bits.bit_set c) kinds.Bits c bits_relation parties
       (fold (machine.turned (bits.bit_set c)) (machine.opening (bits.bit_set c)) turns) (0 + length turns)
-      (run (map bits_bridge.as_turn turns) (opening one_word kinds.TheVariants.Bits c parties))
+      (run (map bits_bridge.as_turn turns) (opening one_word kinds.Bits c parties))
   bits_meets parties turns few within small =
-      subst (λ ts. Meets ℕ (bits.bit_set c) kinds.TheVariants.Bits c bits_relation parties
+      subst (λ ts. Meets ℕ (bits.bit_set c) kinds.Bits c bits_relation parties
       (fold (machine.turned (bits.bit_set c)) (machine.opening (bits.bit_set c)) turns) (0 + length turns)
-      (run ts (opening one_word kinds.TheVariants.Bits c parties))) (bits_same_turns parties turns)
-      (all_turns ℕ (bits.bit_set c) kinds.TheVariants.Bits c bits_relation parties turns (bits_within parties turns within)
-      (machine.opening (bits.bit_set c)) 0 (opening one_word kinds.TheVariants.Bits c parties)
+      (run ts (opening one_word kinds.Bits c parties))) (bits_same_turns parties turns)
+      (all_turns ℕ (bits.bit_set c) kinds.Bits c bits_relation parties turns (bits_within parties turns within)
+      (machine.opening (bits.bit_set c)) 0 (opening one_word kinds.Bits c parties)
       (bits_rules parties turns (machine.opening (bits.bit_set c))) (omega arith) (bits_opens parties few))
 
 pub bits_runs : bits_bridge.BitSetRunsAsTheMachine

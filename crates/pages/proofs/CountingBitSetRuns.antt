@@ -7,11 +7,12 @@ use Rattle.model.proofs.Names.{length, map, one_word, opening, refl, slice_index
 use Rattle.model.proofs.Reached.{reached_opening}
 use Rattle.model.specs.declared.event.Answer.{Answer}
 use Rattle.model.specs.declared.event.Event.{Event}
-use Rattle.model.specs.declared.event.Event as events
+use Rattle.model.specs.declared.event.Event.TheVariants as events
 use Rattle.model.specs.declared.event.Start.TheVariants.{Bits}
-use Rattle.model.specs.declared.families.Flight as flights
+use Rattle.model.specs.declared.families.Flight.{Flight}
+use Rattle.model.specs.declared.families.Flight.TheVariants as flights
 use Rattle.model.specs.declared.families.Registry as registries
-use Rattle.model.specs.declared.turn.Kind as kinds
+use Rattle.model.specs.declared.turn.Kind.TheVariants as kinds
 use Rattle.model.specs.Families.{begin_rows}
 use Rattle.model.specs.Families.Bits.Steps.{effects_of}
 use Rattle.model.specs.Step.{as_call}
@@ -34,8 +35,8 @@ module _ (c : ℕ) (some : 0 < c) where
   abbrev CountsPage : Type 0
   CountsPage = machine.World counts.Call counts.Stage counts.Answer
 
-  abbrev counts_flight : ℕ → counts.Stage → flights.Flight ℕ
-  counts_flight found stage = flights.TheVariants.Bits (counts_bridge.flight c found stage)
+  abbrev counts_flight : ℕ → counts.Stage → Flight ℕ
+  counts_flight found stage = flights.Bits (counts_bridge.flight c found stage)
 
   -- what a reset of all has handed out so far
   abbrev HandsAt : counts.Stage → List (ℕ × ℕ) → Type 0
@@ -60,7 +61,7 @@ module _ (c : ℕ) (some : 0 < c) where
       record { quiet = λ before. refl; own = λ acc. sym (append-nil acc); others = λ q acc ne. refl }
   writes p found (counts.AllSwaps place taken) old = go (old == 0)
     where
-      go : (b : Bool) → WritesCounts p (cond b [] (events.TheVariants.TakenOut p place old ∷ [])) (cond b [] (one place old))
+      go : (b : Bool) → WritesCounts p (cond b [] (events.TakenOut p place old ∷ [])) (cond b [] (one place old))
       go true = record { quiet = λ before. refl; own = λ acc. sym (append-nil acc); others = λ q acc ne. refl }
       go false = record { quiet = λ before. refl; own = own; others = others }
         where
@@ -109,12 +110,12 @@ module _ (c : ℕ) (some : 0 < c) where
       go false t = tt
 
   counts_went : (found : ℕ) (a : machine.After counts.Stage counts.Answer)
-      → as_call flights.TheVariants.Bits (λ (answer : Answer ℕ). answer) (counts_bridge.went c found a)
+      → as_call flights.Bits (λ (answer : Answer ℕ). answer) (counts_bridge.went c found a)
       ≡ went (counts_flight found) counts_bridge.answered a
   counts_went found (machine.GoOn stage) = refl
   counts_went found (machine.Done answer) = refl
 
-  counts_relation : Relation ℕ (counts.counting_bit_set c) kinds.TheVariants.Counts c
+  counts_relation : Relation ℕ (counts.counting_bit_set c) kinds.Counts c
   counts_relation =
       record {
         call_at = counts_law.call_at;
@@ -133,11 +134,11 @@ module _ (c : ℕ) (some : 0 < c) where
         keeps = λ k p call. refl;
         refuses =
             λ events k w p call related may. subst
-            (λ k. is_some (first_row (begin_rows kinds.TheVariants.Counts c k p (Bits (counts_bridge.counts_start call)))) ≡ true)
+            (λ k. is_some (first_row (begin_rows kinds.Counts c k p (Bits (counts_bridge.counts_start call)))) ≡ true)
             (sym related.0) (refuses p call may);
         admits =
             λ events k w p call related known may free rule. subst
-            (λ k. first_row (begin_rows kinds.TheVariants.Counts c k p (Bits (counts_bridge.counts_start call))) ≡ None)
+            (λ k. first_row (begin_rows kinds.Counts c k p (Bits (counts_bridge.counts_start call))) ≡ None)
             (sym related.0) (admits p call may);
         begun = λ events k w p call related may free rule. (
           related.0,
@@ -147,7 +148,7 @@ module _ (c : ℕ) (some : 0 < c) where
         asks = counts_asks c;
         rows = λ k r stage. refl;
         steps = λ events k w beside p r stage related known pending fits.
-            subst (λ k. StepsRight ℕ (counts.counting_bit_set c) kinds.TheVariants.Counts c counts_law.call_at
+            subst (λ k. StepsRight ℕ (counts.counting_bit_set c) kinds.Counts c counts_law.call_at
             (λ call. Bits (counts_bridge.counts_start call)) counts_flight
             counts_bridge.answered (counts_bridge.Fits c) (λ events k. Unit {0}) CountsRelated events w p stage
             (step_of one_word w.words beside p (Bits (counts_bridge.counts_start (counts_law.call_at stage))) (counts_flight r stage)
@@ -164,17 +165,17 @@ module _ (c : ℕ) (some : 0 < c) where
       first_fits counts.ResetAll = some
 
       begins : (k : registries.Registry ℕ) (call : counts.Call)
-          → first_of kinds.TheVariants.Counts c (Bits (counts_bridge.counts_start call)) k ≡ Some (counts_flight 0 (counts.first call))
+          → first_of kinds.Counts c (Bits (counts_bridge.counts_start call)) k ≡ Some (counts_flight 0 (counts.first call))
       begins k (counts.Set place) = refl
       begins k counts.ResetAll = refl
 
       refuses : (p : ℕ) (call : counts.Call) → counts.may c p call ≡ false
-          → is_some (first_row (begin_rows kinds.TheVariants.Counts c nothing p (Bits (counts_bridge.counts_start call)))) ≡ true
+          → is_some (first_row (begin_rows kinds.Counts c nothing p (Bits (counts_bridge.counts_start call)))) ≡ true
       refuses p (counts.Set place) may = fails_row (nat_le c place) (grind (arith, nat_tests))
       refuses p counts.ResetAll may = absurd (cc)
 
       admits : (p : ℕ) (call : counts.Call) → counts.may c p call ≡ true
-          → first_row (begin_rows kinds.TheVariants.Counts c nothing p (Bits (counts_bridge.counts_start call))) ≡ None
+          → first_row (begin_rows kinds.Counts c nothing p (Bits (counts_bridge.counts_start call))) ≡ None
       admits p (counts.Set place) may = passes_row (nat_le c place) (grind (arith, nat_tests))
       admits p counts.ResetAll may = refl
 
@@ -188,7 +189,7 @@ module _ (c : ℕ) (some : 0 < c) where
 
       steps : (events : List (Event ℕ)) (w : CountsPage) (beside : Option (ℕ × ℕ)) (p r : ℕ) (stage : counts.Stage)
           → IsRead (counts.counting_bit_set c) counts_bridge.reading HandsAt events w → w.pending p ≡ Some stage → counts_bridge.Fits c stage
-          → StepsRight ℕ (counts.counting_bit_set c) kinds.TheVariants.Counts c counts_law.call_at
+          → StepsRight ℕ (counts.counting_bit_set c) kinds.Counts c counts_law.call_at
           (λ call. Bits (counts_bridge.counts_start call)) counts_flight
           counts_bridge.answered (counts_bridge.Fits c) (λ events k. Unit {0}) CountsRelated events w p stage
           (step_of one_word w.words beside p (Bits (counts_bridge.counts_start (counts_law.call_at stage))) (counts_flight r stage)
@@ -196,7 +197,7 @@ module _ (c : ℕ) (some : 0 < c) where
       steps events w beside p r stage read pending fits =
           let old = slice_index w.words (counts.does c stage).0 in
           let a = (counts.does c stage).2 old in
-          let is = ap (as_call flights.TheVariants.Bits (λ (answer : Answer ℕ). answer)) (counts_after c r stage old) ∙ counts_went old a in
+          let is = ap (as_call flights.Bits (λ (answer : Answer ℕ). answer)) (counts_after c r stage old) ∙ counts_went old a in
           record {
             room = old;
             after_is = is;
@@ -215,7 +216,7 @@ module _ (c : ℕ) (some : 0 < c) where
           }
 
   counts_same_turns : (parties : ℕ) (turns : List (machine.Turn counts.Call))
-      → map (relates.as_turn ℕ (counts.counting_bit_set c) kinds.TheVariants.Counts c counts_relation parties) turns
+      → map (relates.as_turn ℕ (counts.counting_bit_set c) kinds.Counts c counts_relation parties) turns
       ≡ map counts_bridge.as_turn turns
   unfolding counts_relation
   counts_same_turns parties [] = refl
@@ -223,20 +224,20 @@ module _ (c : ℕ) (some : 0 < c) where
   counts_same_turns parties (machine.Next p ∷ turns) = ap (λ ts. counts_bridge.as_turn (machine.Next p) ∷ ts) (counts_same_turns parties turns)
 
   counts_within : (parties : ℕ) (turns : List (machine.Turn counts.Call)) → bits_bridge.AreWithin parties turns
-      → AllByRecursion (IsWithin ℕ (counts.counting_bit_set c) kinds.TheVariants.Counts c counts_relation parties) turns
+      → AllByRecursion (IsWithin ℕ (counts.counting_bit_set c) kinds.Counts c counts_relation parties) turns
   counts_within parties [] within = tt
   counts_within parties (machine.Begin p call ∷ turns) within = (within.0, counts_within parties turns within.1)
   counts_within parties (machine.Next p ∷ turns) within = (tt, counts_within parties turns within.1)
 
   counts_rules : (parties : ℕ) (turns : List (machine.Turn counts.Call)) (w : CountsPage)
-      → AllRules ℕ (counts.counting_bit_set c) kinds.TheVariants.Counts c counts_relation parties w turns
+      → AllRules ℕ (counts.counting_bit_set c) kinds.Counts c counts_relation parties w turns
   unfolding counts_relation
   counts_rules parties [] w = tt
   counts_rules parties (turn ∷ turns) w = (tt, counts_rules parties turns (machine.turned (counts.counting_bit_set c) w turn))
 
   counts_opens : (parties : ℕ) → c < 2 ^ 32
-      → Meets ℕ (counts.counting_bit_set c) kinds.TheVariants.Counts c counts_relation parties (machine.opening (counts.counting_bit_set c)) 0
-      (opening one_word kinds.TheVariants.Counts c parties)
+      → Meets ℕ (counts.counting_bit_set c) kinds.Counts c counts_relation parties (machine.opening (counts.counting_bit_set c)) 0
+      (opening one_word kinds.Counts c parties)
   unfolding counts_relation
   counts_opens parties few =
       record {
@@ -247,21 +248,21 @@ module _ (c : ℕ) (some : 0 < c) where
         events = [];
         few = omega arith;
         is = refl;
-        reached = reached_opening one_word kinds.TheVariants.Counts c parties coded (grind (arith, nat_tests));
+        reached = reached_opening one_word kinds.Counts c parties coded (grind (arith, nat_tests));
         related = (refl, record { history = refl; hands = λ p. tt });
         matches = λ p. refl;
       }
 
   counts_meets : (parties : ℕ) (turns : List (machine.Turn counts.Call)) → c < 2 ^ 32 → bits_bridge.AreWithin parties turns → length turns < 2 ^ 63
-      → Meets ℕ (counts.counting_bit_set c) kinds.TheVariants.Counts c counts_relation parties
+      → Meets ℕ (counts.counting_bit_set c) kinds.Counts c counts_relation parties
       (fold (machine.turned (counts.counting_bit_set c)) (machine.opening (counts.counting_bit_set c)) turns) (0 + length turns)
-      (run (map counts_bridge.as_turn turns) (opening one_word kinds.TheVariants.Counts c parties))
+      (run (map counts_bridge.as_turn turns) (opening one_word kinds.Counts c parties))
   counts_meets parties turns few within small =
-      subst (λ ts. Meets ℕ (counts.counting_bit_set c) kinds.TheVariants.Counts c counts_relation parties
+      subst (λ ts. Meets ℕ (counts.counting_bit_set c) kinds.Counts c counts_relation parties
       (fold (machine.turned (counts.counting_bit_set c)) (machine.opening (counts.counting_bit_set c)) turns) (0 + length turns)
-      (run ts (opening one_word kinds.TheVariants.Counts c parties))) (counts_same_turns parties turns)
-      (all_turns ℕ (counts.counting_bit_set c) kinds.TheVariants.Counts c counts_relation parties turns (counts_within parties turns within)
-      (machine.opening (counts.counting_bit_set c)) 0 (opening one_word kinds.TheVariants.Counts c parties)
+      (run ts (opening one_word kinds.Counts c parties))) (counts_same_turns parties turns)
+      (all_turns ℕ (counts.counting_bit_set c) kinds.Counts c counts_relation parties turns (counts_within parties turns within)
+      (machine.opening (counts.counting_bit_set c)) 0 (opening one_word kinds.Counts c parties)
       (counts_rules parties turns (machine.opening (counts.counting_bit_set c))) (omega arith) (counts_opens parties few))
 
 pub counts_runs : counts_bridge.CountingRunsAsTheMachine

@@ -22,7 +22,7 @@ use Rattle.model.specs.Families.{begin_of}
 use Rattle.model.specs.Parties.{put}
 use Rattle.model.specs.Step.{Step}
 use Rattle.model.proofs.Parties.{party_put_same, party_put_other}
-use Rattle.steps.specs.declared.ask.After as afters
+use Rattle.steps.specs.declared.ask.After.TheVariants as afters
 use Rattle.pages.specs.RolesBridge.{Naming, all_told, told}
 use Rattle.pages.specs.Machine as machine
 use Rattle.pages.specs.Reading.{all_seen}
@@ -59,7 +59,7 @@ pub record OtherStep {T Kept : Type 0} (code : Coding T) (registry : Kept → Re
   pub silent : s.wrote ≡ []
   pub blank_is : blank (words_after words (ask_of (want_of code flight))) ≡ blank words
   pub tells : Tells next (words_after words (ask_of (want_of code flight)))
-  pub stays : (then : Flight T) → s.after ≡ afters.TheVariants.GoOn then → Other next p start then
+  pub stays : (then : Flight T) → s.after ≡ afters.GoOn then → Other next p start then
   pub who_is : (n : ℕ) → (who next n ≡ who k n) ⊎ ((who k n ≡ None) ⊎ (who k n ≡ Some p))
   pub others : (q : ℕ) (start : Start T) (flight : Flight T) → q ≢ p → Other k q start flight → Other next q start flight
 

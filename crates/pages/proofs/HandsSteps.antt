@@ -21,7 +21,8 @@ use Rattle.model.specs.Parties.{put}
 use Rattle.model.specs.Step.{Step}
 use Rattle.model.specs.Turns.{doing_after, ending_of}
 use Rattle.model.proofs.Parties.{party_put_same}
-use Rattle.steps.specs.declared.ask.After as afters
+use Rattle.steps.specs.declared.ask.After.{After}
+use Rattle.steps.specs.declared.ask.After.TheVariants as afters
 use Rattle.steps.specs.declared.ask.Ask.{Ask}
 use Rattle.pages.specs.RolesBridge.{Naming, all_told, next_taken, turn_taken}
 use Rattle.pages.specs.Machine as machine
@@ -329,8 +330,8 @@ module _ {T Call Stage Answer Room : Type 0} {of : machine.Structure Call Stage 
               (other_made s.next step.after step.back step.wrote (λ then e. s.stays then e) s.who_is s.others
               s.blank_is s.tells (ap (all_seen by.reading) s.silent) mine))
             where
-              other_made : (next : Kept) (after : afters.After (Flight T) (answers.Answer T)) (back : Bool) (wrote : List (Event T))
-                  → ((then : Flight T) → after ≡ afters.TheVariants.GoOn then → hands.Other next p start then)
+              other_made : (next : Kept) (after : After (Flight T) (answers.Answer T)) (back : Bool) (wrote : List (Event T))
+                  → ((then : Flight T) → after ≡ afters.GoOn then → hands.Other next p start then)
                   → ((n : ℕ) → (hands.who next n ≡ hands.who k n) ⊎ ((hands.who k n ≡ None) ⊎ (hands.who k n ≡ Some p)))
                   → ((q : ℕ) (start : Start T) (flight : Flight T) → q ≢ p → hands.Other k q start flight → hands.Other next q start flight)
                   → hands.blank (words_after words (ask_of (want_of code flight))) ≡ hands.blank words
@@ -377,17 +378,17 @@ module _ {T Call Stage Answer Room : Type 0} {of : machine.Structure Call Stage 
                         };
                   }
                 where
-                  no_ending : (after : afters.After (Flight T) (answers.Answer T)) → all_told by (ending_of p start (answer_in after)) ≡ []
-                  no_ending (afters.TheVariants.GoOn then) = refl
-                  no_ending (afters.TheVariants.Done answer) =
+                  no_ending : (after : After (Flight T) (answers.Answer T)) → all_told by (ending_of p start (answer_in after)) ≡ []
+                  no_ending (afters.GoOn then) = refl
+                  no_ending (afters.Done answer) =
                       ap (λ c. cond c (machine.Responded (by.number p (by.reading.call start)) (by.reading.answer answer) ∷ []) [] ++ []) mine
 
-                  stands_then : (after : afters.After (Flight T) (answers.Answer T))
-                      → ((then : Flight T) → after ≡ afters.TheVariants.GoOn then → hands.Other next p start then)
+                  stands_then : (after : After (Flight T) (answers.Answer T))
+                      → ((then : Flight T) → after ≡ afters.GoOn then → hands.Other next p start then)
                       → StandsAt by tie hands next w.pending p start
                       (doing_after (changes + change_of words (ask_of (want_of code flight))) (since + change_of words (ask_of (want_of code flight))) after)
-                  stands_then (afters.TheVariants.GoOn then) stays = inr (stays then refl)
-                  stands_then (afters.TheVariants.Done answer) stays = tt
+                  stands_then (afters.GoOn then) stays = inr (stays then refl)
+                  stands_then (afters.Done answer) stays = tt
 
                   who_then : (m : ℕ) {q : ℕ} → hands.who k m ≡ Some q → q ≢ p → hands.who next m ≡ Some q
                   who_then m is ne =

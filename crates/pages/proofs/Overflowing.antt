@@ -14,12 +14,12 @@ use Rattle.model.specs.declared.event.Item.{Item}
 use Rattle.model.specs.declared.event.Item.TheVariants.{Index, Value}
 use Rattle.model.specs.declared.event.Start.{Start}
 use Rattle.model.specs.declared.event.Start.TheVariants.{Queues}
-use Rattle.model.specs.declared.families.Flight as flights
-use Rattle.model.specs.declared.families.Registry as registries
-use Rattle.model.specs.declared.families.queues.QueueKind as queue_kinds
+use Rattle.model.specs.declared.families.Flight.TheVariants as flights
+use Rattle.model.specs.declared.families.Registry.TheVariants as registries
+use Rattle.model.specs.declared.families.queues.QueueKind.TheVariants as queue_kinds
 use Rattle.model.specs.declared.families.queues.Roles.{Roles}
 use Rattle.model.specs.declared.families.queues.QueueStart.TheVariants.{PushIndex, Push, Pop}
-use Rattle.model.specs.declared.turn.Kind as kinds
+use Rattle.model.specs.declared.turn.Kind.TheVariants as kinds
 use Rattle.model.specs.declared.turn.Turn.{Turn}
 use Rattle.model.specs.Families.{begin_rows}
 use Rattle.model.specs.Families.Queues.Calls.{after, want}
@@ -118,16 +118,16 @@ roles_stay p (page.Push value) outcome roles = refl
 roles_stay p page.Pop outcome roles = refl
 
 went_same : (c before : ℕ) (a : (machine.After page.Stage (Option ℕ)))
-    → as_call flights.TheVariants.Queues (λ (answer : Answer ℕ). answer) (went c before a)
-    ≡ simulates.went (λ stage. flights.TheVariants.Queues (flight c before stage)) answered a
+    → as_call flights.Queues (λ (answer : Answer ℕ). answer) (went c before a)
+    ≡ simulates.went (λ stage. flights.Queues (flight c before stage)) answered a
 went_same c before (machine.GoOn stage) = refl
 went_same c before (machine.Done answer) = refl
 
 pub goes : (c : ℕ) (roles : Roles) (words : List ℕ) (beside : Option (ℕ × ℕ)) (p before : ℕ) (stage : page.Stage) (old : ℕ)
-    → StepIs ℕ (page.overflowing_queue c) reading is_push_or_pop kinds.TheVariants.Overflow c (registries.TheVariants.Queues roles)
-    (λ r stage. flights.TheVariants.Queues (flight c r stage)) answered
-    (step_of one_word words beside p (Queues (queue_start (call_at stage))) (flights.TheVariants.Queues (flight c before stage)) old
-    (registries.TheVariants.Queues roles))
+    → StepIs ℕ (page.overflowing_queue c) reading is_push_or_pop kinds.Overflow c (registries.Queues roles)
+    (λ r stage. flights.Queues (flight c r stage)) answered
+    (step_of one_word words beside p (Queues (queue_start (call_at stage))) (flights.Queues (flight c before stage)) old
+    (registries.Queues roles))
     (comes c stage old)
 goes c roles words beside p before stage old =
     let outcome = answer_in (after one_word (flight c before stage) old) in
@@ -135,9 +135,9 @@ goes c roles words beside p before stage old =
     record {
       room = read_then before stage;
       after_is =
-          ap (as_call flights.TheVariants.Queues (λ answer. answer)) (after_same c before stage old)
+          ap (as_call flights.Queues (λ answer. answer)) (after_same c before stage old)
           ∙ went_same c (read_then before stage) (comes c stage old);
-      kept_is = ap registries.TheVariants.Queues (roles_stay p (call_at stage) outcome roles);
+      kept_is = ap registries.Queues (roles_stay p (call_at stage) outcome roles);
       unseen = effects_unseen reading p (queue_start (call_at stage)) eff outcome;
       own = effects_own p (queue_start (call_at stage)) eff outcome;
     }
@@ -145,7 +145,7 @@ goes c roles words beside p before stage old =
 -- ---- who may begin
 
 abbrev tied : ℕ → Type 0
-tied c = Tie ℕ (page.overflowing_queue c) reading is_push_or_pop kinds.TheVariants.Overflow c kept
+tied c = Tie ℕ (page.overflowing_queue c) reading is_push_or_pop kinds.Overflow c kept
 
 unfoldable pub tie : (c : ℕ) → (c == 0) ≡ false → tied c
 tie c some =
@@ -153,7 +153,7 @@ tie c some =
       call_at = call_at;
       start = λ call. Queues (queue_start call);
       room = 0;
-      flight = λ before stage. flights.TheVariants.Queues (flight c before stage);
+      flight = λ before stage. flights.Queues (flight c before stage);
       answered = answered;
       fits = fits;
       reads_start = reads_start;
@@ -184,18 +184,18 @@ tie c some =
     is_own page.Pop = refl
 
     admits : (p : ℕ) (call : page.Call) → page.may p call ≡ true
-        → first_row (begin_rows kinds.TheVariants.Overflow c kept p (Queues (queue_start call))) ≡ None
+        → first_row (begin_rows kinds.Overflow c kept p (Queues (queue_start call))) ≡ None
     admits p (page.Push value) m = holds_row 0 p m
     admits p page.Pop m = holds_row 1 p m
 
     refuses : (p : ℕ) (call : page.Call) → page.may p call ≡ false
-        → is_some (first_row (begin_rows kinds.TheVariants.Overflow c kept p (Queues (queue_start call)))) ≡ true
+        → is_some (first_row (begin_rows kinds.Overflow c kept p (Queues (queue_start call)))) ≡ true
     refuses p (page.Push value) m = lacks_row 0 p m
     refuses p page.Pop m = lacks_row 1 p m
 
     begins : (call : page.Call)
-        → model.first_of kinds.TheVariants.Overflow c (Queues (queue_start call)) kept
-        ≡ Some (flights.TheVariants.Queues (flight c 0 (page.first call)))
+        → model.first_of kinds.Overflow c (Queues (queue_start call)) kept
+        ≡ Some (flights.Queues (flight c 0 (page.first call)))
     begins (page.Push value) = rw some refl
     begins page.Pop = rw some refl
 
@@ -251,12 +251,12 @@ one_answer capacity items (Queues (Push value)) own =
 one_answer capacity items (Queues Pop) own = front items
 one_answer capacity items other own = absurd (cc)
 
-is_list : (c : ℕ) → IsObject reading (as_list queue_kinds.TheVariants.Overflow c) (page.overflowing_list c)
+is_list : (c : ℕ) → IsObject reading (as_list queue_kinds.Overflow c) (page.overflowing_list c)
 is_list c = record { state = map number; opens = refl; after = one_after c; answer = one_answer c }
 
 -- ---- every list of turns
 
-admitted : (c : ℕ) → c < 2 ^ 32 → capacity_error kinds.TheVariants.Overflow c ≡ None
+admitted : (c : ℕ) → c < 2 ^ 32 → capacity_error kinds.Overflow c ≡ None
 admitted c few = grind (arith, nat_tests)
 
 pub some_is : (c : ℕ) → 0 < c → (c == 0) ≡ false
@@ -297,8 +297,8 @@ same_turns c some (machine.Next p ∷ turns) = ap (λ ts. as_turn (machine.Next 
 reached : (c : ℕ) (turns : List (Turn ℕ)) → c < 2 ^ 32 → IsReached (run turns (acquired c))
 reached c turns few =
     run_keeps refusal_of IsReached (λ t turn e r. reached_more t turn e r) turns (acquired c)
-    (run_keeps refusal_of IsReached (λ t turn e r. reached_more t turn e r) acquires (opening one_word kinds.TheVariants.Overflow c 2)
-    (reached_opening one_word kinds.TheVariants.Overflow c 2 coded (admitted c few)))
+    (run_keeps refusal_of IsReached (λ t turn e r. reached_more t turn e r) acquires (opening one_word kinds.Overflow c 2)
+    (reached_opening one_word kinds.Overflow c 2 coded (admitted c few)))
 
 abbrev world_of : ℕ → List (machine.Turn page.Call) → (machine.World page.Call page.Stage (Option ℕ))
 world_of c turns = fold (machine.turned (page.overflowing_queue c)) (machine.opening (page.overflowing_queue c)) turns
@@ -317,9 +317,9 @@ linearizable c turns more few small =
     let s = simulated c turns some small in
     let t = trace (tie c some) 2 roles_told (world_of c turns).words s.latest s.changes s.turns s.events in
     let r : IsReached t = subst IsReached s.is (reached c (map as_turn turns) few) in
-    let keeps = (queue_keeps {T = ℕ} queue_kinds.TheVariants.Overflow).kept t refl r in
+    let keeps = (queue_keeps {T = ℕ} queue_kinds.Overflow).kept t refl r in
     subst (machine.IsLinearizable (page.overflowing_list c)) s.told
-    (carried reading (as_list queue_kinds.TheVariants.Overflow c) (page.overflowing_list c) (is_list c) roles_told 4
+    (carried reading (as_list queue_kinds.Overflow c) (page.overflowing_list c) (is_list c) roles_told 4
     s.events s.own (among s.events) (within s.events)
     (run_linearizable t keeps))
 

@@ -5,11 +5,11 @@ use Rattle.model.proofs.Names.{refl, true, ℕ, ◌+◌, ◌<◌, ◌∷◌, ◌
 use Rattle.model.specs.declared.event.Start.{Start}
 use Rattle.model.specs.declared.event.Start.TheVariants.{Container, Loan, Queues}
 use Rattle.model.specs.declared.families.Flight.{Flight}
-use Rattle.model.specs.declared.families.Registry as registries
-use Rattle.model.specs.declared.families.queues.QueueKind as queue_kinds
+use Rattle.model.specs.declared.families.Registry.TheVariants as registries
+use Rattle.model.specs.declared.families.queues.QueueKind.TheVariants as queue_kinds
 use Rattle.model.specs.declared.families.queues.QueueStart.TheVariants.{Pop, Push, PushIndex}
 use Rattle.model.specs.declared.families.queues.Roles.{Roles}
-use Rattle.model.specs.declared.turn.Kind as kinds
+use Rattle.model.specs.declared.turn.Kind.TheVariants as kinds
 use Rattle.model.specs.Families.{begin_of}
 use Rattle.model.specs.Linearized.{is_push_or_pop}
 use Rattle.pages.specs.RolesBridge.{RunsByRole}
@@ -24,8 +24,8 @@ use Rattle.pages.proofs.QueueHands.{holder_is, not_own, other_begins, the_flight
 
 module _ (c : ℕ) (more : 0 < c) where
   own : (k : Roles) (p : ℕ) (start : Start ℕ) (flight : Flight ℕ) → is_push_or_pop start ≡ true
-      → first_of kinds.TheVariants.Overflow c start (registries.TheVariants.Queues k) ≡ Some flight
-      → first_row ((begin_of kinds.TheVariants.Overflow c start).rows (registries.TheVariants.Queues k) p) ≡ None
+      → first_of kinds.Overflow c start (registries.Queues k) ≡ Some flight
+      → first_row ((begin_of kinds.Overflow c start).rows (registries.Queues k) p) ≡ None
       → OwnBegin by_role (tie c (some_is c more)) (who k) p start flight
   unfolding tie
   own k p (Queues (PushIndex value)) flight mine named rows =
@@ -42,15 +42,15 @@ module _ (c : ℕ) (more : 0 < c) where
   own k p other flight mine named rows = absurd (cc)
 
   other : (k : Roles) (p : ℕ) (start : Start ℕ) (flight : Flight ℕ) → is_push_or_pop start ≡ false
-      → first_of kinds.TheVariants.Overflow c start (registries.TheVariants.Queues k) ≡ Some flight
-      → first_row ((begin_of kinds.TheVariants.Overflow c start).rows (registries.TheVariants.Queues k) p) ≡ None
+      → first_of kinds.Overflow c start (registries.Queues k) ≡ Some flight
+      → first_row ((begin_of kinds.Overflow c start).rows (registries.Queues k) p) ≡ None
       → Other k p start flight
-  other k p (Queues start) flight mine named rows = other_begins queue_kinds.TheVariants.Overflow c k p start flight mine named rows
+  other k p (Queues start) flight mine named rows = other_begins queue_kinds.Overflow c k p start flight mine named rows
   other k p start flight mine named rows = absurd (cc)
 
   keeps : (k : Roles) (p : ℕ) (start : Start ℕ) (flight : Flight ℕ)
-      → first_of kinds.TheVariants.Overflow c start (registries.TheVariants.Queues k) ≡ Some flight
-      → kept_after_begin one_word c start p (registries.TheVariants.Queues k) ≡ registries.TheVariants.Queues k
+      → first_of kinds.Overflow c start (registries.Queues k) ≡ Some flight
+      → kept_after_begin one_word c start p (registries.Queues k) ≡ registries.Queues k
   keeps k p (Container start) flight named = absurd (cc)
   keeps k p (Loan start) flight named = absurd (cc)
   keeps k p start flight named = refl
@@ -71,7 +71,7 @@ module _ (c : ℕ) (more : 0 < c) where
   unfolding tie
   handed =
       record {
-        registry = registries.TheVariants.Queues;
+        registry = registries.Queues;
         who = who;
         blank = blank;
         Tells = Tells;
@@ -87,7 +87,7 @@ module _ (c : ℕ) (more : 0 < c) where
         no_owners = λ k. refl;
       }
 
-  opens : Sim by_role (tie c (some_is c more)) handed (machine.opening (page.overflowing_queue c)) (opening one_word kinds.TheVariants.Overflow c 0)
+  opens : Sim by_role (tie c (some_is c more)) handed (machine.opening (page.overflowing_queue c)) (opening one_word kinds.Overflow c 0)
   unfolding handed
   opens =
       let cells : c + 1 ≡ 1 * (c + 1) = omega arith in
@@ -109,5 +109,5 @@ module _ (c : ℕ) (more : 0 < c) where
             };
       }
 
-  pub runs_by_role : RunsByRole by_role (page.overflowing_queue c) (opening one_word kinds.TheVariants.Overflow c 0)
-  runs_by_role = hands.by_role by_role (tie c (some_is c more)) handed (opening one_word kinds.TheVariants.Overflow c 0) opens
+  pub runs_by_role : RunsByRole by_role (page.overflowing_queue c) (opening one_word kinds.Overflow c 0)
+  runs_by_role = hands.by_role by_role (tie c (some_is c more)) handed (opening one_word kinds.Overflow c 0) opens

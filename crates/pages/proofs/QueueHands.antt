@@ -8,8 +8,9 @@ use Rattle.model.specs.declared.event.Answer.{Answer}
 use Rattle.model.specs.declared.event.Start.{Start}
 use Rattle.model.specs.declared.event.Start.TheVariants.{Queues}
 use Rattle.model.specs.declared.families.Flight.{Flight}
-use Rattle.model.specs.declared.families.Flight as flights
-use Rattle.model.specs.declared.families.Registry as registries
+use Rattle.model.specs.declared.families.Flight.TheVariants as flights
+use Rattle.model.specs.declared.families.Registry.{Registry}
+use Rattle.model.specs.declared.families.Registry.TheVariants as registries
 use Rattle.model.specs.declared.families.queues.QueueKind.{QueueKind}
 use Rattle.model.specs.declared.families.queues.QueueStart.{QueueStart}
 use Rattle.model.specs.declared.families.queues.QueueStart.TheVariants.{AcquireProducer, ReleaseProducer, AcquireConsumer, ReleaseConsumer}
@@ -22,7 +23,8 @@ use Rattle.model.specs.Families.Queues.Calls.{acquire_of, as_it_is, consumer_wor
 use Rattle.model.specs.Families.Queues.Opening.{call_rows, holds}
 use Rattle.model.specs.Linearized.{is_push_or_pop}
 use Rattle.model.specs.Step.{Step, as_call}
-use Rattle.steps.specs.declared.ask.After as afters
+use Rattle.steps.specs.declared.ask.After.{After}
+use Rattle.steps.specs.declared.ask.After.TheVariants as afters
 use Rattle.steps.specs.declared.queues.lengths.Len as lengths
 use Rattle.steps.specs.declared.queues.lengths.LenStage.{LenStage}
 use Rattle.steps.specs.declared.queues.lengths.LenStage.TheVariants.{LoadsWrite, LoadsRead, LoadsWriteAgain, LoadsReadAgain}
@@ -103,13 +105,13 @@ module _ {T : Type 0} where
   pub record IsLength (flight : Flight T) : Type 0 where
     pub which : LengthOf
     pub run : Running lengths.Len (Unit {0}) (Unit {0})
-    pub is : flight ≡ flights.TheVariants.Queues (Length which run)
+    pub is : flight ≡ flights.Queues (Length which run)
 
   abbrev pub OtherOf : Roles → ℕ → QueueStart T → Flight T → Type 0
-  OtherOf roles p AcquireProducer flight = flight ≡ flights.TheVariants.Queues (acquire_of producer_word)
-  OtherOf roles p ReleaseProducer flight = (flight ≡ flights.TheVariants.Queues (release_of producer_word)) × (roles.producer ≡ Some p)
-  OtherOf roles p AcquireConsumer flight = flight ≡ flights.TheVariants.Queues (acquire_of consumer_word)
-  OtherOf roles p ReleaseConsumer flight = (flight ≡ flights.TheVariants.Queues (release_of consumer_word)) × (roles.consumer ≡ Some p)
+  OtherOf roles p AcquireProducer flight = flight ≡ flights.Queues (acquire_of producer_word)
+  OtherOf roles p ReleaseProducer flight = (flight ≡ flights.Queues (release_of producer_word)) × (roles.producer ≡ Some p)
+  OtherOf roles p AcquireConsumer flight = flight ≡ flights.Queues (acquire_of consumer_word)
+  OtherOf roles p ReleaseConsumer flight = (flight ≡ flights.Queues (release_of consumer_word)) × (roles.consumer ≡ Some p)
   OtherOf roles p Len flight = IsLength flight
   OtherOf roles p IsEmpty flight = IsLength flight
   OtherOf roles p IsFull flight = IsLength flight
@@ -123,7 +125,7 @@ module _ {T : Type 0} where
   the_flight e = cc
 
   pub other_begins : (kind : QueueKind) (capacity : ℕ) (roles : Roles) (p : ℕ) (start : QueueStart T) (flight : Flight T)
-      → is_push_or_pop (Queues start) ≡ false → option_map flights.TheVariants.Queues (first kind capacity start) ≡ Some flight
+      → is_push_or_pop (Queues start) ≡ false → option_map flights.Queues (first kind capacity start) ≡ Some flight
       → first_row (call_rows roles p start) ≡ None → Other roles p (Queues start) flight
   other_begins kind capacity roles p AcquireProducer flight other named rows = the_flight named
   other_begins kind capacity roles p ReleaseProducer flight other named rows = (the_flight named, holder_is roles.producer p rows)
@@ -149,7 +151,7 @@ module _ {T : Type 0} where
 
   module _ (code : Coding T) where
     length_asks : (stage : LenStage) (which : LengthOf) (run : Running lengths.Len (Unit {0}) (Unit {0})) → run.call.stage ≡ stage
-        → is_question (want_of code (flights.TheVariants.Queues (Length which run))) ≡ false
+        → is_question (want_of code (flights.Queues (Length which run))) ≡ false
     length_asks stage which run e = go run.call.stage
       where
         go : (stage : LenStage) → is_question (len_asks stage) ≡ false
@@ -178,8 +180,8 @@ module _ {T : Type 0} where
 
     abbrev StepOf : Roles → ℕ → Start T → Flight T → List ℕ → Option (ℕ × ℕ) → Type 0
     StepOf roles p start flight words beside =
-        OtherStep code registries.TheVariants.Queues who blank Tells Other roles p start flight words
-        (step_of code words beside p start flight (old_of words (ask_of (want_of code flight))) (registries.TheVariants.Queues roles))
+        OtherStep code registries.Queues who blank Tells Other roles p start flight words
+        (step_of code words beside p start flight (old_of words (ask_of (want_of code flight))) (registries.Queues roles))
 
     others_stay : (k next : Roles) (q : ℕ) → (k.producer ≡ Some q → next.producer ≡ Some q) → (k.consumer ≡ Some q → next.consumer ≡ Some q)
         → (start : Start T) (flight : Flight T) → Other k q start flight → Other next q start flight
@@ -198,10 +200,10 @@ module _ {T : Type 0} where
     no_one : {A : Type 0} {q : ℕ} → None ≡ Some q → A
     no_one e = absurd (cc)
 
-    abbrev on : Flight T → afters.After (Flight T) (Answer T)
-    on flight = afters.TheVariants.GoOn flight
+    abbrev on : Flight T → After (Flight T) (Answer T)
+    on flight = afters.GoOn flight
 
-    ended : {A : Type 0} {answer : Answer T} {then : Flight T} → afters.TheVariants.Done answer ≡ afters.TheVariants.GoOn then → A
+    ended : {A : Type 0} {answer : Answer T} {then : Flight T} → afters.Done answer ≡ afters.GoOn then → A
     ended e = absurd (cc)
 
     module _ (p write read : ℕ) (cells : List ℕ) (beside : Option (ℕ × ℕ)) where
@@ -215,7 +217,7 @@ module _ {T : Type 0} where
       both producer consumer = record { producer = producer; consumer = consumer }
 
       acquires_producer : (pr co : Option ℕ)
-          → StepOf (both pr co) p (Queues AcquireProducer) (flights.TheVariants.Queues (acquire_of producer_word)) (words_of pr co) beside
+          → StepOf (both pr co) p (Queues AcquireProducer) (flights.Queues (acquire_of producer_word)) (words_of pr co) beside
       acquires_producer None co =
           record {
             next = both (Some p) co;
@@ -245,7 +247,7 @@ module _ {T : Type 0} where
           }
 
       acquires_consumer : (pr co : Option ℕ)
-          → StepOf (both pr co) p (Queues AcquireConsumer) (flights.TheVariants.Queues (acquire_of consumer_word)) (words_of pr co) beside
+          → StepOf (both pr co) p (Queues AcquireConsumer) (flights.Queues (acquire_of consumer_word)) (words_of pr co) beside
       acquires_consumer pr None =
           record {
             next = both pr (Some p);
@@ -275,7 +277,7 @@ module _ {T : Type 0} where
           }
 
       releases_producer : (pr co : Option ℕ) → pr ≡ Some p
-          → StepOf (both pr co) p (Queues ReleaseProducer) (flights.TheVariants.Queues (release_of producer_word)) (words_of pr co) beside
+          → StepOf (both pr co) p (Queues ReleaseProducer) (flights.Queues (release_of producer_word)) (words_of pr co) beside
       releases_producer pr co holder =
           record {
             next = both None co;
@@ -294,7 +296,7 @@ module _ {T : Type 0} where
           who_is (suc (suc n)) = inl refl
 
       releases_consumer : (pr co : Option ℕ) → co ≡ Some p
-          → StepOf (both pr co) p (Queues ReleaseConsumer) (flights.TheVariants.Queues (release_of consumer_word)) (words_of pr co) beside
+          → StepOf (both pr co) p (Queues ReleaseConsumer) (flights.Queues (release_of consumer_word)) (words_of pr co) beside
       releases_consumer pr co holder =
           record {
             next = both pr None;
@@ -318,25 +320,25 @@ module _ {T : Type 0} where
       loads_alone pr co (LoadsWriteAgain at other) = refl
       loads_alone pr co (LoadsReadAgain at other) = refl
 
-      goes_on_so : (which : LengthOf) (answer : ℕ → Answer T) (comes : afters.After lengths.Len ℕ) (then : Flight T)
-          → as_call flights.TheVariants.Queues (λ a. a) (as_call (λ r. Length which r) answer (went_on as_it_is tt tt comes)) ≡ afters.TheVariants.GoOn then
+      goes_on_so : (which : LengthOf) (answer : ℕ → Answer T) (comes : After lengths.Len ℕ) (then : Flight T)
+          → as_call flights.Queues (λ a. a) (as_call (λ r. Length which r) answer (went_on as_it_is tt tt comes)) ≡ afters.GoOn then
           → IsLength then
-      goes_on_so which answer (afters.TheVariants.GoOn call) then e =
+      goes_on_so which answer (afters.GoOn call) then e =
           record { which = which; run = record { call = call; given = tt; room = tt }; is = the_next e }
         where
           the_next : {x y : Flight T} → on x ≡ on y → y ≡ x
           the_next e = cc
-      goes_on_so which answer (afters.TheVariants.Done number) then e = ended e
+      goes_on_so which answer (afters.Done number) then e = ended e
 
       module _ (start : Start T) (which : LengthOf) (run : Running lengths.Len (Unit {0}) (Unit {0})) (pr co : Option ℕ) where
-        abbrev length_step : Step (Flight T) (registries.Registry T) T
+        abbrev length_step : Step (Flight T) (Registry T) T
         length_step =
-            step_of code (words_of pr co) beside p start (flights.TheVariants.Queues (Length which run))
-            (old_of (words_of pr co) (ask_of (want_of code (flights.TheVariants.Queues (Length which run))))) (registries.TheVariants.Queues (both pr co))
+            step_of code (words_of pr co) beside p start (flights.Queues (Length which run))
+            (old_of (words_of pr co) (ask_of (want_of code (flights.Queues (Length which run))))) (registries.Queues (both pr co))
 
-        loads : length_step.kept ≡ registries.TheVariants.Queues (both pr co) → length_step.wrote ≡ []
-            → ((then : Flight T) → length_step.after ≡ afters.TheVariants.GoOn then → Other (both pr co) p start then)
-            → StepOf (both pr co) p start (flights.TheVariants.Queues (Length which run)) (words_of pr co) beside
+        loads : length_step.kept ≡ registries.Queues (both pr co) → length_step.wrote ≡ []
+            → ((then : Flight T) → length_step.after ≡ afters.GoOn then → Other (both pr co) p start then)
+            → StepOf (both pr co) p start (flights.Queues (Length which run)) (words_of pr co) beside
         loads kept_is silent stays =
             record {
               next = both pr co;

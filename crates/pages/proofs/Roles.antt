@@ -11,7 +11,8 @@ use Rattle.model.specs.declared.event.Event.{Event}
 use Rattle.model.specs.declared.event.Item.{Item}
 use Rattle.model.specs.declared.event.Item.TheVariants.{Index, Value}
 use Rattle.model.specs.declared.event.Start.TheVariants.{Queues}
-use Rattle.model.specs.declared.families.Registry as registries
+use Rattle.model.specs.declared.families.Registry.{Registry}
+use Rattle.model.specs.declared.families.Registry.TheVariants as registries
 use Rattle.model.specs.declared.families.queues.QueueStart.{QueueStart}
 use Rattle.model.specs.declared.families.queues.QueueStart.TheVariants.{AcquireProducer, AcquireConsumer}
 use Rattle.model.specs.declared.families.queues.Roles.{Roles}
@@ -32,8 +33,8 @@ use Rattle.pages.proofs.Seen.{IsOwn}
 abbrev pub held : Roles
 held = record { producer = Some 0; consumer = Some 1 }
 
-abbrev pub kept : {T : Type 0} → registries.Registry T
-kept = registries.TheVariants.Queues held
+abbrev pub kept : {T : Type 0} → Registry T
+kept = registries.Queues held
 
 -- who is the holder has the role, and no other has
 pub holds_row : (holder p : ℕ) → (p == holder) ≡ true → first_row ((false, WrongCall) ∷ (not (holder == p), NoRole) ∷ []) ≡ None

@@ -13,7 +13,8 @@ use Rattle.model.specs.declared.event.Event.{Event}
 use Rattle.model.specs.declared.families.Flight.{Flight}
 use Rattle.model.specs.declared.event.Start.{Start}
 use Rattle.steps.specs.declared.ask.Ask.{Ask}
-use Rattle.steps.specs.declared.ask.Want as wants
+use Rattle.steps.specs.declared.ask.Want.{Want}
+use Rattle.steps.specs.declared.ask.Want.TheVariants as wants
 use Rattle.model.specs.declared.turn.Refusal.{Refusal}
 use Rattle.model.specs.declared.turn.Refusal.TheVariants.{AtEnd, NoParty, Idle, Undecided}
 use Rattle.model.specs.Turns.{attempt, unless_refused}
@@ -52,10 +53,10 @@ none_is None e = refl
 none_is (Some flight) e = absurd (cc)
 
 -- who asks for an operation puts no question
-pub asks_no_question : (want : wants.Want (Unit {0})) (ask : Ask) → ask_of want ≡ Some ask → is_question want ≡ false
-asks_no_question (wants.TheVariants.Ask a) ask e = refl
-asks_no_question (wants.TheVariants.Question question) ask e = absurd (cc)
-asks_no_question wants.TheVariants.Nothing ask e = refl
+pub asks_no_question : (want : Want (Unit {0})) (ask : Ask) → ask_of want ≡ Some ask → is_question want ≡ false
+asks_no_question (wants.Ask a) ask e = refl
+asks_no_question (wants.Question question) ask e = absurd (cc)
+asks_no_question wants.Nothing ask e = refl
 
 pub words_same : (words : List ℕ) (word : ℕ) (op : machine.Operation)
     → words_after words (Some (asked word op)) ≡ slice_set words word (machine.written op (slice_index words word))

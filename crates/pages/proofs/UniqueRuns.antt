@@ -12,9 +12,11 @@ use Rattle.model.specs.declared.event.Event.{Event}
 use Rattle.model.specs.declared.event.Event.TheVariants.{Begun, Freed}
 use Rattle.model.specs.declared.event.Start.{Start}
 use Rattle.model.specs.declared.event.Start.TheVariants.{Indices}
-use Rattle.model.specs.declared.families.Flight as flights
-use Rattle.model.specs.declared.families.Registry as registries
-use Rattle.model.specs.declared.turn.Kind as kinds
+use Rattle.model.specs.declared.families.Flight.{Flight}
+use Rattle.model.specs.declared.families.Flight.TheVariants as flights
+use Rattle.model.specs.declared.families.Registry.{Registry}
+use Rattle.model.specs.declared.families.Registry.TheVariants as registries
+use Rattle.model.specs.declared.turn.Kind.TheVariants as kinds
 use Rattle.model.specs.declared.turn.Refusal.TheVariants.{BadIndex, NotHeld, WrongCall}
 use Rattle.model.specs.Families.{begin_rows}
 use Rattle.model.specs.Families.Indices.Calls.{after}
@@ -52,8 +54,8 @@ module _ (c : ℕ) where
   call_at (page.ReleaseExchangesHead index l head) = page.Release index l
   call_at (page.ReleaseSubtracts index) = page.Release index false
 
-  abbrev the_flight : Unit {0} → page.Stage → flights.Flight ℕ
-  the_flight room stage = flights.TheVariants.Indices (bridge.flight c stage)
+  abbrev the_flight : Unit {0} → page.Stage → Flight ℕ
+  the_flight room stage = flights.Indices (bridge.flight c stage)
 
   abbrev is_clearing : page.Stage → Bool
   is_clearing (page.ReleaseClearsFlag index l) = true
@@ -154,7 +156,7 @@ module _ (c : ℕ) where
       ∙ (ap (λ a. effects p (freed_by stage) (answer_in a)) (after_same c stage old) ∙ effects_same p (freed_by stage) ((page.does c stage).2 old))
 
   went_same : (a : machine.After page.Stage page.Answer)
-      → as_call flights.TheVariants.Indices (λ (answer : Answer ℕ). answer) (bridge.went c a) ≡ went (the_flight tt) bridge.answered a
+      → as_call flights.Indices (λ (answer : Answer ℕ). answer) (bridge.went c a) ≡ went (the_flight tt) bridge.answered a
   went_same (machine.GoOn stage) = refl
   went_same (machine.Done answer) = refl
 
@@ -219,7 +221,7 @@ module _ (c : ℕ) where
 
   -- ---- the relation
 
-  knows_of : (t : Trace ℕ) → IsReached t → t.world.kind ≡ kinds.TheVariants.Indices → t.world.capacity ≡ c → Knows c t.events t.world.kept
+  knows_of : (t : Trace ℕ) → IsReached t → t.world.kind ≡ kinds.Indices → t.world.capacity ≡ c → Knows c t.events t.world.kept
   knows_of t r is same =
       let kept = (index_keeps {T = ℕ}).kept t is r in
       let set : IsIndexSet t = subst (λ k. (promise_of k).holds t) is kept.promised in
@@ -229,9 +231,9 @@ module _ (c : ℕ) where
   Rule w (machine.Begin p (page.Release index l)) = w.pending p ≡ None → page.holder index w.history ≡ Some p
   Rule w turn = Unit {0}
 
-  abbrev StepIs : List (Event ℕ) → Page c → ℕ → page.Stage → Option (ℕ × ℕ) → registries.Registry ℕ → Type 0
+  abbrev StepIs : List (Event ℕ) → Page c → ℕ → page.Stage → Option (ℕ × ℕ) → Registry ℕ → Type 0
   StepIs events w p stage beside k =
-      StepsRight (Unit {0}) (page.unique_index_set c) kinds.TheVariants.Indices c call_at (λ call. Indices (bridge.index_start call)) the_flight
+      StepsRight (Unit {0}) (page.unique_index_set c) kinds.Indices c call_at (λ call. Indices (bridge.index_start call)) the_flight
       bridge.answered (λ stage. Unit {0}) (Knows c) (Related c) events w p stage
       (step_of one_word w.words beside p (Indices (bridge.index_start (call_at stage))) (the_flight tt stage)
       (slice_index w.words (page.does c stage).0) k)
@@ -243,13 +245,13 @@ module _ (c : ℕ) where
   is_holder o p e = rw e (grind (arith, nat_tests))
 
   step_by : (events : List (Event ℕ)) (w : Page c) (p : ℕ) (stage : page.Stage) (beside : Option (ℕ × ℕ)) (holders : List (Option ℕ))
-      → Rel c events w.history w.pending → w.pending p ≡ Some stage → StepIs events w p stage beside (registries.TheVariants.Indices holders)
+      → Rel c events w.history w.pending → w.pending p ≡ Some stage → StepIs events w p stage beside (registries.Indices holders)
   step_by events w p stage beside holders r here =
       let old = slice_index w.words (page.does c stage).0 in
       let a = (page.does c stage).2 old in
       let words = slice_set w.words (page.does c stage).0 (machine.written (page.does c stage).1 old) in
       let start = Indices (bridge.index_start (call_at stage)) in
-      let is = ap (as_call flights.TheVariants.Indices (λ (answer : Answer ℕ). answer)) (after_same c stage old) ∙ went_same a in
+      let is = ap (as_call flights.Indices (λ (answer : Answer ℕ). answer)) (after_same c stage old) ∙ went_same a in
       let es = ap (λ z. wrote p (bridge.flight c stage) old ++ ending_of p start (answer_in z)) is
       ∙ ap (λ xs. xs ++ ending_of p start (answer_in (went (the_flight tt) bridge.answered a))) (wrote_same p stage old) in
       record {
@@ -262,7 +264,7 @@ module _ (c : ℕ) where
             (related_then events w p stage words old r here (subst (λ xs. readings.Each (HoldsRight c) (events ++ xs)) es known.holds));
       }
 
-  relation : Relation (Unit {0}) (page.unique_index_set c) kinds.TheVariants.Indices c
+  relation : Relation (Unit {0}) (page.unique_index_set c) kinds.Indices c
   relation =
       record {
         call_at = call_at;
@@ -291,35 +293,35 @@ module _ (c : ℕ) where
       first_at page.Acquire = refl
       first_at (page.Release index l) = refl
 
-      begins : (k : registries.Registry ℕ) (call : page.Call)
-          → first_of kinds.TheVariants.Indices c (Indices (bridge.index_start call)) k ≡ Some (the_flight tt (page.first call))
+      begins : (k : Registry ℕ) (call : page.Call)
+          → first_of kinds.Indices c (Indices (bridge.index_start call)) k ≡ Some (the_flight tt (page.first call))
       begins k page.Acquire = refl
       begins k (page.Release index true) = refl
       begins k (page.Release index false) = refl
 
-      admits : (events : List (Event ℕ)) (k : registries.Registry ℕ) (w : Page c) (p : ℕ) (call : page.Call) → Related c events k w → Knows c events k
+      admits : (events : List (Event ℕ)) (k : Registry ℕ) (w : Page c) (p : ℕ) (call : page.Call) → Related c events k w → Knows c events k
           → true ≡ true → w.pending p ≡ None → Rule w (machine.Begin p call)
-          → first_row (begin_rows kinds.TheVariants.Indices c k p (Indices (bridge.index_start call))) ≡ None
-      admits events (registries.TheVariants.Indices holders) w p page.Acquire r known may free rule = refl
-      admits events (registries.TheVariants.Indices holders) w p (page.Release index true) r known may free rule =
+          → first_row (begin_rows kinds.Indices c k p (Indices (bridge.index_start call))) ≡ None
+      admits events (registries.Indices holders) w p page.Acquire r known may free rule = refl
+      admits events (registries.Indices holders) w p (page.Release index true) r known may free rule =
           let had = r.held index p (rule free) in
           holds_row (nat_le c index) (holds (slice_index_or holders index None) p) (let lt = had.1 in grind (arith, nat_tests))
           (is_holder (slice_index_or holders index None) p (known.keeps index ∙ had.0))
-      admits events (registries.TheVariants.Indices holders) w p (page.Release index false) r known may free rule =
+      admits events (registries.Indices holders) w p (page.Release index false) r known may free rule =
           let had = r.held index p (rule free) in
           holds_row (nat_le c index) (holds (slice_index_or holders index None) p) (let lt = had.1 in grind (arith, nat_tests))
           (is_holder (slice_index_or holders index None) p (known.keeps index ∙ had.0))
       admits events k w p call r known may free rule = absurd (known.keeps)
 
-      begun : (events : List (Event ℕ)) (k : registries.Registry ℕ) (w : Page c) (p : ℕ) (call : page.Call) → Related c events k w → true ≡ true
+      begun : (events : List (Event ℕ)) (k : Registry ℕ) (w : Page c) (p : ℕ) (call : page.Call) → Related c events k w → true ≡ true
           → w.pending p ≡ None → Rule w (machine.Begin p call)
           → Related c (events ++ Begun p (Indices (bridge.index_start call)) ∷ []) k (machine.begun (page.unique_index_set c) w p call true None)
       begun events k w p page.Acquire r may free rule = begins_acquire c events w.history w.pending p r
       begun events k w p (page.Release index l) r may free rule = begins_release c events w.history w.pending p index l r (rule free)
 
-      steps : (events : List (Event ℕ)) (k : registries.Registry ℕ) (w : Page c) (beside : Option (ℕ × ℕ)) (p : ℕ) (stage : page.Stage)
+      steps : (events : List (Event ℕ)) (k : Registry ℕ) (w : Page c) (beside : Option (ℕ × ℕ)) (p : ℕ) (stage : page.Stage)
           → Related c events k w → Knows c events k → w.pending p ≡ Some stage → StepIs events w p stage beside k
-      steps events (registries.TheVariants.Indices holders) w beside p stage r known here = step_by events w p stage beside holders r here
+      steps events (registries.Indices holders) w beside p stage r known here = step_by events w p stage beside holders r here
       steps events k w beside p stage r known here = absurd (known.keeps)
 
   -- ---- the rule of the callers, from the history at the end
@@ -354,7 +356,7 @@ module _ (c : ℕ) where
 
   rules_of : (parties : ℕ) (turns : List (machine.Turn page.Call)) (w : Page c)
       → page.Each page.ReleasesOwn (fold (machine.turned (page.unique_index_set c)) w turns).history
-      → AllRules (Unit {0}) (page.unique_index_set c) kinds.TheVariants.Indices c relation parties w turns
+      → AllRules (Unit {0}) (page.unique_index_set c) kinds.Indices c relation parties w turns
   unfolding relation
   rules_of parties [] w own = tt
   rules_of parties (turn ∷ turns) w own = (rule turn own, rules_of parties turns (machine.turned (page.unique_index_set c) w turn) own)
@@ -377,14 +379,14 @@ module _ (c : ℕ) where
   world_of turns = fold (machine.turned (page.unique_index_set c)) (machine.opening (page.unique_index_set c)) turns
 
   same_turns : (parties : ℕ) (turns : List (machine.Turn page.Call))
-      → map (relates.as_turn (Unit {0}) (page.unique_index_set c) kinds.TheVariants.Indices c relation parties) turns ≡ map bridge.as_turn turns
+      → map (relates.as_turn (Unit {0}) (page.unique_index_set c) kinds.Indices c relation parties) turns ≡ map bridge.as_turn turns
   unfolding relation
   same_turns parties [] = refl
   same_turns parties (machine.Begin p call ∷ turns) = ap (λ ts. bridge.as_turn (machine.Begin p call) ∷ ts) (same_turns parties turns)
   same_turns parties (machine.Next p ∷ turns) = ap (λ ts. bridge.as_turn (machine.Next p) ∷ ts) (same_turns parties turns)
 
   within_of : (parties : ℕ) (turns : List (machine.Turn page.Call)) → AreWithin parties turns
-      → AllByRecursion (IsWithin (Unit {0}) (page.unique_index_set c) kinds.TheVariants.Indices c relation parties) turns
+      → AllByRecursion (IsWithin (Unit {0}) (page.unique_index_set c) kinds.Indices c relation parties) turns
   within_of parties [] within = tt
   within_of parties (machine.Begin p call ∷ turns) within = (within.0, within_of parties turns within.1)
   within_of parties (machine.Next p ∷ turns) within = (tt, within_of parties turns within.1)
@@ -393,19 +395,19 @@ module _ (c : ℕ) where
   coded = grind arith
 
   opens : (parties : ℕ) → 0 < c → c < 2 ^ 24 - 1
-      → Meets (Unit {0}) (page.unique_index_set c) kinds.TheVariants.Indices c relation parties (machine.opening (page.unique_index_set c)) 0
-      (opening one_word kinds.TheVariants.Indices c parties)
+      → Meets (Unit {0}) (page.unique_index_set c) kinds.Indices c relation parties (machine.opening (page.unique_index_set c)) 0
+      (opening one_word kinds.Indices c parties)
   unfolding relation
   opens parties some few =
       record {
         latest = [];
         changes = 0;
         turns = 0;
-        kept = registries.TheVariants.Indices (replicate c None);
+        kept = registries.Indices (replicate c None);
         events = [];
         few = omega arith;
         is = refl;
-        reached = reached_opening one_word kinds.TheVariants.Indices c parties coded (grind (arith, nat_tests));
+        reached = reached_opening one_word kinds.Indices c parties coded (grind (arith, nat_tests));
         related = record {
           told = refl;
           held = λ i p e. absurd (cc);
@@ -418,13 +420,13 @@ module _ (c : ℕ) where
 
   meets : (parties : ℕ) (turns : List (machine.Turn page.Call)) → 0 < c → c < 2 ^ 24 - 1 → AreWithin parties turns → length turns < 2 ^ 63
       → page.Each page.ReleasesOwn (world_of turns).history
-      → Meets (Unit {0}) (page.unique_index_set c) kinds.TheVariants.Indices c relation parties (world_of turns) (0 + length turns)
-      (run (map bridge.as_turn turns) (opening one_word kinds.TheVariants.Indices c parties))
+      → Meets (Unit {0}) (page.unique_index_set c) kinds.Indices c relation parties (world_of turns) (0 + length turns)
+      (run (map bridge.as_turn turns) (opening one_word kinds.Indices c parties))
   meets parties turns some few within small own =
-      subst (λ ts. Meets (Unit {0}) (page.unique_index_set c) kinds.TheVariants.Indices c relation parties (world_of turns) (0 + length turns)
-      (run ts (opening one_word kinds.TheVariants.Indices c parties))) (same_turns parties turns)
-      (all_turns (Unit {0}) (page.unique_index_set c) kinds.TheVariants.Indices c relation parties turns (within_of parties turns within)
-      (machine.opening (page.unique_index_set c)) 0 (opening one_word kinds.TheVariants.Indices c parties)
+      subst (λ ts. Meets (Unit {0}) (page.unique_index_set c) kinds.Indices c relation parties (world_of turns) (0 + length turns)
+      (run ts (opening one_word kinds.Indices c parties))) (same_turns parties turns)
+      (all_turns (Unit {0}) (page.unique_index_set c) kinds.Indices c relation parties turns (within_of parties turns within)
+      (machine.opening (page.unique_index_set c)) 0 (opening one_word kinds.Indices c parties)
       (rules_of parties turns (machine.opening (page.unique_index_set c)) own) (omega arith) (opens parties some few))
 
 pub runs : bridge.UniqueRunsAsTheMachine

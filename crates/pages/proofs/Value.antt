@@ -12,12 +12,13 @@ use Rattle.model.specs.declared.event.Answer.TheVariants as answers
 use Rattle.model.specs.declared.event.Event.{Event}
 use Rattle.model.specs.declared.event.Start.{Start}
 use Rattle.model.specs.declared.event.Start.TheVariants.{Atomic}
-use Rattle.model.specs.declared.families.Flight as flights
-use Rattle.model.specs.declared.families.Registry as registries
+use Rattle.model.specs.declared.families.Flight.TheVariants as flights
+use Rattle.model.specs.declared.families.Registry.{Registry}
+use Rattle.model.specs.declared.families.Registry.TheVariants as registries
 use Rattle.model.specs.declared.families.atomic.AtomicStart.{AtomicStart}
 use Rattle.model.specs.declared.families.atomic.AtomicStart.TheVariants as starts
 use Rattle.model.specs.declared.party.Party.{Party}
-use Rattle.model.specs.declared.turn.Kind as kinds
+use Rattle.model.specs.declared.turn.Kind.TheVariants as kinds
 use Rattle.model.specs.declared.turn.Refusal.TheVariants.{AtEnd, Busy, Idle, NoParty, Undecided}
 use Rattle.model.specs.declared.turn.Turn.{Turn}
 use Rattle.model.specs.declared.turn.Turn.TheVariants.{Begin, Next}
@@ -116,42 +117,42 @@ acted_own p (starts.Store value) (Some (answers.Truth true)) = (tt, tt)
 acted_own p starts.Load (Some answer) = (tt, tt)
 acted_own p start outcome = tt
 
-abbrev kept : registries.Registry ℕ
-kept = registries.TheVariants.Atomic (Some 0)
+abbrev kept : Registry ℕ
+kept = registries.Atomic (Some 0)
 
 went_same : (before : ℕ) (a : (machine.After page.Stage page.Answer))
-    → as_call flights.TheVariants.Atomic (λ (answer : Answer ℕ). answer) (went before a)
-    ≡ simulates.went (λ stage. flights.TheVariants.Atomic (flight before stage)) answered a
+    → as_call flights.Atomic (λ (answer : Answer ℕ). answer) (went before a)
+    ≡ simulates.went (λ stage. flights.Atomic (flight before stage)) answered a
 went_same before (machine.GoOn stage) = refl
 went_same before (machine.Done answer) = refl
 
 pub goes : (role : Option ℕ) (words : List ℕ) (beside : Option (ℕ × ℕ)) (p before : ℕ) (stage : page.Stage) (old : ℕ)
-    → StepIs ℕ page.value reading is_store_or_load kinds.TheVariants.Atomic 1 (registries.TheVariants.Atomic role)
-    (λ r stage. flights.TheVariants.Atomic (flight r stage)) answered
-    (step_of one_word words beside p (Atomic (value_start (call_at stage))) (flights.TheVariants.Atomic (flight before stage)) old
-    (registries.TheVariants.Atomic role))
+    → StepIs ℕ page.value reading is_store_or_load kinds.Atomic 1 (registries.Atomic role)
+    (λ r stage. flights.Atomic (flight r stage)) answered
+    (step_of one_word words beside p (Atomic (value_start (call_at stage))) (flights.Atomic (flight before stage)) old
+    (registries.Atomic role))
     (comes stage old)
 goes role words beside p before stage old =
     let outcome = answer_in (after one_word (flight before stage) old) in
     record {
       room = read_then before stage;
       after_is =
-          ap (as_call flights.TheVariants.Atomic (λ answer. answer)) (after_same before stage old)
+          ap (as_call flights.Atomic (λ answer. answer)) (after_same before stage old)
           ∙ went_same (read_then before stage) (comes stage old);
-      kept_is = ap registries.TheVariants.Atomic (role_stays p (call_at stage) outcome role);
+      kept_is = ap registries.Atomic (role_stays p (call_at stage) outcome role);
       unseen = acted_unseen p (value_start (call_at stage)) outcome;
       own = acted_own p (value_start (call_at stage)) outcome;
     }
 
 -- ---- who may begin
 
-unfoldable pub tie : Tie ℕ page.value reading is_store_or_load kinds.TheVariants.Atomic 1 kept
+unfoldable pub tie : Tie ℕ page.value reading is_store_or_load kinds.Atomic 1 kept
 tie =
     record {
       call_at = call_at;
       start = λ call. Atomic (value_start call);
       room = 0;
-      flight = λ before stage. flights.TheVariants.Atomic (flight before stage);
+      flight = λ before stage. flights.Atomic (flight before stage);
       answered = answered;
       fits = λ stage. true;
       reads_start = reads_start;
@@ -182,18 +183,18 @@ tie =
     is_own page.LoadValue = refl
 
     admits : (p : ℕ) (call : page.Call) → page.may p call ≡ true
-        → first_row (begin_rows kinds.TheVariants.Atomic 1 kept p (Atomic (value_start call))) ≡ None
+        → first_row (begin_rows kinds.Atomic 1 kept p (Atomic (value_start call))) ≡ None
     admits p (page.StoreValue value) m = holds_row 0 p m
     admits p page.LoadValue m = refl
 
     refuses : (p : ℕ) (call : page.Call) → page.may p call ≡ false
-        → is_some (first_row (begin_rows kinds.TheVariants.Atomic 1 kept p (Atomic (value_start call)))) ≡ true
+        → is_some (first_row (begin_rows kinds.Atomic 1 kept p (Atomic (value_start call)))) ≡ true
     refuses p (page.StoreValue value) m = lacks_row 0 p m
     refuses p page.LoadValue m = absurd (cc)
 
     begins : (call : page.Call)
-        → model.first_of kinds.TheVariants.Atomic 1 (Atomic (value_start call)) kept
-        ≡ Some (flights.TheVariants.Atomic (flight 0 (page.first call)))
+        → model.first_of kinds.Atomic 1 (Atomic (value_start call)) kept
+        ≡ Some (flights.Atomic (flight 0 (page.first call)))
     begins (page.StoreValue value) = refl
     begins page.LoadValue = refl
 
@@ -238,7 +239,7 @@ coded = grind arith
 
 -- the acquire, with so many parties
 abbrev opened : ℕ → Trace ℕ
-opened n = opening one_word kinds.TheVariants.Atomic 1 n
+opened n = opening one_word kinds.Atomic 1 n
 
 abbrev begun : ℕ → Trace ℕ
 begun n = after_turn (opened n) (Begin 0 (Atomic starts.AcquireProducer))
@@ -247,7 +248,7 @@ begins_acquire : (n : ℕ) → 0 < n → attempt (opened n) (Begin 0 (Atomic sta
 begins_acquire n lt =
     taken (opened n) (Begin 0 (Atomic starts.AcquireProducer))
     (ap (λ b. first_row ((false, AtEnd) ∷ (b, NoParty) ∷ (false, Busy)
-    ∷ begin_rows {T = ℕ} kinds.TheVariants.Atomic 1 (registries.TheVariants.Atomic None) 0 (Atomic starts.AcquireProducer)))
+    ∷ begin_rows {T = ℕ} kinds.Atomic 1 (registries.Atomic None) 0 (Atomic starts.AcquireProducer)))
     (not_past n 0 lt))
 
 acquires_then : (n : ℕ) → 0 < n → attempt (begun n) (Next 0) ≡ after_turn (begun n) (Next 0)
@@ -297,7 +298,7 @@ reached : (n : ℕ) (turns : List (Turn ℕ)) → IsReached (run turns (acquired
 reached n turns =
     run_keeps refusal_of IsReached (λ t turn e r. reached_more t turn e r) turns (acquired n)
     (run_keeps refusal_of IsReached (λ t turn e r. reached_more t turn e r) acquires (opened n)
-    (reached_opening one_word kinds.TheVariants.Atomic 1 n coded refl))
+    (reached_opening one_word kinds.Atomic 1 n coded refl))
 
 abbrev world_of : List (machine.Turn page.Call) → (machine.World page.Call page.Stage page.Answer)
 world_of turns = fold (machine.turned page.value) (machine.opening page.value) turns

@@ -7,14 +7,14 @@ use Rattle.model.specs.declared.event.Answer.{Answer}
 use Rattle.model.specs.declared.event.Start.{Start}
 use Rattle.model.specs.declared.event.Start.TheVariants.{Atomic, Container, Loan}
 use Rattle.model.specs.declared.families.Flight.{Flight}
-use Rattle.model.specs.declared.families.Flight as flights
-use Rattle.model.specs.declared.families.Registry as registries
+use Rattle.model.specs.declared.families.Flight.TheVariants as flights
+use Rattle.model.specs.declared.families.Registry.TheVariants as registries
 use Rattle.model.specs.declared.families.atomic.AtomicStart.TheVariants.{AcquireProducer, Load, ReleaseProducer, Store}
-use Rattle.model.specs.declared.turn.Kind as kinds
+use Rattle.model.specs.declared.turn.Kind.TheVariants as kinds
 use Rattle.model.specs.Families.{begin_of}
 use Rattle.model.specs.Families.Atomic.Calls as calls
 use Rattle.model.specs.Linearized.{is_store_or_load}
-use Rattle.steps.specs.declared.ask.After as afters
+use Rattle.steps.specs.declared.ask.After.TheVariants as afters
 use Rattle.pages.specs.RolesBridge.{RunsByRole}
 use Rattle.pages.specs.Machine as machine
 use Rattle.pages.specs.Value as page
@@ -44,10 +44,10 @@ who role (suc n) = Some n
 -- ---- the calls on the role
 
 abbrev acquires : Flight ℕ
-acquires = flights.TheVariants.Atomic (calls.first AcquireProducer)
+acquires = flights.Atomic (calls.first AcquireProducer)
 
 abbrev releases : Flight ℕ
-releases = flights.TheVariants.Atomic (calls.first ReleaseProducer)
+releases = flights.Atomic (calls.first ReleaseProducer)
 
 abbrev Other : Option ℕ → ℕ → Start ℕ → Flight ℕ → Type 0
 Other role p (Atomic AcquireProducer) flight = flight ≡ acquires
@@ -56,8 +56,8 @@ Other role p start flight = ⊥
 
 abbrev StepOf : Option ℕ → ℕ → Start ℕ → Flight ℕ → List ℕ → Option (ℕ × ℕ) → Type 0
 StepOf role p start flight words beside =
-    OtherStep one_word registries.TheVariants.Atomic who blank Tells Other role p start flight words
-    (step_of one_word words beside p start flight (old_of words (ask_of (want_of one_word flight))) (registries.TheVariants.Atomic role))
+    OtherStep one_word registries.Atomic who blank Tells Other role p start flight words
+    (step_of one_word words beside p start flight (old_of words (ask_of (want_of one_word flight))) (registries.Atomic role))
 
 others_stay : (k next : Option ℕ) (q : ℕ) → (k ≡ Some q → next ≡ Some q)
     → (start : Start ℕ) (flight : Flight ℕ) → Other k q start flight → Other next q start flight
@@ -70,7 +70,7 @@ others_stay k next q holds other flight h = absurd h
 no_one : {A : Type 0} {q : ℕ} → None ≡ Some q → A
 no_one e = absurd (cc)
 
-ended : {A : Type 0} {answer : Answer ℕ} {then : Flight ℕ} → afters.TheVariants.Done answer ≡ afters.TheVariants.GoOn then → A
+ended : {A : Type 0} {answer : Answer ℕ} {then : Flight ℕ} → afters.Done answer ≡ afters.GoOn then → A
 ended e = absurd (cc)
 
 module _ (p version : ℕ) (cells : List ℕ) (beside : Option (ℕ × ℕ)) where
@@ -148,8 +148,8 @@ asks_nothing role p other flight h = absurd h
 -- ---- the calls of the page
 
 own : (k : Option ℕ) (p : ℕ) (start : Start ℕ) (flight : Flight ℕ) → is_store_or_load start ≡ true
-    → first_of kinds.TheVariants.Atomic 1 start (registries.TheVariants.Atomic k) ≡ Some flight
-    → first_row ((begin_of kinds.TheVariants.Atomic 1 start).rows (registries.TheVariants.Atomic k) p) ≡ None
+    → first_of kinds.Atomic 1 start (registries.Atomic k) ≡ Some flight
+    → first_row ((begin_of kinds.Atomic 1 start).rows (registries.Atomic k) p) ≡ None
     → OwnBegin by_role tie (who k) p start flight
 unfolding tie
 own k p (Atomic (Store value)) flight mine named rows =
@@ -160,8 +160,8 @@ own k p (Atomic Load) flight mine named rows =
 own k p other flight mine named rows = absurd (cc)
 
 other : (k : Option ℕ) (p : ℕ) (start : Start ℕ) (flight : Flight ℕ) → is_store_or_load start ≡ false
-    → first_of kinds.TheVariants.Atomic 1 start (registries.TheVariants.Atomic k) ≡ Some flight
-    → first_row ((begin_of kinds.TheVariants.Atomic 1 start).rows (registries.TheVariants.Atomic k) p) ≡ None
+    → first_of kinds.Atomic 1 start (registries.Atomic k) ≡ Some flight
+    → first_row ((begin_of kinds.Atomic 1 start).rows (registries.Atomic k) p) ≡ None
     → Other k p start flight
 other k p (Atomic AcquireProducer) flight mine named rows = the_flight named
 other k p (Atomic ReleaseProducer) flight mine named rows = (the_flight named, holder_is k p rows)
@@ -170,8 +170,8 @@ other k p (Atomic Load) flight mine named rows = absurd (cc)
 other k p start flight mine named rows = absurd (cc)
 
 keeps : (k : Option ℕ) (p : ℕ) (start : Start ℕ) (flight : Flight ℕ)
-    → first_of kinds.TheVariants.Atomic 1 start (registries.TheVariants.Atomic k) ≡ Some flight
-    → kept_after_begin one_word 1 start p (registries.TheVariants.Atomic k) ≡ registries.TheVariants.Atomic k
+    → first_of kinds.Atomic 1 start (registries.Atomic k) ≡ Some flight
+    → kept_after_begin one_word 1 start p (registries.Atomic k) ≡ registries.Atomic k
 keeps k p (Container start) flight named = absurd (cc)
 keeps k p (Loan start) flight named = absurd (cc)
 keeps k p start flight named = refl
@@ -201,7 +201,7 @@ handed : Hands by_role tie (Option ℕ)
 unfolding tie
 handed =
     record {
-      registry = registries.TheVariants.Atomic;
+      registry = registries.Atomic;
       who = who;
       blank = blank;
       Tells = Tells;
@@ -217,7 +217,7 @@ handed =
       no_owners = λ k. refl;
     }
 
-opens : Sim by_role tie handed (machine.opening page.value) (opening one_word kinds.TheVariants.Atomic 1 0)
+opens : Sim by_role tie handed (machine.opening page.value) (opening one_word kinds.Atomic 1 0)
 unfolding handed
 opens =
     record {
@@ -238,5 +238,5 @@ opens =
           };
     }
 
-pub runs_by_role : RunsByRole by_role page.value (opening one_word kinds.TheVariants.Atomic 1 0)
-runs_by_role = hands.by_role by_role tie handed (opening one_word kinds.TheVariants.Atomic 1 0) opens
+pub runs_by_role : RunsByRole by_role page.value (opening one_word kinds.Atomic 1 0)
+runs_by_role = hands.by_role by_role tie handed (opening one_word kinds.Atomic 1 0) opens

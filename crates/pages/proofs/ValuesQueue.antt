@@ -17,15 +17,15 @@ use Rattle.model.specs.declared.event.Item.{Item}
 use Rattle.model.specs.declared.event.Item.TheVariants.{Index, Value}
 use Rattle.model.specs.declared.event.Start.{Start}
 use Rattle.model.specs.declared.event.Start.TheVariants.{Queues}
-use Rattle.model.specs.declared.families.Flight as flights
-use Rattle.model.specs.declared.families.Registry as registries
-use Rattle.model.specs.declared.families.queues.QueueKind as queue_kinds
+use Rattle.model.specs.declared.families.Flight.TheVariants as flights
+use Rattle.model.specs.declared.families.Registry.TheVariants as registries
+use Rattle.model.specs.declared.families.queues.QueueKind.TheVariants as queue_kinds
 use Rattle.model.specs.declared.families.queues.QueueStart.TheVariants.{PushIndex, Push, Pop}
 use Rattle.model.specs.declared.families.queues.Roles.{Roles}
 use Rattle.model.specs.declared.families.queues.calls.QueueFlight.{QueueFlight}
 use Rattle.model.specs.declared.families.queues.calls.QueueFlight.TheVariants.{Values}
-use Rattle.model.specs.declared.families.queues.calls.RingCall as rings
-use Rattle.model.specs.declared.turn.Kind as kinds
+use Rattle.model.specs.declared.families.queues.calls.RingCall.TheVariants as rings
+use Rattle.model.specs.declared.turn.Kind.TheVariants as kinds
 use Rattle.model.specs.declared.turn.Turn.{Turn}
 use Rattle.model.specs.Families.{begin_rows}
 use Rattle.model.specs.Families.Queues.Calls.{after, as_it_is, kept_at, popped_value, read_in, want}
@@ -41,8 +41,8 @@ use Rattle.steps.specs.declared.ask.After.{After}
 use Rattle.steps.specs.declared.ask.After.TheVariants.{Done, GoOn}
 use Rattle.steps.specs.declared.ask.Op.TheVariants.{Load, Store}
 use Rattle.steps.specs.declared.copied.Buffer.{Buffer}
-use Rattle.steps.specs.declared.queues.ring.PushStage as pushes
-use Rattle.steps.specs.declared.queues.ring.PopStage as pops
+use Rattle.steps.specs.declared.queues.ring.PushStage.TheVariants as pushes
+use Rattle.steps.specs.declared.queues.ring.PopStage.TheVariants as pops
 use Rattle.steps.specs.Queues.Ring.{cell_word, pop_answer, word_at}
 use Rattle.steps.specs.Routine.{went_on}
 use Rattle.pages.specs.Queue as page
@@ -159,17 +159,17 @@ module _ {T : Type 0} (how : page.Written T) where
   -- a push whose next word is this, and a pop once this room has the word, where words are missing still or not
   abbrev stores_on : ℕ → T → ℕ → Bool → ℕ → After (QueueFlight T) (Answer T)
   stores_on c value write b at =
-      as_call (λ r. Values (rings.TheVariants.Push r)) Truth
+      as_call (λ r. Values (rings.Push r)) Truth
       (went_on as_it_is value tt
-      (cond b (GoOn (record { capacity = c; stage = pushes.TheVariants.StoresCell write (cell_word c how.size write) at; of = record {} }))
-      (GoOn (record { capacity = c; stage = pushes.TheVariants.StoresWrite write; of = record {} }))))
+      (cond b (GoOn (record { capacity = c; stage = pushes.StoresCell write (cell_word c how.size write) at; of = record {} }))
+      (GoOn (record { capacity = c; stage = pushes.StoresWrite write; of = record {} }))))
 
   abbrev loads_on : ℕ → ℕ → Bool → Buffer 128 → ℕ → After (QueueFlight T) (Answer T)
   loads_on c read b room at =
-      as_call (λ r. Values (rings.TheVariants.Pop r)) popped_value
+      as_call (λ r. Values (rings.Pop r)) popped_value
       (went_on (λ end given room. pop_answer (read_in (code_of how) room) end) tt room
-      (cond b (GoOn (record { capacity = c; stage = pops.TheVariants.LoadsCell read (cell_word c how.size read) at; of = record {} }))
-      (GoOn (record { capacity = c; stage = pops.TheVariants.StoresRead read; of = record {} }))))
+      (cond b (GoOn (record { capacity = c; stage = pops.LoadsCell read (cell_word c how.size read) at; of = record {} }))
+      (GoOn (record { capacity = c; stage = pops.StoresRead read; of = record {} }))))
 
   stores_same : (c : ℕ) (value : T) (write at : ℕ) (b : Bool)
       → stores_on c value write b at
@@ -189,10 +189,10 @@ module _ {T : Type 0} (how : page.Written T) where
   after_same c (page.PushLoadsRead value write) old fit = go ((c == 0) || ((write + 2 ^ 64 - old) % 2 ^ 64 == c))
     where
       go : (b : Bool)
-          → as_call (λ r. Values (rings.TheVariants.Push r)) Truth
+          → as_call (λ r. Values (rings.Push r)) Truth
           (went_on as_it_is value tt
           (cond b (Done false)
-          (GoOn (record { capacity = c; stage = pushes.TheVariants.StoresCell write (cell_word c how.size write) 0; of = record {} }))))
+          (GoOn (record { capacity = c; stage = pushes.StoresCell write (cell_word c how.size write) 0; of = record {} }))))
           ≡ went how c (cond b (machine.Done (page.Pushed false)) (machine.GoOn (page.stores how c value write 0)))
       go true = refl
       go false = ap (λ d. GoOn (flight how c (cond d (page.PushStoresCell value write 0) (page.PushStoresWrite value write)))) (sym first_word)
@@ -202,10 +202,10 @@ module _ {T : Type 0} (how : page.Written T) where
   after_same c (page.PopLoadsWrite read) old fit = go ((c == 0) || (old == read))
     where
       go : (b : Bool)
-          → as_call (λ r. Values (rings.TheVariants.Pop r)) popped_value
+          → as_call (λ r. Values (rings.Pop r)) popped_value
           (went_on (λ end given room. pop_answer (read_in (code_of how) room) end) tt (room_of [])
           (cond b (Done false)
-          (GoOn (record { capacity = c; stage = pops.TheVariants.LoadsCell read (cell_word c how.size read) 0; of = record {} }))))
+          (GoOn (record { capacity = c; stage = pops.LoadsCell read (cell_word c how.size read) 0; of = record {} }))))
           ≡ went how c (cond b (machine.Done (page.Popped None)) (machine.GoOn (page.loads how c read [])))
       go true = refl
       go false = ap (λ d. GoOn (flight how c (cond d (page.PopLoadsCell read []) (page.PopStoresRead read [])))) (sym first_word)
@@ -272,24 +272,24 @@ module _ {T : Type 0} (how : page.Written T) where
   roles_stay p page.Pop outcome roles = refl
 
   went_same : (c : ℕ) (a : machine.After (page.Stage T) (page.Answer T))
-      → as_call flights.TheVariants.Queues (λ (answer : Answer T). answer) (went how c a)
-      ≡ simulates.went (λ stage. flights.TheVariants.Queues (flight how c stage)) answered a
+      → as_call flights.Queues (λ (answer : Answer T). answer) (went how c a)
+      ≡ simulates.went (λ stage. flights.Queues (flight how c stage)) answered a
   went_same c (machine.GoOn stage) = refl
   went_same c (machine.Done answer) = refl
 
   pub goes : (c : ℕ) (roles : Roles) (words : List ℕ) (beside : Option (ℕ × ℕ)) (p : ℕ) (stage : page.Stage T) (old : ℕ) → Fits how c stage
-      → StepIs (Unit {0}) (page.queue how c) (reading how) is_push_or_pop kinds.TheVariants.Queue c (registries.TheVariants.Queues roles)
-      (λ r stage. flights.TheVariants.Queues (flight how c stage)) answered
-      (step_of (code_of how) words beside p (Queues (queue_start (call_at stage))) (flights.TheVariants.Queues (flight how c stage)) old
-      (registries.TheVariants.Queues roles))
+      → StepIs (Unit {0}) (page.queue how c) (reading how) is_push_or_pop kinds.Queue c (registries.Queues roles)
+      (λ r stage. flights.Queues (flight how c stage)) answered
+      (step_of (code_of how) words beside p (Queues (queue_start (call_at stage))) (flights.Queues (flight how c stage)) old
+      (registries.Queues roles))
       (comes c stage old)
   goes c roles words beside p stage old fit =
       let outcome = answer_in (after (code_of how) (flight how c stage) old) in
       let eff = effect_of (code_of how) words beside (flight how c stage) old in
       record {
         room = tt;
-        after_is = ap (as_call flights.TheVariants.Queues (λ answer. answer)) (after_same c stage old fit) ∙ went_same c (comes c stage old);
-        kept_is = ap registries.TheVariants.Queues (roles_stay p (call_at stage) outcome roles);
+        after_is = ap (as_call flights.Queues (λ answer. answer)) (after_same c stage old fit) ∙ went_same c (comes c stage old);
+        kept_is = ap registries.Queues (roles_stay p (call_at stage) outcome roles);
         unseen = effects_unseen (reading how) p (queue_start (call_at stage)) eff outcome;
         own = effects_own p (queue_start (call_at stage)) eff outcome;
       }
@@ -297,7 +297,7 @@ module _ {T : Type 0} (how : page.Written T) where
   -- ---- who may begin
 
   abbrev tied : ℕ → Type 0
-  tied c = TieOf (Unit {0}) (page.queue how c) (reading how) is_push_or_pop kinds.TheVariants.Queue c kept (code_of how)
+  tied c = TieOf (Unit {0}) (page.queue how c) (reading how) is_push_or_pop kinds.Queue c kept (code_of how)
 
   unfoldable pub tie : (c : ℕ) → c < 2 ^ 32 → tied c
   tie c few =
@@ -305,7 +305,7 @@ module _ {T : Type 0} (how : page.Written T) where
         call_at = call_at;
         start = λ call. Queues (queue_start call);
         room = tt;
-        flight = λ r stage. flights.TheVariants.Queues (flight how c stage);
+        flight = λ r stage. flights.Queues (flight how c stage);
         answered = answered;
         fits = fits c;
         reads_start = reads_start;
@@ -337,18 +337,18 @@ module _ {T : Type 0} (how : page.Written T) where
       is_own page.Pop = refl
 
       admits : (p : ℕ) (call : page.Call T) → page.may p call ≡ true
-          → first_row (begin_rows kinds.TheVariants.Queue c kept p (Queues (queue_start call))) ≡ None
+          → first_row (begin_rows kinds.Queue c kept p (Queues (queue_start call))) ≡ None
       admits p (page.Push value) m = holds_row 0 p m
       admits p page.Pop m = holds_row 1 p m
 
       refuses : (p : ℕ) (call : page.Call T) → page.may p call ≡ false
-          → is_some (first_row (begin_rows kinds.TheVariants.Queue c kept p (Queues (queue_start call)))) ≡ true
+          → is_some (first_row (begin_rows kinds.Queue c kept p (Queues (queue_start call)))) ≡ true
       refuses p (page.Push value) m = lacks_row 0 p m
       refuses p page.Pop m = lacks_row 1 p m
 
       begins : (call : page.Call T)
-          → model.first_of kinds.TheVariants.Queue c (Queues (queue_start call)) kept
-          ≡ Some (flights.TheVariants.Queues (flight how c (page.first how c call)))
+          → model.first_of kinds.Queue c (Queues (queue_start call)) kept
+          ≡ Some (flights.Queues (flight how c (page.first how c call)))
       begins (page.Push value) = refl
       begins page.Pop = refl
 
@@ -409,7 +409,7 @@ module _ {T : Type 0} (how : page.Written T) where
   one_answer capacity items (Queues Pop) own = front items
   one_answer capacity items other own = absurd (cc)
 
-  is_list : (c : ℕ) → IsObject (reading how) (as_list queue_kinds.TheVariants.Queue c) (page.bounded_list c)
+  is_list : (c : ℕ) → IsObject (reading how) (as_list queue_kinds.Queue c) (page.bounded_list c)
   is_list c = record { state = map held_in; opens = refl; after = one_after c; answer = one_answer c }
 
   -- ---- every list of turns
@@ -417,7 +417,7 @@ module _ {T : Type 0} (how : page.Written T) where
   pub coded : IsCoding (code_of how)
   coded = record { some = how.fits.0; few = how.fits.1; sized = how.sized; given_back = how.given_back }
 
-  admitted : (c : ℕ) → c < 2 ^ 32 → capacity_error kinds.TheVariants.Queue c ≡ None
+  admitted : (c : ℕ) → c < 2 ^ 32 → capacity_error kinds.Queue c ≡ None
   admitted c few = grind (arith, nat_tests)
 
   opens : (c : ℕ) (few : c < 2 ^ 32) → Sim (tie c few) 2 roles_told (machine.opening (page.queue how c)) 0 (acquired how c)
@@ -455,8 +455,8 @@ module _ {T : Type 0} (how : page.Written T) where
   reached : (c : ℕ) (turns : List (Turn T)) → c < 2 ^ 32 → IsReached (run turns (acquired how c))
   reached c turns few =
       run_keeps refusal_of IsReached (λ t turn e r. reached_more t turn e r) turns (acquired how c)
-      (run_keeps refusal_of IsReached (λ t turn e r. reached_more t turn e r) acquires (opening (code_of how) kinds.TheVariants.Queue c 2)
-      (reached_opening (code_of how) kinds.TheVariants.Queue c 2 coded (admitted c few)))
+      (run_keeps refusal_of IsReached (λ t turn e r. reached_more t turn e r) acquires (opening (code_of how) kinds.Queue c 2)
+      (reached_opening (code_of how) kinds.Queue c 2 coded (admitted c few)))
 
   abbrev world_of : ℕ → List (machine.Turn (page.Call T)) → machine.World (page.Call T) (page.Stage T) (page.Answer T)
   world_of c turns = fold (machine.turned (page.queue how c)) (machine.opening (page.queue how c)) turns
@@ -473,9 +473,9 @@ module _ {T : Type 0} (how : page.Written T) where
       let s = simulated c turns few small in
       let t = trace (tie c few) 2 roles_told (world_of c turns).words s.latest s.changes s.turns s.events in
       let r : IsReached t = subst IsReached s.is (reached c (map as_turn turns) few) in
-      let keeps = (queue_keeps {T = T} queue_kinds.TheVariants.Queue).kept t refl r in
+      let keeps = (queue_keeps {T = T} queue_kinds.Queue).kept t refl r in
       subst (machine.IsLinearizable (page.bounded_list c)) s.told
-      (carried (reading how) (as_list queue_kinds.TheVariants.Queue c) (page.bounded_list c) (is_list c) roles_told 4
+      (carried (reading how) (as_list queue_kinds.Queue c) (page.bounded_list c) (is_list c) roles_told 4
       s.events s.own (among s.events) (within s.events)
       (run_linearizable t keeps))
 

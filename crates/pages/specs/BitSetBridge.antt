@@ -3,8 +3,10 @@ use Rattle.std.specs.Prelude.{◌≡◌, ℕ, ◌+◌, ◌<◌, ◌^◌, Option,
 use Rattle.std.specs.List.{AllByRecursion}
 use Rattle.steps.specs.declared.ask.After.{After}
 use Rattle.steps.specs.declared.ask.After.TheVariants.{GoOn, Done}
-use Rattle.steps.specs.declared.bits.bit_set.SetStage as sets
-use Rattle.steps.specs.declared.bits.bit_set.ResetNextStage as resets
+use Rattle.steps.specs.declared.bits.bit_set.SetStage.{SetStage}
+use Rattle.steps.specs.declared.bits.bit_set.SetStage.TheVariants as sets
+use Rattle.steps.specs.declared.bits.bit_set.ResetNextStage.{ResetNextStage}
+use Rattle.steps.specs.declared.bits.bit_set.ResetNextStage.TheVariants as resets
 use Rattle.steps.specs.Bits.BitSet.{at_reset, at_set, first_reset, reset_asks, reset_takes, set_asks, set_takes}
 use Rattle.steps.specs.Bits.Places.{places_in}
 use Rattle.steps.specs.Bits.ResetAll.{reset_all_after, reset_all_kept, reset_all_want}
@@ -20,7 +22,7 @@ use Rattle.model.specs.declared.families.bits.BitsStart.{BitsStart}
 use Rattle.model.specs.declared.families.bits.BitsStart.TheVariants as starts
 use Rattle.model.specs.declared.families.bits.calls.BitsFlight.{BitsFlight}
 use Rattle.model.specs.declared.families.bits.calls.BitsFlight.TheVariants as flights
-use Rattle.model.specs.declared.turn.Kind as kinds
+use Rattle.model.specs.declared.turn.Kind.TheVariants as kinds
 use Rattle.model.specs.declared.turn.Turn.{Turn}
 use Rattle.model.specs.declared.turn.Turn.TheVariants.{Begin, Next}
 use Rattle.model.specs.Coding.{one_word}
@@ -43,10 +45,10 @@ bits_start (page.Set place) = starts.Set place
 bits_start page.ResetNext = starts.ResetNext
 bits_start page.ResetAll = starts.ResetAll
 
-abbrev pub setting : ℕ → sets.SetStage → BitsFlight
+abbrev pub setting : ℕ → SetStage → BitsFlight
 setting place stage = flights.Set (record { call = at_set stage; given = place; room = tt })
 
-abbrev pub nexting : ℕ → resets.ResetNextStage → BitsFlight
+abbrev pub nexting : ℕ → ResetNextStage → BitsFlight
 nexting c stage = flights.ResetNext (record { call = at_reset (first_reset c) stage; given = tt; room = tt })
 
 -- a reset of all has found this in the element that it swapped last
@@ -55,12 +57,12 @@ emptying c found word =
     flights.ResetAll (record { call = record { word = word; end = 1 + elements c }; given = tt; room = record { 0 = found } })
 
 abbrev pub flight : ℕ → ℕ → page.Stage → BitsFlight
-flight c found (page.SetLoadsElement place) = setting place sets.TheVariants.LoadsElement
-flight c found (page.SetExchangesElement place element) = setting place (sets.TheVariants.ExchangesElement element)
-flight c found page.NextLoadsPosition = nexting c resets.TheVariants.LoadsPosition
-flight c found (page.NextLoadsElement start passed) = nexting c (resets.TheVariants.LoadsElement start passed)
-flight c found (page.NextExchangesElement start passed element) = nexting c (resets.TheVariants.ExchangesElement start passed element)
-flight c found (page.NextStoresPosition place) = nexting c (resets.TheVariants.StoresPosition place)
+flight c found (page.SetLoadsElement place) = setting place sets.LoadsElement
+flight c found (page.SetExchangesElement place element) = setting place (sets.ExchangesElement element)
+flight c found page.NextLoadsPosition = nexting c resets.LoadsPosition
+flight c found (page.NextLoadsElement start passed) = nexting c (resets.LoadsElement start passed)
+flight c found (page.NextExchangesElement start passed element) = nexting c (resets.ExchangesElement start passed element)
+flight c found (page.NextStoresPosition place) = nexting c (resets.StoresPosition place)
 flight c found (page.AllSwapsElement word places) = emptying c found word
 
 -- what a reset of all handed out is no part of a machine's answer
@@ -95,14 +97,14 @@ HandsOutAsTheMachine =
 -- what `want` and `after` are for these calls: the tables of the crate `steps`, to which the code's functions are proved equal
 abbrev pub SetsByTable : Type 0
 SetsByTable =
-    (place : ℕ) (stage : sets.SetStage) (old : ℕ)
+    (place : ℕ) (stage : SetStage) (old : ℕ)
     → (want (setting place stage) ≡ set_asks stage place)
     × (after {T = ℕ} (setting place stage) old
     ≡ as_call flights.Set answers.Truth (went_on as_it_is place tt (set_takes stage place old)))
 
 abbrev pub NextsByTable : Type 0
 NextsByTable =
-    (c : ℕ) (stage : resets.ResetNextStage) (old : ℕ)
+    (c : ℕ) (stage : ResetNextStage) (old : ℕ)
     → (want (nexting c stage) ≡ reset_asks c stage)
     × (after {T = ℕ} (nexting c stage) old
     ≡ as_call flights.ResetNext reset_answer
@@ -153,12 +155,12 @@ AreWithin parties turns = AllByRecursion (IsWithin parties) turns
 abbrev pub BitSetRunsAsTheMachine : Type 0
 BitSetRunsAsTheMachine =
     (c parties : ℕ) (turns : List (machine.Turn page.Call)) → 0 < c → c < 2 ^ 32 → AreWithin parties turns → length turns < 2 ^ 63
-    → IsTold reading (run (map as_turn turns) (opening one_word kinds.TheVariants.Bits c parties))
+    → IsTold reading (run (map as_turn turns) (opening one_word kinds.Bits c parties))
     (fold (machine.turned (page.bit_set c)) (machine.opening (page.bit_set c)) turns)
 
 -- where this is a run of such turns
 abbrev pub BitSetIsRun : Trace ℕ → Type 0
 BitSetIsRun t =
     (c parties : ℕ) (turns : List (machine.Turn page.Call)) → 0 < c → c < 2 ^ 32 → AreWithin parties turns → length turns < 2 ^ 63
-    → t ≡ run (map as_turn turns) (opening one_word kinds.TheVariants.Bits c parties)
+    → t ≡ run (map as_turn turns) (opening one_word kinds.Bits c parties)
     → IsTold reading t (fold (machine.turned (page.bit_set c)) (machine.opening (page.bit_set c)) turns)

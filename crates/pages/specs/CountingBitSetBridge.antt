@@ -15,7 +15,7 @@ use Rattle.model.specs.declared.families.bits.BitsStart.{BitsStart}
 use Rattle.model.specs.declared.families.bits.BitsStart.TheVariants as starts
 use Rattle.model.specs.declared.families.bits.calls.BitsFlight.{BitsFlight}
 use Rattle.model.specs.declared.families.bits.calls.BitsFlight.TheVariants as flights
-use Rattle.model.specs.declared.turn.Kind as kinds
+use Rattle.model.specs.declared.turn.Kind.TheVariants as kinds
 use Rattle.model.specs.declared.turn.Turn.{Turn}
 use Rattle.model.specs.declared.turn.Turn.TheVariants.{Begin, Next}
 use Rattle.model.specs.Coding.{one_word}
@@ -123,12 +123,12 @@ as_turn (machine.Next p) = Next p
 abbrev pub CountingRunsAsTheMachine : Type 0
 CountingRunsAsTheMachine =
     (c parties : ℕ) (turns : List (machine.Turn page.Call)) → 0 < c → c < 2 ^ 32 → AreWithin parties turns → length turns < 2 ^ 63
-    → IsTold reading (run (map as_turn turns) (opening one_word kinds.TheVariants.Counts c parties))
+    → IsTold reading (run (map as_turn turns) (opening one_word kinds.Counts c parties))
     (fold (machine.turned (page.counting_bit_set c)) (machine.opening (page.counting_bit_set c)) turns)
 
 -- where this is a run of such turns
 abbrev pub CountingIsRun : Trace ℕ → Type 0
 CountingIsRun t =
     (c parties : ℕ) (turns : List (machine.Turn page.Call)) → 0 < c → c < 2 ^ 32 → AreWithin parties turns → length turns < 2 ^ 63
-    → t ≡ run (map as_turn turns) (opening one_word kinds.TheVariants.Counts c parties)
+    → t ≡ run (map as_turn turns) (opening one_word kinds.Counts c parties)
     → IsTold reading t (fold (machine.turned (page.counting_bit_set c)) (machine.opening (page.counting_bit_set c)) turns)

@@ -2,8 +2,10 @@
 use Rattle.std.specs.Prelude.{◌≡◌, ℕ, ◌<◌, ◌^◌, ◌==◌, true, false, Some, None, List, [], ◌∷◌, length, map, fold}
 use Rattle.steps.specs.declared.ask.After.{After}
 use Rattle.steps.specs.declared.ask.After.TheVariants.{GoOn, Done}
-use Rattle.steps.specs.declared.queues.ring.PushStage as pushes
-use Rattle.steps.specs.declared.queues.ring.PopStage as pops
+use Rattle.steps.specs.declared.queues.ring.PushStage.{PushStage}
+use Rattle.steps.specs.declared.queues.ring.PushStage.TheVariants as pushes
+use Rattle.steps.specs.declared.queues.ring.PopStage.{PopStage}
+use Rattle.steps.specs.declared.queues.ring.PopStage.TheVariants as pops
 use Rattle.steps.specs.Copied.{kept_in_one}
 use Rattle.steps.specs.Queues.Ring.{cell_word, pop_answer, pop_asks, pop_keeps, pop_takes, push_asks, push_takes}
 use Rattle.steps.specs.Routine.{went_on}
@@ -18,8 +20,8 @@ use Rattle.model.specs.declared.families.queues.QueueStart.TheVariants as starts
 use Rattle.model.specs.declared.families.queues.QueueStart.TheVariants.{PushIndex, Push}
 use Rattle.model.specs.declared.families.queues.calls.QueueFlight.{QueueFlight}
 use Rattle.model.specs.declared.families.queues.calls.QueueFlight.TheVariants.{Indices}
-use Rattle.model.specs.declared.families.queues.calls.RingCall as rings
-use Rattle.model.specs.declared.turn.Kind as kinds
+use Rattle.model.specs.declared.families.queues.calls.RingCall.TheVariants as rings
+use Rattle.model.specs.declared.turn.Kind.TheVariants as kinds
 use Rattle.model.specs.declared.turn.Turn.{Turn}
 use Rattle.model.specs.declared.turn.Turn.TheVariants.{Begin, Next}
 use Rattle.model.specs.Coding.{one_word}
@@ -40,23 +42,23 @@ abbrev pub queue_start : page.Call → QueueStart ℕ
 queue_start (page.Push value) = starts.PushIndex value
 queue_start page.Pop = starts.Pop
 
-abbrev pub pushing : ℕ → ℕ → pushes.PushStage → QueueFlight ℕ
+abbrev pub pushing : ℕ → ℕ → PushStage → QueueFlight ℕ
 pushing capacity value stage =
-    Indices (rings.TheVariants.Push (record { call = record { capacity = capacity; stage = stage; of = record {} }; given = value; room = tt }))
+    Indices (rings.Push (record { call = record { capacity = capacity; stage = stage; of = record {} }; given = value; room = tt }))
 
-abbrev pub popping : ℕ → ℕ → pops.PopStage → QueueFlight ℕ
+abbrev pub popping : ℕ → ℕ → PopStage → QueueFlight ℕ
 popping capacity value stage =
-    Indices (rings.TheVariants.Pop (record { call = record { capacity = capacity; stage = stage; of = record {} }; given = tt; room = record { 0 = value } }))
+    Indices (rings.Pop (record { call = record { capacity = capacity; stage = stage; of = record {} }; given = tt; room = record { 0 = value } }))
 
 abbrev pub flight : ℕ → page.Stage → QueueFlight ℕ
-flight c (page.PushLoadsWrite value) = pushing c value pushes.TheVariants.LoadsWrite
-flight c (page.PushLoadsRead value write) = pushing c value (pushes.TheVariants.LoadsRead write)
-flight c (page.PushStoresCell value write) = pushing c value (pushes.TheVariants.StoresCell write (cell_word c 1 write) 0)
-flight c (page.PushStoresWrite value write) = pushing c value (pushes.TheVariants.StoresWrite write)
-flight c page.PopLoadsRead = popping c 0 pops.TheVariants.LoadsRead
-flight c (page.PopLoadsWrite read) = popping c 0 (pops.TheVariants.LoadsWrite read)
-flight c (page.PopLoadsCell read) = popping c 0 (pops.TheVariants.LoadsCell read (cell_word c 1 read) 0)
-flight c (page.PopStoresRead read value) = popping c value (pops.TheVariants.StoresRead read)
+flight c (page.PushLoadsWrite value) = pushing c value pushes.LoadsWrite
+flight c (page.PushLoadsRead value write) = pushing c value (pushes.LoadsRead write)
+flight c (page.PushStoresCell value write) = pushing c value (pushes.StoresCell write (cell_word c 1 write) 0)
+flight c (page.PushStoresWrite value write) = pushing c value (pushes.StoresWrite write)
+flight c page.PopLoadsRead = popping c 0 pops.LoadsRead
+flight c (page.PopLoadsWrite read) = popping c 0 (pops.LoadsWrite read)
+flight c (page.PopLoadsCell read) = popping c 0 (pops.LoadsCell read (cell_word c 1 read) 0)
+flight c (page.PopStoresRead read value) = popping c value (pops.StoresRead read)
 
 abbrev pub answered : page.Answer → Answer ℕ
 answered (page.Pushed b) = Truth b
@@ -83,18 +85,18 @@ DoesAsTheCode =
 -- what `want` and `after` are for these calls: the tables of the crate `steps`, to which the code's functions are proved equal
 abbrev pub PushesByTable : Type 0
 PushesByTable =
-    (c value : ℕ) (stage : pushes.PushStage) (old : ℕ)
+    (c value : ℕ) (stage : PushStage) (old : ℕ)
     → (want one_word (pushing c value stage) ≡ push_asks words_of_index stage value)
     × (after one_word (pushing c value stage) old
-    ≡ as_call (λ r. Indices (rings.TheVariants.Push r)) Truth
+    ≡ as_call (λ r. Indices (rings.Push r)) Truth
     (went_on as_it_is value tt (push_takes 1 (record { capacity = c; stage = stage; of = record {} }) stage old)))
 
 abbrev pub PopsByTable : Type 0
 PopsByTable =
-    (c value : ℕ) (stage : pops.PopStage) (old : ℕ)
+    (c value : ℕ) (stage : PopStage) (old : ℕ)
     → (want one_word (popping c value stage) ≡ pop_asks stage)
     × (after one_word (popping c value stage) old
-    ≡ as_call (λ r. Indices (rings.TheVariants.Pop r)) popped
+    ≡ as_call (λ r. Indices (rings.Pop r)) popped
     (went_on (λ end given room. pop_answer room.0 end) tt (pop_keeps kept_in_one (record { 0 = value }) stage old)
     (pop_takes 1 (record { capacity = c; stage = stage; of = record {} }) stage old)))
 
@@ -126,7 +128,7 @@ acquires = Begin 0 (Queues starts.AcquireProducer) ∷ Next 0 ∷ Begin 1 (Queue
 
 -- the model's machine once they have
 abbrev pub acquired : ℕ → Trace ℕ
-acquired c = run acquires (opening one_word kinds.TheVariants.IndexQueue c 2)
+acquired c = run acquires (opening one_word kinds.IndexQueue c 2)
 
 abbrev pub roles_told : {T : Type 0} → List (Event T)
 roles_told =

@@ -2,8 +2,10 @@
 use Rattle.std.specs.Prelude.{◌≡◌, ℕ, ◌<◌, ◌^◌, Option, Some, None, List, length, map, fold}
 use Rattle.steps.specs.declared.ask.After.{After}
 use Rattle.steps.specs.declared.ask.After.TheVariants.{GoOn, Done}
-use Rattle.steps.specs.declared.queues.overflow.PushStage as pushes
-use Rattle.steps.specs.declared.queues.overflow.PopStage as pops
+use Rattle.steps.specs.declared.queues.overflow.PushStage.{PushStage}
+use Rattle.steps.specs.declared.queues.overflow.PushStage.TheVariants as pushes
+use Rattle.steps.specs.declared.queues.overflow.PopStage.{PopStage}
+use Rattle.steps.specs.declared.queues.overflow.PopStage.TheVariants as pops
 use Rattle.steps.specs.Queues.Overflow.{pop_answer, pop_asks, pop_keeps, pop_takes, push_answer, push_asks, push_keeps, push_takes}
 use Rattle.steps.specs.Routine.{went_on}
 use Rattle.model.specs.declared.event.Answer.{Answer}
@@ -14,8 +16,8 @@ use Rattle.model.specs.declared.families.queues.QueueStart.{QueueStart}
 use Rattle.model.specs.declared.families.queues.QueueStart.TheVariants as starts
 use Rattle.model.specs.declared.families.queues.calls.QueueFlight.{QueueFlight}
 use Rattle.model.specs.declared.families.queues.calls.QueueFlight.TheVariants.{Overflow}
-use Rattle.model.specs.declared.families.queues.calls.OverflowCall as overflows
-use Rattle.model.specs.declared.turn.Kind as kinds
+use Rattle.model.specs.declared.families.queues.calls.OverflowCall.TheVariants as overflows
+use Rattle.model.specs.declared.turn.Kind.TheVariants as kinds
 use Rattle.model.specs.declared.turn.Turn.{Turn}
 use Rattle.model.specs.declared.turn.Turn.TheVariants.{Begin, Next}
 use Rattle.model.specs.Coding.{one_word}
@@ -37,27 +39,27 @@ abbrev pub queue_start : page.Call → QueueStart ℕ
 queue_start (page.Push value) = starts.PushIndex value
 queue_start page.Pop = starts.Pop
 
-abbrev pub pushing : ℕ → ℕ → pushes.PushStage → QueueFlight ℕ
+abbrev pub pushing : ℕ → ℕ → PushStage → QueueFlight ℕ
 pushing capacity value stage =
-    Overflow (overflows.TheVariants.Push (record { call = record { capacity = capacity; stage = stage }; given = value; room = record { 0 = 0 } }))
+    Overflow (overflows.Push (record { call = record { capacity = capacity; stage = stage }; given = value; room = record { 0 = 0 } }))
 
 -- a pop has read this value last, or none yet
-abbrev pub popping : ℕ → ℕ → pops.PopStage → QueueFlight ℕ
+abbrev pub popping : ℕ → ℕ → PopStage → QueueFlight ℕ
 popping capacity value stage =
-    Overflow (overflows.TheVariants.Pop (record { call = record { capacity = capacity; stage = stage }; given = tt; room = record { 0 = value } }))
+    Overflow (overflows.Pop (record { call = record { capacity = capacity; stage = stage }; given = tt; room = record { 0 = value } }))
 
 -- the page does not name what a pop read before it went back
 abbrev pub flight : ℕ → ℕ → page.Stage → QueueFlight ℕ
-flight c before (page.PushLoadsWrite value) = pushing c value pushes.TheVariants.LoadsWrite
-flight c before (page.PushLoadsRead value write) = pushing c value (pushes.TheVariants.LoadsRead write)
-flight c before (page.PushStoresCell value write read) = pushing c value (pushes.TheVariants.StoresCell write read)
-flight c before (page.PushStoresWrite value write read) = pushing c value (pushes.TheVariants.StoresWrite write read)
-flight c before (page.PushMovesRead value read) = pushing c value (pushes.TheVariants.MovesRead read)
-flight c before (page.PushLoadsOldest value read) = pushing c value (pushes.TheVariants.LoadsCell read)
-flight c before page.PopLoadsRead = popping c before pops.TheVariants.LoadsRead
-flight c before (page.PopLoadsWrite read) = popping c before (pops.TheVariants.LoadsWrite read)
-flight c before (page.PopLoadsCell read) = popping c before (pops.TheVariants.LoadsCell read)
-flight c before (page.PopMovesRead read value) = popping c value (pops.TheVariants.MovesRead read)
+flight c before (page.PushLoadsWrite value) = pushing c value pushes.LoadsWrite
+flight c before (page.PushLoadsRead value write) = pushing c value (pushes.LoadsRead write)
+flight c before (page.PushStoresCell value write read) = pushing c value (pushes.StoresCell write read)
+flight c before (page.PushStoresWrite value write read) = pushing c value (pushes.StoresWrite write read)
+flight c before (page.PushMovesRead value read) = pushing c value (pushes.MovesRead read)
+flight c before (page.PushLoadsOldest value read) = pushing c value (pushes.LoadsCell read)
+flight c before page.PopLoadsRead = popping c before pops.LoadsRead
+flight c before (page.PopLoadsWrite read) = popping c before (pops.LoadsWrite read)
+flight c before (page.PopLoadsCell read) = popping c before (pops.LoadsCell read)
+flight c before (page.PopMovesRead read value) = popping c value (pops.MovesRead read)
 
 abbrev pub answered : Option ℕ → Answer ℕ
 answered None = PoppedNone
@@ -82,20 +84,20 @@ OverflowingDoesAsTheCode =
 -- what `want` and `after` are for these calls: the tables of the crate `steps`, to which the code's functions are proved equal
 abbrev pub OverflowingPushesByTable : Type 0
 OverflowingPushesByTable =
-    (c value : ℕ) (stage : pushes.PushStage) (old : ℕ)
+    (c value : ℕ) (stage : PushStage) (old : ℕ)
     → (want one_word (pushing c value stage) ≡ push_asks c stage value)
     × (after one_word (pushing c value stage) old
-    ≡ as_call (λ r. Overflow (overflows.TheVariants.Push r)) popped
+    ≡ as_call (λ r. Overflow (overflows.Push r)) popped
     (went_on (λ end given room. push_answer given room.0 end) value
     (push_keeps (record { 0 = 0 }) stage old)
     (push_takes (record { capacity = c; stage = stage }) stage old)))
 
 abbrev pub OverflowingPopsByTable : Type 0
 OverflowingPopsByTable =
-    (c value : ℕ) (stage : pops.PopStage) (old : ℕ)
+    (c value : ℕ) (stage : PopStage) (old : ℕ)
     → (want one_word (popping c value stage) ≡ pop_asks c stage)
     × (after one_word (popping c value stage) old
-    ≡ as_call (λ r. Overflow (overflows.TheVariants.Pop r)) popped
+    ≡ as_call (λ r. Overflow (overflows.Pop r)) popped
     (went_on (λ end given room. pop_answer room.0 end) tt
     (pop_keeps (record { 0 = value }) stage old)
     (pop_takes (record { capacity = c; stage = stage }) stage old)))
@@ -123,7 +125,7 @@ as_turn (machine.Next p) = Next p
 
 -- the model's machine once parties 0 and 1 have acquired the roles
 abbrev pub acquired : ℕ → Trace ℕ
-acquired c = run acquires (opening one_word kinds.TheVariants.Overflow c 2)
+acquired c = run acquires (opening one_word kinds.Overflow c 2)
 
 abbrev pub OverflowingRunsAsTheMachine : Type 0
 OverflowingRunsAsTheMachine =

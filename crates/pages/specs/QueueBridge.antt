@@ -3,8 +3,10 @@ use Rattle.std.specs.Prelude.{◌≡◌, ℕ, ◌-◌, ◌<◌, ◌^◌, ◌==�
 use Rattle.steps.specs.declared.ask.After.{After}
 use Rattle.steps.specs.declared.ask.After.TheVariants.{GoOn, Done}
 use Rattle.steps.specs.declared.copied.Buffer.{Buffer}
-use Rattle.steps.specs.declared.queues.ring.PushStage as pushes
-use Rattle.steps.specs.declared.queues.ring.PopStage as pops
+use Rattle.steps.specs.declared.queues.ring.PushStage.{PushStage}
+use Rattle.steps.specs.declared.queues.ring.PushStage.TheVariants as pushes
+use Rattle.steps.specs.declared.queues.ring.PopStage.{PopStage}
+use Rattle.steps.specs.declared.queues.ring.PopStage.TheVariants as pops
 use Rattle.steps.specs.Queues.Ring.{cell_word, pop_answer, pop_asks, pop_keeps, pop_takes, push_asks, push_takes}
 use Rattle.steps.specs.Routine.{went_on}
 use Rattle.model.specs.declared.event.Answer.{Answer}
@@ -15,8 +17,8 @@ use Rattle.model.specs.declared.families.queues.QueueStart.{QueueStart}
 use Rattle.model.specs.declared.families.queues.QueueStart.TheVariants as starts
 use Rattle.model.specs.declared.families.queues.calls.QueueFlight.{QueueFlight}
 use Rattle.model.specs.declared.families.queues.calls.QueueFlight.TheVariants.{Values}
-use Rattle.model.specs.declared.families.queues.calls.RingCall as rings
-use Rattle.model.specs.declared.turn.Kind as kinds
+use Rattle.model.specs.declared.families.queues.calls.RingCall.TheVariants as rings
+use Rattle.model.specs.declared.turn.Kind.TheVariants as kinds
 use Rattle.model.specs.declared.turn.Turn.{Turn}
 use Rattle.model.specs.declared.turn.Turn.TheVariants.{Begin, Next}
 use Rattle.model.specs.Coding.{Coding, coding_of}
@@ -47,13 +49,13 @@ module _ {T : Type 0} where
   queue_start (page.Push value) = starts.Push value
   queue_start page.Pop = starts.Pop
 
-  abbrev pub pushing : ℕ → T → pushes.PushStage → QueueFlight T
+  abbrev pub pushing : ℕ → T → PushStage → QueueFlight T
   pushing capacity value stage =
-      Values (rings.TheVariants.Push (record { call = record { capacity = capacity; stage = stage; of = record {} }; given = value; room = tt }))
+      Values (rings.Push (record { call = record { capacity = capacity; stage = stage; of = record {} }; given = value; room = tt }))
 
-  abbrev pub popping : ℕ → Buffer 128 → pops.PopStage → QueueFlight T
+  abbrev pub popping : ℕ → Buffer 128 → PopStage → QueueFlight T
   popping capacity room stage =
-      Values (rings.TheVariants.Pop (record { call = record { capacity = capacity; stage = stage; of = record {} }; given = tt; room = room }))
+      Values (rings.Pop (record { call = record { capacity = capacity; stage = stage; of = record {} }; given = tt; room = room }))
 
   abbrev pub answered : page.Answer T → Answer T
   answered (page.Pushed b) = Truth b
@@ -62,15 +64,15 @@ module _ {T : Type 0} where
 
 module _ {T : Type 0} (how : page.Written T) (c : ℕ) where
   abbrev pub flight : page.Stage T → QueueFlight T
-  flight (page.PushLoadsWrite value) = pushing c value pushes.TheVariants.LoadsWrite
-  flight (page.PushLoadsRead value write) = pushing c value (pushes.TheVariants.LoadsRead write)
-  flight (page.PushStoresCell value write stored) = pushing c value (pushes.TheVariants.StoresCell write (cell_word c how.size write) stored)
-  flight (page.PushStoresWrite value write) = pushing c value (pushes.TheVariants.StoresWrite write)
-  flight page.PopLoadsRead = popping c (room_of []) pops.TheVariants.LoadsRead
-  flight (page.PopLoadsWrite read) = popping c (room_of []) (pops.TheVariants.LoadsWrite read)
+  flight (page.PushLoadsWrite value) = pushing c value pushes.LoadsWrite
+  flight (page.PushLoadsRead value write) = pushing c value (pushes.LoadsRead write)
+  flight (page.PushStoresCell value write stored) = pushing c value (pushes.StoresCell write (cell_word c how.size write) stored)
+  flight (page.PushStoresWrite value write) = pushing c value (pushes.StoresWrite write)
+  flight page.PopLoadsRead = popping c (room_of []) pops.LoadsRead
+  flight (page.PopLoadsWrite read) = popping c (room_of []) (pops.LoadsWrite read)
   flight (page.PopLoadsCell read loaded) =
-      popping c (room_of loaded) (pops.TheVariants.LoadsCell read (cell_word c how.size read) (length loaded))
-  flight (page.PopStoresRead read loaded) = popping c (room_of loaded) (pops.TheVariants.StoresRead read)
+      popping c (room_of loaded) (pops.LoadsCell read (cell_word c how.size read) (length loaded))
+  flight (page.PopStoresRead read loaded) = popping c (room_of loaded) (pops.StoresRead read)
 
   abbrev pub went : machine.After (page.Stage T) (page.Answer T) → After (QueueFlight T) (Answer T)
   went (machine.GoOn stage) = GoOn (flight stage)
@@ -93,18 +95,18 @@ QueueDoesAsTheCode T =
 -- what `want` and `after` are for these calls: the tables of the crate `steps`, to which the code's functions are proved equal
 abbrev pub QueuePushesByTable : Type 0 → Type 0
 QueuePushesByTable T =
-    (code : Coding T) (c : ℕ) (value : T) (stage : pushes.PushStage) (old : ℕ)
+    (code : Coding T) (c : ℕ) (value : T) (stage : PushStage) (old : ℕ)
     → (want code (pushing c value stage) ≡ push_asks code.words_of stage value)
     × (after code (pushing c value stage) old
-    ≡ as_call (λ r. Values (rings.TheVariants.Push r)) Truth
+    ≡ as_call (λ r. Values (rings.Push r)) Truth
     (went_on as_it_is value tt (push_takes code.size (record { capacity = c; stage = stage; of = record {} }) stage old)))
 
 abbrev pub QueuePopsByTable : Type 0 → Type 0
 QueuePopsByTable T =
-    (code : Coding T) (c : ℕ) (room : Buffer 128) (stage : pops.PopStage) (old : ℕ)
+    (code : Coding T) (c : ℕ) (room : Buffer 128) (stage : PopStage) (old : ℕ)
     → (want code (popping {T = T} c room stage) ≡ pop_asks stage)
     × (after code (popping c room stage) old
-    ≡ as_call (λ r. Values (rings.TheVariants.Pop r)) popped_value
+    ≡ as_call (λ r. Values (rings.Pop r)) popped_value
     (went_on (λ end given room. pop_answer (read_in code room) end) tt (pop_keeps kept_at room stage old)
     (pop_takes code.size (record { capacity = c; stage = stage; of = record {} }) stage old)))
 
@@ -134,7 +136,7 @@ module _ {T : Type 0} where
 
   -- the model's machine once parties 0 and 1 have acquired the roles
   abbrev pub acquired : page.Written T → ℕ → Trace T
-  acquired how c = run acquires (opening (code_of how) kinds.TheVariants.Queue c 2)
+  acquired how c = run acquires (opening (code_of how) kinds.Queue c 2)
 
 abbrev pub QueueRunsAsTheMachine : Type 0 → Type 0
 QueueRunsAsTheMachine T =

@@ -6,8 +6,10 @@ use Rattle.steps.specs.declared.indices.enums.ReleaseMode.{ReleaseMode}
 use Rattle.steps.specs.declared.indices.enums.ReleaseMode.TheVariants.{LockIfLastIndex, Default}
 use Rattle.steps.specs.declared.indices.enums.ReleaseState.TheVariants as states
 use Rattle.steps.specs.declared.indices.enums.UniqueIndexSetAcquireFailure.TheVariants as failures
-use Rattle.steps.specs.declared.indices.unique.AcquireStage as acquires
-use Rattle.steps.specs.declared.indices.unique.ReleaseStage as releases
+use Rattle.steps.specs.declared.indices.unique.AcquireStage.{AcquireStage}
+use Rattle.steps.specs.declared.indices.unique.AcquireStage.TheVariants as acquires
+use Rattle.steps.specs.declared.indices.unique.ReleaseStage.{ReleaseStage}
+use Rattle.steps.specs.declared.indices.unique.ReleaseStage.TheVariants as releases
 use Rattle.steps.specs.Indices.Unique.{acquire_asks, acquire_takes, at_acquire, at_release, first_acquire, first_release}
 use Rattle.steps.specs.Indices.Unique.{release_asks, release_takes}
 use Rattle.steps.specs.Routine.{went_on}
@@ -19,7 +21,7 @@ use Rattle.model.specs.declared.families.indices.IndexStart.{IndexStart}
 use Rattle.model.specs.declared.families.indices.IndexStart.TheVariants as starts
 use Rattle.model.specs.declared.families.indices.calls.IndexFlight.{IndexFlight}
 use Rattle.model.specs.declared.families.indices.calls.IndexFlight.TheVariants as flights
-use Rattle.model.specs.declared.turn.Kind as kinds
+use Rattle.model.specs.declared.turn.Kind.TheVariants as kinds
 use Rattle.model.specs.declared.turn.Turn.{Turn}
 use Rattle.model.specs.declared.turn.Turn.TheVariants.{Begin, Next}
 use Rattle.model.specs.Coding.{one_word}
@@ -44,24 +46,24 @@ abbrev pub index_start : page.Call → IndexStart
 index_start page.Acquire = starts.Acquire
 index_start (page.Release index may_lock) = starts.Release index (mode may_lock)
 
-abbrev pub acquiring : ℕ → acquires.AcquireStage → IndexFlight
+abbrev pub acquiring : ℕ → AcquireStage → IndexFlight
 acquiring c stage = flights.Acquire (record { call = at_acquire (first_acquire c) stage; given = tt; room = tt })
 
-abbrev pub releasing : ℕ → ℕ → Bool → releases.ReleaseStage → IndexFlight
+abbrev pub releasing : ℕ → ℕ → Bool → ReleaseStage → IndexFlight
 releasing c index true stage = flights.ReleaseLock (record { call = at_release (first_release c) stage; given = index; room = tt })
 releasing c index false stage = flights.ReleaseDefault (record { call = at_release (first_release c) stage; given = index; room = tt })
 
 abbrev pub flight : ℕ → page.Stage → IndexFlight
-flight c page.AcquireLoadsHead = acquiring c acquires.TheVariants.LoadsHead
-flight c (page.AcquireLoadsNext head) = acquiring c (acquires.TheVariants.LoadsNext head)
-flight c (page.AcquireExchangesHead head next) = acquiring c (acquires.TheVariants.ExchangesHead head next)
-flight c (page.AcquireClaims index) = acquiring c (acquires.TheVariants.Claims index)
-flight c (page.AcquireScans index) = acquiring c (acquires.TheVariants.Scans index)
-flight c (page.ReleaseClearsFlag index may_lock) = releasing c index may_lock releases.TheVariants.ClearsFlag
-flight c (page.ReleaseLoadsHead index may_lock) = releasing c index may_lock releases.TheVariants.LoadsHead
-flight c (page.ReleaseStoresNext index may_lock head) = releasing c index may_lock (releases.TheVariants.StoresNext head)
-flight c (page.ReleaseExchangesHead index may_lock head) = releasing c index may_lock (releases.TheVariants.ExchangesHead head)
-flight c (page.ReleaseSubtracts index) = releasing c index false releases.TheVariants.Subtracts
+flight c page.AcquireLoadsHead = acquiring c acquires.LoadsHead
+flight c (page.AcquireLoadsNext head) = acquiring c (acquires.LoadsNext head)
+flight c (page.AcquireExchangesHead head next) = acquiring c (acquires.ExchangesHead head next)
+flight c (page.AcquireClaims index) = acquiring c (acquires.Claims index)
+flight c (page.AcquireScans index) = acquiring c (acquires.Scans index)
+flight c (page.ReleaseClearsFlag index may_lock) = releasing c index may_lock releases.ClearsFlag
+flight c (page.ReleaseLoadsHead index may_lock) = releasing c index may_lock releases.LoadsHead
+flight c (page.ReleaseStoresNext index may_lock head) = releasing c index may_lock (releases.StoresNext head)
+flight c (page.ReleaseExchangesHead index may_lock head) = releasing c index may_lock (releases.ExchangesHead head)
+flight c (page.ReleaseSubtracts index) = releasing c index false releases.Subtracts
 
 abbrev pub answered : page.Answer → Answer ℕ
 answered (page.Acquired index) = answers.Index index
@@ -84,7 +86,7 @@ UniqueDoesAsTheCode =
 -- what `want` and `after` are for these calls: the tables of the crate `steps`, to which the code's functions are proved equal
 abbrev pub AcquiresByTable : Type 0
 AcquiresByTable =
-    (c : ℕ) (stage : acquires.AcquireStage) (old : ℕ)
+    (c : ℕ) (stage : AcquireStage) (old : ℕ)
     → (want (acquiring c stage) ≡ acquire_asks c stage)
     × (after {T = ℕ} (acquiring c stage) old
     ≡ as_call flights.Acquire acquire_answer
@@ -92,7 +94,7 @@ AcquiresByTable =
 
 abbrev pub ReleasesByTable : Type 0
 ReleasesByTable =
-    (c index : ℕ) (stage : releases.ReleaseStage) (old : ℕ)
+    (c index : ℕ) (stage : ReleaseStage) (old : ℕ)
     → (want (releasing c index false stage) ≡ release_asks false c index stage)
     × (after {T = ℕ} (releasing c index false stage) old
     ≡ as_call flights.ReleaseDefault answers.State
@@ -100,7 +102,7 @@ ReleasesByTable =
 
 abbrev pub LockingReleasesByTable : Type 0
 LockingReleasesByTable =
-    (c index : ℕ) (stage : releases.ReleaseStage) (old : ℕ)
+    (c index : ℕ) (stage : ReleaseStage) (old : ℕ)
     → (want (releasing c index true stage) ≡ release_asks true c index stage)
     × (after {T = ℕ} (releasing c index true stage) old
     ≡ as_call flights.ReleaseLock answers.State
@@ -134,13 +136,13 @@ UniqueRunsAsTheMachine =
     (c parties : ℕ) (turns : List (machine.Turn page.Call)) → 0 < c → c < 2 ^ 24 - 1 → AreWithin parties turns → length turns < 2 ^ 63
     → (let w = fold (machine.turned (page.unique_index_set c)) (machine.opening (page.unique_index_set c)) turns in
     page.Each page.ReleasesOwn w.history
-    → IsSame reading [] (run (map as_turn turns) (opening one_word kinds.TheVariants.Indices c parties)) w)
+    → IsSame reading [] (run (map as_turn turns) (opening one_word kinds.Indices c parties)) w)
 
 -- where this is a run of such turns
 abbrev pub UniqueIsRun : Trace ℕ → Type 0
 UniqueIsRun t =
     (c parties : ℕ) (turns : List (machine.Turn page.Call)) → 0 < c → c < 2 ^ 24 - 1 → AreWithin parties turns → length turns < 2 ^ 63
     → page.Each page.ReleasesOwn (fold (machine.turned (page.unique_index_set c)) (machine.opening (page.unique_index_set c)) turns).history
-    → t ≡ run (map as_turn turns) (opening one_word kinds.TheVariants.Indices c parties)
+    → t ≡ run (map as_turn turns) (opening one_word kinds.Indices c parties)
     → (let w = fold (machine.turned (page.unique_index_set c)) (machine.opening (page.unique_index_set c)) turns in
     IsSame reading [] t w)

@@ -2,8 +2,10 @@
 use Rattle.std.specs.Prelude.{◌≡◌, ◌≤◌, ℕ, ◌+◌, ◌<◌, ◌^◌, true, false, Some, List, [], ◌∷◌, length, map, fold, replicate}
 use Rattle.steps.specs.declared.ask.After.{After}
 use Rattle.steps.specs.declared.ask.After.TheVariants.{GoOn, Done}
-use Rattle.steps.specs.declared.atomic.StoreStage as stores
-use Rattle.steps.specs.declared.atomic.LoadStage as loads
+use Rattle.steps.specs.declared.atomic.StoreStage.{StoreStage}
+use Rattle.steps.specs.declared.atomic.StoreStage.TheVariants as stores
+use Rattle.steps.specs.declared.atomic.LoadStage.{LoadStage}
+use Rattle.steps.specs.declared.atomic.LoadStage.TheVariants as loads
 use Rattle.steps.specs.Atomic.{before_version, cell_word, load_asks, load_keeps, load_takes, store_asks, store_takes}
 use Rattle.steps.specs.Routine.{went_on}
 use Rattle.model.specs.declared.event.Answer.{Answer}
@@ -16,7 +18,7 @@ use Rattle.model.specs.declared.families.atomic.AtomicStart.{AtomicStart}
 use Rattle.model.specs.declared.families.atomic.AtomicStart.TheVariants as starts
 use Rattle.model.specs.declared.families.atomic.calls.AtomicFlight.{AtomicFlight}
 use Rattle.model.specs.declared.families.atomic.calls.AtomicFlight.TheVariants as flights
-use Rattle.model.specs.declared.turn.Kind as kinds
+use Rattle.model.specs.declared.turn.Kind.TheVariants as kinds
 use Rattle.model.specs.declared.turn.Turn.{Turn}
 use Rattle.model.specs.declared.turn.Turn.TheVariants.{Begin, Next}
 use Rattle.model.specs.Coding.{one_word}
@@ -38,23 +40,23 @@ abbrev pub value_start : page.Call → AtomicStart ℕ
 value_start (page.StoreValue value) = starts.Store value
 value_start page.LoadValue = starts.Load
 
-abbrev pub storing : ℕ → stores.StoreStage → AtomicFlight ℕ
+abbrev pub storing : ℕ → StoreStage → AtomicFlight ℕ
 storing value stage = flights.Store (record { call = record { stage = stage; of = record {} }; given = value; room = tt })
 
 -- a load has read this word last, or none yet
-abbrev pub loading : ℕ → loads.LoadStage → AtomicFlight ℕ
+abbrev pub loading : ℕ → LoadStage → AtomicFlight ℕ
 loading word stage =
     flights.Load (record { call = record { stage = stage; of = record {} }; given = tt; room = record { words = word ∷ replicate 127 0 } })
 
 -- the page does not name what a load read before it went back
 abbrev pub flight : ℕ → page.Stage → AtomicFlight ℕ
-flight before (page.StoreLoadsVersion value) = storing value stores.TheVariants.LoadsVersion
-flight before (page.StoreStoresCell value version) = storing value (stores.TheVariants.StoresCell (cell_word 1 version) 0)
-flight before (page.StoreAddsVersion value) = storing value stores.TheVariants.AddsVersion
-flight before page.LoadLoadsVersion = loading before loads.TheVariants.LoadsVersion
+flight before (page.StoreLoadsVersion value) = storing value stores.LoadsVersion
+flight before (page.StoreStoresCell value version) = storing value (stores.StoresCell (cell_word 1 version) 0)
+flight before (page.StoreAddsVersion value) = storing value stores.AddsVersion
+flight before page.LoadLoadsVersion = loading before loads.LoadsVersion
 flight before (page.LoadLoadsCell version) =
-    loading before (loads.TheVariants.LoadsCell version (cell_word 1 (before_version version)) 0)
-flight before (page.LoadChecksVersion version value) = loading value (loads.TheVariants.ChecksVersion version)
+    loading before (loads.LoadsCell version (cell_word 1 (before_version version)) 0)
+flight before (page.LoadChecksVersion version value) = loading value (loads.ChecksVersion version)
 
 abbrev pub answered : page.Answer → Answer ℕ
 answered (page.Stored b) = answers.Truth b
@@ -79,7 +81,7 @@ ValueDoesAsTheCode =
 -- what `want` and `after` are for these calls: the tables of the crate `steps`, to which the code's functions are proved equal
 abbrev pub StoresByTable : Type 0
 StoresByTable =
-    (value : ℕ) (stage : stores.StoreStage) (old : ℕ)
+    (value : ℕ) (stage : StoreStage) (old : ℕ)
     → (want one_word (storing value stage) ≡ store_asks one_word.words_of stage value)
     × (after one_word (storing value stage) old
     ≡ as_call flights.Store answers.Truth
@@ -87,7 +89,7 @@ StoresByTable =
 
 abbrev pub LoadsByTable : Type 0
 LoadsByTable =
-    (word : ℕ) (stage : loads.LoadStage) (old : ℕ)
+    (word : ℕ) (stage : LoadStage) (old : ℕ)
     → (want one_word (loading word stage) ≡ load_asks stage)
     × (after one_word (loading word stage) old
     ≡ as_call flights.Load answers.Loaded
@@ -121,7 +123,7 @@ acquires = Begin 0 (Atomic starts.AcquireProducer) ∷ Next 0 ∷ []
 
 -- the model's machine of so many parties once it has
 abbrev pub acquired : ℕ → Trace ℕ
-acquired parties = run acquires (opening one_word kinds.TheVariants.Atomic 1 parties)
+acquired parties = run acquires (opening one_word kinds.Atomic 1 parties)
 
 abbrev pub role_told : List (Event ℕ)
 role_told = Begun 0 (Atomic starts.AcquireProducer) ∷ Finished 0 (Atomic starts.AcquireProducer) (answers.Truth true) ∷ []

@@ -11,7 +11,7 @@ use Rattle.model.specs.declared.event.Event.{Event}
 use Rattle.model.specs.declared.event.Event.TheVariants.{Begun, Finished}
 use Rattle.model.specs.declared.event.Start.{Start}
 use Rattle.model.specs.declared.event.Start.TheVariants.{Queues}
-use Rattle.model.specs.declared.families.queues.QueueKind as queue_kinds
+use Rattle.model.specs.declared.families.queues.QueueKind.TheVariants as queue_kinds
 use Rattle.model.specs.declared.families.queues.QueueStart.TheVariants.{Push, PushIndex}
 use Rattle.model.specs.declared.turn.Kind.TheVariants.{IndexQueue}
 use Rattle.model.specs.Coding.{one_word}
@@ -270,8 +270,8 @@ pub push_alone : (capacity : ℕ) (v : View ℕ) → Knows one_word IndexQueue c
 push_alone capacity v knows runs p value answer before during is quiet =
     let t = run_of one_word IndexQueue capacity v.turns in
     let r = known_run knows in
-    let on = queue_run one_word capacity queue_kinds.TheVariants.IndexQueue t r in
-    let kept = kept_on queue_kinds.TheVariants.IndexQueue t r.of_kind on.reached.coded on.reached.admitted on.fresh in
+    let on = queue_run one_word capacity queue_kinds.IndexQueue t r in
+    let kept = kept_on queue_kinds.IndexQueue t r.of_kind on.reached.coded on.reached.admitted on.fresh in
     let promise = promise_of {T = ℕ} t.world.kind in
     of_push promise t.world.capacity v.seen (subst (Each (StandsRight promise t.world.capacity)) (sym knows.is) kept.spans) p value answer before during is
     (subst (Alternates 0 false) (sym runs) (alternates (index_queue capacity) 0 (turns_of (index_page capacity) v))) quiet

@@ -41,6 +41,7 @@ knowing =
       going = None;
       state = None;
       asked = 0;
+      aside = 0;
       taken = 0;
       others = 0;
     }

@@ -5,7 +5,7 @@ use Rattle.plain.proofs.Names.{FoldsTo, cases_lt, nat_tests, GoOn, ResetAll}
 use Rattle.steps.specs.Bits.ResetAll.{reset_all_want, reset_all_after, reset_all_kept}
 use Rattle.steps.specs.Objects.Counts.{states_from, states, uncounted}
 use Rattle.steps.specs.declared.ask.Op.TheVariants.{Swap}
-use Rattle.steps.specs.declared.ask.Want as wants
+use Rattle.steps.specs.declared.ask.Want.TheVariants as wants
 use Rattle.steps.specs.declared.bits.counting_bit_set.BitState.{BitState}
 use Rattle.steps.specs.declared.copied.OneWord.{OneWord}
 use Rattle.plain.specs.Alone.{answer_in, words_then, room_then, stepped}
@@ -14,7 +14,7 @@ use Rattle.plain.specs.Visits.{Takes, WasCalled}
 -- ---- one step of the call
 
 module _ (call : ResetAll) (low : call.word < call.end) (words : List ℕ) where
-  asks : reset_all_want call ≡ wants.TheVariants.Ask (record { word = call.word; op = Swap 0 })
+  asks : reset_all_want call ≡ wants.Ask (record { word = call.word; op = Swap 0 })
   asks = grind (arith, nat_tests)
 
   pub room_is : (room : OneWord)

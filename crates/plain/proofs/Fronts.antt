@@ -5,7 +5,7 @@ use Rattle.steps.specs.Ask.{written}
 use Rattle.plain.proofs.Names.{by_test, Want, After}
 use Rattle.steps.specs.declared.ask.Op.{Op}
 use Rattle.steps.specs.declared.ask.Op.TheVariants.{Load, Store, Swap, Add, Sub, And, Or, Exchange}
-use Rattle.steps.specs.declared.ask.Want as wants
+use Rattle.steps.specs.declared.ask.Want.TheVariants as wants
 use Rattle.plain.specs.Alone.{written_by, answer_in, words_then, stepped}
 use Rattle.plain.proofs.Walks.{WalksFrom, OnEnd, Walks, LowThen}
 
@@ -19,9 +19,9 @@ stays k words = record { long = refl; same = λ j far. refl }
 
 -- it asks for a word below this one, if for any
 abbrev pub AsksBelow : ℕ → Want (Unit {0}) → Type 0
-AsksBelow k (wants.TheVariants.Ask ask) = ask.word < k
-AsksBelow k (wants.TheVariants.Question question) = Unit {0}
-AsksBelow k wants.TheVariants.Nothing = Unit {0}
+AsksBelow k (wants.Ask ask) = ask.word < k
+AsksBelow k (wants.Question question) = Unit {0}
+AsksBelow k wants.Nothing = Unit {0}
 
 -- ---- one word of the front
 
@@ -70,9 +70,9 @@ front_then x0 x1 x2 x3 = grind (arith, front_written)
 
 then_behind : (k : ℕ) (words : List ℕ) (want : Want (Unit {0})) → AsksBelow k want
     → Behind k words (words_then words want)
-then_behind k words (wants.TheVariants.Ask ask) low = written_behind k ask.word low words ask.op
-then_behind k words (wants.TheVariants.Question question) low = stays k words
-then_behind k words wants.TheVariants.Nothing low = stays k words
+then_behind k words (wants.Ask ask) low = written_behind k ask.word low words ask.op
+then_behind k words (wants.Question question) low = stays k words
+then_behind k words wants.Nothing low = stays k words
 
 pub behind_more : (k : ℕ) (a b c : List ℕ) → Behind k a b → Behind k b c → Behind k a c
 behind_more x0 x1 x2 x3 x4 x5 = grind arith

@@ -2,7 +2,7 @@
 use Rattle.std.proofs.Common.{arith}
 use Rattle.std.proofs.Common.{ℕ, zero, suc, ◌^◌, ◌-◌, ◌≤◌, List, refl}
 use Rattle.plain.proofs.Names.{Want, After, GoOn, Done}
-use Rattle.steps.specs.declared.ask.Want as wants
+use Rattle.steps.specs.declared.ask.Want.TheVariants as wants
 use Rattle.plain.specs.declared.drive.Stop.{Stop}
 use Rattle.plain.specs.declared.drive.Stop.TheVariants.{Asked, Ended}
 use Rattle.plain.specs.Alone.{answer_in, words_then, room_then, stepped, StopsFrom, StopsIn}
@@ -40,11 +40,11 @@ module _ {C G M E : Type 0} (want_of : C → G → Want (Unit {0})) (after : C �
       → ((d : C) → Walks want_both after_both n P (d, next) words → Found n P d next words)
       → WalksFrom (Walks want_both after_both n P) P (stepped w (call, room) (with_room next a)) words
       → FoundFrom n P (stepped w call a) (room_then w room next) words
-  found_goes n P (wants.TheVariants.Ask ask) call (GoOn d) room next words on t = on d t
-  found_goes n P (wants.TheVariants.Ask ask) call (Done e) room next words on t = (Ended e, next, words, (refl, refl, refl), t)
-  found_goes n P (wants.TheVariants.Question question) call a room next words on t = (Asked question call, room, words, (refl, refl, refl), t)
-  found_goes n P wants.TheVariants.Nothing call (GoOn d) room next words on t = on d t
-  found_goes n P wants.TheVariants.Nothing call (Done e) room next words on t = (Ended e, next, words, (refl, refl, refl), t)
+  found_goes n P (wants.Ask ask) call (GoOn d) room next words on t = on d t
+  found_goes n P (wants.Ask ask) call (Done e) room next words on t = (Ended e, next, words, (refl, refl, refl), t)
+  found_goes n P (wants.Question question) call a room next words on t = (Asked question call, room, words, (refl, refl, refl), t)
+  found_goes n P wants.Nothing call (GoOn d) room next words on t = on d t
+  found_goes n P wants.Nothing call (Done e) room next words on t = (Ended e, next, words, (refl, refl, refl), t)
 
   found : (n : ℕ) (P : Stop (C × M) (E × M) → List ℕ → Type 0) (call : C) (room : M) (words : List ℕ)
       → Walks want_both after_both n P (call, room) words → Found n P call room words

@@ -9,9 +9,9 @@ use Rattle.steps.specs.Copied as copied
 use Rattle.steps.specs.Objects.Values.{Versioned, has_version, stored}
 use Rattle.steps.specs.declared.ask.Op.TheVariants.{Add}
 use Rattle.steps.specs.declared.atomic.Store.{Store}
-use Rattle.steps.specs.declared.atomic.StoreStage as stores
+use Rattle.steps.specs.declared.atomic.StoreStage.TheVariants as stores
 use Rattle.steps.specs.declared.atomic.Load.{Load}
-use Rattle.steps.specs.declared.atomic.LoadStage as loads
+use Rattle.steps.specs.declared.atomic.LoadStage.TheVariants as loads
 use Rattle.plain.specs.Alone.{EndsFrom, EndsIn, BehavesAs}
 use Rattle.plain.specs.Queues.{words_from}
 use Rattle.plain.specs.Value.{value_in, Represents}
@@ -40,7 +40,7 @@ module _ {V : Type 0} (words_of : V → List ℕ) (value_of : List ℕ → V) (s
   -- the words of the value, and then the version
   goes_in : (cell n at : ℕ) → at + suc n ≡ size → (ws : List ℕ)
       → Ends (suc (suc n)) true (counted (words.stored ws cell (words_of value) at (suc n)))
-      (at_store first_store (stores.TheVariants.StoresCell cell at)) ws
+      (at_store first_store (stores.StoresCell cell at)) ws
   goes_in cell zero at end ws = grind (arith, by_test, slice_set, word_at, slice_index, nat_lt, nat_tests)
   goes_in cell (suc n) at end ws =
       let next = slice_set ws (word_at cell at) (slice_index (words_of value) at) in
@@ -108,7 +108,7 @@ module _ {V : Type 0} (words_of : V → List ℕ) (value_of : List ℕ → V) (s
         by_eq (λ a. From (suc (suc (size - 1))) true last a ws) v (2 ^ 64 - 1) _ _
         (λ e. absurd (more e))
         (λ _. subst (λ k. Ends (suc (suc (size - 1))) true (counted (words.stored ws cell (words_of value) 0 k))
-        (at_store first_store (stores.TheVariants.StoresCell cell 0)) ws)
+        (at_store first_store (stores.StoresCell cell 0)) ws)
         n (goes_in cell (size - 1) 0 (omega arith) ws))
 
     stores_one : StoreRuns first_store ws
@@ -160,7 +160,7 @@ module _ {V R : Type 0} (value_of : List ℕ → V) (size : ℕ) (some : 1 ≤ s
   -- the words of the cell, and then the version for itself
   reads : (cell n at : ℕ) → at + suc n ≡ size → (room : R)
       → LoadEnds (suc (suc n)) (read_in with_word room ws cell at (suc n)) checked
-      (at_load first_load (loads.TheVariants.LoadsCell version cell at)) room
+      (at_load first_load (loads.LoadsCell version cell at)) room
   reads cell zero at end room = grind (arith, read_in, eq-eqb, by_test, nat_lt, nat_tests, by_eq)
   reads cell (suc n) at end room =
       let next = with_word room at (slice_index ws (word_at cell at)) in

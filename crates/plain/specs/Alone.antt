@@ -5,7 +5,7 @@ use Rattle.steps.specs.declared.ask.Ask.{Ask}
 use Rattle.steps.specs.declared.ask.Op.{Op}
 use Rattle.steps.specs.declared.ask.Op.TheVariants.{Load, Store, Swap, Add, Sub, And, Or, Exchange}
 use Rattle.steps.specs.declared.ask.Want.{Want}
-use Rattle.steps.specs.declared.ask.Want as wants
+use Rattle.steps.specs.declared.ask.Want.TheVariants as wants
 use Rattle.steps.specs.declared.ask.After.{After}
 use Rattle.steps.specs.declared.ask.After.TheVariants.{GoOn, Done}
 use Rattle.plain.specs.declared.drive.Stop.{Stop}
@@ -30,20 +30,20 @@ written_at words ask = written_by words ask.word ask.op
 
 -- what the call is handed: the word's old value, or 0 where it asks for none
 abbrev pub answer_in : List ℕ → Want (Unit {0}) → ℕ
-answer_in words (wants.TheVariants.Ask ask) = slice_index words ask.word
-answer_in words (wants.TheVariants.Question question) = 0
-answer_in words wants.TheVariants.Nothing = 0
+answer_in words (wants.Ask ask) = slice_index words ask.word
+answer_in words (wants.Question question) = 0
+answer_in words wants.Nothing = 0
 
 abbrev pub words_then : List ℕ → Want (Unit {0}) → List ℕ
-words_then words (wants.TheVariants.Ask ask) = written_at words ask
-words_then words (wants.TheVariants.Question question) = words
-words_then words wants.TheVariants.Nothing = words
+words_then words (wants.Ask ask) = written_at words ask
+words_then words (wants.Question question) = words
+words_then words wants.Nothing = words
 
 -- a question changes nothing
 abbrev pub room_then : {M : Type 0} → Want (Unit {0}) → M → M → M
-room_then (wants.TheVariants.Ask ask) room new = new
-room_then (wants.TheVariants.Question question) room new = room
-room_then wants.TheVariants.Nothing room new = new
+room_then (wants.Ask ask) room new = new
+room_then (wants.Question question) room new = room
+room_then wants.Nothing room new = new
 
 module _ {C E : Type 0} where
   abbrev pub goes : After C E → After C (Stop C E)
@@ -52,9 +52,9 @@ module _ {C E : Type 0} where
 
   -- it stops at a question
   abbrev pub stepped : Want (Unit {0}) → C → After C E → After C (Stop C E)
-  stepped (wants.TheVariants.Ask ask) call next = goes next
-  stepped (wants.TheVariants.Question question) call next = Done (Asked question call)
-  stepped wants.TheVariants.Nothing call next = goes next
+  stepped (wants.Ask ask) call next = goes next
+  stepped (wants.Question question) call next = Done (Asked question call)
+  stepped wants.Nothing call next = goes next
 
 -- ---- all steps
 

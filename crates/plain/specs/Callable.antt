@@ -2,7 +2,7 @@
 use Rattle.std.specs.Prelude.{◌≡◌, ℕ, ◌+◌, ◌⊎◌, Bool, true, List, ◌∷◌, ◌++◌, length, map, filter}
 use Rattle.std.specs.List.{FoldsTo}
 use Rattle.steps.specs.declared.ask.Question.{Question}
-use Rattle.steps.specs.declared.ask.Question as put
+use Rattle.steps.specs.declared.ask.Question.TheVariants as put
 use Rattle.steps.specs.declared.enums.CallbackProgression.{CallbackProgression}
 use Rattle.steps.specs.declared.enums.CallbackProgression.TheVariants.{Continue, Stop}
 use Rattle.steps.specs.declared.indices.enums.ReleaseMode.{ReleaseMode}
@@ -80,9 +80,9 @@ pub record HasRecovered {F S : Type 0} (step : F → ℕ → ℕ → Bool → F 
 -- ---- the questions themselves
 
 abbrev pub index_in : Question (Unit {0}) → ℕ
-index_in (put.TheVariants.Index index) = index
-index_in (put.TheVariants.Owned owner index) = index
-index_in (put.TheVariants.Value index unit) = index
+index_in (put.Index index) = index
+index_in (put.Owned owner index) = index
+index_in (put.Value index unit) = index
 
 -- as an answer to a call
 abbrev pub as_answer : CallbackProgression → ℕ

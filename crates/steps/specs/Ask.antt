@@ -1,7 +1,7 @@
 -- What an operation makes of a word, and what becomes of a call.
 use Rattle.std.specs.Prelude.{◌≡◌, ℕ, ◌+◌, ◌-◌, ◌%◌, ◌^◌, ◌==◌, Bool, true, false, Option, MatchOption, if◌then◌else◌, bit_and, bit_or}
 use Rattle.steps.specs.declared.ask.Want.{Want}
-use Rattle.steps.specs.declared.ask.Want as wants
+use Rattle.steps.specs.declared.ask.Want.TheVariants as wants
 use Rattle.steps.specs.declared.ask.After.{After}
 use Rattle.steps.specs.declared.ask.After.TheVariants.{GoOn, Done}
 use Rattle.steps.specs.declared.ask.Op.{Op}
@@ -30,9 +30,9 @@ is_store_op (Exchange from to) = false
 
 -- whether a store is wanted, of which a call needs to hear nothing
 abbrev pub is_store : {V : Type 0} → Want V → Bool
-is_store (wants.TheVariants.Ask ask) = is_store_op ask.op
-is_store (wants.TheVariants.Question question) = false
-is_store wants.TheVariants.Nothing = false
+is_store (wants.Ask ask) = is_store_op ask.op
+is_store (wants.Question question) = false
+is_store wants.Nothing = false
 
 module _ {C A : Type 0} where
   -- a call went on and stands here now, or it was done with this answer

@@ -4,13 +4,15 @@ use Rattle.std.specs.Prelude.{ℕ, ◌+◌, ◌-◌, ◌*◌, ◌%◌, ◌^◌, 
 use Rattle.steps.specs.Queues.Ring.{load, store, word_at}
 use Rattle.steps.specs.declared.ask.Op.TheVariants.{Add, Exchange}
 use Rattle.steps.specs.declared.ask.Want.{Want}
-use Rattle.steps.specs.declared.ask.Want as wants
+use Rattle.steps.specs.declared.ask.Want.TheVariants as wants
 use Rattle.steps.specs.declared.ask.After.{After}
 use Rattle.steps.specs.declared.ask.After.TheVariants.{GoOn, Done}
 use Rattle.steps.specs.declared.atomic.Store.{Store}
-use Rattle.steps.specs.declared.atomic.StoreStage as stores
+use Rattle.steps.specs.declared.atomic.StoreStage.{StoreStage}
+use Rattle.steps.specs.declared.atomic.StoreStage.TheVariants as stores
 use Rattle.steps.specs.declared.atomic.Load.{Load}
-use Rattle.steps.specs.declared.atomic.LoadStage as loads
+use Rattle.steps.specs.declared.atomic.LoadStage.{LoadStage}
+use Rattle.steps.specs.declared.atomic.LoadStage.TheVariants as loads
 
 -- there are two cells: the first word of the number's cell
 abbrev pub cell_word : ℕ → ℕ → ℕ
@@ -23,86 +25,86 @@ before_version version = (version + 2 ^ 64 - 1) % 2 ^ 64
 -- ---- store
 
 module _ {V : Type 0} where
-  abbrev pub at_store : Store V → stores.StoreStage → Store V
+  abbrev pub at_store : Store V → StoreStage → Store V
   at_store call stage = record call { stage = stage }
 
   abbrev pub first_store : Store V
-  first_store = record { stage = stores.TheVariants.LoadsVersion; of = record {} }
+  first_store = record { stage = stores.LoadsVersion; of = record {} }
 
   -- load the version; store its cell, word by word; add 1 to the version
-  abbrev pub store_asks : (V → List ℕ) → stores.StoreStage → V → Want (Unit {0})
-  store_asks words_of stores.TheVariants.LoadsVersion value = load 0
-  store_asks words_of (stores.TheVariants.StoresCell cell at) value =
+  abbrev pub store_asks : (V → List ℕ) → StoreStage → V → Want (Unit {0})
+  store_asks words_of stores.LoadsVersion value = load 0
+  store_asks words_of (stores.StoresCell cell at) value =
       store (word_at cell at) (slice_index (words_of value) at)
-  store_asks words_of stores.TheVariants.AddsVersion value =
-      wants.TheVariants.Ask (record { word = 0; op = Add 1 })
+  store_asks words_of stores.AddsVersion value =
+      wants.Ask (record { word = 0; op = Add 1 })
 
   abbrev pub store_want : (V → List ℕ) → Store V → V → Want (Unit {0})
   store_want words_of call value = store_asks words_of call.stage value
 
   -- the last version takes no value
-  abbrev pub store_takes : ℕ → Store V → stores.StoreStage → ℕ → After (Store V) Bool
-  store_takes size call stores.TheVariants.LoadsVersion old =
+  abbrev pub store_takes : ℕ → Store V → StoreStage → ℕ → After (Store V) Bool
+  store_takes size call stores.LoadsVersion old =
       if old == 2 ^ 64 - 1
       then Done false
-      else GoOn (at_store call (stores.TheVariants.StoresCell (cell_word size old) 0))
-  store_takes size call (stores.TheVariants.StoresCell cell at) old =
+      else GoOn (at_store call (stores.StoresCell (cell_word size old) 0))
+  store_takes size call (stores.StoresCell cell at) old =
       if nat_lt (at + 1) size
-      then GoOn (at_store call (stores.TheVariants.StoresCell cell (at + 1)))
-      else GoOn (at_store call stores.TheVariants.AddsVersion)
-  store_takes size call stores.TheVariants.AddsVersion old = Done true
+      then GoOn (at_store call (stores.StoresCell cell (at + 1)))
+      else GoOn (at_store call stores.AddsVersion)
+  store_takes size call stores.AddsVersion old = Done true
 
   abbrev pub store_after : ℕ → Store V → ℕ → After (Store V) Bool
   store_after size call old = store_takes size call call.stage old
 
 -- it goes down at each step
-abbrev pub store_left : ℕ → stores.StoreStage → ℕ
-store_left size stores.TheVariants.LoadsVersion = size + 2
-store_left size (stores.TheVariants.StoresCell cell at) = size - at + 1
-store_left size stores.TheVariants.AddsVersion = 0
+abbrev pub store_left : ℕ → StoreStage → ℕ
+store_left size stores.LoadsVersion = size + 2
+store_left size (stores.StoresCell cell at) = size - at + 1
+store_left size stores.AddsVersion = 0
 
 -- ---- load
 
 -- load the version; load the cell of the version before it,
 -- word by word; exchange the version for itself
-abbrev pub load_asks : loads.LoadStage → Want (Unit {0})
-load_asks loads.TheVariants.LoadsVersion = load 0
-load_asks (loads.TheVariants.LoadsCell version cell at) = load (word_at cell at)
-load_asks (loads.TheVariants.ChecksVersion version) =
-    wants.TheVariants.Ask (record { word = 0; op = Exchange version version })
+abbrev pub load_asks : LoadStage → Want (Unit {0})
+load_asks loads.LoadsVersion = load 0
+load_asks (loads.LoadsCell version cell at) = load (word_at cell at)
+load_asks (loads.ChecksVersion version) =
+    wants.Ask (record { word = 0; op = Exchange version version })
 
 -- the loads of a version's cell begin
-abbrev pub load_begins : ℕ → ℕ → loads.LoadStage
+abbrev pub load_begins : ℕ → ℕ → LoadStage
 load_begins size version =
-    loads.TheVariants.LoadsCell version (cell_word size (before_version version)) 0
+    loads.LoadsCell version (cell_word size (before_version version)) 0
 
 module _ {R : Type 0} where
   -- each word of the cell goes to its place in the room
-  abbrev pub load_keeps : (R → ℕ → ℕ → R) → R → loads.LoadStage → ℕ → R
-  load_keeps with_word room loads.TheVariants.LoadsVersion old = room
-  load_keeps with_word room (loads.TheVariants.LoadsCell version cell at) old =
+  abbrev pub load_keeps : (R → ℕ → ℕ → R) → R → LoadStage → ℕ → R
+  load_keeps with_word room loads.LoadsVersion old = room
+  load_keeps with_word room (loads.LoadsCell version cell at) old =
       with_word room at old
-  load_keeps with_word room (loads.TheVariants.ChecksVersion version) old = room
+  load_keeps with_word room (loads.ChecksVersion version) old = room
 
 module _ {V R : Type 0} where
-  abbrev pub at_load : Load V R → loads.LoadStage → Load V R
+  abbrev pub at_load : Load V R → LoadStage → Load V R
   at_load call stage = record call { stage = stage }
 
   abbrev pub first_load : Load V R
-  first_load = record { stage = loads.TheVariants.LoadsVersion; of = record {} }
+  first_load = record { stage = loads.LoadsVersion; of = record {} }
 
   abbrev pub load_want : Load V R → Want (Unit {0})
   load_want call = load_asks call.stage
 
   -- where the version has moved, the cell is loaded again, at the version found
-  abbrev pub load_takes : ℕ → Load V R → loads.LoadStage → ℕ → After (Load V R) (Unit {0})
-  load_takes size call loads.TheVariants.LoadsVersion old =
+  abbrev pub load_takes : ℕ → Load V R → LoadStage → ℕ → After (Load V R) (Unit {0})
+  load_takes size call loads.LoadsVersion old =
       GoOn (at_load call (load_begins size old))
-  load_takes size call (loads.TheVariants.LoadsCell version cell at) old =
+  load_takes size call (loads.LoadsCell version cell at) old =
       if nat_lt (at + 1) size
-      then GoOn (at_load call (loads.TheVariants.LoadsCell version cell (at + 1)))
-      else GoOn (at_load call (loads.TheVariants.ChecksVersion version))
-  load_takes size call (loads.TheVariants.ChecksVersion version) old =
+      then GoOn (at_load call (loads.LoadsCell version cell (at + 1)))
+      else GoOn (at_load call (loads.ChecksVersion version))
+  load_takes size call (loads.ChecksVersion version) old =
       if old == version then Done tt else GoOn (at_load call (load_begins size old))
 
   abbrev pub load_after : ℕ → Load V R → ℕ → After (Load V R) (Unit {0})
@@ -112,7 +114,7 @@ module _ {V R : Type 0} where
   load_kept with_word call room old = load_keeps with_word room call.stage old
 
 -- the exchange fails where the version has moved
-abbrev pub goes_back : loads.LoadStage → ℕ → Bool
-goes_back loads.TheVariants.LoadsVersion old = false
-goes_back (loads.TheVariants.LoadsCell version cell at) old = false
-goes_back (loads.TheVariants.ChecksVersion version) old = not (old == version)
+abbrev pub goes_back : LoadStage → ℕ → Bool
+goes_back loads.LoadsVersion old = false
+goes_back (loads.LoadsCell version cell at) old = false
+goes_back (loads.ChecksVersion version) old = not (old == version)

@@ -11,21 +11,26 @@ use Rattle.steps.specs.declared.copied.OneWord.{OneWord}
 use Rattle.steps.specs.declared.queues.roles.AcquireRole.{AcquireRole}
 use Rattle.steps.specs.declared.queues.roles.ReleaseRole.{ReleaseRole}
 use Rattle.steps.specs.declared.queues.lengths.Len.{Len}
-use Rattle.steps.specs.declared.queues.lengths.LenStage as lens
+use Rattle.steps.specs.declared.queues.lengths.LenStage.{LenStage}
+use Rattle.steps.specs.declared.queues.lengths.LenStage.TheVariants as lens
 use Rattle.steps.specs.declared.queues.ring.Push.{Push}
 use Rattle.steps.specs.declared.queues.ring.PushStage as pushes
 use Rattle.steps.specs.declared.queues.ring.Pop.{Pop}
 use Rattle.steps.specs.declared.queues.ring.PopStage as pops
 use Rattle.steps.specs.declared.queues.overflow.Push as over
-use Rattle.steps.specs.declared.queues.overflow.PushStage as over_pushes
+use Rattle.steps.specs.declared.queues.overflow.PushStage.{PushStage}
+use Rattle.steps.specs.declared.queues.overflow.PushStage.TheVariants as over_pushes
 use Rattle.steps.specs.declared.queues.overflow.PushEnd.{PushEnd}
 use Rattle.steps.specs.declared.queues.overflow.PushEnd.TheVariants.{Added}
 use Rattle.steps.specs.declared.queues.overflow.Pop as over_pop
-use Rattle.steps.specs.declared.queues.overflow.PopStage as over_pops
+use Rattle.steps.specs.declared.queues.overflow.PopStage.{PopStage}
+use Rattle.steps.specs.declared.queues.overflow.PopStage.TheVariants as over_pops
 use Rattle.steps.specs.declared.atomic.Store.{Store}
-use Rattle.steps.specs.declared.atomic.StoreStage as stores
+use Rattle.steps.specs.declared.atomic.StoreStage.{StoreStage}
+use Rattle.steps.specs.declared.atomic.StoreStage.TheVariants as stores
 use Rattle.steps.specs.declared.atomic.Load.{Load}
-use Rattle.steps.specs.declared.atomic.LoadStage as loads
+use Rattle.steps.specs.declared.atomic.LoadStage.{LoadStage}
+use Rattle.steps.specs.declared.atomic.LoadStage.TheVariants as loads
 use Rattle.steps.specs.Queues.Roles.{acquire_want, acquire_after, release_want, release_after}
 use Rattle.steps.specs.Queues.Lengths.{len_asks, len_takes}
 use Rattle.steps.specs.Queues.Ring.{cell_word, distance, at_push, push_asks, push_takes, push_after, push_left, at_pop}
@@ -54,13 +59,13 @@ release_fewer c d n goes = cc
 
 -- ---- lengths
 
-pub len_tells : (c : Len) (stage : lens.LenStage) (room : Unit {0}) (m n : ℕ)
+pub len_tells : (c : Len) (stage : LenStage) (room : Unit {0}) (m n : ℕ)
     → IsTrue (is_store (len_asks stage))
     → (len_takes c stage m ≡ len_takes c stage n) × (room ≡ room)
-len_tells c lens.TheVariants.LoadsWrite room m n t = no_store t
-len_tells c (lens.TheVariants.LoadsRead write) room m n t = no_store t
-len_tells c (lens.TheVariants.LoadsWriteAgain write read) room m n t = no_store t
-len_tells c (lens.TheVariants.LoadsReadAgain write read) room m n t = no_store t
+len_tells c lens.LoadsWrite room m n t = no_store t
+len_tells c (lens.LoadsRead write) room m n t = no_store t
+len_tells c (lens.LoadsWriteAgain write read) room m n t = no_store t
+len_tells c (lens.LoadsReadAgain write read) room m n t = no_store t
 
 -- ---- the bounded queue
 
@@ -137,84 +142,84 @@ module _ {V R : Type 0} (size : ℕ) where
 
 -- ---- the overflowing queue
 
-pub overflow_push_tells : (c : over.Push) (stage : over_pushes.PushStage)
+pub overflow_push_tells : (c : over.Push) (stage : PushStage)
     (x : ℕ) (room : OneWord) (m n : ℕ) → IsTrue (is_store (overflow.push_asks c.capacity stage x))
     → (overflow.push_takes c stage m ≡ overflow.push_takes c stage n)
     × (overflow.push_keeps room stage m ≡ overflow.push_keeps room stage n)
-overflow_push_tells c over_pushes.TheVariants.HandsBack x room m n t = no_store t
-overflow_push_tells c over_pushes.TheVariants.LoadsWrite x room m n t = no_store t
-overflow_push_tells c (over_pushes.TheVariants.LoadsRead write) x room m n t = no_store t
-overflow_push_tells c (over_pushes.TheVariants.StoresCell write read) x room m n t = (refl, refl)
-overflow_push_tells c (over_pushes.TheVariants.StoresWrite write read) x room m n t = (refl, refl)
-overflow_push_tells c (over_pushes.TheVariants.MovesRead read) x room m n t = no_store t
-overflow_push_tells c (over_pushes.TheVariants.LoadsCell read) x room m n t = no_store t
+overflow_push_tells c over_pushes.HandsBack x room m n t = no_store t
+overflow_push_tells c over_pushes.LoadsWrite x room m n t = no_store t
+overflow_push_tells c (over_pushes.LoadsRead write) x room m n t = no_store t
+overflow_push_tells c (over_pushes.StoresCell write read) x room m n t = (refl, refl)
+overflow_push_tells c (over_pushes.StoresWrite write read) x room m n t = (refl, refl)
+overflow_push_tells c (over_pushes.MovesRead read) x room m n t = no_store t
+overflow_push_tells c (over_pushes.LoadsCell read) x room m n t = no_store t
 
 abbrev overflow_then : After over.Push PushEnd → ℕ
 overflow_then (GoOn d) = overflow.push_left d.stage + 1
 overflow_then (Done e) = 0
 
-overflow_stage_fewer : (c : over.Push) (stage : over_pushes.PushStage) (k : ℕ)
+overflow_stage_fewer : (c : over.Push) (stage : PushStage) (k : ℕ)
     → overflow_then (overflow.push_takes c stage k) ≤ overflow.push_left stage
-overflow_stage_fewer c over_pushes.TheVariants.HandsBack k = omega arith
-overflow_stage_fewer c over_pushes.TheVariants.LoadsWrite k =
+overflow_stage_fewer c over_pushes.HandsBack k = omega arith
+overflow_stage_fewer c over_pushes.LoadsWrite k =
     by_eq (λ a. overflow_then a ≤ 5) k (2 ^ 64 - 1) _
-    (GoOn (overflow.at_push c (over_pushes.TheVariants.LoadsRead k)))
+    (GoOn (overflow.at_push c (over_pushes.LoadsRead k)))
     (λ e. omega arith) (λ e. omega arith)
-overflow_stage_fewer c (over_pushes.TheVariants.LoadsRead write) k = omega arith
-overflow_stage_fewer c (over_pushes.TheVariants.StoresCell write read) k = omega arith
-overflow_stage_fewer c (over_pushes.TheVariants.StoresWrite write read) k =
+overflow_stage_fewer c (over_pushes.LoadsRead write) k = omega arith
+overflow_stage_fewer c (over_pushes.StoresCell write read) k = omega arith
+overflow_stage_fewer c (over_pushes.StoresWrite write read) k =
     by_eq (λ a. overflow_then a ≤ 2) (distance write read) c.capacity
-    (GoOn (overflow.at_push c (over_pushes.TheVariants.MovesRead read))) (Done Added)
+    (GoOn (overflow.at_push c (over_pushes.MovesRead read))) (Done Added)
     (λ e. omega arith) (λ e. omega arith)
-overflow_stage_fewer c (over_pushes.TheVariants.MovesRead read) k =
+overflow_stage_fewer c (over_pushes.MovesRead read) k =
     by_eq (λ a. overflow_then a ≤ 1) k read
-    (GoOn (overflow.at_push c (over_pushes.TheVariants.LoadsCell read))) (Done Added)
+    (GoOn (overflow.at_push c (over_pushes.LoadsCell read))) (Done Added)
     (λ e. omega arith) (λ e. omega arith)
-overflow_stage_fewer c (over_pushes.TheVariants.LoadsCell read) k = omega arith
+overflow_stage_fewer c (over_pushes.LoadsCell read) k = omega arith
 
 pub overflow_push_fewer : (c d : over.Push) (k : ℕ) → overflow.push_after c k ≡ GoOn d
     → overflow.push_left d.stage < overflow.push_left c.stage
 overflow_push_fewer c d k goes =
     let e = ap overflow_then goes in let f = overflow_stage_fewer c c.stage k in omega arith
 
-pub overflow_pop_tells : (c : over_pop.Pop) (stage : over_pops.PopStage) (room : OneWord) (m n : ℕ)
+pub overflow_pop_tells : (c : over_pop.Pop) (stage : PopStage) (room : OneWord) (m n : ℕ)
     → IsTrue (is_store (overflow.pop_asks c.capacity stage))
     → (overflow.pop_takes c stage m ≡ overflow.pop_takes c stage n)
     × (overflow.pop_keeps room stage m ≡ overflow.pop_keeps room stage n)
-overflow_pop_tells c over_pops.TheVariants.FindsNone room m n t = no_store t
-overflow_pop_tells c over_pops.TheVariants.LoadsRead room m n t = no_store t
-overflow_pop_tells c (over_pops.TheVariants.LoadsWrite read) room m n t = no_store t
-overflow_pop_tells c (over_pops.TheVariants.LoadsCell read) room m n t = no_store t
-overflow_pop_tells c (over_pops.TheVariants.MovesRead read) room m n t = no_store t
+overflow_pop_tells c over_pops.FindsNone room m n t = no_store t
+overflow_pop_tells c over_pops.LoadsRead room m n t = no_store t
+overflow_pop_tells c (over_pops.LoadsWrite read) room m n t = no_store t
+overflow_pop_tells c (over_pops.LoadsCell read) room m n t = no_store t
+overflow_pop_tells c (over_pops.MovesRead read) room m n t = no_store t
 
 -- ---- the single value
 
 module _ {V : Type 0} (words_of : V → List ℕ) (size : ℕ) where
-  pub store_tells : (c : Store V) (stage : stores.StoreStage) (x : V) (room : Unit {0}) (m n : ℕ)
+  pub store_tells : (c : Store V) (stage : StoreStage) (x : V) (room : Unit {0}) (m n : ℕ)
       → IsTrue (is_store (value.store_asks words_of stage x))
       → (value.store_takes size c stage m ≡ value.store_takes size c stage n) × (room ≡ room)
-  store_tells c stores.TheVariants.LoadsVersion x room m n t = no_store t
-  store_tells c (stores.TheVariants.StoresCell cell at) x room m n t = (refl, refl)
-  store_tells c stores.TheVariants.AddsVersion x room m n t = no_store t
+  store_tells c stores.LoadsVersion x room m n t = no_store t
+  store_tells c (stores.StoresCell cell at) x room m n t = (refl, refl)
+  store_tells c stores.AddsVersion x room m n t = no_store t
 
 module _ {V : Type 0} (size : ℕ) where
   abbrev store_then : After (Store V) Bool → ℕ
   store_then (GoOn d) = value.store_left size d.stage + 1
   store_then (Done e) = 0
 
-  store_stage_fewer : (c : Store V) (stage : stores.StoreStage) (k : ℕ)
+  store_stage_fewer : (c : Store V) (stage : StoreStage) (k : ℕ)
       → store_then (value.store_takes size c stage k) ≤ value.store_left size stage
-  store_stage_fewer c stores.TheVariants.LoadsVersion k =
+  store_stage_fewer c stores.LoadsVersion k =
       by_eq (λ a. store_then a ≤ size + 2) k (2 ^ 64 - 1) (Done false)
-      (GoOn (value.at_store c (stores.TheVariants.StoresCell (value.cell_word size k) 0)))
+      (GoOn (value.at_store c (stores.StoresCell (value.cell_word size k) 0)))
       (λ e. omega arith) (λ e. omega arith)
-  store_stage_fewer c (stores.TheVariants.StoresCell cell at) k =
+  store_stage_fewer c (stores.StoresCell cell at) k =
       by_test (λ a. store_then a ≤ size - at + 1) (nat_lt (at + 1) size)
-      (GoOn (value.at_store c (stores.TheVariants.StoresCell cell (at + 1))))
-      (GoOn (value.at_store c stores.TheVariants.AddsVersion))
+      (GoOn (value.at_store c (stores.StoresCell cell (at + 1))))
+      (GoOn (value.at_store c stores.AddsVersion))
       (λ t. let further : at + 1 < size = grind (arith, nat_tests) in omega arith)
       (λ t. omega arith)
-  store_stage_fewer c stores.TheVariants.AddsVersion k = omega arith
+  store_stage_fewer c stores.AddsVersion k = omega arith
 
   pub store_fewer : (c d : Store V) (k : ℕ) → value.store_after size c k ≡ GoOn d
       → value.store_left size d.stage < value.store_left size c.stage
@@ -222,10 +227,10 @@ module _ {V : Type 0} (size : ℕ) where
       let e = ap store_then goes in let f = store_stage_fewer c c.stage k in omega arith
 
 module _ {V R : Type 0} (with_word : R → ℕ → ℕ → R) (size : ℕ) where
-  pub load_tells : (c : Load V R) (stage : loads.LoadStage) (room : R) (m n : ℕ)
+  pub load_tells : (c : Load V R) (stage : LoadStage) (room : R) (m n : ℕ)
       → IsTrue (is_store (value.load_asks stage))
       → (value.load_takes size c stage m ≡ value.load_takes size c stage n)
       × (value.load_keeps with_word room stage m ≡ value.load_keeps with_word room stage n)
-  load_tells c loads.TheVariants.LoadsVersion room m n t = no_store t
-  load_tells c (loads.TheVariants.LoadsCell version cell at) room m n t = no_store t
-  load_tells c (loads.TheVariants.ChecksVersion version) room m n t = no_store t
+  load_tells c loads.LoadsVersion room m n t = no_store t
+  load_tells c (loads.LoadsCell version cell at) room m n t = no_store t
+  load_tells c (loads.ChecksVersion version) room m n t = no_store t

@@ -1,5 +1,4 @@
-//! The worked pieces of README.md, of CALLING.md and of BUS.md.
-mod bus;
+//! The worked pieces of README.md and of CALLING.md.
 mod handles;
 mod one_caller;
 mod percent;

@@ -1,9 +1,7 @@
 //! What of the threaded types no text of calls can say: what crosses threads, memory that is refused, closures that
-//! capture, a state that outlives its container; what README.md and CALLING.md show; and the bus of `uses_bus`.
+//! capture, a state that outlives its container; and what README.md and CALLING.md show.
 #![tactic(auto)]
 
-#[cfg(test)]
-mod bus;
 #[cfg(test)]
 mod closes;
 #[cfg(test)]

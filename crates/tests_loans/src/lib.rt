@@ -1,4 +1,4 @@
-//! The slots of `uses_slots`, and the typed loan channel and the pool of `uses_loans`, by turns in one thread and between two.
+//! The slots of `zero_copy_slots`, and the typed loan channel and the pool of `zero_copy_loans`, by turns in one thread and between two.
 #![tactic(auto)]
 
 #[cfg(test)]

@@ -4,8 +4,8 @@ use std::sync::Wait;
 use std::test::Fail;
 use std::thread;
 use std::thread::Threads;
-use uses_loans::error::PoolFailure;
-use uses_loans::pool::{Buffer, Lender, Pool};
+use zero_copy_loans::error::PoolFailure;
+use zero_copy_loans::pool::{Buffer, Lender, Pool};
 
 /// Takes a buffer, and lays a text of so many letters in it where it is empty.
 fn fills<'a>(
@@ -167,5 +167,61 @@ fn a_buffer_is_handed_on(rt: HostRuntime) -> Result<(), Fail> {
         swap(&rt, rt.alloc(), &mut one, &mut other),
         Some((true, true))
     );
+    Ok(())
+}
+
+/// How often each of two threads tries to take a buffer.
+const ROUNDS: u32 = 20_000;
+
+/// Whether each buffer that comes has three letters, and can be given back.
+fn find_all(rt: &impl Wait, lender: &mut Lender<'_, String>) -> bool {
+    for _ in 0..ROUNDS {
+        match lender.acquire(rt) {
+            Ok(buffer) => {
+                if !has_and_gives_back(buffer, 3) {
+                    return false;
+                }
+            }
+            Err(PoolFailure::NoPlace(_)) => {}
+            Err(_) => return false,
+        }
+    }
+    true
+}
+
+/// Fills all of so many places with three letters.
+fn fills_each(
+    rt: &impl Wait,
+    alloc: Global,
+    lender: &mut Lender<'_, String>,
+    places: usize,
+) -> Option<bool> {
+    let mut buffers = Vec::new(alloc);
+    for _ in 0..places {
+        buffers.push(fills(rt, alloc, lender, 3)?).ok()?;
+    }
+    let mut right = true;
+    for buffer in buffers {
+        right &= buffer.give_back().is_ok();
+    }
+    Some(right)
+}
+
+/// Two threads take buffers of a pool in which each place has a value, and give them back.
+fn share<R: Threads + Wait + Sync>(rt: &R, alloc: Global, places: usize) -> Option<bool> {
+    let mut pool: Pool<String> = Pool::new(alloc, places).ok()?;
+    let mut one = pool.lender()?;
+    let mut other = one.split()?;
+    let are_filled = fills_each(rt, alloc, &mut one, places)?;
+    let found = thread::join(rt, || find_all(rt, &mut one), || find_all(rt, &mut other));
+    Some(are_filled && found == (true, true))
+}
+
+/// A place is free only once its value lies there again: no buffer comes empty while another thread gives one back.
+#[test]
+fn no_buffer_comes_empty(rt: HostRuntime) -> Result<(), Fail> {
+    for places in [1, 65] {
+        assert!(rt; share(&rt, rt.alloc(), places) == Some(true));
+    }
     Ok(())
 }

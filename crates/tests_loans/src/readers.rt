@@ -1,7 +1,7 @@
 //! Two threads that read one slot at once.
 use std::test::Fail;
 use std::thread;
-use uses_slots::Slots;
+use zero_copy_slots::Slots;
 
 /// How often each of them reads.
 const TIMES: u64 = 300_000;

@@ -2,10 +2,10 @@
 use std::alloc::{AllocError, Global};
 use std::mem::forget;
 use std::sync::Wait;
-use uses_loans::channel::Channel;
-use uses_loans::error::LoanFailure;
-use uses_loans::receiver::{Receiver, Sample};
-use uses_loans::sender::{Loan, Sender};
+use zero_copy_loans::channel::Channel;
+use zero_copy_loans::error::LoanFailure;
+use zero_copy_loans::receiver::{Receiver, Sample};
+use zero_copy_loans::sender::{Loan, Sender};
 
 /// How many wait at most.
 const QUEUE: usize = 2;
@@ -198,6 +198,14 @@ pub fn loans_and_gives_up(rt: &impl Wait, sender: &mut Sender<'_, String>) -> bo
     }
 }
 
+/// Whether a place can be regained, and its own slot was left empty.
+fn regains(sender: &mut Sender<'_, String>, place: u32) -> bool {
+    match sender.regain(place) {
+        Some(emptied) => emptied.slot() == place,
+        None => false,
+    }
+}
+
 impl<'a> Room<'a> {
     /// Both ends of a channel, with so many texts to write. None where they are not to be had.
     pub fn new(alloc: Global, channel: &'a mut Channel<String>, number: usize) -> Option<Room<'a>> {
@@ -224,7 +232,7 @@ impl<'a> Room<'a> {
 
     fn keeps_one(&mut self) -> bool {
         match &self.one {
-            Some(loan) => !self.sender.regain(loan.place()),
+            Some(loan) => self.sender.regain(loan.place()).is_none(),
             None => false,
         }
     }
@@ -256,7 +264,7 @@ impl<'a> Room<'a> {
             Step::KeepsOne => self.keeps_one(),
             Step::GivesUpOne => self.gives_up_one(),
             Step::DropsOther => self.drops_other(),
-            Step::RegainsOther(some) => self.sender.regain(self.place) == some,
+            Step::RegainsOther(some) => regains(&mut self.sender, self.place) == some,
             _ => false,
         }
     }
@@ -271,7 +279,7 @@ impl<'a> Room<'a> {
             Step::TakesBack(place) => self.sender.take_back() == place,
             Step::IsNext(number) => self.sender.next_number() == number,
             Step::IsStillRead(place) => is_still_read(rt, &mut self.sender, place),
-            Step::Regains(place, some) => self.sender.regain(place) == some,
+            Step::Regains(place, some) => regains(&mut self.sender, place) == some,
             _ => self.does_with_loans(rt, step),
         }
     }

@@ -1,17 +1,17 @@
 //! Slots, channels and pools of more places than fit into one word of bits.
 ghost use Rattle.lock_free.specs.Loan.Sender.{IsSame};
-ghost use Rattle.uses_loans.specs.Ends.{sender_of, IsSameReceiver};
+ghost use Rattle.zero_copy_loans.specs.Ends.{sender_of, IsSameReceiver};
 
 use std::alloc::Global;
 use std::sync::Wait;
 use std::test::Fail;
-use uses_loans::channel::Channel;
-use uses_loans::error::PoolFailure;
-use uses_loans::pool::{Buffer, Lender, Pool};
-use uses_loans::receiver::{Receiver, Sample};
-use uses_loans::sender::Sender;
-use uses_slots::Slots;
-use uses_slots::error::{ReadFailure, TakeFailure};
+use zero_copy_loans::channel::Channel;
+use zero_copy_loans::error::PoolFailure;
+use zero_copy_loans::pool::{Buffer, Lender, Pool};
+use zero_copy_loans::receiver::{Reads, Receiver, Sample};
+use zero_copy_loans::sender::{Sender, Writes};
+use zero_copy_slots::error::{ReadFailure, TakeFailure};
+use zero_copy_slots::{Anything, Slots};
 
 // ---- slots
 
@@ -153,8 +153,82 @@ fn through(rt: &impl Wait, alloc: Global, places: u32) -> Option<bool> {
 
 #[test]
 fn all_places_are_used(rt: HostRuntime) -> Result<(), Fail> {
-    for places in [1, 9, 64, 65, 100, 300] {
+    for places in [1, 5, 9, 64, 65, 100, 300, 1_000] {
         assert!(rt; through(&rt, rt.alloc(), places) == Some(true));
+    }
+    Ok(())
+}
+
+/// Writes three times the number that a value is sent with.
+#[derive(Drop)]
+struct Triples;
+
+impl Writes<u64, Anything> for Triples {
+    fn write(&mut self, number: u64, value: &mut u64) -> bool {
+        *value = number.wrapping_mul(3);
+        true
+    }
+}
+
+/// Reads what was written.
+#[derive(Drop)]
+struct Plain;
+
+impl Reads<u64, Anything, u64> for Plain {
+    ghost tells = { λ _ _. Unit {0} };
+
+    fn read(&mut self, value: &u64) -> Option<u64> {
+        Some(*value)
+    }
+}
+
+/// Whether there are so many numbers, of which each is by so much more than the one before.
+fn rise(numbers: &[u64], many: usize, first: u64, by: u64) -> bool {
+    let mut next = first;
+    for number in numbers {
+        if *number != next {
+            return false;
+        }
+        next = next.wrapping_add(by);
+    }
+    numbers.len() == many
+}
+
+/// Sends a value in the place that is free, and two more in places that come back between the tries, of so many that wait to come back.
+fn goes_on(rt: &impl Wait, alloc: Global, sender: &mut Sender<'_, u64>, back: u32) -> bool {
+    let mut right = sender.send_each(rt, alloc, 1, 1, &mut Triples).is_some();
+    right &= sender.send_each(rt, alloc, 2, 2, &mut Triples).is_some();
+    for _ in 2..back {
+        right &= sender.take_back().is_some();
+    }
+    right & sender.take_back().is_none()
+}
+
+/// Fills the queue of a channel, which has room for all places but one, and sends three more, so that the three oldest come back.
+/// Then all the others are read.
+fn each_comes(rt: &impl Wait, alloc: Global, places: u32) -> Option<bool> {
+    let room = places.checked_sub(1)?;
+    let many = room as usize;
+    let mut channel: Channel<u64> = Channel::new(alloc, places as usize, many).ok()?;
+    let mut spares = Vec::new(alloc);
+    for _ in 0..places {
+        spares.push(0u64).ok()?;
+    }
+    spares.push(0u64).ok()?;
+    let (mut sender, mut receiver) = channel.ends(alloc, spares)?;
+    let back = sender.send_each(rt, alloc, room, 1, &mut Triples)?;
+    let more = sender.send_each(rt, alloc, 3, 1, &mut Triples)?;
+    let mut right = back.is_empty() && rise(&more, 3, 0, 1);
+    let told = receiver.read_each(rt, alloc, many, 1, &mut Plain)?;
+    right &= rise(&told, many, 9, 3);
+    right &= receiver.read_each(rt, alloc, 1, 1, &mut Plain).is_none();
+    Some(right & goes_on(rt, alloc, &mut sender, room))
+}
+
+#[test]
+fn each_is_sent_and_read(rt: HostRuntime) -> Result<(), Fail> {
+    for places in [5, 9, 64, 65, 100, 300, 1_000] {
+        assert!(rt; each_comes(&rt, rt.alloc(), places) == Some(true));
     }
     Ok(())
 }
@@ -262,7 +336,7 @@ fn keep_own(rt: &impl Wait, alloc: Global, places: u32) -> Option<bool> {
 
 #[test]
 fn each_place_of_a_pool_keeps_its_value(rt: HostRuntime) -> Result<(), Fail> {
-    for places in [5, 64, 65, 1_000] {
+    for places in [5, 9, 64, 65, 100, 300, 1_000] {
         assert!(rt; keep_own(&rt, rt.alloc(), places) == Some(true));
     }
     Ok(())

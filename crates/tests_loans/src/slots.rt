@@ -1,7 +1,7 @@
-//! The slots of `uses_slots`, by turns in one thread.
+//! The slots of `zero_copy_slots`, by turns in one thread.
 use std::mem::forget;
 use std::test::Fail;
-use uses_slots::Slots;
+use zero_copy_slots::Slots;
 
 /// Whether a slot can be read.
 fn is_readable(slots: &Slots<u64>, slot: u32) -> bool {

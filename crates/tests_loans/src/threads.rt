@@ -6,10 +6,10 @@ use std::sync::Wait;
 use std::test::Fail;
 use std::thread;
 use std::thread::Threads;
-use uses_loans::channel::Channel;
-use uses_loans::receiver::{Receiver, Sample};
-use uses_loans::sender::{Loan, Sender};
-use uses_slots::Keeps;
+use zero_copy_loans::channel::Channel;
+use zero_copy_loans::receiver::{Receiver, Sample};
+use zero_copy_loans::sender::{Loan, Sender};
+use zero_copy_slots::Keeps;
 
 /// How many values are sent.
 const VALUES: u64 = 10_000;

@@ -7,8 +7,8 @@ use crate::rooms::{Room, Step, channel, is_still_read, loans_and_gives_up, reads
 use std::alloc::Global;
 use std::sync::Wait;
 use std::test::Fail;
-use uses_loans::receiver::{Receiver, Sample};
-use uses_loans::sender::Sender;
+use zero_copy_loans::receiver::{Receiver, Sample};
+use zero_copy_loans::sender::Sender;
 
 /// How many places there are.
 const PLACES: usize = 4;
@@ -45,6 +45,16 @@ const LOANS: [Step; 12] = [
     HasNoValue,
 ];
 
+/// While a text waits in the first place, the second one is regained. The text still comes.
+const BESIDE: [Step; 6] = [
+    Sends("one", None),
+    LoansOther,
+    DropsOther,
+    RegainsOther(true),
+    Reads(0, "one"),
+    TakesBack(Some(0)),
+];
+
 /// Does the steps on a new channel of so many places, with so many texts to write. It answers the first step that does not
 /// come to what it has to, if any, and how many texts are left. None where the channel or its ends are not to be had.
 fn on_new(
@@ -71,6 +81,13 @@ fn texts_go_through_a_channel(rt: HostRuntime) -> Result<(), Fail> {
 fn loans_are_refused(rt: HostRuntime) -> Result<(), Fail> {
     let came = on_new(&rt, rt.alloc(), 2, 3, &LOANS);
     assert_eq!(rt; came, Some((None, 0)));
+    Ok(())
+}
+
+#[test]
+fn a_place_is_regained_beside_another(rt: HostRuntime) -> Result<(), Fail> {
+    let came = on_new(&rt, rt.alloc(), 2, 3, &BESIDE);
+    assert_eq!(rt; came, Some((None, 1)));
     Ok(())
 }
 
@@ -135,7 +152,7 @@ fn stays_loaned(
             let mut right = reading.get().as_str() == "one";
             right &= is_still_read(rt, sender, 0);
             right &= reading.get().as_str() == "one";
-            right & !sender.regain(0)
+            right & sender.regain(0).is_none()
         }
         Err(_) => false,
     }

@@ -1,7 +1,4 @@
 //! Bit sets and counting bit sets: what two set, a third takes out or it is left, at each place.
-ghost use Rattle.lock_free.specs.Bits.Calls.{IsPassOf};
-ghost use Rattle.lock_free.specs.Counts.Calls.{IsPassOf as IsCountsPassOf};
-
 use crate::tasks::{Task, three_run};
 use lock_free::mpmc::bit_set::BitSet;
 use lock_free::mpmc::counting_bit_set::CountingBitSet;
@@ -76,20 +73,20 @@ impl Three {
 
 /// One who sets places and takes them out.
 trait Places: Drop + Sized {
-    /// Another one, with a pass that was made of two.
+    /// Another one.
     fn another(&mut self) -> Option<Self>;
 
     /// How many places there are.
     fn number(&self) -> usize;
 
     /// Sets a place below that number: where it was this one who did, it adds it there.
-    fn set(&mut self, rt: &impl Wait, place: usize, sums: &mut Sums);
+    fn sets(&mut self, rt: &impl Wait, place: usize, sums: &mut Sums);
 
     /// Adds all that stand, and takes them out.
-    fn empty(&mut self, sums: &mut Sums);
+    fn empties(&mut self, sums: &mut Sums);
 
     /// A round of what takes places out.
-    fn take(&mut self, rt: &impl Wait, sums: &mut Sums);
+    fn takes(&mut self, rt: &impl Wait, sums: &mut Sums);
 }
 
 /// Sets each place, round for round.
@@ -105,7 +102,7 @@ impl<'s, P: Places> Task for Sets<'s, P> {
         let places = user.number();
         for round in 0..ROUNDS {
             for place in 0..places {
-                user.set(rt, place, sums);
+                user.sets(rt, place, sums);
             }
             if round % 4 == 0 {
                 thread::yield_now();
@@ -126,7 +123,7 @@ impl<'s, P: Places> Task for Takes<'s, P> {
     fn run(self, rt: &(impl Wait + Clock)) -> bool {
         let Takes { mut user, sums } = self;
         for round in 0..ROUNDS {
-            user.take(rt, sums);
+            user.takes(rt, sums);
             if round % 4 == 0 {
                 thread::yield_now();
             }
@@ -155,118 +152,63 @@ fn between<R: Threads + Wait + Clock + Sync, P: Places + Send>(
         sums: &mut sums.out,
     };
     let went = three_run(rt, one, two, out);
-    user.empty(&mut sums.out);
+    user.empties(&mut sums.out);
     Some(went)
 }
 
-/// One who uses a bit set.
-struct BitUser<'a> {
-    set: &'a BitSet,
-    pass: bit_set::Pass,
-    ghost of: { IsPassOf set.now pass },
-}
-
-impl<'a> Drop for BitUser<'a> {
-    fn drop(self) {
-        let Self {
-            set: _,
-            pass: _pass,
-        } = self;
-    }
-}
-
-impl<'a> BitUser<'a> {
-    /// The next place that stands, if any.
-    fn reset(&mut self, rt: &impl Wait, sums: &mut Sums) {
-        if let Some(place) = self.set.reset_next(rt, &mut self.pass) {
-            sums.add(place, 1);
-        }
-    }
-}
-
-impl<'a> Places for BitUser<'a> {
-    fn another(&mut self) -> Option<BitUser<'a>> {
-        let mut pass = self.pass.split()?;
-        let other = self.pass.split()?;
-        pass.join(other);
-        Some(BitUser {
-            set: self.set,
-            pass,
-        })
+impl<'a> Places for bit_set::Handle<'a> {
+    fn another(&mut self) -> Option<bit_set::Handle<'a>> {
+        self.split()
     }
 
     fn number(&self) -> usize {
-        self.set.capacity()
+        self.capacity()
     }
 
-    fn set(&mut self, rt: &impl Wait, place: usize, sums: &mut Sums) {
-        if place < self.set.capacity() && self.set.set(rt, place, &mut self.pass) {
+    fn sets(&mut self, rt: &impl Wait, place: usize, sums: &mut Sums) {
+        if place < self.capacity() && self.set(rt, place) {
             sums.add(place, 1);
         }
     }
 
-    fn empty(&mut self, sums: &mut Sums) {
-        self.set
-            .reset_all(&mut |place| sums.add(place, 1), &mut self.pass);
+    fn empties(&mut self, sums: &mut Sums) {
+        self.reset_all(&mut |place| sums.add(place, 1));
     }
 
     /// Resets places in both ways.
-    fn take(&mut self, rt: &impl Wait, sums: &mut Sums) {
-        self.empty(sums);
+    fn takes(&mut self, rt: &impl Wait, sums: &mut Sums) {
+        self.empties(sums);
         for _ in 0..40 {
-            self.reset(rt, sums);
+            if let Some(place) = self.reset_next(rt) {
+                sums.add(place, 1);
+            }
         }
     }
 }
 
-/// One who uses a counting bit set.
-struct CountUser<'a> {
-    set: &'a CountingBitSet,
-    pass: counting_bit_set::Pass,
-    ghost of: { IsCountsPassOf set.now pass },
-}
-
-impl<'a> Drop for CountUser<'a> {
-    fn drop(self) {
-        let Self {
-            set: _,
-            pass: _pass,
-        } = self;
-    }
-}
-
-impl<'a> Places for CountUser<'a> {
-    fn another(&mut self) -> Option<CountUser<'a>> {
-        let mut pass = self.pass.split()?;
-        let other = self.pass.split()?;
-        pass.join(other);
-        Some(CountUser {
-            set: self.set,
-            pass,
-        })
+impl<'a> Places for counting_bit_set::Handle<'a> {
+    fn another(&mut self) -> Option<counting_bit_set::Handle<'a>> {
+        self.split()
     }
 
     fn number(&self) -> usize {
-        self.set.capacity()
+        self.capacity()
     }
 
     /// Each counts.
-    fn set(&mut self, _rt: &impl Wait, place: usize, sums: &mut Sums) {
-        if place < self.set.capacity() {
-            self.set.set(place, &mut self.pass);
+    fn sets(&mut self, _rt: &impl Wait, place: usize, sums: &mut Sums) {
+        if place < self.capacity() {
+            self.set(place);
             sums.add(place, 1);
         }
     }
 
-    fn empty(&mut self, sums: &mut Sums) {
-        self.set.reset_all(
-            &mut |state| sums.add(state.bit(), state.count()),
-            &mut self.pass,
-        );
+    fn empties(&mut self, sums: &mut Sums) {
+        self.reset_all(&mut |state| sums.add(state.bit(), state.count()));
     }
 
-    fn take(&mut self, _rt: &impl Wait, sums: &mut Sums) {
-        self.empty(sums);
+    fn takes(&mut self, _rt: &impl Wait, sums: &mut Sums) {
+        self.empties(sums);
     }
 }
 
@@ -278,8 +220,7 @@ fn bits_agree<R: Threads + Wait + Clock + Sync>(
 ) -> Result<bool, Fail> {
     let mut sums = Three::new(alloc, capacity)?;
     let (set, pass) = BitSet::new(alloc, capacity)?;
-    let user = BitUser { set: &set, pass };
-    let went = between(rt, user, &mut sums);
+    let went = between(rt, set.handle(pass), &mut sums);
     Ok(went == Some(true) && sums.differs().is_none())
 }
 
@@ -291,8 +232,7 @@ fn counts_agree<R: Threads + Wait + Clock + Sync>(
 ) -> Result<bool, Fail> {
     let mut sums = Three::new(alloc, capacity)?;
     let (set, pass) = CountingBitSet::new(alloc, capacity)?;
-    let user = CountUser { set: &set, pass };
-    let went = between(rt, user, &mut sums);
+    let went = between(rt, set.handle(pass), &mut sums);
     Ok(went == Some(true) && sums.differs().is_none())
 }
 

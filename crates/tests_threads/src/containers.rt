@@ -40,8 +40,7 @@ impl<'a, 's> Task for Changes<'a, 's> {
 
 /// One of these users, whose end is noted.
 fn changing<'a, 's>(user: PairUser<'a>, rests: &'s Rests) -> Ends<'s, Changes<'a, 's>> {
-    let task = Changes { user, rests };
-    Ends { task, rests }
+    Ends::of(Changes { user, rests }, rests)
 }
 
 /// Keeps a state up to date.
@@ -96,14 +95,11 @@ fn seen_beside<R: Wait + Threads + Clock + Sync, T: Task + Send>(
     least: u64,
 ) -> Option<bool> {
     let mut state = user.state(rt)?;
-    let looks = LooksOn {
-        looker: KeepsUp {
-            user: user.another(3)?,
-            state: &mut state,
-        },
-        rests,
+    let keeps = KeepsUp {
+        user: user.another(3)?,
+        state: &mut state,
     };
-    let mut well = three_run(rt, one, other, looks);
+    let mut well = three_run(rt, one, other, LooksOn::of(keeps, rests));
     well &= rests.seen() >= least && rests.crossed() >= least.wrapping_mul(2);
     Some(well && user.looks(rt, &mut state) && state.number() == 0)
 }
@@ -157,18 +153,12 @@ fn owners_beside<R: Wait + Threads + Clock + Sync>(
     let both = user.another(1).zip(user.another(2));
     let asking = user.another(1).zip(user.of(user.owner));
     let ((one, other), (finds, recovers)) = both.zip(asking)?;
-    let finds = LooksOn {
-        looker: Finds { user: finds },
-        rests: &rests,
-    };
-    let task = Recovers {
+    let finds = LooksOn::of(Finds { user: finds }, &rests);
+    let recovers = Recovers {
         user: recovers,
         rests: &rests,
     };
-    let recovers = Ends {
-        task,
-        rests: &rests,
-    };
+    let recovers = Ends::of(recovers, &rests);
     let (one, other) = (changing(one, &rests), changing(other, &rests));
     let mut well = four_run(rt, one, other, finds, recovers);
     well &= rests.seen() >= CHANGES / CHANGED && rests.crossed() >= CHANGES / CHANGED * 2 + 2;
@@ -209,7 +199,10 @@ fn played<R: Wait + Threads + Clock + Sync>(
 ) -> Result<bool, Fail> {
     let owner = OwnerId::new(0)?;
     let (container, pass) = Container::new(alloc, capacity, 1)?;
-    let mut user = PairUser::new(&container, owner, pass);
+    let mut user = PairUser {
+        container: container.handle(pass),
+        owner,
+    };
     Ok(plays(rt, &mut user, play) == Some(true))
 }
 

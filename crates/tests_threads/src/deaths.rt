@@ -157,28 +157,18 @@ pub fn deaths_beside<R: Wait + Threads + Clock + Sync, M: Mortal + Send>(
         dead: AtomicU64::new(0),
     };
     let rests = Rests::beside(3, 2);
-    let one = LooksOn {
-        looker: GoesOn { user: first },
-        rests: &rests,
-    };
-    let two = LooksOn {
-        looker: GoesOn { user: second },
-        rests: &rests,
-    };
+    let one = LooksOn::of(GoesOn { user: first }, &rests);
+    let two = LooksOn::of(GoesOn { user: second }, &rests);
     let dies = Dies {
         user: third,
         notice: &notice,
         deaths,
     };
-    let task = Buries {
+    let buries = Buries {
         user: fourth,
         notice: &notice,
         rests: &rests,
     };
-    let buries = Ends {
-        task,
-        rests: &rests,
-    };
-    let well = four_run(rt, one, two, dies, buries);
+    let well = four_run(rt, one, two, dies, Ends::of(buries, &rests));
     Some(well & (rests.crossed() >= LEAST))
 }

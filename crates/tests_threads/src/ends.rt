@@ -1,6 +1,4 @@
 //! The ends of a queue: numbers go in at one, and come out at the other in their order.
-ghost use Rattle.lock_free.specs.Queues.Rings.{IsPassOf};
-
 use crate::limit::{Limit, TURNS};
 use crate::tasks::Task;
 use lock_free::spsc::{index_queue, queue, safely_overflowing_index_queue as overflowing};
@@ -83,33 +81,9 @@ impl<'a> Takes for overflowing::Consumer<'a> {
     }
 }
 
-/// One who has a pass of an index queue.
-pub struct QueueLength<'a> {
-    queue: &'a index_queue::IndexQueue,
-    pass: index_queue::Pass,
-    ghost of: { IsPassOf queue.now pass },
-}
-
-impl<'a> Drop for QueueLength<'a> {
-    fn drop(self) {
-        let Self {
-            queue: _,
-            pass: _pass,
-        } = self;
-    }
-}
-
-impl<'a> QueueLength<'a> {
-    pub fn new(queue: &'a index_queue::IndexQueue, pass: index_queue::Pass) -> QueueLength<'a>
-        requires { IsPassOf queue.now pass }
-    {
-        QueueLength { queue, pass }
-    }
-}
-
-impl<'a> Length for QueueLength<'a> {
+impl<'a> Length for index_queue::Handle<'a> {
     fn length(&mut self, rt: &impl Wait) -> Option<u64> {
-        Some(self.queue.len(rt, &mut self.pass) as u64)
+        Some(self.len(rt) as u64)
     }
 }
 

@@ -86,19 +86,13 @@ pub fn counted_beside<R: Wait + Threads + Clock + Sync, H: Holds + Send, B: Besi
     times: u64,
 ) -> bool {
     let rests = Rests::beside(2, 1);
-    let changes = Ends {
-        task: Changes {
-            holder,
-            times,
-            rests: &rests,
-        },
+    let changes = Changes {
+        holder,
+        times,
         rests: &rests,
     };
-    let counts = LooksOn {
-        looker: Counts { other },
-        rests: &rests,
-    };
-    let well = two_run(rt, changes, counts);
+    let counts = LooksOn::of(Counts { other }, &rests);
+    let well = two_run(rt, Ends::of(changes, &rests), counts);
     well & (rests.seen() >= LEAST / EVERY && rests.crossed() >= LEAST / EVERY * 2)
 }
 

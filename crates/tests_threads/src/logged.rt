@@ -84,102 +84,93 @@ impl Round {
     }
 }
 
-/// Gives the numbers from 0 on, each until it is taken.
-#[derive(Drop)]
-struct LogsGives<'s, E: Gives> {
-    end: E,
-    round: &'s Round,
-    log: &'s mut Log,
+/// One whose calls are written down.
+trait Caller: Drop + Sized {
+    /// Makes a call: the number that it answers, if any. None where it makes none.
+    fn call(&mut self, rt: &impl Wait) -> Option<Option<u64>>;
 }
 
-impl<'s, E: Gives> Task for LogsGives<'s, E> {
-    fn run(self, rt: &(impl Wait + Clock)) -> bool {
-        let LogsGives {
-            mut end,
-            round,
-            log,
-        } = self;
-        let (mut well, mut number) = (true, 0u64);
-        for at in 0..CALLS {
-            let began = now(&round.clock);
-            if !round.meets(at, true) {
-                return false;
-            }
-            let back = end.gives(number);
-            if !round.meets(at, false) {
-                return false;
-            }
-            well &= log.note(&round.clock, began, back);
-            if back != Some(number) {
-                number = number.wrapping_add(1);
-            }
-            round.rest(at, 41);
+/// Gives the numbers from 0 on, each until it is taken.
+#[derive(Drop)]
+struct Giving<E: Gives> {
+    end: E,
+    number: u64,
+}
+
+impl<E: Gives> Caller for Giving<E> {
+    fn call(&mut self, _rt: &impl Wait) -> Option<Option<u64>> {
+        let back = self.end.gives(self.number);
+        if back != Some(self.number) {
+            self.number = self.number.wrapping_add(1);
         }
-        well
+        Some(back)
     }
 }
 
 /// Takes numbers.
 #[derive(Drop)]
-struct LogsTakes<'s, E: Takes> {
+struct Taking<E: Takes> {
     end: E,
-    round: &'s Round,
-    log: &'s mut Log,
 }
 
-impl<'s, E: Takes> Task for LogsTakes<'s, E> {
-    fn run(self, rt: &(impl Wait + Clock)) -> bool {
-        let LogsTakes {
-            mut end,
-            round,
-            log,
-        } = self;
-        let mut well = true;
-        for at in 0..CALLS {
-            let began = now(&round.clock);
-            if !round.meets(at, true) {
-                return false;
-            }
-            let number = end.takes(rt);
-            if !round.meets(at, false) {
-                return false;
-            }
-            well &= log.note(&round.clock, began, number);
-            round.rest(at, 37);
-        }
-        well
+impl<E: Takes> Caller for Taking<E> {
+    fn call(&mut self, rt: &impl Wait) -> Option<Option<u64>> {
+        Some(self.end.takes(rt))
     }
 }
 
 /// Asks how many numbers wait.
 #[derive(Drop)]
-struct LogsLengths<'s, L: Length> {
+struct Asking<L: Length> {
     length: L,
+}
+
+impl<L: Length> Caller for Asking<L> {
+    fn call(&mut self, rt: &impl Wait) -> Option<Option<u64>> {
+        match self.length.length(rt) {
+            Some(number) => Some(Some(number)),
+            None => None,
+        }
+    }
+}
+
+/// Makes its calls and writes them down. At each of so many it lets others run, in a round with rests.
+#[derive(Drop)]
+struct Logs<'s, C: Caller> {
+    caller: C,
     round: &'s Round,
+    every: usize,
     log: &'s mut Log,
 }
 
-impl<'s, L: Length> Task for LogsLengths<'s, L> {
-    fn run(self, rt: &(impl Wait + Clock)) -> bool {
-        let LogsLengths {
-            mut length,
-            round,
-            log,
-        } = self;
+impl<'s, C: Caller> Logs<'s, C> {
+    /// Makes the so many-th call: whether there was room to write it down. None at the limit.
+    fn makes(&mut self, rt: &impl Wait, at: usize) -> Option<bool> {
+        let clock = &self.round.clock;
+        let began = now(clock);
+        if !self.round.meets(at, true) {
+            return None;
+        }
+        let answer = self.caller.call(rt);
+        if !self.round.meets(at, false) {
+            return None;
+        }
+        match answer {
+            Some(answer) => Some(self.log.note(clock, began, answer)),
+            None => Some(true),
+        }
+    }
+}
+
+impl<'s, C: Caller> Task for Logs<'s, C> {
+    fn run(mut self, rt: &(impl Wait + Clock)) -> bool {
         let mut well = true;
         for at in 0..CALLS {
-            let began = now(&round.clock);
-            if !round.meets(at, true) {
-                return false;
+            match self.makes(rt, at) {
+                Some(noted) => well &= noted,
+                None => return false,
             }
-            let answer = length.length(rt);
-            if !round.meets(at, false) {
-                return false;
-            }
-            if answer.is_some() {
-                well &= log.note(&round.clock, began, answer);
-            }
-            round.rest(at, 31);
+            self.round.rest(at, self.every);
         }
         well
     }
@@ -202,19 +193,25 @@ pub fn runs<R: Wait + Threads + Clock + Sync, G: Gives + Send, T: Takes + Send, 
     let mut lengths = Log::new(alloc, CALLS)?;
     let well = three_run(
         rt,
-        LogsGives {
-            end: gives,
+        Logs {
+            caller: Giving {
+                end: gives,
+                number: 0,
+            },
             round: &round,
+            every: 41,
             log: &mut pushes,
         },
-        LogsTakes {
-            end: takes,
+        Logs {
+            caller: Taking { end: takes },
             round: &round,
+            every: 37,
             log: &mut pops,
         },
-        LogsLengths {
-            length,
+        Logs {
+            caller: Asking { length },
             round: &round,
+            every: 31,
             log: &mut lengths,
         },
     );

@@ -120,22 +120,16 @@ fn are_all(back: &[u64], came: &[u64], left: &[u64]) -> bool {
     (handed, popped, waiting) == (back.len(), came.len(), left.len())
 }
 
-/// The guard of those who push, by a pass that is split off.
-fn producer<'a>(queue: &'a SafelyOverflowingIndexQueue, pass: &mut Pass) -> Option<Producer<'a>>
+/// Both guards of a queue, by a pass that is split off.
+fn both<'a>(
+    queue: &'a SafelyOverflowingIndexQueue,
+    pass: &mut Pass,
+) -> Option<(Producer<'a>, Consumer<'a>)>
     requires { IsPassOf queue.now pass.old }
     ensures { queue_of pass.new ≡ queue_of pass.old }
 {
     let pass = pass.split()?;
-    queue.acquire_producer(pass).ok()
-}
-
-/// The guard of those who pop.
-fn consumer<'a>(queue: &'a SafelyOverflowingIndexQueue, pass: &mut Pass) -> Option<Consumer<'a>>
-    requires { IsPassOf queue.now pass.old }
-    ensures { queue_of pass.new ≡ queue_of pass.old }
-{
-    let pass = pass.split()?;
-    queue.acquire_consumer(pass).ok()
+    queue.ends(pass)
 }
 
 /// Whether both tasks on a queue go well, each in a thread. None where the roles are not to be had.
@@ -147,13 +141,9 @@ fn beside<R: Wait + Threads + Clock + Sync>(
 ) -> Option<bool> {
     let (producer, consumer) = ends?;
     let rests = Rests::beside(2, 1);
-    let task = Overflows {
+    let overflows = Overflows {
         producer,
         back,
-        rests: &rests,
-    };
-    let overflows = Ends {
-        task,
         rests: &rests,
     };
     let drains = Drains {
@@ -161,7 +151,8 @@ fn beside<R: Wait + Threads + Clock + Sync>(
         came,
         rests: &rests,
     };
-    Some(two_run(rt, overflows, drains) & (rests.crossed() >= MOST / EVERY))
+    let well = two_run(rt, Ends::of(overflows, &rests), drains);
+    Some(well & (rests.crossed() >= MOST / EVERY))
 }
 
 /// Whether what waits in the queue in the end could be kept too.
@@ -187,7 +178,7 @@ fn numbers_come_or_are_handed_back(rt: HostRuntime) -> Result<(), Fail> {
     let mut came = Vec::with_capacity(rt.alloc(), 50_000)?;
     let mut left = Vec::with_capacity(rt.alloc(), 2)?;
     let (queue, mut pass) = SafelyOverflowingIndexQueue::new(rt.alloc(), 2)?;
-    let ends = producer(&queue, &mut pass).zip(consumer(&queue, &mut pass));
+    let ends = both(&queue, &mut pass);
     let mut well = beside(&rt, ends, &mut back, &mut came) == Some(true);
     well &= is_left(queue, pass, &mut left);
     assert!(rt; well && are_all(back.as_slice(), came.as_slice(), left.as_slice()));
@@ -202,9 +193,8 @@ fn logs<R: Wait + Threads + Clock + Sync>(
     alloc: Global,
     rounds: &mut Rounds,
 ) -> Result<(), Fail> {
-    let (queue, mut pass) = SafelyOverflowingIndexQueue::new(alloc, 3)?;
-    let ends = producer(&queue, &mut pass).zip(consumer(&queue, &mut pass));
-    let (producer, consumer) = ends.ok_or("not to be had")?;
+    let (queue, pass) = SafelyOverflowingIndexQueue::new(alloc, 3)?;
+    let (producer, consumer) = queue.ends(pass).ok_or("not to be had")?;
     runs(rt, alloc, 3, producer, consumer, Nobody, rounds)
 }
 

@@ -72,24 +72,14 @@ fn recovers_beside<R: Wait + Threads + Clock + Sync>(
 ) -> Option<bool> {
     let rests = Rests::beside(3, 2);
     let ((first, second), user) = user.another(1).zip(user.another(2)).zip(user.another(4))?;
-    let first = LooksOn {
-        looker: GoesOn { user: first },
-        rests: &rests,
-    };
-    let second = LooksOn {
-        looker: GoesOn { user: second },
-        rests: &rests,
-    };
+    let first = LooksOn::of(GoesOn { user: first }, &rests);
+    let second = LooksOn::of(GoesOn { user: second }, &rests);
     let recovers = Recovers {
         user,
         dead,
         rests: &rests,
     };
-    let recovers = Ends {
-        task: recovers,
-        rests: &rests,
-    };
-    let well = three_run(rt, first, second, recovers);
+    let well = three_run(rt, first, second, Ends::of(recovers, &rests));
     Some(well & (rests.crossed() == 45))
 }
 
@@ -127,7 +117,11 @@ fn played<R: Wait + Threads + Clock + Sync>(
     let owner = OwnerId::new(0)?;
     let holders = Holders::new(alloc, capacity)?;
     let (set, pass) = RobustUniqueIndexSet::new(alloc, capacity)?;
-    let mut user = OwnerUser::new(&set, &holders, owner, pass);
+    let mut user = OwnerUser {
+        set: set.handle(pass),
+        holders: &holders,
+        owner,
+    };
     Ok(plays(rt, &mut user, play) == Some(true))
 }
 

@@ -1,6 +1,4 @@
 //! Containers of pairs with equal halves: one who uses such a container, alone.
-ghost use Rattle.lock_free.specs.Container.Names.{IsPassOf};
-
 use crate::deaths::{MOST, Mortal};
 use crate::hall::{Hall, Visit, Visitor};
 use crate::last::{Beside, Holds};
@@ -8,8 +6,7 @@ use crate::owned::OwnedUser;
 use crate::rests::Rests;
 use crate::tasks::{EVERY, User, rests_in};
 use lock_free::mpmc::container::{
-    CallbackProgression, Container, ContainerAddFailure, ContainerHandle, ContainerState, OwnerId,
-    Pass,
+    CallbackProgression, ContainerAddFailure, ContainerHandle, ContainerState, Handle, OwnerId,
 };
 use lock_free::mpmc::unique_index_set_enums::{ReleaseMode, ReleaseState};
 use std::sync::Wait;
@@ -22,18 +19,15 @@ pub const CHANGED: u64 = 8;
 
 /// An owner who uses a container.
 pub struct PairUser<'a> {
-    pub container: &'a Container<Pair>,
+    pub container: Handle<'a, Pair>,
     pub owner: OwnerId,
-    pub pass: Pass<Pair>,
-    ghost of: { IsPassOf container.now pass },
 }
 
 impl<'a> Drop for PairUser<'a> {
     fn drop(self) {
         let Self {
-            container: _,
+            container: _container,
             owner: _,
-            pass: _pass,
         } = self;
     }
 }
@@ -49,21 +43,9 @@ fn is_whole(state: &ContainerState<Pair>) -> bool {
 }
 
 impl<'a> PairUser<'a> {
-    pub fn new(container: &'a Container<Pair>, owner: OwnerId, pass: Pass<Pair>) -> PairUser<'a>
-        requires { IsPassOf container.now pass }
-    {
-        PairUser {
-            container,
-            owner,
-            pass,
-        }
-    }
-
     /// Adds a pair of this number.
     pub fn add(&mut self, rt: &impl Wait, number: u64) -> Option<ContainerHandle> {
-        self.container
-            .add(rt, (number, number), self.owner, &mut self.pass)
-            .ok()
+        self.container.add(rt, (number, number), self.owner).ok()
     }
 
     /// Removes a pair: what is told of the lock. None where it was not there.
@@ -73,7 +55,7 @@ impl<'a> PairUser<'a> {
         handle: ContainerHandle,
         mode: ReleaseMode,
     ) -> Option<ReleaseState> {
-        self.container.remove(rt, handle, mode, &mut self.pass).ok()
+        self.container.remove(rt, handle, mode).ok()
     }
 
     /// Whether the pair was there.
@@ -83,9 +65,7 @@ impl<'a> PairUser<'a> {
 
     /// Whether the pair was there, and one of this number stands in its place.
     fn replace(&mut self, handle: ContainerHandle, number: u64) -> bool {
-        self.container
-            .replace(handle, (number, number), &mut self.pass)
-            .is_ok()
+        self.container.replace(handle, (number, number)).is_ok()
     }
 
     fn changed(&mut self, rt: &impl Wait, number: u64, rests: &Rests) -> Option<bool> {
@@ -103,7 +83,7 @@ impl<'a> PairUser<'a> {
 
     /// A state of the container.
     pub fn state(&mut self, rt: &impl Wait) -> Option<ContainerState<Pair>> {
-        self.container.get_state(rt, &mut self.pass).ok()
+        self.container.get_state(rt).ok()
     }
 
     /// Brings a state up to date: whether it is one of the container's, and each pair that it shows is whole.
@@ -111,7 +91,7 @@ impl<'a> PairUser<'a> {
         if !self.container.is_state_of(state) {
             return false;
         }
-        self.container.update_state(rt, state, &mut self.pass);
+        self.container.update_state(rt, state);
         is_whole(state)
     }
 
@@ -128,7 +108,6 @@ impl<'a> PairUser<'a> {
                 well &= pair.0 == pair.1 && handle.owner == owner && handle.index() < 5;
                 CallbackProgression::Continue
             },
-            &mut self.pass,
         );
         (found != 0, well && number <= found && found <= 5)
     }
@@ -147,7 +126,6 @@ impl<'a> PairUser<'a> {
                 pair.0 == pair.1
             },
             ReleaseMode::Default,
-            &mut self.pass,
         );
         if state == ReleaseState::Unlocked && rested {
             Some(sum)
@@ -158,28 +136,20 @@ impl<'a> PairUser<'a> {
 
     /// Whether a find of the owner comes to an index.
     fn has_any(&mut self) -> bool {
-        self.container.find(
-            self.owner,
-            &mut |_, _| CallbackProgression::Stop,
-            &mut self.pass,
-        ) != 0
+        self.container
+            .find(self.owner, &mut |_, _| CallbackProgression::Stop)
+            != 0
     }
 
     /// How many indices have an owner.
     pub fn number(&mut self, rt: &impl Wait) -> usize {
-        self.container.len(rt, &mut self.pass)
+        self.container.len(rt)
     }
 
-    /// One for another owner, with a pass that was made of two.
+    /// One for another owner.
     pub fn of(&mut self, owner: OwnerId) -> Option<PairUser<'a>> {
-        let mut pass = self.pass.split()?;
-        let other = self.pass.split()?;
-        pass.join(other);
-        Some(PairUser {
-            container: self.container,
-            owner,
-            pass,
-        })
+        let container = self.container.split()?;
+        Some(PairUser { container, owner })
     }
 }
 
@@ -199,7 +169,7 @@ impl<'a> User for PairUser<'a> {
 
 impl<'a> Visitor for PairUser<'a> {
     fn visit(&mut self, rt: &impl Wait, hall: &Hall) -> Visit {
-        let handle = match self.container.add(rt, (1, 1), self.owner, &mut self.pass) {
+        let handle = match self.container.add(rt, (1, 1), self.owner) {
             Ok(handle) => handle,
             Err(ContainerAddFailure::OutOfSpace) => return Visit::Full,
             Err(ContainerAddFailure::IsLocked) => return Visit::Closed,
@@ -215,7 +185,7 @@ impl<'a> Visitor for PairUser<'a> {
     }
 
     fn is_closed(&mut self, rt: &impl Wait) -> bool {
-        self.container.is_locked(&mut self.pass) && self.number(rt) == 0
+        self.container.is_locked() && self.number(rt) == 0
     }
 }
 
@@ -240,11 +210,11 @@ impl<'a> Mortal for PairUser<'a> {
 
 impl<'a> Beside for PairUser<'a> {
     fn number(&mut self, rt: &impl Wait) -> usize {
-        self.container.len(rt, &mut self.pass)
+        self.container.len(rt)
     }
 
     fn gets_in(&mut self, rt: &impl Wait) -> Option<bool> {
-        match self.container.add(rt, (2, 2), self.owner, &mut self.pass) {
+        match self.container.add(rt, (2, 2), self.owner) {
             Ok(_) => Some(true),
             Err(ContainerAddFailure::IsLocked) => Some(false),
             Err(ContainerAddFailure::OutOfSpace) => None,

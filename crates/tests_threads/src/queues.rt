@@ -1,12 +1,9 @@
 //! Queues between two threads: many numbers, and two that wait for one another.
-ghost use Rattle.lock_free.specs.Queues.Rings.{inner, IsPassOf};
-
-use crate::ends::{Gives, GivesAll, QueueLength, Takes, TakesAll, next};
+use crate::ends::{Gives, GivesAll, Takes, TakesAll, next};
 use crate::limit::TURNS;
 use crate::logged::{OVERLAPS, ROUNDS, Rounds, runs};
 use crate::tasks::{Task, two_run};
-use lock_free::spsc::index_queue::{Consumer, FixedSizeIndexQueue, IndexQueue, Pass, Producer};
-use lock_free::spsc::queue;
+use lock_free::spsc::index_queue::{Consumer, FixedSizeIndexQueue, Handle, IndexQueue, Producer};
 use lock_free::spsc::queue::Queue;
 use std::alloc::Global;
 use std::sync::Wait;
@@ -16,39 +13,6 @@ use std::time::Clock;
 
 /// A value of two numbers, which are equal.
 type Pair = (u64, u64);
-
-/// Both guards of a queue.
-pub fn ends<'a>(queue: &'a IndexQueue, pass: Pass) -> Option<(Producer<'a>, Consumer<'a>)>
-    requires { IsPassOf queue.now pass }
-{
-    let mut pass = pass;
-    let other = pass.split()?;
-    let Ok(producer) = queue.acquire_producer(pass) else {
-        return None;
-    };
-    let Ok(consumer) = queue.acquire_consumer(other) else {
-        return None;
-    };
-    Some((producer, consumer))
-}
-
-/// Both guards of a queue of pairs.
-fn pair_ends<'a>(
-    queue: &'a Queue<Pair, 4>,
-    pass: queue::Pass<Pair>,
-) -> Option<(queue::Producer<'a, Pair>, queue::Consumer<'a, Pair>)>
-    requires { IsPassOf (inner queue.now) pass }
-{
-    let mut pass = pass;
-    let other = pass.split()?;
-    let Ok(producer) = queue.acquire_producer(pass) else {
-        return None;
-    };
-    let Ok(consumer) = queue.acquire_consumer(other) else {
-        return None;
-    };
-    Some((producer, consumer))
-}
 
 /// How many numbers come.
 const NUMBERS: u64 = 10_000;
@@ -83,28 +47,22 @@ fn come<R: Wait + Threads + Clock + Sync, G: Gives + Send, T: Takes + Send>(
 #[test]
 fn many_numbers(rt: HostRuntime) -> Result<(), Fail> {
     let (queue, pass) = FixedSizeIndexQueue::<8>::new(rt.alloc())?;
-    assert!(rt; come(&rt, ends(&queue, pass)) == Some(true));
+    assert!(rt; come(&rt, queue.ends(pass)) == Some(true));
     Ok(())
 }
 
 #[test]
 fn many_pairs(rt: HostRuntime) -> Result<(), Fail> {
     let (queue, pass) = Queue::<Pair, 4>::new(rt.alloc())?;
-    assert!(rt; come(&rt, pair_ends(&queue, pass)) == Some(true));
+    assert!(rt; come(&rt, queue.ends(pass)) == Some(true));
     Ok(())
 }
 
 /// Both guards of a queue, and one who asks for its length.
-fn three<'a>(
-    queue: &'a IndexQueue,
-    pass: Pass,
-) -> Option<(Producer<'a>, Consumer<'a>, QueueLength<'a>)>
-    requires { IsPassOf queue.now pass }
-{
-    let mut pass = pass;
-    let third = pass.split()?;
-    let (producer, consumer) = ends(queue, pass)?;
-    Some((producer, consumer, QueueLength::new(queue, third)))
+fn three<'a>(queue: Handle<'a>) -> Option<(Producer<'a>, Consumer<'a>, Handle<'a>)> {
+    let mut queue = queue;
+    let (producer, consumer) = queue.split()?.ends()?;
+    Some((producer, consumer, queue))
 }
 
 /// Logs the calls of three who push, pop and ask for the length of a new queue.
@@ -114,7 +72,7 @@ fn logs<R: Wait + Threads + Clock + Sync>(
     rounds: &mut Rounds,
 ) -> Result<(), Fail> {
     let (queue, pass) = IndexQueue::new(alloc, 3)?;
-    let (producer, consumer, length) = three(&queue, pass).ok_or("no further pass")?;
+    let (producer, consumer, length) = three(queue.handle(pass)).ok_or("no further pass")?;
     runs(rt, alloc, 3, producer, consumer, length, rounds)
 }
 
@@ -205,7 +163,7 @@ fn in_turn<G: Gives, T: Takes>(
 fn two_that_wait_for_one_another(rt: HostRuntime) -> Result<(), Fail> {
     let (one, of_one) = IndexQueue::new(rt.alloc(), 1)?;
     let (two, of_two) = IndexQueue::new(rt.alloc(), 1)?;
-    let (first, second) = (ends(&one, of_one), ends(&two, of_two));
+    let (first, second) = (one.ends(of_one), two.ends(of_two));
     assert!(rt; at_once(&rt, first, second) == Some(true));
     Ok(())
 }
@@ -215,7 +173,7 @@ fn two_that_wait_for_one_another(rt: HostRuntime) -> Result<(), Fail> {
 fn one_after_the_other_the_first_waits_in_vain(rt: HostRuntime) -> Result<(), Fail> {
     let (one, of_one) = IndexQueue::new(rt.alloc(), 1)?;
     let (two, of_two) = IndexQueue::new(rt.alloc(), 1)?;
-    let (first, second) = (ends(&one, of_one), ends(&two, of_two));
+    let (first, second) = (one.ends(of_one), two.ends(of_two));
     assert!(rt; in_turn(&rt, first, second) == Some((None, Some(1))));
     Ok(())
 }

@@ -1,64 +1,40 @@
 //! A role that goes from one thread to another.
-ghost use Rattle.lock_free.specs.Queues.Calls.{IsPassOf};
-
 use crate::ends::{Gives, GivesAll, Takes, TakesAll};
 use crate::limit::{Limit, TURNS};
-use crate::queues::ends;
 use crate::tasks::{Task, three_run};
-use lock_free::spsc::index_queue::{IndexQueue, Pass, Producer};
+use lock_free::spsc::index_queue::{Handle, IndexQueue, Producer};
 use std::sync::Wait;
 use std::test::Fail;
 use std::thread::Threads;
 use std::time::Clock;
 
-/// A queue, with a pass for whoever will give.
+/// One who will give.
+#[derive(Drop)]
 struct Heir<'a> {
-    queue: &'a IndexQueue,
-    pass: Pass,
-    ghost of: { IsPassOf queue.now pass },
+    queue: Handle<'a>,
 }
 
-impl<'a> Drop for Heir<'a> {
-    fn drop(self) {
-        let Self {
-            queue: _,
-            pass: _pass,
-        } = self;
-    }
-}
-
-impl<'a> Heir<'a> {
-    /// The role, where it is free.
-    fn asks(&mut self) -> Option<Producer<'a>> {
-        let pass = self.pass.split()?;
-        match self.queue.acquire_producer(pass) {
-            Ok(producer) => Some(producer),
-            Err(pass) => {
-                self.pass.join(pass);
-                None
-            }
+/// The role, once it is free. None at the limit.
+fn waits<'a>(queue: Handle<'a>) -> Option<Producer<'a>> {
+    let mut queue = queue;
+    let mut limit = Limit::new(TURNS);
+    for _ in 0..u64::MAX {
+        match queue.acquire_producer() {
+            Ok(producer) => return Some(producer),
+            Err(back) => queue = back,
+        }
+        if !limit.waits() {
+            return None;
         }
     }
-
-    /// The role, once it is free. None at the limit.
-    fn waits(&mut self) -> Option<Producer<'a>> {
-        let mut limit = Limit::new(TURNS);
-        for _ in 0..u64::MAX {
-            if let Some(producer) = self.asks() {
-                return Some(producer);
-            }
-            if !limit.waits() {
-                return None;
-            }
-        }
-        None
-    }
+    None
 }
 
 /// Waits until the role is free, and then gives 500 to 999.
 impl<'a> Task for Heir<'a> {
-    fn run(mut self, rt: &(impl Wait + Clock)) -> bool {
-        let Some(end) = self.waits() else {
+    fn run(self, rt: &(impl Wait + Clock)) -> bool {
+        let Heir { queue } = self;
+        let Some(end) = waits(queue) else {
             return false;
         };
         let gives = GivesAll {
@@ -91,22 +67,15 @@ fn inherited<R: Wait + Threads + Clock + Sync, G: Gives + Send, T: Takes + Send,
 }
 
 /// The same of this queue. None where there are no further passes.
-fn taken_up<R: Wait + Threads + Clock + Sync>(
-    rt: &R,
-    queue: &IndexQueue,
-    pass: Pass,
-) -> Option<bool>
-    requires { IsPassOf queue.now pass }
-{
-    let mut pass = pass;
-    let other = pass.split()?;
-    let heir = Heir { queue, pass: other };
-    inherited(rt, ends(queue, pass), heir)
+fn taken_up<R: Wait + Threads + Clock + Sync>(rt: &R, queue: Handle<'_>) -> Option<bool> {
+    let mut queue = queue;
+    let ends = queue.split()?.ends();
+    inherited(rt, ends, Heir { queue })
 }
 
 #[test]
 fn a_dropped_guard_is_taken_up(rt: HostRuntime) -> Result<(), Fail> {
     let (queue, pass) = IndexQueue::new(rt.alloc(), 8)?;
-    assert!(rt; taken_up(&rt, &queue, pass) == Some(true));
+    assert!(rt; taken_up(&rt, queue.handle(pass)) == Some(true));
     Ok(())
 }

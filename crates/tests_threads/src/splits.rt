@@ -1,9 +1,10 @@
 //! Further handles, of small and of great structures: by contract none may ever come.
 use crate::slow::Slow;
-use lock_free::mpmc::bit_set::BitSet;
 use lock_free::mpmc::container::Container;
-use lock_free::mpmc::counting_bit_set::CountingBitSet;
 use lock_free::mpmc::robust_unique_index_set::RobustUniqueIndexSet;
+use lock_free::mpmc::sets;
+use lock_free::mpmc::sets::Set;
+use lock_free::mpmc::sets::rule::{Counts, Flags};
 use lock_free::mpmc::unique_index_set::UniqueIndexSet;
 use lock_free::mpmc::unique_index_set_enums::UniqueIndexCreationError;
 use lock_free::spmc::unrestricted_atomic::UnrestrictedAtomic;
@@ -23,14 +24,8 @@ fn two_come<H: Drop>(one: Option<H>, other: Option<H>) -> bool {
     one.is_some() & other.is_some()
 }
 
-fn bits(alloc: Global, capacity: usize) -> Come {
-    let (set, pass) = BitSet::new(alloc, capacity)?;
-    let mut handle = set.handle(pass);
-    Ok(two_come(handle.split(), handle.split()))
-}
-
-fn counts(alloc: Global, capacity: usize) -> Come {
-    let (set, pass) = CountingBitSet::new(alloc, capacity)?;
+fn places<E: sets::rule::Kind>(alloc: Global, capacity: usize) -> Come {
+    let (set, pass) = Set::<E>::new(alloc, capacity)?;
     let mut handle = set.handle(pass);
     Ok(two_come(handle.split(), handle.split()))
 }
@@ -86,8 +81,11 @@ fn values(alloc: Global) -> Come {
 #[test]
 fn of_bits_and_counts(rt: HostRuntime) -> Result<(), Fail> {
     for capacity in CAPACITIES {
-        assert!(rt; bits(rt.alloc(), capacity)?, "bits, {capacity}");
-        assert!(rt; counts(rt.alloc(), capacity)?, "counts, {capacity}");
+        assert!(rt; places::<Flags>(rt.alloc(), capacity)?, "bits, {capacity}");
+        assert!(rt;
+            places::<Counts>(rt.alloc(), capacity)?,
+            "counts, {capacity}"
+        );
     }
     Ok(())
 }

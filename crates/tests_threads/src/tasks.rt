@@ -52,8 +52,14 @@ pub fn four_run<
 /// A task of one who rests, whose end is noted.
 #[derive(Drop)]
 pub struct Ends<'s, T: Task> {
-    pub task: T,
-    pub rests: &'s Rests,
+    task: T,
+    rests: &'s Rests,
+}
+
+impl<'s, T: Task> Ends<'s, T> {
+    pub fn of(task: T, rests: &'s Rests) -> Ends<'s, T> {
+        Ends { task, rests }
+    }
 }
 
 impl<'s, T: Task> Task for Ends<'s, T> {
@@ -74,11 +80,15 @@ pub trait Looks: Drop + Sized {
 /// Looks until the others have ended: whether all was well.
 #[derive(Drop)]
 pub struct LooksOn<'s, L: Looks> {
-    pub looker: L,
-    pub rests: &'s Rests,
+    looker: L,
+    rests: &'s Rests,
 }
 
 impl<'s, L: Looks> LooksOn<'s, L> {
+    pub fn of(looker: L, rests: &'s Rests) -> LooksOn<'s, L> {
+        LooksOn { looker, rests }
+    }
+
     fn looks(&mut self, rt: &impl Wait) -> bool {
         for at in 0..u64::MAX {
             let have_ended = self.rests.have_ended();

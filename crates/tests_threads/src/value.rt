@@ -1,10 +1,8 @@
 //! The single value: one thread stores, and two load.
-ghost use Rattle.lock_free.specs.Value.Calls.{IsPassOf};
-
 use crate::limit::{Limit, TURNS};
 use crate::rests::Rests;
 use crate::tasks::{Ends, Task, three_run};
-use lock_free::spmc::unrestricted_atomic::{Pass, Producer, UnrestrictedAtomic};
+use lock_free::spmc::unrestricted_atomic::{Handle, Producer, UnrestrictedAtomic};
 use std::sync::Wait;
 use std::test::Fail;
 use std::thread::Threads;
@@ -44,17 +42,14 @@ impl<'a, 's> Task for Stores<'a, 's> {
 /// Loads until it sees the last pair. It answers whether the halves of each pair are equal, and none is below the one
 /// before.
 struct Loads<'a, 's> {
-    value: &'a UnrestrictedAtomic<Pair>,
-    pass: Pass<Pair>,
+    value: Handle<'a, Pair>,
     rests: &'s Rests,
-    ghost of: { IsPassOf value.now pass },
 }
 
 impl<'a, 's> Drop for Loads<'a, 's> {
     fn drop(self) {
         let Self {
-            value: _,
-            pass: _pass,
+            value: _value,
             rests: _,
         } = self;
     }
@@ -63,7 +58,7 @@ impl<'a, 's> Drop for Loads<'a, 's> {
 impl<'a, 's> Loads<'a, 's> {
     /// The number of the pair that it sees, where its halves are equal.
     fn load(&mut self, rt: &impl Wait) -> Option<u64> {
-        let (left, right) = self.value.load(rt, &mut self.pass);
+        let (left, right) = self.value.load(rt);
         if left == right { Some(left) } else { None }
     }
 
@@ -107,47 +102,26 @@ impl<'a, 's> Task for Loads<'a, 's> {
     }
 }
 
-/// One who loads, with a pass that is split off.
-fn loader<'a, 's>(
-    value: &'a UnrestrictedAtomic<Pair>,
-    pass: &mut Pass<Pair>,
-    rests: &'s Rests,
-) -> Option<Loads<'a, 's>>
-    requires { IsPassOf value.now pass.old }
-    ensures { IsPassOf value.now pass.new }
-{
-    let pass = pass.split()?;
-    Some(Loads { value, pass, rests })
+/// One who loads.
+fn loader<'a, 's>(value: &mut Handle<'a, Pair>, rests: &'s Rests) -> Option<Loads<'a, 's>> {
+    let value = value.split()?;
+    Some(Loads { value, rests })
 }
 
-/// One who stores.
-fn storer<'a, 's>(
-    value: &'a UnrestrictedAtomic<Pair>,
-    pass: Pass<Pair>,
-    rests: &'s Rests,
-) -> Option<Stores<'a, 's>>
-    requires { IsPassOf value.now pass }
-{
-    let producer = value.acquire_producer(pass).ok()?;
-    Some(Stores { producer, rests })
-}
-
-/// Whether one who stores and two who load see what they must, and one of these a new pair in each rest of the first. None where the role or a further pass is not to be had.
+/// Whether one who stores and two who load see what they must, and one of these a new pair in each rest of the first.
+/// None where the role or a further handle is not to be had.
 fn stores_and_loads<R: Wait + Threads + Clock + Sync>(
     rt: &R,
-    value: &UnrestrictedAtomic<Pair>,
-    mut pass: Pass<Pair>,
-) -> Option<bool>
-    requires { IsPassOf value.now pass }
-{
+    mut value: Handle<'_, Pair>,
+) -> Option<bool> {
     let rests = Rests::beside(3, 2);
-    let loaders = loader(value, &mut pass, &rests).zip(loader(value, &mut pass, &rests));
-    let ((one, other), task) = loaders.zip(storer(value, pass, &rests))?;
-    let stores = Ends {
-        task,
+    let loaders = loader(&mut value, &rests).zip(loader(&mut value, &rests));
+    let ((one, other), producer) = loaders.zip(value.acquire_producer().ok())?;
+    let stores = Stores {
+        producer,
         rests: &rests,
     };
-    let well = three_run(rt, stores, one, other);
+    let well = three_run(rt, Ends::of(stores, &rests), one, other);
     let least = LAST / EVERY - 1;
     Some(well && rests.crossed() >= least && rests.seen() >= least)
 }
@@ -155,6 +129,6 @@ fn stores_and_loads<R: Wait + Threads + Clock + Sync>(
 #[test]
 fn pairs_from_one_writer_to_two_readers(rt: HostRuntime) -> Result<(), Fail> {
     let (value, pass) = UnrestrictedAtomic::new(rt.alloc(), (0, 0))?;
-    assert!(rt; stores_and_loads(&rt, &value, pass) == Some(true));
+    assert!(rt; stores_and_loads(&rt, value.handle(pass)) == Some(true));
     Ok(())
 }

@@ -1,7 +1,7 @@
 -- The calls of the single value, as a schedule names them and as they print.
 use Rattle.std.specs.Prelude.{ℕ, ◌-◌, ◌^◌, List, ◌++◌, Result, Ok, Err, if◌then◌else◌, bytes_eq, codes, decimal}
 use Rattle.model.specs.declared.event.Start.{Start}
-use Rattle.model.specs.declared.event.Start as starts
+use Rattle.model.specs.declared.event.Start.TheVariants as starts
 use Rattle.model.specs.declared.families.atomic.AtomicStart.{AtomicStart}
 use Rattle.model.specs.declared.families.atomic.AtomicStart.TheVariants.{AcquireProducer, ReleaseProducer, Store, Load}
 use Rattle.texts.specs.declared.error.Cause.{Cause}
@@ -27,7 +27,7 @@ any_value_call name ws =
 unfoldable pub value_call : List ℕ → List (List ℕ) → Result (Start ℕ × List (List ℕ)) Cause
 value_call name ws = do
   call ← any_value_call name ws
-  Ok (starts.TheVariants.Atomic call.0, call.1)
+  Ok (starts.Atomic call.0, call.1)
 
 -- ---- how they print
 

@@ -1,7 +1,7 @@
 -- The calls of the bit sets and of the counting bit sets, as a schedule names them and as they print.
 use Rattle.std.specs.Prelude.{ℕ, ◌-◌, ◌^◌, List, ◌++◌, Result, Ok, Err, if◌then◌else◌, bytes_eq, codes, decimal}
 use Rattle.model.specs.declared.event.Start.{Start}
-use Rattle.model.specs.declared.event.Start as starts
+use Rattle.model.specs.declared.event.Start.TheVariants as starts
 use Rattle.model.specs.declared.families.bits.BitsStart.{BitsStart}
 use Rattle.model.specs.declared.families.bits.BitsStart.TheVariants.{Set, ResetNext, ResetAll}
 use Rattle.texts.specs.declared.error.Cause.{Cause}
@@ -30,14 +30,14 @@ any_bit_set_call name ws =
 unfoldable pub bit_set_call : List ℕ → List (List ℕ) → Result (Start ℕ × List (List ℕ)) Cause
 bit_set_call name ws = do
   call ← any_bit_set_call name ws
-  Ok (starts.TheVariants.Bits call.0, call.1)
+  Ok (starts.Bits call.0, call.1)
 
 -- the calls of a counting bit set
 unfoldable pub counting_bit_set_call : List ℕ → List (List ℕ)
     → Result (Start ℕ × List (List ℕ)) Cause
 counting_bit_set_call name ws = do
   call ← any_set_call name ws
-  Ok (starts.TheVariants.Bits call.0, call.1)
+  Ok (starts.Bits call.0, call.1)
 
 -- ---- how they print
 

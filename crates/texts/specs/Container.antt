@@ -1,11 +1,11 @@
 -- The calls of the container, as a schedule names them and as they print.
 use Rattle.std.specs.Prelude.{ℕ, ◌-◌, ◌^◌, List, ◌++◌, Option, Some, None, Result, Ok, Err, if◌then◌else◌, bytes_eq, codes, decimal}
 use Rattle.steps.specs.declared.container.enums.ContainerAddFailure.{ContainerAddFailure}
-use Rattle.steps.specs.declared.container.enums.ContainerAddFailure as add_failures
+use Rattle.steps.specs.declared.container.enums.ContainerAddFailure.TheVariants as add_failures
 use Rattle.steps.specs.declared.container.enums.ContainerRemoveError.{ContainerRemoveError}
-use Rattle.steps.specs.declared.container.enums.ContainerRemoveError as remove_errors
+use Rattle.steps.specs.declared.container.enums.ContainerRemoveError.TheVariants as remove_errors
 use Rattle.model.specs.declared.event.Start.{Start}
-use Rattle.model.specs.declared.event.Start as starts
+use Rattle.model.specs.declared.event.Start.TheVariants as starts
 use Rattle.model.specs.declared.families.container.ContainerStart.{ContainerStart}
 use Rattle.model.specs.declared.families.container.ContainerStart.TheVariants.{Add, Remove, Replace, Find, Recover}
 use Rattle.model.specs.declared.families.container.ContainerStart.TheVariants.{GetState, UpdateState, Len, IsEmpty}
@@ -73,7 +73,7 @@ any_container_call name ws =
 unfoldable pub container_call : List ℕ → List (List ℕ) → Result (Start ℕ × List (List ℕ)) Cause
 container_call name ws = do
   call ← any_container_call name ws
-  Ok (starts.TheVariants.Container call.0, call.1)
+  Ok (starts.Container call.0, call.1)
 
 -- ---- how they print
 
@@ -96,9 +96,9 @@ call_text IsEmpty = codes "is_empty"
 call_text IsLocked = codes "is_locked"
 
 abbrev pub add_failure_text : ContainerAddFailure → List ℕ
-add_failure_text add_failures.TheVariants.OutOfSpace = codes "OutOfSpace"
-add_failure_text add_failures.TheVariants.IsLocked = codes "IsLocked"
+add_failure_text add_failures.OutOfSpace = codes "OutOfSpace"
+add_failure_text add_failures.IsLocked = codes "IsLocked"
 
 abbrev pub remove_error_text : ContainerRemoveError → List ℕ
-remove_error_text remove_errors.TheVariants.ContainerHandleNotOwnedByContainer =
+remove_error_text remove_errors.ContainerHandleNotOwnedByContainer =
     codes "ContainerHandleNotOwnedByContainer"

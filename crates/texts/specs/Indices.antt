@@ -4,9 +4,9 @@ use Rattle.std.specs.Prelude.{ℕ, ◌-◌, ◌^◌, List, ◌++◌, Result, Ok,
 use Rattle.steps.specs.declared.indices.enums.ReleaseMode.{ReleaseMode}
 use Rattle.steps.specs.declared.indices.enums.ReleaseMode.TheVariants.{LockIfLastIndex, Default}
 use Rattle.steps.specs.declared.indices.enums.ReleaseState.{ReleaseState}
-use Rattle.steps.specs.declared.indices.enums.ReleaseState as states
+use Rattle.steps.specs.declared.indices.enums.ReleaseState.TheVariants as states
 use Rattle.steps.specs.declared.indices.enums.UniqueIndexSetAcquireFailure.{UniqueIndexSetAcquireFailure}
-use Rattle.steps.specs.declared.indices.enums.UniqueIndexSetAcquireFailure as failures
+use Rattle.steps.specs.declared.indices.enums.UniqueIndexSetAcquireFailure.TheVariants as failures
 use Rattle.model.specs.declared.event.Start.{Start}
 use Rattle.model.specs.declared.event.Start.TheVariants.{Indices}
 use Rattle.model.specs.declared.families.indices.IndexStart.{IndexStart}
@@ -64,9 +64,9 @@ call_text BorrowedIndices = codes "borrowed_indices"
 call_text IsLocked = codes "is_locked"
 
 abbrev pub failure_text : UniqueIndexSetAcquireFailure → List ℕ
-failure_text failures.TheVariants.OutOfIndices = codes "OutOfIndices"
-failure_text failures.TheVariants.IsLocked = codes "IsLocked"
+failure_text failures.OutOfIndices = codes "OutOfIndices"
+failure_text failures.IsLocked = codes "IsLocked"
 
 abbrev pub state_text : ReleaseState → List ℕ
-state_text states.TheVariants.Locked = codes "Locked"
-state_text states.TheVariants.Unlocked = codes "Unlocked"
+state_text states.Locked = codes "Locked"
+state_text states.Unlocked = codes "Unlocked"

@@ -1,7 +1,7 @@
 -- The calls of the loan channel, as a schedule names them and as they print.
 use Rattle.std.specs.Prelude.{ℕ, ◌-◌, ◌^◌, List, ◌++◌, Option, Some, None, Result, Ok, Err, if◌then◌else◌, bytes_eq, codes, decimal}
 use Rattle.model.specs.declared.event.Start.{Start}
-use Rattle.model.specs.declared.event.Start as starts
+use Rattle.model.specs.declared.event.Start.TheVariants as starts
 use Rattle.model.specs.declared.families.loan.LoanStart.{LoanStart}
 use Rattle.model.specs.declared.families.loan.LoanStart.TheVariants.{Loan, Send, GiveUp, TakeBack, Receive, GiveBack, Reclaim}
 use Rattle.texts.specs.declared.error.Cause.{Cause}
@@ -45,7 +45,7 @@ any_loan_call name ws =
 unfoldable pub loan_call : List ℕ → List (List ℕ) → Result (Start ℕ × List (List ℕ)) Cause
 loan_call name ws = do
   call ← any_loan_call name ws
-  Ok (starts.TheVariants.Loan call.0, call.1)
+  Ok (starts.Loan call.0, call.1)
 
 -- ---- how they print
 

@@ -1,12 +1,9 @@
-//! The rows of the bit set and of the counts.
-ghost use Rattle.lock_free.specs.Bits.Calls as of_bits;
-ghost use Rattle.lock_free.specs.Counts.Calls as of_counts;
+//! The rows of the bit set.
+ghost use Rattle.lock_free.specs.Bits.Calls.{IsPassOf};
 
 use crate::hand::bits as by_hand;
 use crate::timing::{Another, Asked, Row};
 use lock_free::mpmc::bit_set::{BitSet, Pass};
-use lock_free::mpmc::counting_bit_set;
-use lock_free::mpmc::counting_bit_set::{BitState, CountingBitSet};
 use std::alloc::Global;
 use std::sync::Wait;
 use std::thread::Threads;
@@ -20,7 +17,7 @@ struct Bits<'a> {
     hand: by_hand::Bits,
     // (the capacity less one: capacities are powers of two)
     mask: u64,
-    ghost of: { of_bits.IsPassOf set.now pass },
+    ghost of: { IsPassOf set.now pass },
 }
 
 impl<'a> Bits<'a> {
@@ -30,16 +27,6 @@ impl<'a> Bits<'a> {
             return false;
         }
         self.set.set(rt, place, &mut self.pass)
-    }
-
-    #[inline(never)]
-    fn reset_all(&mut self) -> u64 {
-        let mut sum = 0u64;
-        self.set.reset_all(
-            &mut |place| sum = sum.wrapping_add((place as u64).wrapping_add(1)),
-            &mut self.pass,
-        );
-        sum
     }
 }
 
@@ -80,23 +67,6 @@ impl<'a> Row<Bits<'a>> for SetResetNext {
     }
 }
 
-/// Sets a place, and resets all.
-struct SetResetAll;
-
-impl<'a> Row<Bits<'a>> for SetResetAll {
-    const NAME: &'static str = "bit set: set and reset_all";
-
-    fn ours<R: Wait>(on: &mut Bits<'a>, rt: &R, _number: u64) -> u64 {
-        on.set(rt, 5);
-        on.reset_all()
-    }
-
-    fn theirs<R: Wait>(on: &mut Bits<'a>, rt: &R, _number: u64) -> u64 {
-        on.hand.set(rt, 5);
-        on.hand.reset_all()
-    }
-}
-
 /// Sets a place that stands, but for the first time.
 struct SetAgain;
 
@@ -112,65 +82,6 @@ impl<'a> Row<Bits<'a>> for SetAgain {
     }
 }
 
-/// Counts with a pass, in which no place counts.
-#[derive(Drop)]
-struct Counts<'a> {
-    set: &'a CountingBitSet,
-    pass: counting_bit_set::Pass,
-    hand: by_hand::Counts,
-    ghost of: { of_counts.IsPassOf set.now pass },
-}
-
-impl<'a> Another for Counts<'a> {
-    fn another(&mut self) -> Option<Counts<'a>> {
-        let pass = self.pass.split()?;
-        let hand = self.hand.another()?;
-        Some(Counts {
-            set: self.set,
-            pass,
-            hand,
-        })
-    }
-}
-
-impl<'a> Counts<'a> {
-    #[inline(never)]
-    fn set(&mut self) {
-        if self.set.capacity() > 5 {
-            self.set.set(5, &mut self.pass);
-        }
-    }
-
-    #[inline(never)]
-    fn reset_all(&mut self) -> u64 {
-        let mut sum = 0u64;
-        self.set.reset_all(
-            &mut |state: BitState| {
-                sum = sum.wrapping_add((state.bit() as u64).wrapping_add(state.count()))
-            },
-            &mut self.pass,
-        );
-        sum
-    }
-}
-
-/// Counts a place, and takes all counts out.
-struct CountResetAll;
-
-impl<'a> Row<Counts<'a>> for CountResetAll {
-    const NAME: &'static str = "counting bit set: set and reset_all";
-
-    fn ours<R: Wait>(on: &mut Counts<'a>, _rt: &R, _number: u64) -> u64 {
-        on.set();
-        on.reset_all()
-    }
-
-    fn theirs<R: Wait>(on: &mut Counts<'a>, _rt: &R, _number: u64) -> u64 {
-        on.hand.set(5);
-        on.hand.reset_all()
-    }
-}
-
 pub fn rows<R: Wait + Threads + CpuClock + Print + Sync>(
     rt: &R,
     alloc: Global,
@@ -179,21 +90,12 @@ pub fn rows<R: Wait + Threads + CpuClock + Print + Sync>(
 ) -> Option<()> {
     let (set, pass) = BitSet::new(alloc, capacity as usize).ok()?;
     let hand = by_hand::Bits::new(alloc, capacity).ok()?;
-    let mut bits = Bits {
+    let mut on = Bits {
         set: &set,
         pass,
         hand,
         mask: (capacity as u64).saturating_sub(1),
     };
-    asked.both::<SetResetNext, Bits<'_>, R>(rt, alloc, capacity, &mut bits)?;
-    asked.alone::<SetResetAll, Bits<'_>, R>(rt, capacity, &mut bits)?;
-    asked.alone::<SetAgain, Bits<'_>, R>(rt, capacity, &mut bits)?;
-    let (set, pass) = CountingBitSet::new(alloc, capacity as usize).ok()?;
-    let hand = by_hand::Counts::new(alloc, capacity).ok()?;
-    let mut counts = Counts {
-        set: &set,
-        pass,
-        hand,
-    };
-    asked.both::<CountResetAll, Counts<'_>, R>(rt, alloc, capacity, &mut counts)
+    asked.both::<SetResetNext, Bits<'_>, R>(rt, alloc, capacity, &mut on)?;
+    asked.alone::<SetAgain, Bits<'_>, R>(rt, capacity, &mut on)
 }

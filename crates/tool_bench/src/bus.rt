@@ -1,4 +1,4 @@
-//! The table of records that go through the bus of `uses_bus`, through the channel of `uses_loans` and by `Arc` through a
+//! The table of records that go through the bus of `zero_copy_bus`, through the channel of `zero_copy_loans` and by `Arc` through a
 //! ring, beside records that are copied.
 
 mod by_arcs;
@@ -16,9 +16,9 @@ use std::io;
 use std::sync::{Mutex, Wait};
 use std::thread::Threads;
 use std::time::{Clock, CpuClock, Instant};
-use uses_bus::bus::Bus;
-use uses_bus::error::BusError;
-use uses_loans::channel::Channel;
+use zero_copy_bus::bus::Bus;
+use zero_copy_bus::error::BusError;
+use zero_copy_loans::channel::Channel;
 
 /// What a row is about: records of so many words, each of which so many read, how many of them a round passes, and whether
 /// a thread writes them while another reads.

@@ -10,6 +10,52 @@ use std::sync::{Mutex, Wait};
 use std::thread::Threads;
 use std::time::CpuClock;
 
+/// Who adds numbers to a container and removes them, and what a user would take instead.
+#[derive(Drop)]
+struct Adds<'a> {
+    container: Handle<'a, u64>,
+    owner: OwnerId,
+    slab: &'a Mutex<Slab<u64>>,
+}
+
+impl<'a> Another for Adds<'a> {
+    fn another(&mut self) -> Option<Adds<'a>> {
+        let container = self.container.split()?;
+        Some(Adds {
+            container,
+            owner: self.owner,
+            slab: self.slab,
+        })
+    }
+}
+
+/// Adds a number and removes it.
+struct AddRemove;
+
+impl<'a> Row<Adds<'a>> for AddRemove {
+    const NAME: &'static str = "container: add and remove";
+
+    const BESIDE: &'static str = "`Mutex<Slab>`";
+
+    fn ours<R: Wait>(on: &mut Adds<'a>, rt: &R, number: u64) -> u64 {
+        match on.container.add(rt, number, on.owner) {
+            Ok(handle) => {
+                let removed = on.container.remove(rt, handle, ReleaseMode::Default);
+                removed.is_ok() as u64
+            }
+            Err(_) => 2,
+        }
+    }
+
+    fn theirs<R: Wait>(on: &mut Adds<'a>, rt: &R, number: u64) -> u64 {
+        let inserted = on.slab.lock(rt).insert(number);
+        match inserted {
+            Ok(key) if on.slab.lock(rt).try_remove(key).is_some() => 1,
+            _ => 2,
+        }
+    }
+}
+
 /// A container of numbers, the owner that adds, a dead one, and what a user would take instead.
 #[derive(Drop)]
 struct Values<'a> {
@@ -17,23 +63,7 @@ struct Values<'a> {
     owner: OwnerId,
     dead: OwnerId,
     hand: by_hand::Values,
-    slab: &'a Mutex<Slab<u64>>,
     list: &'a Mutex<Vec<u64>>,
-}
-
-impl<'a> Another for Values<'a> {
-    fn another(&mut self) -> Option<Values<'a>> {
-        let container = self.container.split()?;
-        let hand = self.hand.another()?;
-        Some(Values {
-            container,
-            owner: self.owner,
-            dead: self.dead,
-            hand,
-            slab: self.slab,
-            list: self.list,
-        })
-    }
 }
 
 impl<'a> Values<'a> {
@@ -42,17 +72,6 @@ impl<'a> Values<'a> {
         for _ in 0..number {
             let _ = self.container.add(rt, 7, self.owner);
             self.hand.add(rt, 7, 7);
-        }
-    }
-
-    #[inline(always)]
-    fn turns<R: Wait>(&mut self, rt: &R, number: u64) -> u64 {
-        match self.container.add(rt, number, self.owner) {
-            Ok(handle) => {
-                let removed = self.container.remove(rt, handle, ReleaseMode::Default);
-                removed.is_ok() as u64
-            }
-            Err(_) => 2,
         }
     }
 
@@ -76,41 +95,6 @@ impl<'a> Values<'a> {
         match self.container.recover(rt, self.dead, &mut |_| true, mode) {
             ReleaseState::Unlocked => 1,
             ReleaseState::Locked => 0,
-        }
-    }
-}
-
-/// Adds a number and removes it.
-struct AddRemove;
-
-impl<'a> Row<Values<'a>> for AddRemove {
-    const NAME: &'static str = "container: add and remove";
-
-    fn ours<R: Wait>(on: &mut Values<'a>, rt: &R, number: u64) -> u64 {
-        on.turns(rt, number)
-    }
-
-    fn theirs<R: Wait>(on: &mut Values<'a>, rt: &R, number: u64) -> u64 {
-        on.hand.turns(rt, number, 7)
-    }
-}
-
-struct BesideSlab;
-
-impl<'a> Row<Values<'a>> for BesideSlab {
-    const NAME: &'static str = "container: add and remove";
-
-    const BESIDE: &'static str = "`Mutex<Slab>`";
-
-    fn ours<R: Wait>(on: &mut Values<'a>, rt: &R, number: u64) -> u64 {
-        on.turns(rt, number)
-    }
-
-    fn theirs<R: Wait>(on: &mut Values<'a>, rt: &R, number: u64) -> u64 {
-        let inserted = on.slab.lock(rt).insert(number);
-        match inserted {
-            Ok(key) if on.slab.lock(rt).try_remove(key).is_some() => 1,
-            _ => 2,
         }
     }
 }
@@ -194,16 +178,19 @@ pub fn rows<R: Wait + Threads + CpuClock + Print + Sync>(
     let list = Mutex::new(Vec::from_elem(alloc, 7u64, number).ok()?);
     let hand = by_hand::Values::new(alloc, capacity).ok()?;
     let (container, pass) = Container::new(alloc, number, 1).ok()?;
-    let mut on = Values {
+    let mut adds = Adds {
         container: container.handle(pass),
+        owner,
+        slab: &slab,
+    };
+    asked.both::<AddRemove, Adds<'_>, R>(rt, alloc, capacity, &mut adds)?;
+    let mut on = Values {
+        container: adds.container.split()?,
         owner,
         dead,
         hand,
-        slab: &slab,
         list: &list,
     };
-    asked.both::<AddRemove, Values<'_>, R>(rt, alloc, capacity, &mut on)?;
-    asked.both::<BesideSlab, Values<'_>, R>(rt, alloc, capacity, &mut on)?;
     asked.alone::<RecoverOne, Values<'_>, R>(rt, capacity, &mut on)?;
     on.fill(rt, capacity);
     asked.alone::<RecoverFull, Values<'_>, R>(rt, capacity, &mut on)?;

@@ -11,8 +11,6 @@ pub mod container;
 pub mod looks;
 pub mod queues;
 pub mod robust;
-pub mod unique;
-pub mod value;
 
 /// A rule that always holds, and a step that tells nothing.
 pub struct Anything;
@@ -93,16 +91,6 @@ impl Words {
     }
 
     #[inline(always)]
-    pub fn swap(&mut self, word: usize, new: u64) -> u64
-        requires { word < self.old.size }
-        ensures { self.new.size ≡ self.old.size }
-    {
-        self.table
-            .shared
-            .swap::<Anything>(&mut self.seat, word, new)
-    }
-
-    #[inline(always)]
     pub fn add(&mut self, word: usize, by: u64) -> u64
         requires { word < self.old.size }
         ensures { self.new.size ≡ self.old.size }
@@ -110,26 +98,6 @@ impl Words {
         self.table
             .shared
             .fetch_add::<Anything>(&mut self.seat, word, by)
-    }
-
-    #[inline(always)]
-    pub fn and(&mut self, word: usize, bits: u64) -> u64
-        requires { word < self.old.size }
-        ensures { self.new.size ≡ self.old.size }
-    {
-        self.table
-            .shared
-            .fetch_and::<Anything>(&mut self.seat, word, bits)
-    }
-
-    #[inline(always)]
-    pub fn or(&mut self, word: usize, bits: u64) -> u64
-        requires { word < self.old.size }
-        ensures { self.new.size ≡ self.old.size }
-    {
-        self.table
-            .shared
-            .fetch_or::<Anything>(&mut self.seat, word, bits)
     }
 
     /// Writes `to` only where the word is `from`; the old number.

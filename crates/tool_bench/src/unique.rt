@@ -1,7 +1,6 @@
 //! The rows of the unique index set: an index is taken and given back.
 ghost use Rattle.lock_free.specs.UniqueIndexSet.{IsPassOf};
 
-use crate::hand::unique as by_hand;
 use crate::timing::{Another, Asked, Row};
 use lock_free::mpmc::unique_index_set::{Pass, UniqueIndexSet};
 use slab::Slab;
@@ -20,7 +19,6 @@ const NONE: u64 = 1 << 32;
 struct Unique<'a> {
     set: &'a UniqueIndexSet,
     pass: Pass,
-    hand: by_hand::Unique,
     slab: Option<Slab<u64>>,
     free: &'a Mutex<Vec<u32>>,
     ghost of: { IsPassOf set.now pass },
@@ -29,11 +27,9 @@ struct Unique<'a> {
 impl<'a> Another for Unique<'a> {
     fn another(&mut self) -> Option<Unique<'a>> {
         let pass = self.pass.split()?;
-        let hand = self.hand.another()?;
         Some(Unique {
             set: self.set,
             pass,
-            hand,
             slab: None,
             free: self.free,
         })
@@ -49,26 +45,6 @@ impl<'a> Unique<'a> {
                 index as u64
             }
             Err(_) => NONE,
-        }
-    }
-}
-
-struct Turns;
-
-impl<'a> Row<Unique<'a>> for Turns {
-    const NAME: &'static str = NAME;
-
-    fn ours<R: Wait>(on: &mut Unique<'a>, rt: &R, _number: u64) -> u64 {
-        on.turns(rt)
-    }
-
-    fn theirs<R: Wait>(on: &mut Unique<'a>, rt: &R, _number: u64) -> u64 {
-        match on.hand.acquire(rt) {
-            Some(index) => {
-                on.hand.release(index);
-                index as u64
-            }
-            None => NONE,
         }
     }
 }
@@ -135,16 +111,13 @@ pub fn rows<R: Wait + Threads + CpuClock + Print + Sync>(
 ) -> Option<()> {
     let free = Mutex::new(free(alloc, capacity).ok()?);
     let slab = Slab::with_capacity(alloc, capacity as usize).ok()?;
-    let hand = by_hand::Unique::new(alloc, capacity).ok()?;
     let (set, pass) = UniqueIndexSet::new(alloc, capacity as usize).ok()?;
     let mut on = Unique {
         set: &set,
         pass,
-        hand,
         slab: Some(slab),
         free: &free,
     };
-    asked.both::<Turns, Unique<'_>, R>(rt, alloc, capacity, &mut on)?;
     asked.alone::<BesideSlab, Unique<'_>, R>(rt, capacity, &mut on)?;
     asked.both::<BesideStack, Unique<'_>, R>(rt, alloc, capacity, &mut on)
 }

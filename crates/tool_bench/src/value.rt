@@ -1,7 +1,6 @@
 //! The rows of the single value, of 16 words.
 ghost use Rattle.lock_free.specs.Value.Calls.{IsPassOf};
 
-use crate::hand::value as by_hand;
 use crate::timing::{Another, Asked, Row};
 use lock_free::spmc::unrestricted_atomic::{Pass, Producer, UnrestrictedAtomic};
 use lock_free::words::Words;
@@ -97,7 +96,6 @@ impl<'a> Row<Stores<'a>> for Store {
 struct Loads<'a> {
     value: &'a UnrestrictedAtomic<Sixteen>,
     pass: Pass<Sixteen>,
-    hand: by_hand::Value<16>,
     locked: &'a Mutex<[u64; 16]>,
     ghost of: { IsPassOf value.now pass },
 }
@@ -112,11 +110,9 @@ impl<'a> Loads<'a> {
 impl<'a> Another for Loads<'a> {
     fn another(&mut self) -> Option<Loads<'a>> {
         let pass = self.pass.split()?;
-        let hand = self.hand.another()?;
         Some(Loads {
             value: self.value,
             pass,
-            hand,
             locked: self.locked,
         })
     }
@@ -126,21 +122,6 @@ impl<'a> Another for Loads<'a> {
 struct Load;
 
 impl<'a> Row<Loads<'a>> for Load {
-    const NAME: &'static str = "value of 16 words: load";
-
-    fn ours<R: Wait>(on: &mut Loads<'a>, rt: &R, _number: u64) -> u64 {
-        on.first(rt)
-    }
-
-    fn theirs<R: Wait>(on: &mut Loads<'a>, rt: &R, _number: u64) -> u64 {
-        on.hand.load(rt)[0]
-    }
-}
-
-/// The same, beside a lock.
-struct LoadBeside;
-
-impl<'a> Row<Loads<'a>> for LoadBeside {
     const NAME: &'static str = "value of 16 words: load";
 
     const BESIDE: &'static str = LOCKED;
@@ -178,15 +159,12 @@ pub fn rows<R: Wait + Threads + CpuClock + Print + Sync>(
     capacity: u32,
 ) -> Option<()> {
     let locked = Mutex::new([0u64; 16]);
-    let hand = by_hand::Value::<16>::new(alloc).ok()?;
     let (value, pass) = UnrestrictedAtomic::new(alloc, Sixteen::of(0)).ok()?;
     let mut loads = Loads {
         value: &value,
         pass,
-        hand,
         locked: &locked,
     };
     asked.both::<Load, Loads<'_>, R>(rt, alloc, capacity, &mut loads)?;
-    asked.both::<LoadBeside, Loads<'_>, R>(rt, alloc, capacity, &mut loads)?;
     rows_of_stores(rt, alloc, asked, capacity)
 }

@@ -1,2 +1,3 @@
 mod LoanBooks
+mod Passed
 mod Places

@@ -9,8 +9,8 @@ use std::process::ExitCode;
 use std::sync::Wait;
 use std::thread::Threads;
 use std::{io, thread};
-use uses_loans::pool::{Buffer, Lender, Pool};
-use uses_slots::Keeps;
+use zero_copy_loans::pool::{Buffer, Lender, Pool};
+use zero_copy_slots::Keeps;
 
 /// How many bytes a buffer has.
 const BYTES: usize = 1_000;

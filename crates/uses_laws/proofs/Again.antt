@@ -4,7 +4,7 @@ use Rattle.std.proofs.lemmas.Bool.Decides.{nat_tests}
 use Rattle.std.proofs.lemmas.List.Sums.{sum_by-append, sum_by-cons}
 use Rattle.std.specs.List.{sum_by}
 use Rattle.model.specs.declared.event.Answer.{Answer}
-use Rattle.model.specs.declared.event.Event as events
+use Rattle.model.specs.declared.event.Event.TheVariants as events
 use Rattle.model.specs.declared.event.Event.TheVariants.{Begun, Finished}
 use Rattle.model.specs.declared.event.Start.{Start}
 use Rattle.model.specs.Families.Bits.Reading.{sets, clears, standing, is_set_of}
@@ -40,7 +40,7 @@ seen_more f p start answer wrote old new c =
 
 set_once : (place : ℕ) (old new : View ℕ) → HasSet place true old new → sets place old.seen + 1 ≤ sets place new.seen
 set_once place old new h =
-    let wrote : List (Event ℕ) = events.TheVariants.Set h.by place ∷ [] in
+    let wrote : List (Event ℕ) = events.Set h.by place ∷ [] in
     let more : sets place old.seen + sets place wrote ≤ sets place new.seen =
     seen_more (λ e. cond (is_set_of place e) 1 0) h.by _ _ wrote old new h.called in
     let same : (place == place) ≡ true = grind (arith, nat_tests) in

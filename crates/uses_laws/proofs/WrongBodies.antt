@@ -15,33 +15,51 @@ use Rattle.model.specs.declared.event.Event.TheVariants.{Begun, Finished}
 use Rattle.model.specs.declared.event.Item.{Item}
 use Rattle.model.specs.declared.event.Start.{Start}
 use Rattle.model.specs.declared.event.Item.TheVariants.{Index}
+use Rattle.model.specs.declared.turn.Kind.{Kind}
 use Rattle.model.specs.Families.Indices.Reading.{is_locked}
 use Rattle.model.specs.Families.Queues.Reading.{published, handed_out}
 use Rattle.model.proofs.Locks.{locked_later}
 use Rattle.steps.specs.declared.queues.roles.Role.{Role}
 use Rattle.threaded.specs.Callable.{Ascends}
 use Rattle.lock_free.specs.BitState.{BitState}
+use Rattle.lock_free.specs.Bits.Calls as bits
 use Rattle.lock_free.specs.Bits.Contracts.{HasCleanedOut}
 use Rattle.lock_free.specs.Counts.Contracts.{HasTakenOut, taken_by}
-use Rattle.lock_free.specs.History.{Called}
+use Rattle.lock_free.specs.Coding.{Coding}
+use Rattle.lock_free.specs.History.{Called, Knows, steps_of_run}
 use Rattle.lock_free.specs.HistorySteps.{TakesAtMost}
 use Rattle.lock_free.specs.HistoryView.View.{View}
-use Rattle.lock_free.specs.Loan.Contracts.{InTurn, HasPoppedOne, HasEmptied}
+use Rattle.lock_free.specs.Loan.Contracts.{InTurn, HasFreed, HasPoppedOne, HasEmptied}
 use Rattle.lock_free.specs.Loan.Places.{is_sent, place_at, returned}
+use Rattle.lock_free.specs.Loan.Sender.{IsAsideOnce, pass_view}
 use Rattle.lock_free.specs.Passes.{HasSplit, HasJoined}
 use Rattle.lock_free.specs.declared.spsc.loan.places.Place.{Place}
 use Rattle.lock_free.specs.declared.spsc.loan.places.Place.TheVariants.{Free, Loaned, Sent}
+use Rattle.lock_free.specs.QueueEnds.Held.{Held as QueueHeld}
+use Rattle.lock_free.specs.QueueEnds.rule.Kind as QueueKind
+use Rattle.lock_free.specs.QueueEnds.rule.RingRule.{RingRule}
 use Rattle.lock_free.specs.Queues.Closes.{Closes}
 use Rattle.lock_free.specs.Queues.Contracts as queues
 use Rattle.lock_free.specs.Queues.Contracts.{PushDone, PushRefused, PopDone, PopEmpty, HasLooked}
 use Rattle.lock_free.specs.Queues.Overflowing.{HasOverflowed}
+use Rattle.lock_free.specs.Queues.Rings.{IsSameQueue, token_view}
+use Rattle.lock_free.specs.Queues.Views.{left_view}
 use Rattle.lock_free.specs.ReleaseState.TheVariants.{Unlocked}
 use Rattle.lock_free.specs.Robust.Callable.{HasFound}
 use Rattle.lock_free.specs.Robust.Contracts as owners
 use Rattle.lock_free.specs.Robust.Contracts.{HasSearched}
+use Rattle.lock_free.specs.RobustUniqueIndexSet as robust
+use Rattle.lock_free_owners.specs.declared.mpmc.robust_unique_index_set.Pass.{Pass as OwnerPass}
 use Rattle.lock_free.specs.Share.{Share}
 use Rattle.lock_free.specs.Shares.{IsAll, half_of, both_of}
 use Rattle.lock_free.specs.Unique.Contracts.{HasAcquired, HasGiven}
+use Rattle.lock_free.specs.UniqueIndexSet.{view, SamePass}
+use Rattle.lock_free.specs.Words
+use Rattle.lock_free.specs.declared.mpmc.sets.Held.{Held as SetHeld}
+use Rattle.lock_free.specs.declared.mpmc.sets.rule.Kind as SetKind
+use Rattle.lock_free.specs.declared.mpmc.sets.rule.SetRule.{SetRule}
+use Rattle.lock_free.specs.declared.mpmc.unique_index_set.Pass.{Pass}
+use Rattle.lock_free.specs.declared.spsc.loan.LoanSender.{LoanSender}
 use Rattle.lock_free.specs.Value.Contracts as value
 use Rattle.lock_free.specs.Value.Contracts.{HasStored, HasLoaded}
 
@@ -177,7 +195,54 @@ module _ {T : Type 0} where
   pub look_looks_twice : (u v w : View T) → v.asked ≡ u.asked + 1 → w.asked ≡ v.asked + 1 → TakesAtMost 1 u w → ⊥
   look_looks_twice u v w one two k = absurd (omega arith)
 
+  -- ---- what is aside
+
+  -- a split that counts itself in what was asked for alone, as if it were a step of a call
+  pub split_is_a_step : (v left right : View T) → HasSplit v left right → HasSplit v (record left { aside = v.aside }) right → ⊥
+  split_is_a_step v left right split k = let e : v.aside ≡ v.aside + 1 = k.aside in absurd (omega arith)
+
+  -- the run has no such step
+  pub split_steps_in_no_run : (code : Coding T) (kind : Kind) (capacity : ℕ) (v : View T) → IsAll v.share → Knows code kind capacity v
+      → Knows code kind capacity (record (left_view v) { aside = v.aside })
+      → ⊥
+  split_steps_in_no_run code kind capacity v all knows k =
+      let was : v.asked ≡ v.aside + steps_of_run code kind capacity v.turns = knows.asked.all all in
+      let most : v.asked + 1 ≤ v.aside + steps_of_run code kind capacity v.turns = k.asked.most in
+      absurd (omega arith)
+
+  -- a call that asks for one operation more than the run has steps
+  pub call_asks_once_more : (code : Coding T) (kind : Kind) (capacity : ℕ) (v : View T) → IsAll v.share → Knows code kind capacity v
+      → Knows code kind capacity (record v { asked = v.asked + 1 })
+      → ⊥
+  call_asks_once_more code kind capacity v all knows k =
+      let was : v.asked ≡ v.aside + steps_of_run code kind capacity v.turns = knows.asked.all all in
+      let most : v.asked + 1 ≤ v.aside + steps_of_run code kind capacity v.turns = k.asked.most in
+      absurd (omega arith)
+
+  -- a join that counts one operation in what was asked for alone
+  pub join_takes_a_step : (mine theirs new : View T) → HasJoined mine theirs new
+      → HasJoined mine theirs (record new { asked = new.asked + 1 })
+      → ⊥
+  join_takes_a_step mine theirs new joined k =
+      let is = joined.aside in
+      let more : (new.asked + 1) + (mine.aside + theirs.aside) ≡ (mine.asked + theirs.asked) + new.aside = k.aside in
+      absurd (omega arith)
+
+-- a pop that looks twice beside its steps
+pub pop_looks_twice_aside : {E T : Type 0} {kind : QueueKind.Ghosts E} {words : Words.Ghosts T} (old new : QueueHeld E T (RingRule E T) kind words)
+    → (token_view new).aside ≡ (token_view old).aside + 2
+    → IsSameQueue old new
+    → ⊥
+pop_looks_twice_aside old new two k = let one = k.aside in absurd (omega arith)
+
 -- ---- bit sets
+
+-- a set of a place that looks twice beside its steps
+pub set_looks_twice_aside : {E : Type 0} {kind : SetKind.Ghosts E} {words : Words.Ghosts ℕ} (old new : SetHeld E ℕ (SetRule E) kind words)
+    → (bits.view new).aside ≡ (bits.view old).aside + 2
+    → bits.SamePass old new
+    → ⊥
+set_looks_twice_aside old new two k = let one = k.aside in absurd (omega arith)
 
 -- a closure that notes what it is called with
 abbrev notes : {X : Type 0} → List X → X → List X → Type 0
@@ -246,6 +311,10 @@ acquire_hands_out_a_held_index index held v w other right k =
     let same : index ≡ held = cc in
     other same
 
+-- one that looks twice beside its steps
+pub acquire_looks_twice_aside : (old new : Pass) → (view new).aside ≡ (view old).aside + 2 → SamePass old new → ⊥
+acquire_looks_twice_aside old new two k = let one = k.aside in absurd (omega arith)
+
 -- one that claims an index of a set which it has seen locked
 pub acquire_goes_on_after_the_lock : (index : ℕ) (v w : View ℕ) → is_locked v.seen ≡ true → HasAcquired index v w → ⊥
 acquire_goes_on_after_the_lock index v w locked k =
@@ -258,6 +327,13 @@ acquire_goes_on_after_the_lock index v w locked k =
 -- a loan that is given up, and stays with the pass
 pub loan_give_up_keeps_the_index : (index : ℕ) (v : View ℕ) → HasGiven index Unlocked v v → ⊥
 loan_give_up_keeps_the_index index v k = no_call _ _ _ _ v v refl k.called
+
+-- a loan, or a free of an index that came back, that looks twice beside its steps
+pub loan_looks_twice_aside : (old new : LoanSender) → (pass_view new).aside ≡ (pass_view old).aside + 2 → IsAsideOnce old new → ⊥
+loan_looks_twice_aside old new two k = let one = k.pass in absurd (omega arith)
+
+pub loan_settle_looks_twice_aside : (index : ℕ) (v w : View ℕ) → w.aside ≡ v.aside + 2 → HasFreed index v w → ⊥
+loan_settle_looks_twice_aside index v w two k = let one = k.aside in absurd (omega arith)
 
 -- a send that settles what came back before the index is Sent, where its own came back
 loaned_within : (places : List Place) (index : ℕ) → place_at places index ≡ Loaned → index < length places
@@ -298,11 +374,19 @@ loan_reclaim_pops_once number v w one k =
     let none = makes _ _ _ _ k.last w k.none.called in
     absurd (omega arith)
 
+-- one that looks twice beside the steps of its last pop, and once beside those of each other one
+pub loan_reclaim_looks_twice_aside : (v w : View ℕ) (k : HasEmptied v w) → w.aside ≡ v.aside + (length k.numbers + 2) → ⊥
+loan_reclaim_looks_twice_aside v w k more = let most = k.aside in absurd (omega arith)
+
 -- one that pushes an index, where the queue takes it
 pub loan_reclaim_pushes : (number : ℕ) (back : Option ℕ) (v w : View ℕ) → HasOverflowed number back v w → w ≡ v → ⊥
 loan_reclaim_pushes number back v w pushed k = no_call _ _ _ _ v w (ap (λ (u : View ℕ). u.made) k) pushed.called
 
 -- ---- owners
+
+-- an acquire of a robust set that looks twice beside its steps
+pub robust_looks_twice_aside : (old new : OwnerPass) → (robust.view new).aside ≡ (robust.view old).aside + 2 → robust.SamePass old new → ⊥
+robust_looks_twice_aside old new two k = let one = k.aside in absurd (omega arith)
 
 -- a look at the lock that answers otherwise than it found
 pub is_locked_is_always_true : (v w : View ℕ) → owners.HasLooked false v w → owners.HasLooked true v w → ⊥

@@ -1,5 +1,5 @@
 -- For fields of what contracts of threads say a history that this field refuses here.
-use Rattle.std.proofs.Common.{◌≡◌, ◌≤◌, ◌<◌, ⊎_elim, ℕ, false, Some, None, List, [], ◌∷◌, ◌++◌, refl, ap, subst, ◌∙◌, append_assoc, arith}
+use Rattle.std.proofs.Common.{◌≡◌, ◌≤◌, ◌<◌, ⊎_elim, ℕ, false, Some, List, [], ◌∷◌, ◌++◌, refl, ap, subst, ◌∙◌, append_assoc, arith}
 use Rattle.std.specs.List.{FoldsTo}
 use Rattle.model.specs.declared.event.Answer.TheVariants.{State}
 use Rattle.model.specs.declared.event.Event.{Event}
@@ -15,6 +15,7 @@ use Rattle.lock_free.specs.HistoryView.View.{View}
 use Rattle.lock_free.specs.Passes.{HasSplit}
 use Rattle.lock_free.specs.Queues.Closes.{Closes}
 use Rattle.lock_free.specs.Queues.Contracts.{HasTakenFirst}
+use Rattle.lock_free.specs.Queues.Views.{right_view}
 use Rattle.lock_free.specs.ReleaseMode.TheVariants.{Default}
 use Rattle.lock_free.specs.ReleaseState.TheVariants.{Unlocked}
 use Rattle.lock_free.specs.Robust.Callable.{asks, tells, questions_of, freed_of, was_told}
@@ -84,7 +85,28 @@ takes_the_party k = let e = k.right_party in cc
 
 -- the new pass has seen more or has made something, or keeps the whole share
 abbrev new : View ℕ
-new = record stays { party = None }
+new = right_view first
+
+splits_right : HasSplit first stays new
+splits_right =
+    record {
+      seen = refl;
+      made = refl;
+      party = refl;
+      right_seen = refl;
+      right_made = refl;
+      right_party = refl;
+      turns = refl;
+      right_turns = refl;
+      others = refl;
+      right_others = refl;
+      asked = refl;
+      aside = refl;
+      right_asked = refl;
+      right_aside = refl;
+      share = refl;
+      right_share = refl;
+    }
 
 sees_more : HasSplit first stays (record new { seen = Locked 0 ∷ [] }) → ⊥
 sees_more k = let e = k.right_seen in cc
@@ -114,6 +136,19 @@ counts_more k = let e = k.right_others in cc
 
 forgets_others : HasSplit (record first { others = 1 }) stays new → ⊥
 forgets_others k = let e = k.others in cc
+
+-- the split is not counted, or as a step of a call; the new pass counts it too, or what the other one did
+asks_nothing : HasSplit first (record stays { asked = 0 }) new → ⊥
+asks_nothing k = let e = k.asked in cc
+
+is_a_step : HasSplit first (record stays { aside = 0 }) new → ⊥
+is_a_step k = let e = k.aside in cc
+
+both_ask : HasSplit first stays (record new { asked = 1 }) → ⊥
+both_ask k = let e = k.right_asked in cc
+
+both_aside : HasSplit first stays (record new { aside = 1 }) → ⊥
+both_aside k = let e = k.right_aside in cc
 
 -- ---- a recovery of a robust set
 

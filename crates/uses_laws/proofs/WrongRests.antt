@@ -1,7 +1,8 @@
 -- A find that does not rest as it should, and which calls that may lock overlap.
 use Rattle.std.proofs.Common.{◌≡◌, ◌≢◌, ℕ, ◌==◌, Bool, true, false, Option, Some, None, List, [], ◌∷◌, ◌++◌, if◌then◌else◌, refl, sym, subst, ◌∙◌}
 use Rattle.std.proofs.lemmas.List.{same_from_push}
-use Rattle.steps.specs.declared.container.find.FindStage as finds
+use Rattle.steps.specs.declared.container.find.FindStage.{FindStage}
+use Rattle.steps.specs.declared.container.find.FindStage.TheVariants as finds
 use Rattle.model.specs.declared.event.Answer.{Answer}
 use Rattle.model.specs.declared.event.Answer.TheVariants.{State, Number}
 use Rattle.model.specs.declared.event.Event.{Event}
@@ -9,8 +10,8 @@ use Rattle.model.specs.declared.event.Event.TheVariants.{Begun, Finished}
 use Rattle.model.specs.declared.event.Start.{Start}
 use Rattle.model.specs.declared.event.Start.TheVariants.{Robust}
 use Rattle.model.specs.declared.families.Flight.{Flight}
-use Rattle.model.specs.declared.families.Flight as flights
-use Rattle.model.specs.declared.families.container.calls.ContainerFlight as calls
+use Rattle.model.specs.declared.families.Flight.TheVariants as flights
+use Rattle.model.specs.declared.families.container.calls.ContainerFlight.TheVariants as calls
 use Rattle.model.specs.declared.families.indices.robust.RobustStart.TheVariants.{Release}
 use Rattle.model.specs.Reading.{Open, Never, ended}
 use Rattle.model.proofs.Readings.{Each-append, Each-nil}
@@ -23,47 +24,47 @@ use Rattle.lock_free_owners.specs.Worn.{BeginsAlone, LocksApart, is_locking}
 -- ---- a find that rests
 
 -- the stage of a find
-abbrev stage_of : Flight ℕ → Option finds.FindStage
-stage_of (flights.TheVariants.Container (calls.TheVariants.Find run)) = Some run.call.stage
+abbrev stage_of : Flight ℕ → Option FindStage
+stage_of (flights.Container (calls.Find run)) = Some run.call.stage
 stage_of flight = None
 
-find_ends : (flight : Flight ℕ) (answer : Answer ℕ) (stage : finds.FindStage) → stage_of flight ≡ Some stage → EndsAs flight answer
+find_ends : (flight : Flight ℕ) (answer : Answer ℕ) (stage : FindStage) → stage_of flight ≡ Some stage → EndsAs flight answer
     → FindEndsAs stage answer
-find_ends (flights.TheVariants.Container (calls.TheVariants.Find run)) answer stage is ends =
+find_ends (flights.Container (calls.Find run)) answer stage is ends =
     let at : run.call.stage ≡ stage = cc in
-    subst (λ (s : finds.FindStage). FindEndsAs s answer) at ends
+    subst (λ (s : FindStage). FindEndsAs s answer) at ends
 find_ends flight answer stage is ends = absurd (cc)
 
 -- it has not come to its question
 pub rests_at_a_cell : (v : View ℕ) (k : IsResting v) (index found : ℕ)
-    → stage_of k.flight ≡ Some (finds.TheVariants.LoadsCell index found)
+    → stage_of k.flight ≡ Some (finds.LoadsCell index found)
     → ⊥
-rests_at_a_cell v k index found is = find_ends k.flight k.answer (finds.TheVariants.LoadsCell index found) is k.ends
+rests_at_a_cell v k index found is = find_ends k.flight k.answer (finds.LoadsCell index found) is k.ends
 
 pub rests_at_a_count : (v : View ℕ) (k : IsResting v) (index found : ℕ)
-    → stage_of k.flight ≡ Some (finds.TheVariants.LoadsCount index found)
+    → stage_of k.flight ≡ Some (finds.LoadsCount index found)
     → ⊥
-rests_at_a_count v k index found is = find_ends k.flight k.answer (finds.TheVariants.LoadsCount index found) is k.ends
+rests_at_a_count v k index found is = find_ends k.flight k.answer (finds.LoadsCount index found) is k.ends
 
 pub rests_at_a_word : (v : View ℕ) (k : IsResting v) (index found count at : ℕ)
-    → stage_of k.flight ≡ Some (finds.TheVariants.LoadsWord index found count at)
+    → stage_of k.flight ≡ Some (finds.LoadsWord index found count at)
     → ⊥
-rests_at_a_word v k index found count at is = find_ends k.flight k.answer (finds.TheVariants.LoadsWord index found count at) is k.ends
+rests_at_a_word v k index found count at is = find_ends k.flight k.answer (finds.LoadsWord index found count at) is k.ends
 
 pub rests_at_a_check : (v : View ℕ) (k : IsResting v) (index found count : ℕ)
-    → stage_of k.flight ≡ Some (finds.TheVariants.ChecksCount index found count)
+    → stage_of k.flight ≡ Some (finds.ChecksCount index found count)
     → ⊥
-rests_at_a_check v k index found count is = find_ends k.flight k.answer (finds.TheVariants.ChecksCount index found count) is k.ends
+rests_at_a_check v k index found count is = find_ends k.flight k.answer (finds.ChecksCount index found count) is k.ends
 
 -- it ends with another number than it has come to
 pub ends_with_another_number : (v w : View ℕ) (k : Settles v w) (index found other p : ℕ) (start : Start ℕ) (before : List (Event ℕ))
-    → stage_of k.resting.flight ≡ Some (finds.TheVariants.Asks index found)
+    → stage_of k.resting.flight ≡ Some (finds.Asks index found)
     → w.seen ≡ before ++ Finished p start (Number other) ∷ []
     → other ≢ found
     → ⊥
 ends_with_another_number v w k index found other p start before at is differs =
     let right : k.resting.answer ≡ Number found =
-    find_ends k.resting.flight k.resting.answer (finds.TheVariants.Asks index found) at k.resting.ends
+    find_ends k.resting.flight k.resting.answer (finds.Asks index found) at k.resting.ends
     in
     let last = (same_from_push (v.seen ++ k.others) before _ _ (sym k.seen ∙ is)).1 in
     let same : k.resting.answer ≡ Number other = cc in

@@ -1,4 +1,5 @@
--- How many steps threads have taken at an index queue, by how many of their calls have ended, and by how many have begun.
+-- How many steps threads have taken at an index queue, by how many of their calls have ended, and by how many have begun;
+-- how many operations a pass of a unique index set has asked for.
 use Rattle.std.specs.Prelude.{◌≤◌, ◌+◌, ◌*◌, ℕ}
 use Rattle.model.specs.declared.turn.Kind.TheVariants.{IndexQueue}
 use Rattle.model.specs.Loads.{begun}
@@ -17,3 +18,8 @@ abbrev pub StepsAreWithinLoad : ℕ → View ℕ → Type 0
 StepsAreWithinLoad capacity v =
     (n : ℕ) → AreBelow n v.seen
     → steps_in (opening one_word IndexQueue capacity 0) v.turns ≤ begun v.seen * (5 * n + 1)
+
+-- at most n · n · (capacity + 4) + 1 for each call that has begun, where parties below n have begun them, and so many aside
+abbrev pub AsksAreWithinLoad : ℕ → ℕ → View ℕ → Type 0
+AsksAreWithinLoad capacity aside v =
+    (n : ℕ) → AreBelow n v.seen → v.asked ≤ aside + begun v.seen * (n * n * (capacity + 4) + 1)

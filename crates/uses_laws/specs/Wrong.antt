@@ -8,7 +8,7 @@ use Rattle.model.specs.declared.event.Item.TheVariants.{Index}
 use Rattle.model.specs.declared.event.Start.TheVariants.{Robust}
 use Rattle.model.specs.declared.families.indices.robust.RobustStart.TheVariants.{Recover}
 use Rattle.lock_free.specs.HistoryView.View.{View}
-use Rattle.lock_free.specs.Queues.Views.{first_view}
+use Rattle.lock_free.specs.Queues.Views.{first_view, left_view, right_view}
 use Rattle.lock_free.specs.ReleaseMode.TheVariants.{Default}
 use Rattle.lock_free.specs.ReleaseState.TheVariants.{Unlocked}
 use Rattle.lock_free.specs.Shares.{half_of, all_shares}
@@ -39,11 +39,11 @@ nothing_left = record { capacity = 2; first = 0; values = [] }
 
 -- the pass that stays
 abbrev pub stays : View ℕ
-stays = record first { share = half_of all_shares }
+stays = left_view first
 
 -- the new one, as if it were the party of the other
 abbrev pub same_party : View ℕ
-same_party = record stays { party = Some 0 }
+same_party = record (right_view first) { party = Some 0 }
 
 -- ---- a recovery
 

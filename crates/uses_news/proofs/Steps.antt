@@ -3,8 +3,8 @@ use Rattle.std.proofs.Common.{◌≡◌, ℕ, ◌<◌, List, [], ◌∷◌, ◌+
 use Rattle.std.proofs.lemmas.List.Elements.{All-nil, All-cons, All-append}
 use Rattle.std.specs.List.{All}
 use mathlib.Core.List.{map-append}
-use Rattle.uses_bus.specs.Sequences.{Rises}
-use Rattle.uses_bus.proofs.Rising.{rises_then}
+use Rattle.zero_copy_bus.specs.Sequences.{Rises}
+use Rattle.zero_copy_bus.proofs.Rising.{rises_then}
 use Rattle.uses_news.specs.Marks.{mark, AreNewsFrom, HasRead}
 
 pub reads_none : (xs : List ℕ) (a b : ℕ) → Rises a [] b → HasRead xs xs a b

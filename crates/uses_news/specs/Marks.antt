@@ -1,7 +1,7 @@
 -- What the publisher makes of a number, and what a subscriber has read.
 use Rattle.std.specs.Prelude.{◌≡◌, ℕ, ◌+◌, ◌*◌, ◌<◌, List, ◌++◌, map, replicate}
 use Rattle.std.specs.List.{All}
-use Rattle.uses_bus.specs.Sequences.{Rises}
+use Rattle.zero_copy_bus.specs.Sequences.{Rises}
 
 -- the mark of a number
 abbrev pub mark : ℕ → ℕ

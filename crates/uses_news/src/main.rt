@@ -6,7 +6,7 @@
 pub mod twins;
 
 ghost use Rattle.std.specs.Prelude.{◌≡◌, ◌<◌, IfSome, IsTrue, replicate};
-ghost use Rattle.uses_bus.specs.Ends.{expected_at, next_of, number_of};
+ghost use Rattle.zero_copy_bus.specs.Ends.{expected_at, next_of, number_of};
 ghost use Rattle.uses_news.specs.Marks.{mark, AreNewsFrom, HasRead};
 
 use lock_free::mpmc::container::OwnerId;
@@ -15,10 +15,10 @@ use std::process::ExitCode;
 use std::sync::Wait;
 use std::thread::Threads;
 use std::{io, thread};
-use uses_bus::bus::{Bus, Sizes};
-use uses_bus::publisher::{Loan, Publisher};
-use uses_bus::subscriber::{Sample, Subscriber};
-use uses_slots::Keeps;
+use zero_copy_bus::bus::{Bus, Sizes};
+use zero_copy_bus::publisher::{Loan, Publisher};
+use zero_copy_bus::subscriber::{Sample, Subscriber};
+use zero_copy_slots::Keeps;
 
 /// How many words of 8 bytes a block has: 64 KiB.
 const WORDS: usize = 8192;

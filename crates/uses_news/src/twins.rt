@@ -2,16 +2,16 @@
 //! unnoticed. What a wrong body would leave, and the clause refuses, stands in `proofs/WrongBodies.antt` of the bus.
 ghost use Rattle.std.specs.Prelude.{◌≡◌, true, Some, slice_get, IfErr, IfOk, IfSome};
 ghost use Rattle.lock_free.specs.Robust.Contracts.{WasFreed};
-ghost use Rattle.uses_bus.specs.Ends.{lanes_of, members_left, members_view, place_at, received, record_of, spares_in, table_of, IsTakenFor};
-ghost use Rattle.uses_bus.specs.Outlets.{open_in};
-ghost use Rattle.uses_slots.specs.Slots.{slot_in};
+ghost use Rattle.zero_copy_bus.specs.Ends.{lanes_of, members_left, members_view, place_at, received, record_of, spares_in, table_of, IsTakenFor};
+ghost use Rattle.zero_copy_bus.specs.Outlets.{open_in};
+ghost use Rattle.zero_copy_slots.specs.Slots.{slot_in};
 
 use lock_free::mpmc::container::{ContainerRemoveError, OwnerId};
 use std::sync::Wait;
-use uses_bus::error::{LoanFailure, SubscribeFailure};
-use uses_bus::publisher::{Loan, Publisher};
-use uses_bus::subscriber::{Left, Sample, Subscriber};
-use uses_slots::{Keeps, Reading};
+use zero_copy_bus::error::{LoanFailure, SubscribeFailure};
+use zero_copy_bus::publisher::{Loan, Publisher};
+use zero_copy_bus::subscriber::{Left, Sample, Subscriber};
+use zero_copy_slots::{Keeps, Reading};
 
 /// Who has subscribed takes part.
 pub fn subscribe<'a, X: Drop, K: Keeps<X>>(

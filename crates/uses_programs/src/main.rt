@@ -1,10 +1,9 @@
-//! Programs of users over `lock_free`, and one over `uses_bus`: each module here is one, which stands by itself, with
+//! Programs of users over `lock_free`: each module here is one, which stands by itself, with
 //! its proofs in the folder of its name and the files of `specs/` and `proofs/` that it and they import. Its name as
 //! the argument runs it alone; with none all run in turn.
 #![tactic(auto)]
 
 mod bells;
-mod bus;
 mod closing;
 mod leases;
 mod loans;
@@ -22,7 +21,7 @@ use std::thread::Threads;
 use std::{env, io};
 
 /// The names of the programs, in the order in which all run.
-const NAMES: [&str; 11] = [
+const NAMES: [&str; 10] = [
     "relay",
     "relay_overflow",
     "relay_readings",
@@ -33,7 +32,6 @@ const NAMES: [&str; 11] = [
     "loans",
     "registry",
     "closing",
-    "bus",
 ];
 
 /// Runs the program that has this place in `NAMES`, and none where there is no such place.
@@ -53,7 +51,6 @@ fn run_at<R: Threads + Wait + Print + Sync>(
         7 => loans::report(rt, alloc),
         8 => registry::report(rt, alloc),
         9 => closing::report(rt, alloc),
-        10 => bus::report(rt, alloc),
         _ => Ok(()),
     }
 }

@@ -6,5 +6,5 @@ abbrev pub mark : ℕ → ℕ
 mark n = 3 * n + 1
 
 -- 64 KiB of the number's mark
-abbrev pub IsBlockOf : ℕ → List ℕ → Type 0
+unfoldable pub IsBlockOf : ℕ → List ℕ → Type 0
 IsBlockOf number words = words ≡ replicate 8192 (mark number)

@@ -1,7 +1,7 @@
 -- Which runs of a container are well-formed: a worked one that is, and two that are not.
 use Rattle.std.proofs.Common.{◌≡◌, ℕ, zero, suc, Some, List, [], ◌∷◌, ◌++◌, refl, subst, arith}
 use Rattle.steps.specs.declared.indices.enums.ReleaseMode.TheVariants.{Default}
-use Rattle.steps.specs.declared.indices.enums.ReleaseState as states
+use Rattle.steps.specs.declared.indices.enums.ReleaseState.TheVariants as states
 use Rattle.model.specs.declared.event.Answer.TheVariants.{Done, Index, State}
 use Rattle.model.specs.declared.event.Event.{Event}
 use Rattle.model.specs.declared.event.Event.TheVariants.{Begun, Filled, Granted, FreedOf, Placed, Hidden, Finished}
@@ -9,7 +9,7 @@ use Rattle.model.specs.declared.event.Start.{Start}
 use Rattle.model.specs.declared.event.Start.TheVariants.{Container}
 use Rattle.model.specs.declared.families.container.ContainerStart.TheVariants.{Add, Remove, Replace}
 use Rattle.model.specs.declared.party.Party.{Party}
-use Rattle.model.specs.declared.turn.Kind as kinds
+use Rattle.model.specs.declared.turn.Kind.TheVariants as kinds
 use Rattle.model.specs.declared.turn.Turn.{Turn}
 use Rattle.model.specs.Families.Container.Promises.{IsWellFormedRun, ReplacesRight, StandsWellFormed}
 use Rattle.model.specs.Families.Container.Reading.{MayReplace, NoneTakes}
@@ -32,7 +32,7 @@ abbrev replace : ℕ → ℕ → ℕ → Start ℕ
 replace index value owner = Container (Replace index value owner)
 
 abbrev ran_on : List (Turn ℕ) → Trace ℕ
-ran_on turns = ran two_words kinds.TheVariants.Container 1 2 turns
+ran_on turns = ran two_words kinds.Container 1 2 turns
 
 -- ---- an add, a replace and a remove of its handle, one after another: a well-formed run
 
@@ -62,7 +62,7 @@ pub handled_events : (ran_on handled).events
     ++ Begun 0 (remove 0 1)
     ∷ FreedOf 0 0 1
     ∷ Hidden 0 0
-    ∷ Finished 0 (remove 0 1) (State states.TheVariants.Unlocked)
+    ∷ Finished 0 (remove 0 1) (State states.Unlocked)
     ∷ []
 handled_events = refl
 

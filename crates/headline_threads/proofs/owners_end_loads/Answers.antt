@@ -7,6 +7,9 @@ returns-clause-robust_between g c = (laws.robust_ends _).between
 pub returns-clause-robust_load : goal.returns-clause-robust_load
 returns-clause-robust_load g c = (laws.robust_ends _).load
 
+pub returns-clause-robust_asks : goal.returns-clause-robust_asks
+returns-clause-robust_asks g c = (laws.robust_ends _).asks
+
 pub returns-clause-robust_rest : goal.returns-clause-robust_rest
 returns-clause-robust_rest g c = (laws.robust_ends _).rest
 
@@ -15,6 +18,9 @@ returns-clause-container_between g c = (laws.container_ends _).between
 
 pub returns-clause-container_load : goal.returns-clause-container_load
 returns-clause-container_load g c = (laws.container_ends _).load
+
+pub returns-clause-container_asks : goal.returns-clause-container_asks
+returns-clause-container_asks g c = (laws.container_ends _).asks
 
 pub returns-clause-container_rest : goal.returns-clause-container_rest
 returns-clause-container_rest g c = (laws.container_ends _).rest
@@ -25,6 +31,9 @@ returns-clause-robust_between_by_default g c = (laws.robust_by_default _).betwee
 pub returns-clause-robust_load_by_default : goal.returns-clause-robust_load_by_default
 returns-clause-robust_load_by_default g c = (laws.robust_by_default _).load
 
+pub returns-clause-robust_asks_by_default : goal.returns-clause-robust_asks_by_default
+returns-clause-robust_asks_by_default g c = (laws.robust_by_default _).asks
+
 pub returns-clause-robust_rest_by_default : goal.returns-clause-robust_rest_by_default
 returns-clause-robust_rest_by_default g c = (laws.robust_by_default _).rest
 
@@ -33,6 +42,9 @@ returns-clause-container_between_by_default g c = (laws.container_by_default _).
 
 pub returns-clause-container_load_by_default : goal.returns-clause-container_load_by_default
 returns-clause-container_load_by_default g c = (laws.container_by_default _).load
+
+pub returns-clause-container_asks_by_default : goal.returns-clause-container_asks_by_default
+returns-clause-container_asks_by_default g c = (laws.container_by_default _).asks
 
 pub returns-clause-container_rest_by_default : goal.returns-clause-container_rest_by_default
 returns-clause-container_rest_by_default g c = (laws.container_by_default _).rest

@@ -7,9 +7,9 @@ use Rattle.history.proofs.Names.{BitsAnswerRight, BitsWrote, bits_promise, sets,
 use Rattle.history.proofs.Names.{BeginsNone, HeldSometime, SinceBegin, Stands, StandsRight, Each, Span, Open}
 use Rattle.history.proofs.Names.{span_of, sets_more}
 use Rattle.model.specs.declared.event.Answer.TheVariants.{Done}
-use Rattle.model.specs.declared.event.Event as event
+use Rattle.model.specs.declared.event.Event.TheVariants as event
 use Rattle.model.specs.declared.event.Start.TheVariants.{Bits}
-use Rattle.model.specs.declared.turn.Kind as kinds
+use Rattle.model.specs.declared.turn.Kind.TheVariants as kinds
 use Rattle.history.specs.Acts.{Way, MayAct, Acts, Found, Tells, Ends, number_after, left_by, ActsByPlace}
 use Rattle.history.proofs.Acts.BitWays.{only_clears, cleared_in, Numbers, numbers_more, Fit, one_fits, at_place}
 use Rattle.history.proofs.Acts.Filling.{Marked, nothing_marked, goes_on, Fact, Stays, Silent, finishes}
@@ -53,7 +53,7 @@ module _ {T : Type 0} (c : ℕ) (events : List (Event T)) (spans : Each (StandsR
           (at_place h e (finds h after e is) (numbers h (e ∷ after) is) b) (was p b))
 
   abbrev M : List (Event T) → Type 0
-  M h = Marked kinds.TheVariants.Bits c Sure h
+  M h = Marked kinds.Bits c Sure h
 
   module _ (h after : List (Event T)) where
     abbrev way : ℕ → ℕ → Way'
@@ -64,45 +64,45 @@ module _ {T : Type 0} (c : ℕ) (events : List (Event T)) (spans : Each (StandsR
 
     -- an act by this party on this place, where it is right
     abbrev RightAct : Event T → ℕ → ℕ → Type 0
-    RightAct e p b = Tells (number b) e × Acts kinds.TheVariants.Bits b (number b) (number_after b (number b) e) (way p b)
+    RightAct e p b = Tells (number b) e × Acts kinds.Bits b (number b) (number_after b (number b) e) (way p b)
 
     spread : (e : Event T) (q k p b : ℕ) → RightAct e q k → (q == p && k == b) ≡ true → RightAct e p b
     spread x0 x1 x2 x3 x4 x5 x6 = grind (arith, both_true, is_number)
 
-    set_acts : (k : ℕ) (q : ℕ) (span : Span T) (w : Way') → Stands bits_promise c (event.TheVariants.Set q k) span
-        → WayFits Fit k span w → Acts kinds.TheVariants.Bits k (number k) 1 w
+    set_acts : (k : ℕ) (q : ℕ) (span : Span T) (w : Way') → Stands bits_promise c (event.Set q k) span
+        → WayFits Fit k span w → Acts kinds.Bits k (number k) 1 w
     set_acts x0 x1 x2 x3 x4 x5 = grind arith
 
     clear_acts : (k : ℕ) (q : ℕ) (span : Span T) (w : Way') → Stands bits_promise c (Cleared q k) span
-        → WayFits Fit k span w → Acts kinds.TheVariants.Bits k (number k) 0 w
+        → WayFits Fit k span w → Acts kinds.Bits k (number k) 0 w
     clear_acts x0 x1 x2 x3 x4 x5 = grind arith
 
     module _ (m : M h) (numbered : Numbers h) (on : Ways Fit h) where
-      set_goes : (q k : ℕ) → events ≡ h ++ event.TheVariants.Set q k ∷ after → M (h ++ event.TheVariants.Set q k ∷ [])
+      set_goes : (q k : ℕ) → events ≡ h ++ event.Set q k ∷ after → M (h ++ event.Set q k ∷ [])
       set_goes q k is =
-          goes_on kinds.TheVariants.Bits c Sure h (event.TheVariants.Set q k) m (λ p b t. spread (event.TheVariants.Set q k) q k p b (tells, acts) t)
+          goes_on kinds.Bits c Sure h (event.Set q k) m (λ p b t. spread (event.Set q k) q k p b (tells, acts) t)
         where
           tells : number k ≡ 0
-          tells = at_place h (event.TheVariants.Set q k) (finds h after (event.TheVariants.Set q k) is) numbered k refl
+          tells = at_place h (event.Set q k) (finds h after (event.Set q k) is) numbered k refl
 
-          acts : Acts kinds.TheVariants.Bits k (number k) (cond (k == k) 1 (number k)) (way q k)
-          acts = rw (same_number k) (set_acts k q (span_of q h) (way q k) (spans h after (event.TheVariants.Set q k) is) (on q k))
+          acts : Acts kinds.Bits k (number k) (cond (k == k) 1 (number k)) (way q k)
+          acts = rw (same_number k) (set_acts k q (span_of q h) (way q k) (spans h after (event.Set q k) is) (on q k))
 
       clear_goes : (q k : ℕ) → events ≡ h ++ Cleared q k ∷ after → M (h ++ Cleared q k ∷ [])
       clear_goes q k is =
-          goes_on kinds.TheVariants.Bits c Sure h (Cleared q k) m (λ p b t. spread (Cleared q k) q k p b (tells, acts) t)
+          goes_on kinds.Bits c Sure h (Cleared q k) m (λ p b t. spread (Cleared q k) q k p b (tells, acts) t)
         where
           tells : number k ≡ 1
           tells = at_place h (Cleared q k) (finds h after (Cleared q k) is) numbered k refl
 
-          acts : Acts kinds.TheVariants.Bits k (number k) (cond (k == k) 0 (number k)) (way q k)
+          acts : Acts kinds.Bits k (number k) (cond (k == k) 0 (number k)) (way q k)
           acts = rw (same_number k) (clear_acts k q (span_of q h) (way q k) (spans h after (Cleared q k) is) (on q k))
 
       -- ---- a call ends
 
       module _ (q : ℕ) (s : Start T) (a : Answer T) (is : events ≡ h ++ Finished q s a ∷ after) where
         abbrev Known : ℕ → Type 0
-        Known b = Fact kinds.TheVariants.Bits c Sure h q s a b
+        Known b = Fact kinds.Bits c Sure h q s a b
 
         abbrev Done' : ℕ → Way' → Type 0
         Done' b w = Ends c (Sure b) b s a w
@@ -121,7 +121,7 @@ module _ {T : Type 0} (c : ℕ) (events : List (Event T)) (spans : Each (StandsR
 
         -- a place that the call left silently, where it was clear
         clear_there : (b : ℕ) (part rest : List (Event T)) → h ≡ part ++ rest → BeginsNone q rest
-            → way q b ≡ Some (s, None) → MayAct b s → 0 ≡ left_by kinds.TheVariants.Bits s (number_in b 0 part)
+            → way q b ≡ Some (s, None) → MayAct b s → 0 ≡ left_by kinds.Bits s (number_in b 0 part)
             → number_in b 0 part ≡ 0 → Done' b (Some (s, Some 0)) → Known b
         clear_there b part rest cut none under may left nought ends =
             Silent part rest cut none under may (nought ∙ left) (subst (λ n. Done' b (Some (s, Some n))) (sym nought) ends)
@@ -131,7 +131,7 @@ module _ {T : Type 0} (c : ℕ) (events : List (Event T)) (spans : Each (StandsR
 
       end_set_true : (q k : ℕ) → events ≡ h ++ Finished q (Bits (Set k)) (Truth true) ∷ after → M (h ++ Finished q (Bits (Set k)) (Truth true) ∷ [])
       end_set_true q k is =
-          finishes kinds.TheVariants.Bits c Sure h q (Bits (Set k)) (Truth true) m (λ b lt. Stays (done b)) (λ b le. done b)
+          finishes kinds.Bits c Sure h q (Bits (Set k)) (Truth true) m (λ b lt. Stays (done b)) (λ b le. done b)
         where
           opened : OpenFor (Bits (Set k)) (BitsWrote c (Bits (Set k)) (Truth true)) (span_of q h)
           opened = open_for (Bits (Set k)) (BitsWrote c (Bits (Set k)) (Truth true)) (span_of q h) (spans h after (Finished q (Bits (Set k)) (Truth true)) is)
@@ -149,7 +149,7 @@ module _ {T : Type 0} (c : ℕ) (events : List (Event T)) (spans : Each (StandsR
 
       end_set_false : (q k : ℕ) → events ≡ h ++ Finished q (Bits (Set k)) (Truth false) ∷ after → M (h ++ Finished q (Bits (Set k)) (Truth false) ∷ [])
       end_set_false q k is =
-          finishes kinds.TheVariants.Bits c Sure h q (Bits (Set k)) (Truth false) m facts far
+          finishes kinds.Bits c Sure h q (Bits (Set k)) (Truth false) m facts far
         where
           opened : OpenFor (set_call k) (BitsWrote c (set_call k) (Truth false)) (span_of q h)
           opened = grind (arith, open_for, false)
@@ -166,12 +166,12 @@ module _ {T : Type 0} (c : ℕ) (events : List (Event T)) (spans : Each (StandsR
           elsewhere : (b : ℕ) → k ≢ b → Ends c (Sure b) b (set_call k) (Truth false) (way q b)
           elsewhere x0 x1 = grind (arith, false, under)
 
-          facts : (b : ℕ) → b < c → Fact kinds.TheVariants.Bits c Sure h q (set_call k) (Truth false) b
+          facts : (b : ℕ) → b < c → Fact kinds.Bits c Sure h q (set_call k) (Truth false) b
           facts b lt =
-              ⊎_elim (λ same. subst (Fact kinds.TheVariants.Bits c Sure h q (set_call k) (Truth false)) same mine)
+              ⊎_elim (λ same. subst (Fact kinds.Bits c Sure h q (set_call k) (Truth false)) same mine)
               (λ ne. Stays (elsewhere b ne)) (cases_eq k b)
             where
-              mine : Fact kinds.TheVariants.Bits c Sure h q (set_call k) (Truth false) k
+              mine : Fact kinds.Bits c Sure h q (set_call k) (Truth false) k
               mine = Silent once.part once.rest once.is once.within (under k) refl one (refl, λ same. rw one refl)
 
           far : (b : ℕ) → c ≤ b → Ends c (Sure b) b (set_call k) (Truth false) (way q b)
@@ -186,7 +186,7 @@ module _ {T : Type 0} (c : ℕ) (events : List (Event T)) (spans : Each (StandsR
 
       end_next : (q k : ℕ) → events ≡ h ++ Finished q (Bits ResetNext) (Reset k) ∷ after → M (h ++ Finished q (Bits ResetNext) (Reset k) ∷ [])
       end_next q k is =
-          finishes kinds.TheVariants.Bits c Sure h q (Bits ResetNext) (Reset k) m (λ b lt. Stays (done b)) (λ b le. done b)
+          finishes kinds.Bits c Sure h q (Bits ResetNext) (Reset k) m (λ b lt. Stays (done b)) (λ b le. done b)
         where
           opened : OpenFor (Bits ResetNext) (BitsWrote c (Bits ResetNext) (Reset k)) (span_of q h)
           opened = grind (arith, open_for)
@@ -206,7 +206,7 @@ module _ {T : Type 0} (c : ℕ) (events : List (Event T)) (spans : Each (StandsR
 
       end_none : (q : ℕ) → events ≡ h ++ Finished q (Bits ResetNext) ResetNone ∷ after → M (h ++ Finished q (Bits ResetNext) ResetNone ∷ [])
       end_none q is =
-          finishes kinds.TheVariants.Bits c Sure h q next_call ResetNone m facts
+          finishes kinds.Bits c Sure h q next_call ResetNone m facts
           (λ b le. subst (λ w. Ends c (Sure b) b next_call ResetNone w) (sym (under b)) (refl, λ lt. absurd (omega arith)))
         where
           opened : OpenFor next_call (BitsWrote c next_call ResetNone) (span_of q h)
@@ -218,7 +218,7 @@ module _ {T : Type 0} (c : ℕ) (events : List (Event T)) (spans : Each (StandsR
           under : (b : ℕ) → way q b ≡ Some (next_call, None)
           under x0 = grind (arith, here)
 
-          facts : (b : ℕ) → b < c → Fact kinds.TheVariants.Bits c Sure h q next_call ResetNone b
+          facts : (b : ℕ) → b < c → Fact kinds.Bits c Sure h q next_call ResetNone b
           facts b lt =
               let once = all b lt in
               let both = (numbers_in q next_call ResetNone is once.part once.rest once.is b).0 in
@@ -227,7 +227,7 @@ module _ {T : Type 0} (c : ℕ) (events : List (Event T)) (spans : Each (StandsR
 
       end_all : (q : ℕ) → events ≡ h ++ Finished q (Bits ResetAll) Done ∷ after → M (h ++ Finished q (Bits ResetAll) Done ∷ [])
       end_all q is =
-          finishes kinds.TheVariants.Bits c Sure h q all_call Done m facts
+          finishes kinds.Bits c Sure h q all_call Done m facts
           (λ b le. let fits = here q all_call Done is b opened.wrote opened.is in
           subst (λ w. Ends c (Sure b) b all_call Done w) (sym fits.is) (refl, λ sure lt. absurd (omega arith)))
         where
@@ -237,16 +237,16 @@ module _ {T : Type 0} (c : ℕ) (events : List (Event T)) (spans : Each (StandsR
           since : SinceBegin q (HasCleared c) h
           since = answers h after (Finished q all_call Done) is
 
-          facts : (b : ℕ) → b < c → Fact kinds.TheVariants.Bits c Sure h q all_call Done b
+          facts : (b : ℕ) → b < c → Fact kinds.Bits c Sure h q all_call Done b
           facts b lt = ⊎_elim acted silent (cases_lt 0 (clears b opened.wrote))
             where
               fits : Fits Fit all_call b opened.wrote (way q b)
               fits = here q all_call Done is b opened.wrote opened.is
 
-              acted : 0 < clears b opened.wrote → Fact kinds.TheVariants.Bits c Sure h q all_call Done b
+              acted : 0 < clears b opened.wrote → Fact kinds.Bits c Sure h q all_call Done b
               acted x0 = grind arith
 
-              silent : clears b opened.wrote ≤ 0 → Fact kinds.TheVariants.Bits c Sure h q all_call Done b
+              silent : clears b opened.wrote ≤ 0 → Fact kinds.Bits c Sure h q all_call Done b
               silent few = go (number_in b 0 since.before) refl
                 where
                   under : way q b ≡ Some (all_call, None)
@@ -255,7 +255,7 @@ module _ {T : Type 0} (c : ℕ) (events : List (Event T)) (spans : Each (StandsR
                   was : Numbers since.before
                   was = grind (arith, numbers_in)
 
-                  go : (n : ℕ) → number_in b 0 since.before ≡ n → Fact kinds.TheVariants.Bits c Sure h q all_call Done b
+                  go : (n : ℕ) → number_in b 0 since.before ≡ n → Fact kinds.Bits c Sure h q all_call Done b
                   go zero e =
                       clear_there q all_call Done is b (since.before ++ Begun q since.start ∷ []) since.since
                       (since.is ∙ sym (append_assoc since.before (Begun q since.start ∷ []) since.since)) since.within under tt refl
@@ -281,10 +281,10 @@ module _ {T : Type 0} (c : ℕ) (events : List (Event T)) (spans : Each (StandsR
       more_marks : (e : Event T) → events ≡ h ++ e ∷ after → M (h ++ e ∷ [])
       more_marks x0 x1 = grind (arith, goes_on, shut_way, ends, set_goes, clear_goes)
 
-  pub bits_act : ActsByPlace kinds.TheVariants.Bits c events
+  pub bits_act : ActsByPlace kinds.Bits c events
   bits_act = record { marks = all.marks; is = all.is; right = all.right }
     where
       all : M events
       all =
           along events M (λ h after e is m. more_marks h after m (numbers h (e ∷ after) is) (ways h (e ∷ after) is) e is)
-          (nothing_marked kinds.TheVariants.Bits c Sure) events [] (sym (append-nil events))
+          (nothing_marked kinds.Bits c Sure) events [] (sym (append-nil events))

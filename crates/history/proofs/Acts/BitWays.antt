@@ -4,7 +4,7 @@ use Rattle.history.proofs.Names.{List, [], ◌∷◌, ◌++◌, length, refl, sy
 use Rattle.history.proofs.Names.{TakenOut, Finished, Start, Set, ResetNext, ResetAll, MayClear, bits_promise}
 use Rattle.history.proofs.Names.{sets, clears, Stands, StandsRight, whose, Span, Never, Open, Ended, own_after}
 use Rattle.history.proofs.Names.{span_after, sets_more, clears_more}
-use Rattle.model.specs.declared.event.Event as event
+use Rattle.model.specs.declared.event.Event.TheVariants as event
 use Rattle.model.specs.declared.event.Event.TheVariants.{Counted}
 use Rattle.model.specs.declared.event.Start.TheVariants.{Bits}
 use Rattle.history.specs.Acts.{Way, number_after, way_after, found_now}
@@ -75,19 +75,19 @@ module _ {T : Type 0} where
       (omega arith, omega arith)
 
   pub numbers_more : (c : ℕ) (h : List (Event T)) (e : Event T) → StandsRight bits_promise c h e → BitFinds h e → Numbers h → Numbers (h ++ e ∷ [])
-  numbers_more c h (event.TheVariants.Set p k) stands finds was b = go (k == b) refl
+  numbers_more c h (event.Set p k) stands finds was b = go (k == b) refl
     where
       go : (t : Bool) → (k == b) ≡ t
-          → (sets b (h ++ event.TheVariants.Set p k ∷ [])
-          ≡ clears b (h ++ event.TheVariants.Set p k ∷ []) + number_in b 0 (h ++ event.TheVariants.Set p k ∷ []))
-          × (number_in b 0 (h ++ event.TheVariants.Set p k ∷ []) ≤ 1)
+          → (sets b (h ++ event.Set p k ∷ [])
+          ≡ clears b (h ++ event.Set p k ∷ []) + number_in b 0 (h ++ event.Set p k ∷ []))
+          × (number_in b 0 (h ++ event.Set p k ∷ []) ≤ 1)
       go true t =
-          let one : sets {T = T} b (event.TheVariants.Set p k ∷ []) ≡ 1 = rw t refl in
-          let none : clears {T = T} b (event.TheVariants.Set p k ∷ []) ≡ 0 = refl in
-          let s = sets_more b h (event.TheVariants.Set p k ∷ []) in
-          let c = clears_more b h (event.TheVariants.Set p k ∷ []) in
-          let n : number_in b 0 (h ++ event.TheVariants.Set p k ∷ []) ≡ 1 =
-          number_more b 0 h (event.TheVariants.Set p k ∷ []) ∙ ap (λ z. cond z 1 (number_in b 0 h)) t in
+          let one : sets {T = T} b (event.Set p k ∷ []) ≡ 1 = rw t refl in
+          let none : clears {T = T} b (event.Set p k ∷ []) ≡ 0 = refl in
+          let s = sets_more b h (event.Set p k ∷ []) in
+          let c = clears_more b h (event.Set p k ∷ []) in
+          let n : number_in b 0 (h ++ event.Set p k ∷ []) ≡ 1 =
+          number_more b 0 h (event.Set p k ∷ []) ∙ ap (λ z. cond z 1 (number_in b 0 h)) t in
           let found : sets b h ≡ clears b h = subst (λ z. sets z h ≡ clears z h) (is_number k b t) finds in
           (omega arith, omega arith)
       go false t = grind (arith, numbers_stay, cond, number_in)
@@ -130,14 +130,14 @@ module _ {T : Type 0} where
 
   -- what an act finds there
   abbrev AtPlace : ℕ → ℕ → Event T → Type 0
-  AtPlace b n (event.TheVariants.Set q k) = k ≡ b → n ≡ 0
+  AtPlace b n (event.Set q k) = k ≡ b → n ≡ 0
   AtPlace b n (Cleared q k) = k ≡ b → n ≡ 1
   AtPlace b n e = Unit {0}
 
   -- an own act
-  set_fits : (q k b n : ℕ) (span : Span T) (way : Way T) → Stands bits_promise 0 (event.TheVariants.Set q k) span
+  set_fits : (q k b n : ℕ) (span : Span T) (way : Way T) → Stands bits_promise 0 (event.Set q k) span
       → (k ≡ b → n ≡ 0) → WayFits Fit b span way
-      → WayFits Fit b (own_after span (event.TheVariants.Set q k)) (cond (k == b) (found_now n way) way)
+      → WayFits Fit b (own_after span (event.Set q k)) (cond (k == b) (found_now n way) way)
   set_fits x0 x1 x2 x3 x4 x5 x6 x7 x8 = grind arith
 
   fit_cleared : (start : Start T) (q k b : ℕ) (wrote : List (Event T)) → MayClear k start wrote → (k == b) ≡ true
@@ -175,9 +175,9 @@ module _ {T : Type 0} where
       → WayFits Fit b (span_after p (spans p) e) (way_after p b n way e)
   one_fits c p b n spans way (Begun q s) stands at fits = begun_fits Fit p q b n (spans p) way s (fit_nil s b) fits
   one_fits c p b n spans way (Finished q s a) stands at fits = finished_fits Fit p q b n (spans p) way s a fits
-  one_fits c p b n spans way (event.TheVariants.Set q k) stands at fits = go (q == p) refl
+  one_fits c p b n spans way (event.Set q k) stands at fits = go (q == p) refl
     where
-      go : (t : Bool) → (q == p) ≡ t → WayFits Fit b (span_after p (spans p) (event.TheVariants.Set q k)) (way_after p b n way (event.TheVariants.Set q k))
+      go : (t : Bool) → (q == p) ≡ t → WayFits Fit b (span_after p (spans p) (event.Set q k)) (way_after p b n way (event.Set q k))
       go x0 x1 = grind (arith, set_fits, is_number)
   one_fits c p b n spans way (Cleared q k) stands at fits = go (q == p) refl
     where
@@ -188,7 +188,7 @@ module _ {T : Type 0} where
   one_fits c p b n spans way e stands at fits = grind (arith, quiet_fits, fit_more)
 
   pub at_place : (h : List (Event T)) (e : Event T) → BitFinds h e → Numbers h → (b : ℕ) → AtPlace b (number_in b 0 h) e
-  at_place h (event.TheVariants.Set q k) finds numbers b =
+  at_place h (event.Set q k) finds numbers b =
       λ same. (let is = (numbers b).0 in let found : sets b h ≡ clears b h = subst (λ z. sets z h ≡ clears z h) same finds in omega arith)
   at_place h (Cleared q k) finds numbers b =
       λ same.

@@ -7,10 +7,10 @@ use Rattle.history.proofs.Names.{CountsAnswerOn, AnswersCountOn, CountsWrote, co
 use Rattle.history.proofs.Names.{BeginsNone, SinceBegin, Stands, StandsRight, Each, whose, Span, Open, own_after}
 use Rattle.history.proofs.Names.{span_after, span_of}
 use Rattle.model.specs.declared.event.Answer.TheVariants.{Done}
-use Rattle.model.specs.declared.event.Event as event
+use Rattle.model.specs.declared.event.Event.TheVariants as event
 use Rattle.model.specs.declared.event.Event.TheVariants.{Counted}
 use Rattle.model.specs.declared.event.Start.TheVariants.{Bits}
-use Rattle.model.specs.declared.turn.Kind as kinds
+use Rattle.model.specs.declared.turn.Kind.TheVariants as kinds
 use Rattle.laws_bits.proofs.Counts.Core.{counts_more, takes_more}
 use Rattle.history.specs.Acts.{Way, Acts, Found, Tells, Ends, number_after, way_after, found_now, ActsByPlace}
 use Rattle.history.proofs.Acts.Filling.{Marked, nothing_marked, goes_on, Fact, Stays, Silent, finishes}
@@ -107,7 +107,7 @@ module _ {T : Type 0} where
           let all : counts b h ≡ takes b h + m + 2 ^ 64 * finds.0 = subst (λ z. counts z h ≡ takes z h + m + 2 ^ 64 * finds.0) (is_number k b t) finds.1 in
           record { wraps = finds.0; whole = omega arith; low = omega arith }
       go false t = grind (arith, numbers_stay, cond, number_in, was)
-  numbers_more c h (event.TheVariants.Set p k) stands finds was b = absurd stands
+  numbers_more c h (event.Set p k) stands finds was b = absurd stands
   numbers_more c h (Cleared p k) stands finds was b = absurd stands
   numbers_more c h e stands finds was b = numbers_stay h e b refl refl refl (was b)
 
@@ -173,7 +173,7 @@ module _ {T : Type 0} where
     where
       go : (t : Bool) → (q == p) ≡ t → WayFits Fit b (span_after p (spans p) (TakenOut q k m)) (way_after p b n way (TakenOut q k m))
       go x0 x1 = grind (arith, take_fits, is_number, fits)
-  one_fits c p b n spans way (event.TheVariants.Set q k) stands fits = absurd stands
+  one_fits c p b n spans way (event.Set q k) stands fits = absurd stands
   one_fits c p b n spans way (Cleared q k) stands fits = absurd stands
   one_fits c p b n spans way e stands fits = grind (arith, quiet_fits, fit_more)
 
@@ -210,7 +210,7 @@ module _ {T : Type 0} (c : ℕ) (events : List (Event T)) (spans : Each (StandsR
           (one_fits c p b (number_in b 0 h) (λ q. span_of q h) (way_in p b 0 None h) e (spans h after e is) (was p b))
 
   abbrev M : List (Event T) → Type 0
-  M h = Marked kinds.TheVariants.Counts c Sure h
+  M h = Marked kinds.Counts c Sure h
 
   module _ (h after : List (Event T)) where
     abbrev way : ℕ → ℕ → Way'
@@ -220,38 +220,38 @@ module _ {T : Type 0} (c : ℕ) (events : List (Event T)) (spans : Each (StandsR
     number b = number_in b 0 h
 
     abbrev RightAct : Event T → ℕ → ℕ → Type 0
-    RightAct e p b = Tells (number b) e × Acts kinds.TheVariants.Counts b (number b) (number_after b (number b) e) (way p b)
+    RightAct e p b = Tells (number b) e × Acts kinds.Counts b (number b) (number_after b (number b) e) (way p b)
 
     spread : (e : Event T) (q k p b : ℕ) → RightAct e q k → (q == p && k == b) ≡ true → RightAct e p b
     spread x0 x1 x2 x3 x4 x5 x6 = grind (arith, both_true, is_number)
 
     count_acts : (k : ℕ) (q : ℕ) (span : Span T) (w : Way') → Stands counts_promise c (Counted q k) span
-        → WayFits Fit k span w → Acts kinds.TheVariants.Counts k (number k) ((number k + 1) % 2 ^ 64) w
+        → WayFits Fit k span w → Acts kinds.Counts k (number k) ((number k + 1) % 2 ^ 64) w
     count_acts x0 x1 x2 x3 x4 x5 = grind arith
 
     take_acts : (k m : ℕ) (q : ℕ) (span : Span T) (w : Way') → Stands counts_promise c (TakenOut q k m) span
-        → WayFits Fit k span w → (1 ≤ m) × Acts kinds.TheVariants.Counts k (number k) 0 w
+        → WayFits Fit k span w → (1 ≤ m) × Acts kinds.Counts k (number k) 0 w
     take_acts x0 x1 x2 x3 x4 x5 x6 = grind arith
 
     module _ (m : M h) (numbered : Numbers h) (on : Ways Fit h) where
       count_goes : (q k : ℕ) → events ≡ h ++ Counted q k ∷ after → M (h ++ Counted q k ∷ [])
       count_goes q k is =
-          goes_on kinds.TheVariants.Counts c Sure h (Counted q k) m (λ p b t. spread (Counted q k) q k p b (tt, acts) t)
+          goes_on kinds.Counts c Sure h (Counted q k) m (λ p b t. spread (Counted q k) q k p b (tt, acts) t)
         where
-          acts : Acts kinds.TheVariants.Counts k (number k) (cond (k == k) ((number k + 1) % 2 ^ 64) (number k)) (way q k)
+          acts : Acts kinds.Counts k (number k) (cond (k == k) ((number k + 1) % 2 ^ 64) (number k)) (way q k)
           acts = rw (same_number k) (count_acts k q (span_of q h) (way q k) (spans h after (Counted q k) is) (on q k))
 
       take_goes : (q k n : ℕ) → events ≡ h ++ TakenOut q k n ∷ after → M (h ++ TakenOut q k n ∷ [])
       take_goes q k n is =
-          goes_on kinds.TheVariants.Counts c Sure h (TakenOut q k n) m (λ p b t. spread (TakenOut q k n) q k p b ((whole, here.0), acts) t)
+          goes_on kinds.Counts c Sure h (TakenOut q k n) m (λ p b t. spread (TakenOut q k n) q k p b ((whole, here.0), acts) t)
         where
-          here : (1 ≤ n) × Acts kinds.TheVariants.Counts k (number k) 0 (way q k)
+          here : (1 ≤ n) × Acts kinds.Counts k (number k) 0 (way q k)
           here = grind (arith, take_acts)
 
           whole : n ≡ number k
           whole = takes_all h q k n (finds h after (TakenOut q k n) is) numbered
 
-          acts : Acts kinds.TheVariants.Counts k (number k) (cond (k == k) 0 (number k)) (way q k)
+          acts : Acts kinds.Counts k (number k) (cond (k == k) 0 (number k)) (way q k)
           acts = rw (same_number k) here.1
 
       -- ---- a call ends
@@ -267,7 +267,7 @@ module _ {T : Type 0} (c : ℕ) (events : List (Event T)) (spans : Each (StandsR
 
       end_set : (q k n : ℕ) → events ≡ h ++ Finished q (Bits (Set k)) (Number n) ∷ after → M (h ++ Finished q (Bits (Set k)) (Number n) ∷ [])
       end_set q k n is =
-          finishes kinds.TheVariants.Counts c Sure h q (set_call k) (Number n) m (λ b lt. Stays (done b)) (λ b le. done b)
+          finishes kinds.Counts c Sure h q (set_call k) (Number n) m (λ b lt. Stays (done b)) (λ b le. done b)
         where
           opened : OpenFor (set_call k) (CountsWrote c (set_call k) (Number n)) (span_of q h)
           opened = grind (arith, open_for)
@@ -304,13 +304,13 @@ module _ {T : Type 0} (c : ℕ) (events : List (Event T)) (spans : Each (StandsR
       -- a place that the call left silently, where its count was 0
       clear_there : (q b : ℕ) (part rest : List (Event T)) → h ≡ part ++ rest → BeginsNone q rest
           → way q b ≡ Some (Bits ResetAll, None) → number_in b 0 part ≡ 0
-          → Fact kinds.TheVariants.Counts c Sure h q (Bits ResetAll) Done b
+          → Fact kinds.Counts c Sure h q (Bits ResetAll) Done b
       clear_there q b part rest cut none under nought =
           Silent part rest cut none under tt nought (refl, λ sure lt. tt)
 
       end_all : (q : ℕ) → events ≡ h ++ Finished q (Bits ResetAll) Done ∷ after → M (h ++ Finished q (Bits ResetAll) Done ∷ [])
       end_all q is =
-          finishes kinds.TheVariants.Counts c Sure h q all_call Done m facts
+          finishes kinds.Counts c Sure h q all_call Done m facts
           (λ b le. let fits = here q b all_call opened.wrote opened.is in
           subst (λ w. Ends c (Sure b) b all_call Done w) (sym fits.is) (refl, λ sure lt. absurd (omega arith)))
         where
@@ -320,7 +320,7 @@ module _ {T : Type 0} (c : ℕ) (events : List (Event T)) (spans : Each (StandsR
           since : SinceBegin q (HasTakenOn c) h
           since = answers h after (Finished q all_call Done) is
 
-          facts : (b : ℕ) → b < c → Fact kinds.TheVariants.Counts c Sure h q all_call Done b
+          facts : (b : ℕ) → b < c → Fact kinds.Counts c Sure h q all_call Done b
           facts b lt = ⊎_elim acted silent (cases_lt 0 (takes b opened.wrote))
             where
               fits : Fits Fit all_call b opened.wrote (way q b)
@@ -329,10 +329,10 @@ module _ {T : Type 0} (c : ℕ) (events : List (Event T)) (spans : Each (StandsR
               ends_so : (d : Option ℕ) → Found (λ n. Unit {0}) d → way q b ≡ Some (all_call, d) → Ends c (Sure b) b all_call Done (way q b)
               ends_so x0 x1 x2 = grind arith
 
-              acted : 0 < takes b opened.wrote → Fact kinds.TheVariants.Counts c Sure h q all_call Done b
+              acted : 0 < takes b opened.wrote → Fact kinds.Counts c Sure h q all_call Done b
               acted some = grind (arith, ends_so)
 
-              silent : takes b opened.wrote ≤ 0 → Fact kinds.TheVariants.Counts c Sure h q all_call Done b
+              silent : takes b opened.wrote ≤ 0 → Fact kinds.Counts c Sure h q all_call Done b
               silent few = go (number_in b 0 since.before) refl
                 where
                   under : way q b ≡ Some (all_call, None)
@@ -344,7 +344,7 @@ module _ {T : Type 0} (c : ℕ) (events : List (Event T)) (spans : Each (StandsR
                   was : NumberIs since.before b
                   was = grind (arith, numbers, whole_is)
 
-                  go : (n : ℕ) → number_in b 0 since.before ≡ n → Fact kinds.TheVariants.Counts c Sure h q all_call Done b
+                  go : (n : ℕ) → number_in b 0 since.before ≡ n → Fact kinds.Counts c Sure h q all_call Done b
                   go zero e =
                       clear_there q b (since.before ++ Begun q since.start ∷ []) since.since
                       (since.is ∙ sym (append_assoc since.before (Begun q since.start ∷ []) since.since)) since.within under
@@ -353,7 +353,7 @@ module _ {T : Type 0} (c : ℕ) (events : List (Event T)) (spans : Each (StandsR
                       let all = was.whole in
                       ⊎_elim lost far (since.holds b lt (omega arith))
                     where
-                      lost : 1 ≤ takes b since.since → Fact kinds.TheVariants.Counts c Sure h q all_call Done b
+                      lost : 1 ≤ takes b since.since → Fact kinds.Counts c Sure h q all_call Done b
                       lost some =
                           let out = taken_in b since.since some in
                           let to : List (Event T) = since.before ++ Begun q since.start ∷ out.first in
@@ -367,7 +367,7 @@ module _ {T : Type 0} (c : ℕ) (events : List (Event T)) (spans : Each (StandsR
                           under
                           (number_more b 0 to (TakenOut out.by b out.number ∷ []) ∙ ap (λ z. cond z 0 (number_in b 0 to)) (same_number b))
 
-                      far : 2 ^ 64 ≤ counts b since.before + counts b since.since → Fact kinds.TheVariants.Counts c Sure h q all_call Done b
+                      far : 2 ^ 64 ≤ counts b since.before + counts b since.since → Fact kinds.Counts c Sure h q all_call Done b
                       far many =
                           let one = counts_more b since.before (Begun q since.start ∷ (since.since ++ Finished q all_call Done ∷ after)) in
                           let two = counts_more b (Begun q since.start ∷ []) (since.since ++ Finished q all_call Done ∷ after) in
@@ -384,10 +384,10 @@ module _ {T : Type 0} (c : ℕ) (events : List (Event T)) (spans : Each (StandsR
       more_marks : (e : Event T) → events ≡ h ++ e ∷ after → M (h ++ e ∷ [])
       more_marks x0 x1 = grind (arith, goes_on, shut_way, ends, count_goes, take_goes)
 
-  pub counts_act : ActsByPlace kinds.TheVariants.Counts c events
+  pub counts_act : ActsByPlace kinds.Counts c events
   counts_act = record { marks = all.marks; is = all.is; right = all.right }
     where
       all : M events
       all =
           along events M (λ h after e is m. more_marks h after m (numbers h (e ∷ after) is) (ways h (e ∷ after) is) e is)
-          (nothing_marked kinds.TheVariants.Counts c Sure) events [] (sym (append-nil events))
+          (nothing_marked kinds.Counts c Sure) events [] (sym (append-nil events))

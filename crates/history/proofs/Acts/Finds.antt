@@ -14,13 +14,13 @@ use Rattle.history.proofs.Names.{stands_there, wrote_in, sets_more, clears_more,
 use Rattle.steps.specs.declared.bits.bit_set.SetStage.{SetStage}
 use Rattle.steps.specs.declared.bits.bit_set.ResetNextStage.{ResetNextStage}
 use Rattle.steps.specs.Bits.Places.{places_in}
-use Rattle.model.specs.declared.event.Event as events
+use Rattle.model.specs.declared.event.Event.TheVariants as events
 use Rattle.model.specs.declared.event.Start.TheVariants.{Bits}
-use Rattle.model.specs.declared.families.Flight as flights
-use Rattle.model.specs.declared.families.Registry as registries
+use Rattle.model.specs.declared.families.Flight.TheVariants as flights
+use Rattle.model.specs.declared.families.Registry.TheVariants as registries
 use Rattle.model.specs.declared.families.bits.BitsStart.TheVariants as starts
 use Rattle.model.specs.declared.families.bits.calls.BitsFlight.TheVariants as calls
-use Rattle.model.specs.declared.turn.Kind as kinds
+use Rattle.model.specs.declared.turn.Kind.TheVariants as kinds
 use Rattle.model.specs.Families.Bits.Steps.{set_events, reset_events, take_events, effects_of}
 use Rattle.model.proofs.Frame as frame
 use Rattle.laws_bits.proofs.Family.{FlightAt, family}
@@ -53,7 +53,7 @@ module _ {T : Type 0} where
   -- ---- flags
 
   abbrev pub BitFinds : List (Event T) → Event T → Type 0
-  BitFinds before (events.TheVariants.Set p b) = sets b before ≡ clears b before
+  BitFinds before (events.Set p b) = sets b before ≡ clears b before
   BitFinds before (Cleared p b) = sets b before ≡ clears b before + 1
   BitFinds before e = Unit {0}
 
@@ -64,18 +64,18 @@ module _ {T : Type 0} where
   module _ (before es : List (Event T)) (s s' : ℕ → ℕ) (few : (b : ℕ) → s b ≤ 1) (low : (b : ℕ) → s' b ≤ 1)
       (h : (b : ℕ) → sets b before ≡ clears b before + s b)
       (h' : (b : ℕ) → sets b (before ++ es) ≡ clears b (before ++ es) + s' b) where
-    set_here : (p b : ℕ) (xs ys : List (Event T)) → es ≡ xs ++ events.TheVariants.Set p b ∷ ys → OneSided es → sets b (before ++ xs) ≡ clears b (before ++ xs)
+    set_here : (p b : ℕ) (xs ys : List (Event T)) → es ≡ xs ++ events.Set p b ∷ ys → OneSided es → sets b (before ++ xs) ≡ clears b (before ++ xs)
     set_here p b xs ys is sided =
-        let one : sets {T = T} b (events.TheVariants.Set p b ∷ []) ≡ 1 = rw (same_number b) refl in
+        let one : sets {T = T} b (events.Set p b ∷ []) ≡ 1 = rw (same_number b) refl in
         let s1 = sets_more b before es in
-        let s2 = sets_more b xs (events.TheVariants.Set p b ∷ ys) in
-        let s3 = sets_more b (events.TheVariants.Set p b ∷ []) ys in
+        let s2 = sets_more b xs (events.Set p b ∷ ys) in
+        let s3 = sets_more b (events.Set p b ∷ []) ys in
         let s4 = sets_more b before xs in
         let c1 = clears_more b before es in
-        let c2 = clears_more b xs (events.TheVariants.Set p b ∷ ys) in
+        let c2 = clears_more b xs (events.Set p b ∷ ys) in
         let c4 = clears_more b before xs in
-        let se : sets b es ≡ sets b (xs ++ events.TheVariants.Set p b ∷ ys) = ap (sets b) is in
-        let ce : clears b es ≡ clears b (xs ++ events.TheVariants.Set p b ∷ ys) = ap (clears b) is in
+        let se : sets b es ≡ sets b (xs ++ events.Set p b ∷ ys) = ap (sets b) is in
+        let ce : clears b es ≡ clears b (xs ++ events.Set p b ∷ ys) = ap (clears b) is in
         let was = h b in
         let now = h' b in
         let top = low b in
@@ -132,15 +132,15 @@ module _ {T : Type 0} where
       (step_of t.world.coding t.world.words (beside_of t.world.words t.world.kept t.world.latest p) p start flight old kept).wrote
 
   step_sided : (t : Trace T) (c p old : ℕ) (wrote : List (Event T)) (kept : Registry T) (start : Start T) (flight : Flight T)
-      → kept ≡ registries.TheVariants.Nothing → FlightAt (bit_calls.CallAt c wrote) start flight
+      → kept ≡ registries.Nothing → FlightAt (bit_calls.CallAt c wrote) start flight
       → OneSided (wrote_there t p old start flight kept)
-  step_sided t c p old wrote registries.TheVariants.Nothing (Bits start) (flights.TheVariants.Bits flight) none at = sided c p old wrote start flight at
-  step_sided t c p old wrote kept (Bits start) (flights.TheVariants.Bits flight) none at = absurd (cc)
+  step_sided t c p old wrote registries.Nothing (Bits start) (flights.Bits flight) none at = sided c p old wrote start flight at
+  step_sided t c p old wrote kept (Bits start) (flights.Bits flight) none at = absurd (cc)
   step_sided t c p old wrote kept start flight none at = absurd at
 
   pub record BitsSo (t : Trace T) : Type 0 where
     pub reached : IsReachedOn t
-    pub kind : t.world.kind ≡ kinds.TheVariants.Bits
+    pub kind : t.world.kind ≡ kinds.Bits
     pub finds : Each BitFinds t.events
 
   module _ (t : Trace T) (so : BitsSo t) where
@@ -173,7 +173,7 @@ module _ {T : Type 0} where
     bits_turn : (turn : Turn T) → call_refusal t.world turn ≡ None → BitsSo (after_turn t turn)
     bits_turn turn e =
         let r = reached_on_more t turn e so.reached in
-        let kind : (after_turn t turn).world.kind ≡ kinds.TheVariants.Bits = (turn_making t.world turn).kind ∙ so.kind in
+        let kind : (after_turn t turn).world.kind ≡ kinds.Bits = (turn_making t.world turn).kind ∙ so.kind in
         let was = bits_go_on t so.kind so.reached in
         let now = bits_go_on (after_turn t turn) kind r in
         record {
@@ -187,7 +187,7 @@ module _ {T : Type 0} where
               (turn_sided turn));
         }
 
-  pub bits_find : (t : Trace T) → t.world.kind ≡ kinds.TheVariants.Bits → IsReachedOn t → Each BitFinds t.events
+  pub bits_find : (t : Trace T) → t.world.kind ≡ kinds.Bits → IsReachedOn t → Each BitFinds t.events
   bits_find t is r =
       (kept_by_runs_on BitsSo (λ t turn e so. bits_turn t so turn e) t
       (record {
@@ -204,7 +204,7 @@ module _ {T : Type 0} where
 
   pub record CountsSo (t : Trace T) : Type 0 where
     pub reached : IsReachedOn t
-    pub kind : t.world.kind ≡ kinds.TheVariants.Counts
+    pub kind : t.world.kind ≡ kinds.Counts
     pub finds : Each CountFinds t.events
 
   module _ (t : Trace T) (so : CountsSo t) where
@@ -234,14 +234,14 @@ module _ {T : Type 0} where
 
     -- what a call that takes out is handed is what stands there
     abbrev Hears : Flight T → ℕ → Type 0
-    Hears (flights.TheVariants.Bits (calls.TakeAll run)) old = 1 ≤ old → old ≡ get_or t.world.words run.call.word 0
+    Hears (flights.Bits (calls.TakeAll run)) old = 1 ≤ old → old ≡ get_or t.world.words run.call.word 0
     Hears flight old = Unit {0}
 
     hears_next : (flight : Flight T) → Hears flight (old_of t.world.words (ask_of (want_of t.world.coding flight)))
     hears_next x0 = grind arith
 
     count_step : (c p old : ℕ) (wrote : List (Event T)) (kept : Registry T) (start : Start T) (flight : Flight T) (o : Option (Answer T))
-        → kept ≡ registries.TheVariants.Nothing → FlightAt (counting.CallAt c wrote) start flight → Hears flight old
+        → kept ≡ registries.Nothing → FlightAt (counting.CallAt c wrote) start flight → Hears flight old
         → AreRight CountFinds t.events (wrote_there t p old start flight kept ++ ending_of p start o)
     count_step x0 x1 x2 x3 x4 x5 x6 x7 x8 x9 x10 = grind (arith, ends_right, take_right)
 
@@ -274,7 +274,7 @@ module _ {T : Type 0} where
           finds = Each-append CountFinds t.events (events_of t.world turn) so.finds (counts_events turn e);
         }
 
-  pub counts_find : (t : Trace T) → t.world.kind ≡ kinds.TheVariants.Counts → IsReachedOn t → Each CountFinds t.events
+  pub counts_find : (t : Trace T) → t.world.kind ≡ kinds.Counts → IsReachedOn t → Each CountFinds t.events
   counts_find t is r =
       (kept_by_runs_on CountsSo (λ t turn e so. counts_turn t so turn e) t
       (record {

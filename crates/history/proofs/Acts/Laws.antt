@@ -2,7 +2,7 @@
 use Rattle.std.proofs.Common.{arith}
 use Rattle.history.proofs.Names.{◌≡◌, ℕ, List, refl, Event, Kind, Coding, IsReachedOn, Trace, bit_set}
 use Rattle.history.proofs.Names.{bits_laws, bits_go_on, counting_set, counts_laws, counts_go_on}
-use Rattle.model.specs.declared.turn.Kind as kinds
+use Rattle.model.specs.declared.turn.Kind.TheVariants as kinds
 use Rattle.laws_bits.proofs.Laws.{sound_on}
 use Rattle.history.specs.History.{IsHistory, IsReachedAs}
 use Rattle.history.specs.Acts.{ActsByPlace, IsSet}
@@ -11,12 +11,12 @@ use Rattle.history.proofs.Acts.CountActs.{counts_act}
 use Rattle.history.proofs.Acts.Finds.{bits_find, counts_find}
 
 module _ {T : Type 0} (t : Trace T) (r : IsReachedOn t) where
-  bits_so : t.world.kind ≡ kinds.TheVariants.Bits → ActsByPlace kinds.TheVariants.Bits t.world.capacity t.events
+  bits_so : t.world.kind ≡ kinds.Bits → ActsByPlace kinds.Bits t.world.capacity t.events
   bits_so is =
       let kept = bits_go_on t is r in
       bits_act t.world.capacity t.events (sound_on bit_set bits_laws t is r).inv.spans (bits_find t is r) kept.answers kept.within
 
-  counts_so : t.world.kind ≡ kinds.TheVariants.Counts → ActsByPlace kinds.TheVariants.Counts t.world.capacity t.events
+  counts_so : t.world.kind ≡ kinds.Counts → ActsByPlace kinds.Counts t.world.capacity t.events
   counts_so is =
       let kept = counts_go_on t is r in
       counts_act t.world.capacity t.events (sound_on counting_set counts_laws t is r).inv.spans (counts_find t is r) kept.answers

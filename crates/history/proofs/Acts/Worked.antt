@@ -6,10 +6,10 @@ use Rattle.history.proofs.Names.{Finished, Start, Set, ResetNext, ResetAll, Kind
 use Rattle.history.proofs.Names.{standing, run, Trace}
 use Rattle.std.specs.Prelude.{take}
 use Rattle.model.specs.declared.event.Answer.TheVariants.{Done}
-use Rattle.model.specs.declared.event.Event as told
+use Rattle.model.specs.declared.event.Event.TheVariants as told
 use Rattle.model.specs.declared.event.Event.TheVariants.{Counted}
 use Rattle.model.specs.declared.event.Start.TheVariants.{Bits}
-use Rattle.model.specs.declared.turn.Kind as kinds
+use Rattle.model.specs.declared.turn.Kind.TheVariants as kinds
 use Rattle.model.specs.Objects.{Object, IsLegal}
 use Rattle.model.specs.World.{opening}
 use Rattle.history.specs.Acts.{Mark, Happens, Leaves, IsRight}
@@ -23,35 +23,35 @@ abbrev set_1 : Start ℕ
 set_1 = Bits (Set 1)
 
 -- a set that answers false has found its place standing
-no_act : of_party_0 kinds.TheVariants.Bits 1 (Happens (Begun 0 set_1) ∷ Happens (Finished 0 set_1 (Truth false)) ∷ []) → ⊥
+no_act : of_party_0 kinds.Bits 1 (Happens (Begun 0 set_1) ∷ Happens (Finished 0 set_1 (Truth false)) ∷ []) → ⊥
 no_act h = (h.1.0 refl).1 refl
 
-clear_is_left : of_party_0 kinds.TheVariants.Bits 1 (Happens (Begun 0 set_1) ∷ Leaves 0 1 ∷ Happens (Finished 0 set_1 (Truth false)) ∷ []) → ⊥
+clear_is_left : of_party_0 kinds.Bits 1 (Happens (Begun 0 set_1) ∷ Leaves 0 1 ∷ Happens (Finished 0 set_1 (Truth false)) ∷ []) → ⊥
 clear_is_left h = let e = (h.1.0 refl).1 in cc
 
 -- a count is what stood before, and a set of counts leaves no place as it was
-count_after : of_party_0 kinds.TheVariants.Counts 1 (Happens (Begun 0 set_1) ∷ Happens (Counted 0 1) ∷ Happens (Finished 0 set_1 (Number 1)) ∷ []) → ⊥
+count_after : of_party_0 kinds.Counts 1 (Happens (Begun 0 set_1) ∷ Happens (Counted 0 1) ∷ Happens (Finished 0 set_1 (Number 1)) ∷ []) → ⊥
 count_after h = let e = (h.1.1.0 refl).1 refl in cc
 
-nothing_counted : of_party_0 kinds.TheVariants.Counts 1 (Happens (Begun 0 set_1) ∷ Leaves 0 1 ∷ Happens (Finished 0 set_1 (Number 0)) ∷ []) → ⊥
+nothing_counted : of_party_0 kinds.Counts 1 (Happens (Begun 0 set_1) ∷ Leaves 0 1 ∷ Happens (Finished 0 set_1 (Number 0)) ∷ []) → ⊥
 nothing_counted h = let e = (h.1.0 refl).1 in cc
 
 -- a reset of all acts on each place
-place_forgotten : of_party_0 kinds.TheVariants.Bits 1 (Happens (Begun 0 (Bits ResetAll)) ∷ Happens (Finished 0 (Bits ResetAll) Done) ∷ []) → ⊥
+place_forgotten : of_party_0 kinds.Bits 1 (Happens (Begun 0 (Bits ResetAll)) ∷ Happens (Finished 0 (Bits ResetAll) Done) ∷ []) → ⊥
 place_forgotten h = (h.1.0 refl).1 tt (omega arith)
 
 -- a place that stands is not left silently by a reset
-standing_is_left : of_party_0 kinds.TheVariants.Bits 1 (Happens (told.TheVariants.Set 1 1) ∷ Happens (Begun 0 (Bits ResetAll)) ∷ Leaves 0 1 ∷ []) → ⊥
+standing_is_left : of_party_0 kinds.Bits 1 (Happens (told.Set 1 1) ∷ Happens (Begun 0 (Bits ResetAll)) ∷ Leaves 0 1 ∷ []) → ⊥
 standing_is_left h = let e = (h.1.1.0 refl).1 in cc
 
 -- and none is acted on twice
-acted_twice : of_party_0 kinds.TheVariants.Bits 1 (Happens (Begun 0 (Bits ResetNext)) ∷ Leaves 0 1 ∷ Leaves 0 1 ∷ []) → ⊥
+acted_twice : of_party_0 kinds.Bits 1 (Happens (Begun 0 (Bits ResetNext)) ∷ Leaves 0 1 ∷ Leaves 0 1 ∷ []) → ⊥
 acted_twice h = h.1.1.0 refl
 
 -- ---- None though at each moment of the call some place stood
 
 abbrev set_of : ℕ → List (Turn ℕ) → Trace ℕ
-set_of capacity turns = run turns (opening one_word kinds.TheVariants.Bits capacity 2)
+set_of capacity turns = run turns (opening one_word kinds.Bits capacity 2)
 
 -- 1 stands; the party 0 begins, and before it looks at 0 that is clear again, before it looks at 1 that is
 abbrev passed_by : List (Turn ℕ)
@@ -69,17 +69,17 @@ passed_by =
 abbrev passed_by_told : List (Event ℕ)
 passed_by_told =
     Begun 1 set_1
-    ∷ told.TheVariants.Set 1 1
+    ∷ told.Set 1 1
     ∷ Finished 1 set_1 (Truth true)
     ∷ Begun 0 (Bits ResetNext)
     ∷ Begun 1 (Bits (Set 0))
-    ∷ told.TheVariants.Set 1 0
+    ∷ told.Set 1 0
     ∷ Finished 1 (Bits (Set 0)) (Truth true)
     ∷ Begun 1 (Bits ResetNext)
     ∷ Cleared 1 0
     ∷ Finished 1 (Bits ResetNext) (Reset 0)
     ∷ Begun 1 (Bits (Set 0))
-    ∷ told.TheVariants.Set 1 0
+    ∷ told.Set 1 0
     ∷ Finished 1 (Bits (Set 0)) (Truth true)
     ∷ Begun 1 (Bits ResetNext)
     ∷ Cleared 1 1
@@ -119,20 +119,20 @@ word_by_word =
 abbrev word_by_word_told : List (Event ℕ)
 word_by_word_told =
     Begun 1 set_0
-    ∷ told.TheVariants.Set 1 0
+    ∷ told.Set 1 0
     ∷ Finished 1 set_0 (Truth true)
     ∷ Begun 0 (Bits ResetAll)
     ∷ Cleared 0 0
     ∷ Begun 1 set_0
-    ∷ told.TheVariants.Set 1 0
+    ∷ told.Set 1 0
     ∷ Finished 1 set_0 (Truth true)
     ∷ Begun 1 set_64
-    ∷ told.TheVariants.Set 1 64
+    ∷ told.Set 1 64
     ∷ Finished 1 set_64 (Truth true)
     ∷ Cleared 0 64
     ∷ Finished 0 (Bits ResetAll) Done
     ∷ Begun 1 set_64
-    ∷ told.TheVariants.Set 1 64
+    ∷ told.Set 1 64
     ∷ Finished 1 set_64 (Truth true)
     ∷ []
 

@@ -9,9 +9,9 @@ use Rattle.laws_bits.proofs.Names.{bits_promise, sets, clears, position_after, S
 use Rattle.laws_bits.proofs.Names.{span_of, one_if, change_of, since_more, AllFollow, span_of-own}
 use Rattle.std.proofs.Common.{arith}
 use Rattle.steps.proofs.Flags.Places.{place_named, place_not_named}
-use Rattle.model.specs.declared.event.Answer as answers
+use Rattle.model.specs.declared.event.Answer.TheVariants as answers
 use Rattle.model.specs.declared.families.bits.BitsStart.TheVariants.{ResetAll}
-use Rattle.model.specs.declared.families.bits.calls.BitsFlight as calls
+use Rattle.model.specs.declared.families.bits.calls.BitsFlight.TheVariants as calls
 use Rattle.laws_bits.proofs.Bits.Core.{ClearedBelow, cleared_still, cleared_by, sets_more, clears_more}
 use Rattle.laws_bits.proofs.Bits.Invariant.{Holds, bit_set}
 use Rattle.laws_bits.proofs.Bits.Lists.{own_more, right_more, follow_more, places_rise, all_cleared, all_own}
@@ -24,7 +24,7 @@ use Rattle.laws_bits.proofs.Spans.{wrote_in}
 -- the call at this word, where it ends there and this was found last
 abbrev pub all_at : OneWord → ℕ → ℕ → BitsFlight
 all_at room word end =
-    calls.TheVariants.ResetAll (record { call = record { word = word; end = end }; given = tt; room = room })
+    calls.ResetAll (record { call = record { word = word; end = end }; given = tt; room = room })
 
 one_is : (t : Bool) → one_if t ≡ cond t 1 0
 one_is x0 = grind arith
@@ -151,10 +151,10 @@ module _ {T : Type 0} (code : Coding T) (c : ℕ) (s : SetState T) (events : Lis
     next = GoOn (all_at (record { 0 = found }) (word + 1) end)
 
     abbrev done : After BitsFlight (Answer T)
-    done = Done answers.TheVariants.Done
+    done = Done answers.Done
 
     abbrev finish : List (Event T)
-    finish = Finished p (Bits ResetAll) answers.TheVariants.Done ∷ []
+    finish = Finished p (Bits ResetAll) answers.Done ∷ []
 
     -- the reset position is no element
     start_stays : get_or then 0 0 ≡ get_or s.words 0 0
@@ -207,7 +207,7 @@ module _ {T : Type 0} (code : Coding T) (c : ℕ) (s : SetState T) (events : Lis
               (subst (λ span. AllFollow (Stands bits_promise c) span finish) (sym written) ((refl, tt), tt));
           here =
               record {
-                answer = answers.TheVariants.Done;
+                answer = answers.Done;
                 wrote = wrote ++ fx;
                 span = fold-append own_after (Open (Bits ResetAll) wrote) fx finish ∙ ap (λ span. fold own_after span finish) written;
                 steps = omega arith;
@@ -224,7 +224,7 @@ module _ {T : Type 0} (code : Coding T) (c : ℕ) (s : SetState T) (events : Lis
               (λ b. refl) refl (all_behind events word (omega arith) cleared, tt);
           own = (refl, tt);
           stands = ((refl, tt), tt);
-          here = record { answer = answers.TheVariants.Done; wrote = wrote; span = refl; steps = omega arith };
+          here = record { answer = answers.Done; wrote = wrote; span = refl; steps = omega arith };
           knows = omega arith;
         }
 

@@ -7,7 +7,7 @@ use Rattle.laws_bits.proofs.Names.{clears, standing, position_after, position_of
 use Rattle.laws_bits.proofs.Names.{held_later, since_more, AreRight, Each-append}
 use Rattle.std.proofs.Common.{arith}
 use Rattle.model.specs.declared.families.bits.calls.BitsFlight.TheVariants.{Set, ResetAll}
-use Rattle.model.specs.declared.turn.Kind as kinds
+use Rattle.model.specs.declared.turn.Kind.TheVariants as kinds
 use Rattle.laws_bits.proofs.Bits.Core.{ClearedBelow, cleared_still, sets_more, clears_more}
 use Rattle.laws_bits.proofs.Bits.Knows.{CallAt, KnowsCall, KnowsSet, KnowsNext, Paid, Passed, Began, call_wrote, number_of}
 use Rattle.laws_bits.proofs.Family.{SetOutline}
@@ -67,7 +67,7 @@ module _ {T : Type 0} where
   abbrev pub bit_set : SetOutline T
   bit_set =
       record {
-        kind = kinds.TheVariants.Bits;
+        kind = kinds.Bits;
         no_loan = refl;
         promise = bits_promise;
         Holds = λ c words events turns. Holds c words events;

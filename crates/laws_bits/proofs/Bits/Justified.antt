@@ -3,9 +3,9 @@ use Rattle.laws_bits.proofs.Names.{◌≡◌, ℕ, List, [], ◌∷◌, refl, sy
 use Rattle.laws_bits.proofs.Names.{places_in, Event, BitsStart, BitsFlight, Next, Coding, set_events, reset_events}
 use Rattle.laws_bits.proofs.Names.{effects_of, IsEffectOf, Keeps, IsBitSet, IsReachedOn, Trace}
 use native.Mathlib.Omega.{arith}
-use Rattle.model.specs.declared.families.bits.BitsStart as starts
-use Rattle.model.specs.declared.families.bits.calls.BitsFlight as calls
-use Rattle.model.specs.declared.turn.Kind as kinds
+use Rattle.model.specs.declared.families.bits.BitsStart.TheVariants as starts
+use Rattle.model.specs.declared.families.bits.calls.BitsFlight.TheVariants as calls
+use Rattle.model.specs.declared.turn.Kind.TheVariants as kinds
 use Rattle.laws_bits.proofs.Bits.Invariant.{bit_set, holds_more, call_still, Holds}
 use Rattle.laws_bits.proofs.Bits.Kept.{bits_kept, steps_most, backs_paid}
 use Rattle.laws_bits.proofs.Bits.Knows.{CallAt}
@@ -27,9 +27,9 @@ module _ (T : Type 0) where
 module _ {T : Type 0} where
   are_effects : (c p old : ℕ) (wrote : List (Event T)) (start : BitsStart) (flight : BitsFlight)
       → CallAt c wrote start flight → AllByRecursion (IsEffectOf {T = T} (Next p)) (effects_of p flight old)
-  are_effects c p old wrote (starts.TheVariants.Set bit) (calls.TheVariants.Set run) at = set_effects T p run.given old run.call.stage
-  are_effects c p old wrote starts.TheVariants.ResetNext (calls.TheVariants.ResetNext run) at = next_effects T p run.call.capacity old run.call.stage
-  are_effects c p old wrote starts.TheVariants.ResetAll (calls.TheVariants.ResetAll run) at = all_effects T p (places_in run.call.word old)
+  are_effects c p old wrote (starts.Set bit) (calls.Set run) at = set_effects T p run.given old run.call.stage
+  are_effects c p old wrote starts.ResetNext (calls.ResetNext run) at = next_effects T p run.call.capacity old run.call.stage
+  are_effects c p old wrote starts.ResetAll (calls.ResetAll run) at = all_effects T p (places_in run.call.word old)
   are_effects c p old wrote start flight at = absurd at
 
   pub laws : (code : Coding T) (c : ℕ) → SetLaws bit_set code c
@@ -53,11 +53,11 @@ module _ {T : Type 0} where
       }
 
   -- what is proved of every run of a bit set
-  pub bits_keep : Keeps T kinds.TheVariants.Bits
+  pub bits_keep : Keeps T kinds.Bits
   bits_keep = sets_keep bit_set laws
 
   -- all that is promised of a bit set holds without a bound of turns or parties
-  pub bits_go_on : (t : Trace T) → t.world.kind ≡ kinds.TheVariants.Bits → IsReachedOn t → IsBitSet t
+  pub bits_go_on : (t : Trace T) → t.world.kind ≡ kinds.Bits → IsReachedOn t → IsBitSet t
   bits_go_on t is r =
       let s = sound_on bit_set laws t is r in
       bits_kept t.world.capacity t refl (subst (λ ws. Holds t.world.capacity ws t.events) (sym s.fit.words) s.holds.0)

@@ -3,9 +3,9 @@ use Rattle.laws_bits.proofs.Names.{◌≡◌, ◌≢◌, ℕ, ◌+◌, ◌-◌, 
 use Rattle.laws_bits.proofs.Names.{ResetNextStage, place_after, at_most, element_of, elements, has_flag, Event}
 use Rattle.laws_bits.proofs.Names.{Cleared, BitsStart, BitsFlight, ResetNext, CameTo, clears, standing, position_of}
 use Rattle.laws_bits.proofs.Names.{HeldSometime, SinceBegin, Span}
-use Rattle.steps.specs.declared.bits.bit_set.SetStage as setting
-use Rattle.steps.specs.declared.bits.bit_set.ResetNextStage as resetting
-use Rattle.model.specs.declared.families.bits.BitsStart as starts
+use Rattle.steps.specs.declared.bits.bit_set.SetStage.TheVariants as setting
+use Rattle.steps.specs.declared.bits.bit_set.ResetNextStage.TheVariants as resetting
+use Rattle.model.specs.declared.families.bits.BitsStart.TheVariants as starts
 use Rattle.model.specs.declared.families.bits.calls.BitsFlight.TheVariants.{Set, ResetAll}
 use Rattle.laws_bits.proofs.Bits.Core.{ClearedBelow}
 use Rattle.laws_bits.proofs.Spans.{wrote_in}
@@ -22,15 +22,15 @@ next_at c stage =
 -- ---- how many steps they have taken at most
 
 abbrev pub set_number : SetStage → ℕ → ℕ
-set_number setting.TheVariants.LoadsElement backs = backs
-set_number (setting.TheVariants.ExchangesElement found) backs = 1 + backs
+set_number setting.LoadsElement backs = backs
+set_number (setting.ExchangesElement found) backs = 1 + backs
 
 abbrev pub next_number : ℕ → ResetNextStage → ℕ → ℕ
-next_number c resetting.TheVariants.LoadsPosition backs = backs
-next_number c (resetting.TheVariants.LoadsElement start passed) backs = 1 + passed + backs
-next_number c (resetting.TheVariants.ExchangesElement start passed found) backs =
+next_number c resetting.LoadsPosition backs = backs
+next_number c (resetting.LoadsElement start passed) backs = 1 + passed + backs
+next_number c (resetting.ExchangesElement start passed found) backs =
     2 + passed + backs
-next_number c (resetting.TheVariants.StoresPosition place) backs = 2 + c + backs
+next_number c (resetting.StoresPosition place) backs = 2 + c + backs
 
 abbrev pub number_of : BitsFlight → ℕ → ℕ
 number_of (Set run) backs = set_number run.call.stage backs
@@ -41,15 +41,15 @@ number_of flight backs = 0
 -- ---- where a call under way stands
 
 abbrev pub SetStands : ℕ → SetStage → Type 0
-SetStands bit setting.TheVariants.LoadsElement = Unit {0}
-SetStands bit (setting.TheVariants.ExchangesElement found) = has_flag found bit ≡ false
+SetStands bit setting.LoadsElement = Unit {0}
+SetStands bit (setting.ExchangesElement found) = has_flag found bit ≡ false
 
 abbrev pub NextStands : ℕ → ResetNextStage → Type 0
-NextStands c resetting.TheVariants.LoadsPosition = Unit {0}
-NextStands c (resetting.TheVariants.LoadsElement start passed) = (start ≤ c) × (passed < c)
-NextStands c (resetting.TheVariants.ExchangesElement start passed found) =
+NextStands c resetting.LoadsPosition = Unit {0}
+NextStands c (resetting.LoadsElement start passed) = (start ≤ c) × (passed < c)
+NextStands c (resetting.ExchangesElement start passed found) =
     (start ≤ c) × (passed < c) × (has_flag found (place_after c start passed) ≡ true)
-NextStands c (resetting.TheVariants.StoresPosition place) = place < c
+NextStands c (resetting.StoresPosition place) = place < c
 
 -- ---- what it knows of the counts
 
@@ -61,18 +61,18 @@ Paid words since changes backs element found =
     × (get_or words element 0 ≢ found → backs + since + 1 ≤ changes)
 
 abbrev pub KnowsSet : List ℕ → ℕ → ℕ → ℕ → ℕ → SetStage → Type 0
-KnowsSet words since changes backs bit setting.TheVariants.LoadsElement =
+KnowsSet words since changes backs bit setting.LoadsElement =
     backs + since ≤ changes
-KnowsSet words since changes backs bit (setting.TheVariants.ExchangesElement found) =
+KnowsSet words since changes backs bit (setting.ExchangesElement found) =
     Paid words since changes backs (element_of bit) found
 
 module _ {T : Type 0} where
   -- a set is done with what it writes, and a reset of the next bit has the position to store
   abbrev pub next_wrote : ℕ → ResetNextStage → List (Event T)
-  next_wrote p resetting.TheVariants.LoadsPosition = []
-  next_wrote p (resetting.TheVariants.LoadsElement start passed) = []
-  next_wrote p (resetting.TheVariants.ExchangesElement start passed found) = []
-  next_wrote p (resetting.TheVariants.StoresPosition place) = Cleared p place ∷ []
+  next_wrote p resetting.LoadsPosition = []
+  next_wrote p (resetting.LoadsElement start passed) = []
+  next_wrote p (resetting.ExchangesElement start passed found) = []
+  next_wrote p (resetting.StoresPosition place) = Cleared p place ∷ []
 
   abbrev pub call_wrote : ℕ → BitsFlight → Span T → List (Event T)
   call_wrote p (ResetAll run) span = wrote_in span
@@ -81,11 +81,11 @@ module _ {T : Type 0} where
 
   -- a reset of all has cleared no bit of the elements to which it is still to come
   abbrev pub CallAt : ℕ → List (Event T) → BitsStart → BitsFlight → Type 0
-  CallAt c wrote (starts.TheVariants.Set bit) (Set run) =
+  CallAt c wrote (starts.Set bit) (Set run) =
       (run.given ≡ bit) × (bit < c) × SetStands bit run.call.stage
-  CallAt c wrote starts.TheVariants.ResetNext (ResetNext run) =
+  CallAt c wrote starts.ResetNext (ResetNext run) =
       (run.call.capacity ≡ c) × NextStands c run.call.stage
-  CallAt c wrote starts.TheVariants.ResetAll (ResetAll run) =
+  CallAt c wrote starts.ResetAll (ResetAll run) =
       (run.call.end ≡ 1 + elements c) × (1 ≤ run.call.word) × (run.call.word ≤ 1 + elements c)
       × ((b : ℕ) → run.call.word ≤ element_of b → clears b wrote ≡ 0)
   CallAt c wrote start flight = ⊥
@@ -102,15 +102,15 @@ module _ {T : Type 0} where
   Began c p start events = HeldSometime p (λ part. at_most c (position_of part) ≡ start) events
 
   abbrev pub KnowsNext : ℕ → ℕ → List (Event T) → List ℕ → ℕ → ℕ → ℕ → ResetNextStage → Type 0
-  KnowsNext c p events words since changes backs resetting.TheVariants.LoadsPosition =
+  KnowsNext c p events words since changes backs resetting.LoadsPosition =
       backs + since ≤ changes
-  KnowsNext c p events words since changes backs (resetting.TheVariants.LoadsElement start passed) =
+  KnowsNext c p events words since changes backs (resetting.LoadsElement start passed) =
       (backs + since ≤ changes) × Passed c p start passed events × Began c p start events
   KnowsNext c p events words since changes backs
-      (resetting.TheVariants.ExchangesElement start passed found) =
+      (resetting.ExchangesElement start passed found) =
       Paid words since changes backs (element_of (place_after c start passed)) found
       × Passed c p start passed events × Began c p start events
-  KnowsNext c p events words since changes backs (resetting.TheVariants.StoresPosition place) =
+  KnowsNext c p events words since changes backs (resetting.StoresPosition place) =
       (backs + since ≤ changes) × CameTo p c place events
 
   abbrev pub KnowsCall : ℕ → List (Event T) → List ℕ → ℕ → ℕ → ℕ → BitsFlight → Type 0

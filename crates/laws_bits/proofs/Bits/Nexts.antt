@@ -8,10 +8,10 @@ use Rattle.laws_bits.proofs.Names.{elements_after, Answer, Event, Cleared, BitsS
 use Rattle.laws_bits.proofs.Names.{goes_back, CameTo, clears, standing, position_of, effects_of, HeldSometime, one_if}
 use Rattle.laws_bits.proofs.Names.{words_after, held_now, held_later}
 use Rattle.std.proofs.Common.{arith}
-use Rattle.steps.specs.declared.bits.bit_set.ResetNextStage as resetting
+use Rattle.steps.specs.declared.bits.bit_set.ResetNextStage.TheVariants as resetting
 use Rattle.steps.specs.Queues.Ring.{after_position}
-use Rattle.model.specs.declared.event.Answer as answers
-use Rattle.model.specs.declared.families.bits.BitsStart as starts
+use Rattle.model.specs.declared.event.Answer.TheVariants as answers
+use Rattle.model.specs.declared.families.bits.BitsStart.TheVariants as starts
 use Rattle.laws_bits.proofs.Bits.Invariant.{Holds, bit_set}
 use Rattle.laws_bits.proofs.Bits.Knows.{NextStands, KnowsNext, Passed, Began, next_at, next_number, next_wrote}
 use Rattle.laws_bits.proofs.Bits.Sets.{element_near}
@@ -47,7 +47,7 @@ start_near x0 x1 = grind arith
 module _ {T : Type 0} (code : Coding T) (c : ℕ) (s : SetState T) (events : List (Event T))
     (turns p changes since steps backs : ℕ) (holds : Holds c s.words events) where
   abbrev next : BitsStart
-  next = starts.TheVariants.ResetNext
+  next = starts.ResetNext
 
   abbrev Does : List (Event T) → Option Ask → Bool → After BitsFlight (Answer T) → List (Event T) → Type 0
   Does before ask back after fx = StepShows bit_set code c s events turns p changes since steps backs before next ask back after fx
@@ -69,12 +69,12 @@ module _ {T : Type 0} (code : Coding T) (c : ℕ) (s : SetState T) (events : Lis
       (paid : backs + one_if back + since ≤ changes) (start : ℕ) (low : start ≤ c)
       (began : Began c p start events) where
     comes_on : (passed : ℕ) → Passed c p start passed events → steps + 1 ≤ 1 + passed + (backs + one_if back)
-        → passed < c → Does [] (Some a) back (GoOn (next_at c (resetting.TheVariants.LoadsElement start passed))) []
+        → passed < c → Does [] (Some a) back (GoOn (next_at c (resetting.LoadsElement start passed))) []
     comes_on x0 x1 x2 x3 = grind (arith, goes_on, next_at, start, same_bits, same, low, passed_more, began_more, began)
 
-    comes_none : Passed c p start c events → steps + 1 ≤ 3 + c + (backs + one_if back) → Does [] (Some a) back (Done answers.TheVariants.ResetNone) []
+    comes_none : Passed c p start c events → steps + 1 ≤ 3 + c + (backs + one_if back) → Does [] (Some a) back (Done answers.ResetNone) []
     comes_none held few =
-        ends code c s events turns p changes since steps backs [] next (Some a) back answers.TheVariants.ResetNone
+        ends code c s events turns p changes since steps backs [] next (Some a) back answers.ResetNone
         (same_bits code c s events turns p changes since steps backs (Some a) same) (ap (λ ws. get_or ws 0 0) same)
         all refl few paid
       where
@@ -87,10 +87,10 @@ module _ {T : Type 0} (code : Coding T) (c : ℕ) (s : SetState T) (events : Lis
     exchanges : (passed found : ℕ) → Passed c p start passed events → steps + 1 ≤ 2 + passed + (backs + one_if back)
         → passed < c → get_or s.words (element_of (place_after c start passed)) 0 ≡ found
         → has_flag found (place_after c start passed) ≡ true
-        → Does [] (Some a) back (GoOn (next_at c (resetting.TheVariants.ExchangesElement start passed found))) []
+        → Does [] (Some a) back (GoOn (next_at c (resetting.ExchangesElement start passed found))) []
     exchanges passed found held few below is t =
         goes_on code c s events turns p changes since steps backs next (Some a) back
-        (next_at c (resetting.TheVariants.ExchangesElement start passed found))
+        (next_at c (resetting.ExchangesElement start passed found))
         (same_bits code c s events turns p changes since steps backs (Some a) same) (ap (λ ws. get_or ws 0 0) same)
         few refl (refl, (low, below, t)) (
           (omega arith, λ ne. absurd (ne (ap (λ ws. get_or ws (element_of (place_after c start passed)) 0) same ∙ is))),
@@ -100,7 +100,7 @@ module _ {T : Type 0} (code : Coding T) (c : ℕ) (s : SetState T) (events : Lis
 
   -- ---- the reset position
 
-  loads_position : backs + since ≤ changes → steps ≤ backs → DoesOf [] resetting.TheVariants.LoadsPosition
+  loads_position : backs + since ≤ changes → steps ≤ backs → DoesOf [] resetting.LoadsPosition
   loads_position paid few = go (nat_lt 0 c) refl
     where
       start : ℕ
@@ -112,7 +112,7 @@ module _ {T : Type 0} (code : Coding T) (c : ℕ) (s : SetState T) (events : Lis
       began : Began c p start events
       began = grind (arith, held_now, at_most, start)
 
-      go : (t : Bool) → nat_lt 0 c ≡ t → DoesOf [] resetting.TheVariants.LoadsPosition
+      go : (t : Bool) → nat_lt 0 c ≡ t → DoesOf [] resetting.LoadsPosition
       go x0 x1 = grind (arith, by_parts, next_at, start, comes_on, load_leaves, low, began, comes_none, nat_tests)
 
   -- ---- an element
@@ -145,24 +145,24 @@ module _ {T : Type 0} (code : Coding T) (c : ℕ) (s : SetState T) (events : Lis
     -- what the test comes to
     module _ (back : Bool) (a : Ask) (same : words_after s.words (Some a) ≡ s.words)
         (paid : backs + one_if back + since ≤ changes) (few : steps + 1 ≤ 2 + passed + (backs + one_if back)) where
-      stood : has_flag word place ≡ true → Does [] (Some a) back (GoOn (next_at c (resetting.TheVariants.ExchangesElement start passed word))) []
+      stood : has_flag word place ≡ true → Does [] (Some a) back (GoOn (next_at c (resetting.ExchangesElement start passed word))) []
       stood t = exchanges a back same paid start low began passed word held few below refl t
 
       goes_further : has_flag word place ≡ false → passed + 1 < c
-          → Does [] (Some a) back (GoOn (next_at c (resetting.TheVariants.LoadsElement start (passed + 1)))) []
+          → Does [] (Some a) back (GoOn (next_at c (resetting.LoadsElement start (passed + 1)))) []
       goes_further t more = comes_on a back same paid start low began (passed + 1) (one_passed t) (omega arith) more
 
-      finds_none : has_flag word place ≡ false → passed + 1 ≡ c → Does [] (Some a) back (Done answers.TheVariants.ResetNone) []
+      finds_none : has_flag word place ≡ false → passed + 1 ≡ c → Does [] (Some a) back (Done answers.ResetNone) []
       finds_none t last = comes_none a back same paid start low began (subst (λ n. Passed c p start n events) last (one_passed t)) (omega arith)
 
     abbrev loads_it : Ask
     loads_it = record { word = element; op = Load }
 
-    loads : backs + since ≤ changes → steps ≤ 1 + passed + backs → DoesOf [] (resetting.TheVariants.LoadsElement start passed)
+    loads : backs + since ≤ changes → steps ≤ 1 + passed + backs → DoesOf [] (resetting.LoadsElement start passed)
     loads paid few = go (has_flag word place) refl (nat_lt (passed + 1) c) refl
       where
         stage : ResetNextStage
-        stage = resetting.TheVariants.LoadsElement start passed
+        stage = resetting.LoadsElement start passed
 
         parts : (then : After BitsFlight (Answer T)) → after (next_at c stage) word ≡ then → Does [] (Some loads_it) false then [] → DoesOf [] stage
         parts x0 x1 x2 = grind (arith, by_parts, next_at, stage, false)
@@ -172,14 +172,14 @@ module _ {T : Type 0} (code : Coding T) (c : ℕ) (s : SetState T) (events : Lis
 
         go : (t : Bool) → has_flag word place ≡ t → (u : Bool) → nat_lt (passed + 1) c ≡ u → DoesOf [] stage
         go true t u e =
-            parts (GoOn (next_at c (resetting.TheVariants.ExchangesElement start passed word))) (rw t refl)
+            parts (GoOn (next_at c (resetting.ExchangesElement start passed word))) (rw t refl)
             (stood false loads_it same (omega arith) (omega arith) t)
         go false t true u =
-            parts (GoOn (next_at c (resetting.TheVariants.LoadsElement start (passed + 1)))) (rw (t, u) refl)
+            parts (GoOn (next_at c (resetting.LoadsElement start (passed + 1)))) (rw (t, u) refl)
             (goes_further false loads_it same (omega arith) (omega arith) t (grind (arith, nat_tests)))
         go false t false u =
             let last : c ≤ passed + 1 = grind (arith, nat_tests) in
-            parts (Done answers.TheVariants.ResetNone) (rw (t, u) refl) (finds_none false loads_it same (omega arith) (omega arith) t (omega arith))
+            parts (Done answers.ResetNone) (rw (t, u) refl) (finds_none false loads_it same (omega arith) (omega arith) t (omega arith))
 
     abbrev exchanging : ℕ → Ask
     exchanging found = record { word = element; op = Exchange found (without_flag found place) }
@@ -187,7 +187,7 @@ module _ {T : Type 0} (code : Coding T) (c : ℕ) (s : SetState T) (events : Lis
     -- the exchange has cleared the bit
     clears_it : (found : ℕ) → has_flag found place ≡ true → (word == found) ≡ true → backs + since ≤ changes
         → steps ≤ 2 + passed + backs
-        → Does [] (Some (exchanging found)) false (GoOn (next_at c (resetting.TheVariants.StoresPosition place))) (Cleared p place ∷ [])
+        → Does [] (Some (exchanging found)) false (GoOn (next_at c (resetting.StoresPosition place))) (Cleared p place ∷ [])
     clears_it found was t paid few =
         record {
           preserves = record {
@@ -239,11 +239,11 @@ module _ {T : Type 0} (code : Coding T) (c : ℕ) (s : SetState T) (events : Lis
 
     exchanges_it : (found : ℕ) → has_flag found place ≡ true → backs + since ≤ changes
         → (word ≢ found → backs + since + 1 ≤ changes) → steps ≤ 2 + passed + backs
-        → DoesOf [] (resetting.TheVariants.ExchangesElement start passed found)
+        → DoesOf [] (resetting.ExchangesElement start passed found)
     exchanges_it found was paid more few = go (word == found) refl (has_flag word place) refl (nat_lt (passed + 1) c) refl
       where
         stage : ResetNextStage
-        stage = resetting.TheVariants.ExchangesElement start passed found
+        stage = resetting.ExchangesElement start passed found
 
         parts : (back : Bool) (then : After BitsFlight (Answer T)) (fx : List (Event T))
             → goes_back (next_at c stage) word ≡ back → after (next_at c stage) word ≡ then
@@ -256,32 +256,32 @@ module _ {T : Type 0} (code : Coding T) (c : ℕ) (s : SetState T) (events : Lis
 
         go : (t : Bool) → (word == found) ≡ t → (u : Bool) → has_flag word place ≡ u → (v : Bool) → nat_lt (passed + 1) c ≡ v → DoesOf [] stage
         go true t u e v f =
-            parts false (GoOn (next_at c (resetting.TheVariants.StoresPosition place))) (Cleared p place ∷ [])
+            parts false (GoOn (next_at c (resetting.StoresPosition place))) (Cleared p place ∷ [])
             (rw t refl) (rw t refl) (rw t refl) (clears_it found was t paid few)
         go false t true u v f =
             let ne : word ≢ found = grind (arith, nat_tests) in
             let again = more ne in
-            parts true (GoOn (next_at c (resetting.TheVariants.ExchangesElement start passed word))) [] (rw t refl) (rw (t, u) refl) (rw t refl)
+            parts true (GoOn (next_at c (resetting.ExchangesElement start passed word))) [] (rw t refl) (rw (t, u) refl) (rw t refl)
             (stood true (exchanging found) (failed t) (omega arith) (omega arith) u)
         go false t false u true v =
             let ne : word ≢ found = grind (arith, nat_tests) in
             let again = more ne in
-            parts true (GoOn (next_at c (resetting.TheVariants.LoadsElement start (passed + 1)))) [] (rw t refl) (rw (t, u, v) refl) (rw t refl)
+            parts true (GoOn (next_at c (resetting.LoadsElement start (passed + 1)))) [] (rw t refl) (rw (t, u, v) refl) (rw t refl)
             (goes_further true (exchanging found) (failed t) (omega arith) (omega arith) u (grind (arith, nat_tests)))
         go false t false u false v =
             let ne : word ≢ found = grind (arith, nat_tests) in
             let again = more ne in
             let last : c ≤ passed + 1 = grind (arith, nat_tests) in
-            parts true (Done answers.TheVariants.ResetNone) [] (rw t refl) (rw (t, u, v) refl) (rw t refl)
+            parts true (Done answers.ResetNone) [] (rw t refl) (rw (t, u, v) refl) (rw t refl)
             (finds_none true (exchanging found) (failed t) (omega arith) (omega arith) u (omega arith))
 
   -- ---- the position after the place
 
   stores : (place : ℕ) → backs + since ≤ changes → CameTo p c place events → steps ≤ 2 + c + backs
-      → DoesOf (Cleared p place ∷ []) (resetting.TheVariants.StoresPosition place)
+      → DoesOf (Cleared p place ∷ []) (resetting.StoresPosition place)
   stores place paid came few =
       ends code c s events turns p changes since steps backs (Cleared p place ∷ []) next
-      (Some (record { word = 0; op = Store (after_position place) })) false (answers.TheVariants.Reset place)
+      (Some (record { word = 0; op = Store (after_position place) })) false (answers.Reset place)
       (λ b. stands_elsewhere s.words 0 (after_position place) b (λ e. elements_after b (sym e))) stored came (refl, one) (omega arith) (omega arith)
     where
       stored : get_or (set s.words 0 (after_position place)) 0 0 ≡ after_position place
@@ -293,8 +293,8 @@ module _ {T : Type 0} (code : Coding T) (c : ℕ) (s : SetState T) (events : Lis
   pub next_step : (stage : ResetNextStage) → NextStands c stage
       → KnowsNext c p events s.words since changes backs stage → steps ≤ next_number c stage backs
       → DoesOf (next_wrote p stage) stage
-  next_step resetting.TheVariants.LoadsPosition at knows few = loads_position knows few
-  next_step (resetting.TheVariants.LoadsElement start passed) at knows few = loads start passed at.0 at.1 knows.1 knows.2 knows.0 few
-  next_step (resetting.TheVariants.ExchangesElement start passed found) at knows few =
+  next_step resetting.LoadsPosition at knows few = loads_position knows few
+  next_step (resetting.LoadsElement start passed) at knows few = loads start passed at.0 at.1 knows.1 knows.2 knows.0 few
+  next_step (resetting.ExchangesElement start passed found) at knows few =
       exchanges_it start passed at.0 at.1 knows.1 knows.2 found at.2 knows.0.0 knows.0.1 few
-  next_step (resetting.TheVariants.StoresPosition place) at knows few = stores place knows.0 knows.1 few
+  next_step (resetting.StoresPosition place) at knows few = stores place knows.0 knows.1 few

@@ -6,10 +6,10 @@ use Rattle.laws_bits.proofs.Names.{stands, set_stands, set_leaves, elements_afte
 use Rattle.laws_bits.proofs.Names.{BitsFlight, Coding, after, goes_back, sets, standing, effects_of, one_if}
 use Rattle.laws_bits.proofs.Names.{words_after, held_now}
 use Rattle.std.proofs.Common.{arith}
-use Rattle.steps.specs.declared.bits.bit_set.SetStage as setting
-use Rattle.model.specs.declared.event.Answer as answers
-use Rattle.model.specs.declared.event.Event as told
-use Rattle.model.specs.declared.families.bits.BitsStart as starts
+use Rattle.steps.specs.declared.bits.bit_set.SetStage.TheVariants as setting
+use Rattle.model.specs.declared.event.Answer.TheVariants as answers
+use Rattle.model.specs.declared.event.Event.TheVariants as told
+use Rattle.model.specs.declared.families.bits.BitsStart.TheVariants as starts
 use Rattle.laws_bits.proofs.Bits.Invariant.{Holds, bit_set}
 use Rattle.laws_bits.proofs.Bits.Knows.{SetStands, KnowsSet, set_at, set_number}
 use Rattle.model.proofs.Counts.{as_long}
@@ -30,10 +30,10 @@ module _ {T : Type 0} (code : Coding T) (c : ℕ) (s : SetState T) (events : Lis
   word = get_or s.words element 0
 
   abbrev Does : Option Ask → Bool → After BitsFlight (Answer T) → List (Event T) → Type 0
-  Does ask back after fx = StepShows bit_set code c s events turns p changes since steps backs [] (starts.TheVariants.Set bit) ask back after fx
+  Does ask back after fx = StepShows bit_set code c s events turns p changes since steps backs [] (starts.Set bit) ask back after fx
 
   abbrev DoesOf : SetStage → Type 0
-  DoesOf stage = ShowsStep bit_set code c s events turns p changes since steps backs [] (starts.TheVariants.Set bit) (set_at bit stage)
+  DoesOf stage = ShowsStep bit_set code c s events turns p changes since steps backs [] (starts.Set bit) (set_at bit stage)
 
   -- the bit that stands is seen in the events
   stood_now : has_flag word bit ≡ true → standing bit events ≡ 1
@@ -42,11 +42,11 @@ module _ {T : Type 0} (code : Coding T) (c : ℕ) (s : SetState T) (events : Lis
   -- ---- the test of the element, after a step that leaves the words
 
   module _ (a : Ask) (back : Bool) (same : words_after s.words (Some a) ≡ s.words) (paid : backs + one_if back + since ≤ changes) where
-    stood : steps + 1 ≤ 2 + (backs + one_if back) → has_flag word bit ≡ true → Does (Some a) back (Done (answers.TheVariants.Truth false)) []
+    stood : steps + 1 ≤ 2 + (backs + one_if back) → has_flag word bit ≡ true → Does (Some a) back (Done (answers.Truth false)) []
     stood x0 x1 = grind (arith, ends, false, same_bits, same, held_now, standing, stood_now)
 
     clear : steps + 1 ≤ 1 + (backs + one_if back) → has_flag word bit ≡ false
-        → Does (Some a) back (GoOn (set_at bit (setting.TheVariants.ExchangesElement word))) []
+        → Does (Some a) back (GoOn (set_at bit (setting.ExchangesElement word))) []
     clear x0 x1 = grind arith
 
   -- ---- the steps
@@ -54,10 +54,10 @@ module _ {T : Type 0} (code : Coding T) (c : ℕ) (s : SetState T) (events : Lis
   abbrev loading : Ask
   loading = record { word = element; op = Load }
 
-  loads : backs + since ≤ changes → steps ≤ backs → DoesOf setting.TheVariants.LoadsElement
+  loads : backs + since ≤ changes → steps ≤ backs → DoesOf setting.LoadsElement
   loads paid few = go (has_flag word bit) refl
     where
-      go : (t : Bool) → has_flag word bit ≡ t → DoesOf setting.TheVariants.LoadsElement
+      go : (t : Bool) → has_flag word bit ≡ t → DoesOf setting.LoadsElement
       go true t = rw t (stood loading false (load_leaves s.words element) (omega arith) (omega arith) t)
       go false t = rw t (clear loading false (load_leaves s.words element) (omega arith) (omega arith) t)
 
@@ -65,12 +65,12 @@ module _ {T : Type 0} (code : Coding T) (c : ℕ) (s : SetState T) (events : Lis
   exchanging found = record { word = element; op = Exchange found (with_flag found bit) }
 
   abbrev truth : Event T
-  truth = Finished p (Bits (starts.TheVariants.Set bit)) (answers.TheVariants.Truth true)
+  truth = Finished p (Bits (starts.Set bit)) (answers.Truth true)
 
   -- the exchange has set the bit
   sets_it : (found : ℕ) → has_flag found bit ≡ false → (word == found) ≡ true → backs + since ≤ changes
       → steps ≤ 1 + backs
-      → Does (Some (exchanging found)) false (Done (answers.TheVariants.Truth true)) (told.TheVariants.Set p bit ∷ [])
+      → Does (Some (exchanging found)) false (Done (answers.Truth true)) (told.Set p bit ∷ [])
   sets_it found was t paid few =
       record {
         preserves = record {
@@ -83,7 +83,7 @@ module _ {T : Type 0} (code : Coding T) (c : ℕ) (s : SetState T) (events : Lis
         };
         own = (refl, (refl, tt));
         stands = ((refl, refl), ((refl, (refl, one)), tt));
-        here = record { answer = answers.TheVariants.Truth true; wrote = told.TheVariants.Set p bit ∷ []; span = refl; steps = omega arith };
+        here = record { answer = answers.Truth true; wrote = told.Set p bit ∷ []; span = refl; steps = omega arith };
         knows = omega arith;
       }
     where
@@ -99,11 +99,11 @@ module _ {T : Type 0} (code : Coding T) (c : ℕ) (s : SetState T) (events : Lis
       new : then ≡ set s.words element (with_flag word bit)
       new = grind (arith, done_writes, with_flag, set, same)
 
-      one : sets {T = T} bit (told.TheVariants.Set p bit ∷ []) ≡ 1
+      one : sets {T = T} bit (told.Set p bit ∷ []) ≡ 1
       one = let t : (bit == bit) ≡ true = grind (arith, nat_tests) in rw t refl
 
       moved : (b : ℕ) (u : Bool) → (bit == b) ≡ u
-          → sets {T = T} b (told.TheVariants.Set p bit ∷ truth ∷ []) + one_if (stands s.words b) ≡ 0 + one_if (stands then b)
+          → sets {T = T} b (told.Set p bit ∷ truth ∷ []) + one_if (stands s.words b) ≡ 0 + one_if (stands then b)
       moved b true u =
           let here : bit ≡ b = grind (arith, nat_tests) in
           let before : stands s.words b ≡ false = ap (λ n. stands s.words n) (sym here) ∙ (ap (λ n. has_flag n bit) (sym same) ∙ was) in
@@ -118,11 +118,11 @@ module _ {T : Type 0} (code : Coding T) (c : ℕ) (s : SetState T) (events : Lis
 
   exchanges : (found : ℕ) → has_flag found bit ≡ false → backs + since ≤ changes
       → (word ≢ found → backs + since + 1 ≤ changes) → steps ≤ 1 + backs
-      → DoesOf (setting.TheVariants.ExchangesElement found)
+      → DoesOf (setting.ExchangesElement found)
   exchanges found was paid more few = go (word == found) refl (has_flag word bit) refl
     where
       stage : SetStage
-      stage = setting.TheVariants.ExchangesElement found
+      stage = setting.ExchangesElement found
 
       parts : (back : Bool) (then : After BitsFlight (Answer T)) (fx : List (Event T))
           → goes_back (set_at bit stage) word ≡ back → after (set_at bit stage) word ≡ then
@@ -131,19 +131,19 @@ module _ {T : Type 0} (code : Coding T) (c : ℕ) (s : SetState T) (events : Lis
 
       go : (t : Bool) → (word == found) ≡ t → (u : Bool) → has_flag word bit ≡ u → DoesOf stage
       go true t u e =
-          parts false (Done (answers.TheVariants.Truth true)) (told.TheVariants.Set p bit ∷ []) (rw t refl) (rw t refl)
+          parts false (Done (answers.Truth true)) (told.Set p bit ∷ []) (rw t refl) (rw t refl)
           (rw t refl) (sets_it found was t paid few)
       go false t true u =
           let ne : word ≢ found = grind (arith, nat_tests) in
           let next = more ne in
-          parts true (Done (answers.TheVariants.Truth false)) [] (rw t refl) (rw (t, u) refl) (rw t refl)
+          parts true (Done (answers.Truth false)) [] (rw t refl) (rw (t, u) refl) (rw t refl)
           (stood (exchanging found) true (failed_leaves s.words element found (with_flag found bit) t) (omega arith) (omega arith) u)
       go false t false u =
           let ne : word ≢ found = grind (arith, nat_tests) in
           let next = more ne in
-          parts true (GoOn (set_at bit (setting.TheVariants.ExchangesElement word))) [] (rw t refl) (rw (t, u) refl) (rw t refl)
+          parts true (GoOn (set_at bit (setting.ExchangesElement word))) [] (rw t refl) (rw (t, u) refl) (rw t refl)
           (clear (exchanging found) true (failed_leaves s.words element found (with_flag found bit) t) (omega arith) (omega arith) u)
 
   pub set_step : (stage : SetStage) → SetStands bit stage → KnowsSet s.words since changes backs bit stage → steps ≤ set_number stage backs → DoesOf stage
-  set_step setting.TheVariants.LoadsElement at knows few = loads knows few
-  set_step (setting.TheVariants.ExchangesElement found) at knows few = exchanges found at knows.0 knows.1 few
+  set_step setting.LoadsElement at knows few = loads knows few
+  set_step (setting.ExchangesElement found) at knows few = exchanges found at knows.0 knows.1 few

@@ -4,9 +4,9 @@ use Rattle.laws_bits.proofs.Names.{length-replicate, element_of, elements, has_f
 use Rattle.laws_bits.proofs.Names.{Begun, Start, Bits, Registry, Flight, BitsStart, BitsFlight, Coding, first_of}
 use Rattle.laws_bits.proofs.Names.{is_question, first, want, bits_words, is_past, clears, one_if, Each-nil}
 use Rattle.std.proofs.Common.{arith}
-use Rattle.model.specs.declared.families.bits.BitsStart as starts
-use Rattle.model.specs.declared.families.bits.calls.BitsFlight as calls
-use Rattle.model.specs.declared.turn.Kind as kinds
+use Rattle.model.specs.declared.families.bits.BitsStart.TheVariants as starts
+use Rattle.model.specs.declared.families.bits.calls.BitsFlight.TheVariants as calls
+use Rattle.model.specs.declared.turn.Kind.TheVariants as kinds
 use Rattle.laws_bits.proofs.Bits.Alls.{reset_all_step}
 use Rattle.laws_bits.proofs.Bits.Invariant.{Holds, Preserves, bit_set}
 use Rattle.laws_bits.proofs.Bits.Knows.{CallAt, KnowsSet, KnowsNext, next_number, set_at, next_at}
@@ -46,18 +46,18 @@ module _ {T : Type 0} where
 
     pub step_shows : (start : BitsStart) (flight : BitsFlight) (wrote : List (Event T))
         → StepOf bit_set code c s events turns p changes since steps backs start flight wrote
-    step_shows (starts.TheVariants.Set bit) (calls.TheVariants.Set run) wrote at is from few knows =
-        subst (λ n. Shown wrote (starts.TheVariants.Set bit) (set_at n run.call.stage)) (sym at.0)
-        (subst (λ es. Shown es (starts.TheVariants.Set bit) (set_at bit run.call.stage)) (sym from)
+    step_shows (starts.Set bit) (calls.Set run) wrote at is from few knows =
+        subst (λ n. Shown wrote (starts.Set bit) (set_at n run.call.stage)) (sym at.0)
+        (subst (λ es. Shown es (starts.Set bit) (set_at bit run.call.stage)) (sym from)
         (set_step code c s events turns p changes since steps backs holds bit at.1 run.call.stage at.2
         (subst (λ n. KnowsSet s.words since changes backs n run.call.stage) at.0 knows) few))
-    step_shows starts.TheVariants.ResetNext (calls.TheVariants.ResetNext run) wrote at is from few knows =
-        subst (λ n. Shown wrote starts.TheVariants.ResetNext (next_at n run.call.stage)) (sym at.0)
-        (subst (λ es. Shown es starts.TheVariants.ResetNext (next_at c run.call.stage)) (sym from)
+    step_shows starts.ResetNext (calls.ResetNext run) wrote at is from few knows =
+        subst (λ n. Shown wrote starts.ResetNext (next_at n run.call.stage)) (sym at.0)
+        (subst (λ es. Shown es starts.ResetNext (next_at c run.call.stage)) (sym from)
         (next_step code c s events turns p changes since steps backs holds run.call.stage at.1
         (subst (λ n. KnowsNext n p events s.words since changes backs run.call.stage) at.0 knows)
         (subst (λ n. steps ≤ next_number n run.call.stage backs) at.0 few)))
-    step_shows starts.TheVariants.ResetAll (calls.TheVariants.ResetAll run) wrote at is from few knows =
+    step_shows starts.ResetAll (calls.ResetAll run) wrote at is from few knows =
         reset_all_step code c s events turns p changes since steps backs holds wrote is run.call.word at.1
         (λ b past. subst (λ xs. clears b xs ≡ 0) (sym from) (at.3 b past)) knows.1 knows.0 few run.room run.call.end
         at.0 (let below = at.2 in let end = at.0 in omega arith)
@@ -69,11 +69,11 @@ module _ {T : Type 0} where
     abbrev First : BitsStart → BitsFlight → Type 0
     First start flight = IsFirst bit_set c p events words changes start flight
 
-    pub first_is : (start : BitsStart) (flight : BitsFlight) → first kinds.TheVariants.Bits c start ≡ Some flight → is_past c start ≡ false → First start flight
+    pub first_is : (start : BitsStart) (flight : BitsFlight) → first kinds.Bits c start ≡ Some flight → is_past c start ≡ false → First start flight
     first_is x0 x1 x2 x3 = grind arith
 
   -- a call that begins on a bit set is one of its own
-  pub begins_own : (c : ℕ) (kept : Registry T) (start : Start T) (flight : Flight T) → first_of kinds.TheVariants.Bits c start kept ≡ Some flight → IsOwn start
+  pub begins_own : (c : ℕ) (kept : Registry T) (start : Start T) (flight : Flight T) → first_of kinds.Bits c start kept ≡ Some flight → IsOwn start
   begins_own x0 x1 x2 x3 x4 = grind arith
 
   -- to begin changes no bit

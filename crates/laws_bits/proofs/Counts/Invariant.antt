@@ -5,7 +5,7 @@ use Rattle.laws_bits.proofs.Names.{BitsStart, BitsFlight, Count, TakeAll, Counts
 use Rattle.laws_bits.proofs.Names.{takes, SinceBegin, BeginsNone, Each, Span, since_more, AreRight, Each-append}
 use Rattle.std.proofs.Common.{arith}
 use Rattle.model.specs.declared.families.bits.BitsStart.TheVariants.{Set, ResetAll}
-use Rattle.model.specs.declared.turn.Kind as kinds
+use Rattle.model.specs.declared.turn.Kind.TheVariants as kinds
 use Rattle.laws_bits.proofs.Counts.Core.{TakenBelow, taken_still, counts_more, takes_more}
 use Rattle.laws_bits.proofs.Family.{SetOutline}
 use Rattle.laws_bits.proofs.Spans.{wrote_in}
@@ -74,7 +74,7 @@ module _ {T : Type 0} where
   abbrev pub counting_set : SetOutline T
   counting_set =
       record {
-        kind = kinds.TheVariants.Counts;
+        kind = kinds.Counts;
         no_loan = refl;
         promise = counts_promise;
         Holds = Holds;

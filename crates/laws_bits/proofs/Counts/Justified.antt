@@ -2,7 +2,7 @@
 use Rattle.laws_bits.proofs.Names.{◌≡◌, ℕ, ◌-◌, List, refl, sym, subst, AllByRecursion, Event, BitsStart, BitsFlight}
 use Rattle.laws_bits.proofs.Names.{Next, Coding, effects_of, IsEffectOf, Keeps, IsCountingOn, IsReachedOn, Trace}
 use native.Mathlib.Omega.{arith}
-use Rattle.model.specs.declared.turn.Kind as kinds
+use Rattle.model.specs.declared.turn.Kind.TheVariants as kinds
 use Rattle.laws_bits.proofs.Counts.Invariant.{Holds, CallAt, counting_set, holds_more, call_still}
 use Rattle.laws_bits.proofs.Counts.Kept.{counts_kept, counts_on, steps_most, backs_paid}
 use Rattle.laws_bits.proofs.Counts.Sound.{opens, never_asks, step_shows, first_is, begins_own, begins_none}
@@ -34,11 +34,11 @@ module _ {T : Type 0} where
       }
 
   -- what is proved of every run of a counting bit set
-  pub counts_keep : Keeps T kinds.TheVariants.Counts
+  pub counts_keep : Keeps T kinds.Counts
   counts_keep = sets_keep counting_set laws
 
   -- what is so of every run without a bound of turns or parties
-  pub counts_go_on : (t : Trace T) → t.world.kind ≡ kinds.TheVariants.Counts → IsReachedOn t → IsCountingOn t
+  pub counts_go_on : (t : Trace T) → t.world.kind ≡ kinds.Counts → IsReachedOn t → IsCountingOn t
   counts_go_on t is r =
       let s = sound_on counting_set laws t is r in
       counts_on t.world.capacity t refl (subst (λ ws. Holds t.world.capacity ws t.events t.world.turns) (sym s.fit.words) s.holds.0)

@@ -8,7 +8,7 @@ use Rattle.laws_bits.proofs.Names.{SinceBegin, BeginsNone, Open, own_after, span
 use Rattle.laws_bits.proofs.Names.{CountsAnswerOn, HasTakenOn, counts_promise, Stands, since_more, AreRight, AreOwn}
 use Rattle.laws_bits.proofs.Names.{AllFollow, span_of-own}
 use Rattle.std.proofs.Common.{arith}
-use Rattle.model.specs.declared.event.Answer as answers
+use Rattle.model.specs.declared.event.Answer.TheVariants as answers
 use Rattle.model.specs.declared.families.bits.BitsStart.TheVariants.{ResetAll}
 use Rattle.laws_bits.proofs.Counts.Core.{TakenBelow, taken_next, counts_more, takes_more}
 use Rattle.laws_bits.proofs.Counts.Invariant.{Holds, counting_set}
@@ -133,7 +133,7 @@ module _ {T : Type 0} (code : Coding T) (c : ℕ) (s : SetState T) (events : Lis
     next = GoOn (take_at (record { 0 = count }) (word + 1) end)
 
     abbrev done : After BitsFlight (Answer T)
-    done = Done answers.TheVariants.Done
+    done = Done answers.Done
 
     module _ (within : word < length ws) where
       moved : (b n m : ℕ) → n ≡ 0 → m ≡ cond (word == b) count 0 → (wraps : ℕ) × (n + get_or ws b 0 ≡ m + get_or (set ws word 0) b 0 + 2 ^ 64 * wraps)
@@ -182,7 +182,7 @@ module _ {T : Type 0} (code : Coding T) (c : ℕ) (s : SetState T) (events : Lis
             };
             own = (refl, tt);
             stands = ((refl, tt), tt);
-            here = record { answer = answers.TheVariants.Done; wrote = wrote; span = refl; steps = omega arith };
+            here = record { answer = answers.Done; wrote = wrote; span = refl; steps = omega arith };
             knows = omega arith;
           }
 

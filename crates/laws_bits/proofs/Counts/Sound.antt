@@ -4,7 +4,7 @@ use Rattle.laws_bits.proofs.Names.{Begun, Start, Bits, Registry, Flight, BitsSta
 use Rattle.laws_bits.proofs.Names.{Coding, first_of, is_question, first, want, counts_words, is_past, takes, Each-nil}
 use Rattle.std.proofs.Common.{arith}
 use Rattle.model.specs.declared.families.bits.BitsStart.TheVariants.{Set, ResetAll}
-use Rattle.model.specs.declared.turn.Kind as kinds
+use Rattle.model.specs.declared.turn.Kind.TheVariants as kinds
 use Rattle.laws_bits.proofs.Counts.Invariant.{Holds, CallAt, Preserves, counting_set}
 use Rattle.laws_bits.proofs.Counts.Resets.{reset_step}
 use Rattle.laws_bits.proofs.Counts.Steps.{set_shows}
@@ -54,13 +54,13 @@ module _ {T : Type 0} where
     abbrev First : BitsStart → BitsFlight → Type 0
     First start flight = IsFirst counting_set c p events words changes start flight
 
-    pub first_is : (start : BitsStart) (flight : BitsFlight) → first kinds.TheVariants.Counts c start ≡ Some flight
+    pub first_is : (start : BitsStart) (flight : BitsFlight) → first kinds.Counts c start ≡ Some flight
         → is_past c start ≡ false → First start flight
     first_is x0 x1 x2 x3 = grind arith
 
   -- a call that begins on a counting bit set is one of its own
   pub begins_own : (c : ℕ) (kept : Registry T) (start : Start T) (flight : Flight T)
-      → first_of kinds.TheVariants.Counts c start kept ≡ Some flight → IsOwn start
+      → first_of kinds.Counts c start kept ≡ Some flight → IsOwn start
   begins_own x0 x1 x2 x3 x4 = grind arith
 
   -- to begin changes no count

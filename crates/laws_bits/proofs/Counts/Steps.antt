@@ -4,7 +4,7 @@ use Rattle.laws_bits.proofs.Names.{List, [], ◌∷◌, length, get_or, set, ref
 use Rattle.laws_bits.proofs.Names.{get_or-set_other, nat_tests, Add, Done, Event, Counted, Finished, Bits, Coding}
 use Rattle.laws_bits.proofs.Names.{counts, count_at}
 use Rattle.std.proofs.Common.{arith}
-use Rattle.model.specs.declared.event.Answer as answers
+use Rattle.model.specs.declared.event.Answer.TheVariants as answers
 use Rattle.model.specs.declared.families.bits.BitsStart.TheVariants.{Set}
 use Rattle.laws_bits.proofs.Counts.Invariant.{Holds, counting_set}
 use Rattle.laws_bits.proofs.Family.{SetState, StepShows}
@@ -18,7 +18,7 @@ module _ {T : Type 0} (code : Coding T) (c : ℕ) (s : SetState T) (events : Lis
 
     pub set_shows : (place : ℕ) → place < c → steps ≤ 0 → backs ≡ 0
         → StepShows counting_set code c s events turns p changes since steps backs [] (Set place)
-        (Some (record { word = place; op = Add 1 })) false (Done (answers.TheVariants.Number (get_or ws place 0)))
+        (Some (record { word = place; op = Add 1 })) false (Done (answers.Number (get_or ws place 0)))
         (Counted p place ∷ [])
     set_shows place below s b =
         let low = holds.low place in
@@ -35,7 +35,7 @@ module _ {T : Type 0} (code : Coding T) (c : ℕ) (s : SetState T) (events : Lis
           };
           own = (refl, (refl, tt));
           stands = ((refl, refl), ((refl, (refl, one)), tt));
-          here = record { answer = answers.TheVariants.Number (get_or ws place 0); wrote = Counted p place ∷ []; span = refl; steps = omega arith };
+          here = record { answer = answers.Number (get_or ws place 0); wrote = Counted p place ∷ []; span = refl; steps = omega arith };
           knows = omega arith;
         }
       where
@@ -45,11 +45,11 @@ module _ {T : Type 0} (code : Coding T) (c : ℕ) (s : SetState T) (events : Lis
         now : get_or ws place 0 ≡ count_at place events % 2 ^ 64
         now = let h = (holds.conserved place).1 in let low = holds.low place in omega arith
 
-        at_most_one : (b : ℕ) → counts {T = T} b (Counted p place ∷ Finished p (Bits (Set place)) (answers.TheVariants.Number (get_or ws place 0)) ∷ []) ≤ 1
+        at_most_one : (b : ℕ) → counts {T = T} b (Counted p place ∷ Finished p (Bits (Set place)) (answers.Number (get_or ws place 0)) ∷ []) ≤ 1
         at_most_one b = go (place == b) refl
           where
             go : (t : Bool) → (place == b) ≡ t
-                → counts {T = T} b (Counted p place ∷ Finished p (Bits (Set place)) (answers.TheVariants.Number (get_or ws place 0)) ∷ [])
+                → counts {T = T} b (Counted p place ∷ Finished p (Bits (Set place)) (answers.Number (get_or ws place 0)) ∷ [])
                 ≤ 1
             go true t = rw t (omega arith)
             go false t = rw t (omega arith)
@@ -58,19 +58,19 @@ module _ {T : Type 0} (code : Coding T) (c : ℕ) (s : SetState T) (events : Lis
         wraps : (n : ℕ) → n < 2 ^ 64 → (k : ℕ) × (1 + n ≡ (n + 1) % 2 ^ 64 + 2 ^ 64 * k)
         wraps n below = ((n + 1) / 2 ^ 64, omega arith)
 
-        past : (b : ℕ) → c ≤ b → counts {T = T} b (Counted p place ∷ Finished p (Bits (Set place)) (answers.TheVariants.Number (get_or ws place 0)) ∷ []) ≡ 0
+        past : (b : ℕ) → c ≤ b → counts {T = T} b (Counted p place ∷ Finished p (Bits (Set place)) (answers.Number (get_or ws place 0)) ∷ []) ≡ 0
         past b h = let t : (place == b) ≡ false = grind (arith, nat_tests) in rw t refl
 
         moved : place < length ws → (b : ℕ)
             → (wraps : ℕ)
-            × (counts {T = T} b (Counted p place ∷ Finished p (Bits (Set place)) (answers.TheVariants.Number (get_or ws place 0)) ∷ [])
+            × (counts {T = T} b (Counted p place ∷ Finished p (Bits (Set place)) (answers.Number (get_or ws place 0)) ∷ [])
             + get_or ws b 0
             ≡ 0 + get_or (set ws place ((get_or ws place 0 + 1) % 2 ^ 64)) b 0 + 2 ^ 64 * wraps)
         moved within b = go (place == b) refl
           where
             go : (t : Bool) → (place == b) ≡ t
                 → (wraps : ℕ)
-                × (counts {T = T} b (Counted p place ∷ Finished p (Bits (Set place)) (answers.TheVariants.Number (get_or ws place 0)) ∷ [])
+                × (counts {T = T} b (Counted p place ∷ Finished p (Bits (Set place)) (answers.Number (get_or ws place 0)) ∷ [])
                 + get_or ws b 0
                 ≡ 0 + get_or (set ws place ((get_or ws place 0 + 1) % 2 ^ 64)) b 0 + 2 ^ 64 * wraps)
             go true t =

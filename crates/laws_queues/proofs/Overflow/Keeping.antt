@@ -2,7 +2,8 @@
 use Rattle.laws_queues.proofs.Names.{◌≡◌, ℕ, ◌+◌, ◌≤◌, List, [], ◌∷◌, ◌++◌, length, ap, OneWord, words_of_index}
 use Rattle.std.proofs.Common.{arith}
 use Rattle.steps.specs.declared.queues.overflow.PushStage as overflow_pushes
-use Rattle.steps.specs.declared.queues.overflow.PopStage as overflow_pops
+use Rattle.steps.specs.declared.queues.overflow.PopStage.{PopStage}
+use Rattle.steps.specs.declared.queues.overflow.PopStage.TheVariants as overflow_pops
 use Rattle.laws_queues.proofs.Queues.Core as core
 use Rattle.laws_queues.proofs.Queues.Core.{Core, Good, filled, taken}
 use Rattle.laws_queues.proofs.Overflow.Knows.{KnowsOverflowPush, KnowsOverflowPop, overflow_wrote}
@@ -10,25 +11,25 @@ use Rattle.laws_queues.proofs.Overflow.Knows.{KnowsOverflowPush, KnowsOverflowPo
 -- ---- a pop, where a push takes a step
 
 -- a store into a cell
-pub fill_keeps_pop : (c : ℕ) (k : Core ℕ) (at word : ℕ) (room : OneWord) (stage : overflow_pops.PopStage)
+pub fill_keeps_pop : (c : ℕ) (k : Core ℕ) (at word : ℕ) (room : OneWord) (stage : PopStage)
     → KnowsOverflowPop c k room stage → KnowsOverflowPop c (filled 1 words_of_index (c + 1) k at word) room stage
 fill_keeps_pop x0 x1 x2 x3 x4 x5 x6 = grind arith
 
 -- the next write position
-pub publish_keeps_pop : (c : ℕ) (k : Core ℕ) (v : ℕ) (room : OneWord) (stage : overflow_pops.PopStage)
+pub publish_keeps_pop : (c : ℕ) (k : Core ℕ) (v : ℕ) (room : OneWord) (stage : PopStage)
     → KnowsOverflowPop c k room stage → KnowsOverflowPop c (core.published 1 words_of_index (c + 1) k v) room stage
-publish_keeps_pop c k v room overflow_pops.TheVariants.FindsNone h = h
-publish_keeps_pop c k v room overflow_pops.TheVariants.LoadsRead h = h
-publish_keeps_pop c k v room (overflow_pops.TheVariants.LoadsWrite read) h =
+publish_keeps_pop c k v room overflow_pops.FindsNone h = h
+publish_keeps_pop c k v room overflow_pops.LoadsRead h = h
+publish_keeps_pop c k v room (overflow_pops.LoadsWrite read) h =
     (h.0, h.1, λ moved. let waits = h.2 moved in omega arith)
-publish_keeps_pop c k v room (overflow_pops.TheVariants.LoadsCell read) h = grind arith
-publish_keeps_pop c k v room (overflow_pops.TheVariants.MovesRead read) h =
+publish_keeps_pop c k v room (overflow_pops.LoadsCell read) h = grind arith
+publish_keeps_pop c k v room (overflow_pops.MovesRead read) h =
     let waits = h.2 in
     (h.0, h.1, omega arith, λ same. let first = h.3 same in (first.0 ++ v ∷ [], ap (λ xs. xs ++ v ∷ []) first.1))
 
 -- the next read position, where at least the newest value stays
 pub take_keeps_pop :
-    (c : ℕ) (k : Core ℕ) (rest : List ℕ) → k.write ≡ k.read + c + 1 → (room : OneWord) (stage : overflow_pops.PopStage) → KnowsOverflowPop c k room stage
+    (c : ℕ) (k : Core ℕ) (rest : List ℕ) → k.write ≡ k.read + c + 1 → (room : OneWord) (stage : PopStage) → KnowsOverflowPop c k room stage
     → KnowsOverflowPop c (taken 1 words_of_index (c + 1) k rest) room stage
 take_keeps_pop x0 x1 x2 x3 x4 x5 x6 = grind arith
 

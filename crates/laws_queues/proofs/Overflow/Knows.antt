@@ -3,101 +3,104 @@ use Rattle.laws_queues.proofs.Names.{◌≡◌, ◌-◌, ◌^◌, ℕ, ◌+◌, 
 use Rattle.laws_queues.proofs.Names.{if◌then◌else◌, get_or, OneWord, Index, QueueStart, PushIndex, Pop, PoppedNone}
 use Rattle.laws_queues.proofs.Names.{PoppedIndex, Event, Queues, Published, HandedOut, Acted, Roles, words_of_index}
 use Rattle.std.proofs.Common.{arith}
-use Rattle.steps.specs.declared.queues.overflow.PushStage as overflow_pushes
-use Rattle.steps.specs.declared.queues.overflow.PopStage as overflow_pops
-use Rattle.model.specs.declared.families.queues.calls.OverflowCall as overflows
+use Rattle.steps.specs.declared.queues.overflow.PushStage.{PushStage}
+use Rattle.steps.specs.declared.queues.overflow.PushStage.TheVariants as overflow_pushes
+use Rattle.steps.specs.declared.queues.overflow.PopStage.{PopStage}
+use Rattle.steps.specs.declared.queues.overflow.PopStage.TheVariants as overflow_pops
+use Rattle.model.specs.declared.families.queues.calls.OverflowCall.{OverflowCall}
+use Rattle.model.specs.declared.families.queues.calls.OverflowCall.TheVariants as overflows
 use Rattle.laws_queues.proofs.Queues.Core.{Core, Holds}
 use Rattle.laws_queues.proofs.Queues.Core.{GoesUp}
 pub use Rattle.laws_queues.specs.Fresh.{IsFreshOver}
 
 -- ---- the calls by their stages
 
-abbrev pub overflow_push_at : ℕ → ℕ → OneWord → overflow_pushes.PushStage → overflows.OverflowCall
+abbrev pub overflow_push_at : ℕ → ℕ → OneWord → PushStage → OverflowCall
 overflow_push_at c v room stage =
-    overflows.TheVariants.Push (record { call = record { capacity = c; stage = stage }; given = v; room = room })
+    overflows.Push (record { call = record { capacity = c; stage = stage }; given = v; room = room })
 
-abbrev pub overflow_pop_at : ℕ → OneWord → overflow_pops.PopStage → overflows.OverflowCall
+abbrev pub overflow_pop_at : ℕ → OneWord → PopStage → OverflowCall
 overflow_pop_at c room stage =
-    overflows.TheVariants.Pop (record { call = record { capacity = c; stage = stage }; given = tt; room = room })
+    overflows.Pop (record { call = record { capacity = c; stage = stage }; given = tt; room = room })
 
 -- ---- what they know
 
 -- A push that has loaded the read position can find it moved on, and so can a pop. A push leaves at least its own value
 -- behind, so after its move something waits.
-abbrev pub KnowsOverflowPush : ℕ → Core ℕ → ℕ → overflow_pushes.PushStage → Type 0
-KnowsOverflowPush c k v overflow_pushes.TheVariants.HandsBack = c ≡ 0
-KnowsOverflowPush c k v overflow_pushes.TheVariants.LoadsWrite = 0 < c
-KnowsOverflowPush c k v (overflow_pushes.TheVariants.LoadsRead write) = (0 < c) × (write ≡ k.write) × (k.write < 2 ^ 64 - 1)
-KnowsOverflowPush c k v (overflow_pushes.TheVariants.StoresCell write read) =
+abbrev pub KnowsOverflowPush : ℕ → Core ℕ → ℕ → PushStage → Type 0
+KnowsOverflowPush c k v overflow_pushes.HandsBack = c ≡ 0
+KnowsOverflowPush c k v overflow_pushes.LoadsWrite = 0 < c
+KnowsOverflowPush c k v (overflow_pushes.LoadsRead write) = (0 < c) × (write ≡ k.write) × (k.write < 2 ^ 64 - 1)
+KnowsOverflowPush c k v (overflow_pushes.StoresCell write read) =
     (0 < c) × (write ≡ k.write) × (read ≤ k.read) × (k.write ≤ read + c) × (k.write < 2 ^ 64 - 1)
-KnowsOverflowPush c k v (overflow_pushes.TheVariants.StoresWrite write read) =
+KnowsOverflowPush c k v (overflow_pushes.StoresWrite write read) =
     (0 < c) × (write ≡ k.write) × (read ≤ k.read) × (k.write ≤ read + c) × Holds 1 words_of_index (c + 1) k.cells k.write v 1 × (k.write < 2 ^ 64 - 1)
-KnowsOverflowPush c k v (overflow_pushes.TheVariants.MovesRead read) =
+KnowsOverflowPush c k v (overflow_pushes.MovesRead read) =
     (0 < c) × (read ≤ k.read) × (k.write ≡ read + c + 1) × (read ≡ k.read → (others : List ℕ) × (k.waiting ≡ others ++ v ∷ []))
-KnowsOverflowPush c k v (overflow_pushes.TheVariants.LoadsCell read) = (0 < c) × (read < k.read) × (k.write ≡ read + c + 1)
+KnowsOverflowPush c k v (overflow_pushes.LoadsCell read) = (0 < c) × (read < k.read) × (k.write ≡ read + c + 1)
 
 -- once the cell is loaded, the room has the front value, unless the read position has moved
-abbrev pub KnowsOverflowPop : ℕ → Core ℕ → OneWord → overflow_pops.PopStage → Type 0
-KnowsOverflowPop c k room overflow_pops.TheVariants.FindsNone = c ≡ 0
-KnowsOverflowPop c k room overflow_pops.TheVariants.LoadsRead = 0 < c
-KnowsOverflowPop c k room (overflow_pops.TheVariants.LoadsWrite read) =
+abbrev pub KnowsOverflowPop : ℕ → Core ℕ → OneWord → PopStage → Type 0
+KnowsOverflowPop c k room overflow_pops.FindsNone = c ≡ 0
+KnowsOverflowPop c k room overflow_pops.LoadsRead = 0 < c
+KnowsOverflowPop c k room (overflow_pops.LoadsWrite read) =
     (0 < c) × (read ≤ k.read) × (read < k.read → k.read < k.write)
-KnowsOverflowPop c k room (overflow_pops.TheVariants.LoadsCell read) = (0 < c) × (read ≤ k.read) × (k.read < k.write)
-KnowsOverflowPop c k room (overflow_pops.TheVariants.MovesRead read) =
+KnowsOverflowPop c k room (overflow_pops.LoadsCell read) = (0 < c) × (read ≤ k.read) × (k.read < k.write)
+KnowsOverflowPop c k room (overflow_pops.MovesRead read) =
     (0 < c) × (read ≤ k.read) × (k.read < k.write) × (read ≡ k.read → (rest : List ℕ) × (k.waiting ≡ room.0 ∷ rest))
 
 -- how many steps the call has taken at most, in a pop besides two for each time that it turned back
-abbrev pub overflow_push_number : overflow_pushes.PushStage → ℕ
-overflow_push_number overflow_pushes.TheVariants.HandsBack = 0
-overflow_push_number overflow_pushes.TheVariants.LoadsWrite = 0
-overflow_push_number (overflow_pushes.TheVariants.LoadsRead write) = 1
-overflow_push_number (overflow_pushes.TheVariants.StoresCell write read) = 2
-overflow_push_number (overflow_pushes.TheVariants.StoresWrite write read) = 3
-overflow_push_number (overflow_pushes.TheVariants.MovesRead read) = 4
-overflow_push_number (overflow_pushes.TheVariants.LoadsCell read) = 5
+abbrev pub overflow_push_number : PushStage → ℕ
+overflow_push_number overflow_pushes.HandsBack = 0
+overflow_push_number overflow_pushes.LoadsWrite = 0
+overflow_push_number (overflow_pushes.LoadsRead write) = 1
+overflow_push_number (overflow_pushes.StoresCell write read) = 2
+overflow_push_number (overflow_pushes.StoresWrite write read) = 3
+overflow_push_number (overflow_pushes.MovesRead read) = 4
+overflow_push_number (overflow_pushes.LoadsCell read) = 5
 
-abbrev pub overflow_pop_number : overflow_pops.PopStage → ℕ
-overflow_pop_number overflow_pops.TheVariants.FindsNone = 0
-overflow_pop_number overflow_pops.TheVariants.LoadsRead = 0
-overflow_pop_number (overflow_pops.TheVariants.LoadsWrite read) = 1
-overflow_pop_number (overflow_pops.TheVariants.LoadsCell read) = 2
-overflow_pop_number (overflow_pops.TheVariants.MovesRead read) = 3
+abbrev pub overflow_pop_number : PopStage → ℕ
+overflow_pop_number overflow_pops.FindsNone = 0
+overflow_pop_number overflow_pops.LoadsRead = 0
+overflow_pop_number (overflow_pops.LoadsWrite read) = 1
+overflow_pop_number (overflow_pops.LoadsCell read) = 2
+overflow_pop_number (overflow_pops.MovesRead read) = 3
 
 -- Of an overflowing queue's pop: the same, of the read position alone.
-abbrev pub KnowsBacks : {V : Type 0} → Core V → ℕ → ℕ → ℕ → overflow_pops.PopStage → Type 0
-KnowsBacks k since changes backs overflow_pops.TheVariants.FindsNone = backs + since ≤ changes
-KnowsBacks k since changes backs overflow_pops.TheVariants.LoadsRead = backs + since ≤ changes
-KnowsBacks k since changes backs (overflow_pops.TheVariants.LoadsWrite read) =
+abbrev pub KnowsBacks : {V : Type 0} → Core V → ℕ → ℕ → ℕ → PopStage → Type 0
+KnowsBacks k since changes backs overflow_pops.FindsNone = backs + since ≤ changes
+KnowsBacks k since changes backs overflow_pops.LoadsRead = backs + since ≤ changes
+KnowsBacks k since changes backs (overflow_pops.LoadsWrite read) =
     (read ≤ k.read) × (backs + since + k.read ≤ changes + read)
-KnowsBacks k since changes backs (overflow_pops.TheVariants.LoadsCell read) =
+KnowsBacks k since changes backs (overflow_pops.LoadsCell read) =
     (read ≤ k.read) × (backs + since + k.read ≤ changes + read)
-KnowsBacks k since changes backs (overflow_pops.TheVariants.MovesRead read) =
+KnowsBacks k since changes backs (overflow_pops.MovesRead read) =
     (read ≤ k.read) × (backs + since + k.read ≤ changes + read)
 
 -- a turn of another party keeps it
 module _ {V : Type 0} (k k' : Core V) (changes changes' : ℕ) (up : GoesUp k k' changes changes') where
-  pub backs_keep : (since backs : ℕ) (stage : overflow_pops.PopStage) → KnowsBacks k since changes backs stage → KnowsBacks k' since changes' backs stage
+  pub backs_keep : (since backs : ℕ) (stage : PopStage) → KnowsBacks k since changes backs stage → KnowsBacks k' since changes' backs stage
   backs_keep x0 x1 x2 x3 = grind arith
 
 module _ {T : Type 0} where
   -- what a push has written since its begin
-  abbrev pub overflow_wrote : {V : Type 0} → ℕ → Core V → ℕ → ℕ → overflow_pushes.PushStage → List (Event T)
-  overflow_wrote c k p v overflow_pushes.TheVariants.HandsBack = []
-  overflow_wrote c k p v overflow_pushes.TheVariants.LoadsWrite = []
-  overflow_wrote c k p v (overflow_pushes.TheVariants.LoadsRead write) = []
-  overflow_wrote c k p v (overflow_pushes.TheVariants.StoresCell write read) = []
-  overflow_wrote c k p v (overflow_pushes.TheVariants.StoresWrite write read) = []
-  overflow_wrote c k p v (overflow_pushes.TheVariants.MovesRead read) =
+  abbrev pub overflow_wrote : {V : Type 0} → ℕ → Core V → ℕ → ℕ → PushStage → List (Event T)
+  overflow_wrote c k p v overflow_pushes.HandsBack = []
+  overflow_wrote c k p v overflow_pushes.LoadsWrite = []
+  overflow_wrote c k p v (overflow_pushes.LoadsRead write) = []
+  overflow_wrote c k p v (overflow_pushes.StoresCell write read) = []
+  overflow_wrote c k p v (overflow_pushes.StoresWrite write read) = []
+  overflow_wrote c k p v (overflow_pushes.MovesRead read) =
       Published p (Index v) ∷ (if read == k.read then [] else Acted p (Queues (PushIndex v)) PoppedNone ∷ [])
-  overflow_wrote c k p v (overflow_pushes.TheVariants.LoadsCell read) =
+  overflow_wrote c k p v (overflow_pushes.LoadsCell read) =
       Published p (Index v)
       ∷ HandedOut p (Index (get_or k.cells (read % (c + 1)) 0))
       ∷ Acted p (Queues (PushIndex v)) (PoppedIndex (get_or k.cells (read % (c + 1)) 0))
       ∷ []
 
-  abbrev pub OverflowAt : ℕ → Roles → Core ℕ → ℕ → QueueStart T → overflows.OverflowCall → Type 0
-  OverflowAt c ro k p (PushIndex v) (overflows.TheVariants.Push run) =
+  abbrev pub OverflowAt : ℕ → Roles → Core ℕ → ℕ → QueueStart T → OverflowCall → Type 0
+  OverflowAt c ro k p (PushIndex v) (overflows.Push run) =
       (ro.producer ≡ Some p) × (run.call.capacity ≡ c) × (run.given ≡ v) × KnowsOverflowPush c k v run.call.stage
-  OverflowAt c ro k p Pop (overflows.TheVariants.Pop run) =
+  OverflowAt c ro k p Pop (overflows.Pop run) =
       (ro.consumer ≡ Some p) × (run.call.capacity ≡ c) × KnowsOverflowPop c k run.room run.call.stage
   OverflowAt c ro k p start call = ⊥

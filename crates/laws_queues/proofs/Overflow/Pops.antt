@@ -8,11 +8,12 @@ use Rattle.laws_queues.proofs.Names.{Party, Coding, read_word, after, goes_back,
 use Rattle.laws_queues.proofs.Names.{takes_effect, effect_of, party_of, doing_of, flight_of, Open, span_of}
 use Rattle.laws_queues.proofs.Names.{words_after, step_count, load_of_write, load_of_read}
 use Rattle.std.proofs.Common.{arith}
-use Rattle.steps.specs.declared.queues.overflow.PopStage as overflow_pops
+use Rattle.steps.specs.declared.queues.overflow.PopStage.{PopStage}
+use Rattle.steps.specs.declared.queues.overflow.PopStage.TheVariants as overflow_pops
 use Rattle.steps.specs.Queues.Overflow.{cell_word}
 use Rattle.model.specs.declared.families.queues.calls.QueueFlight.TheVariants.{Overflow}
-use Rattle.model.specs.declared.families.Flight as flights
-use Rattle.model.specs.declared.families.queues.QueueKind as kinds
+use Rattle.model.specs.declared.families.Flight.TheVariants as flights
+use Rattle.model.specs.declared.families.queues.QueueKind.TheVariants as kinds
 use Rattle.laws_queues.proofs.Queues.Invariant.{Scene, Inv, waiting_is}
 use Rattle.laws_queues.proofs.Overflow.Core.{oldest}
 use Rattle.laws_queues.proofs.Queues.Core.{word_at}
@@ -22,8 +23,8 @@ use Rattle.laws_queues.proofs.Queues.Pending.{nothing_waits}
 use Rattle.laws_queues.proofs.Queues.Stages.{party_then, DoesStep, Moves, MovesOf, still_hangs, quiet, alone}
 use Rattle.laws_queues.proofs.Overflow.Takes.{takes_it}
 
-module _ {T : Type 0} (en : Coding T) (scene : Scene T kinds.TheVariants.Overflow)
-    (inv : Inv en kinds.TheVariants.Overflow scene) (small : scene.core.write < 2 ^ 64) (room : OneWord)
+module _ {T : Type 0} (en : Coding T) (scene : Scene T kinds.Overflow)
+    (inv : Inv en kinds.Overflow scene) (small : scene.core.write < 2 ^ 64) (room : OneWord)
     (holds : scene.roles.consumer ≡ Some scene.party) where
   open scene use {capacity as c, roles as ro, core as k, party as p, steps, backs, since, changes, latest, events}
 
@@ -31,24 +32,24 @@ module _ {T : Type 0} (en : Coding T) (scene : Scene T kinds.TheVariants.Overflo
   abbrev waits : Option (ℕ × ℕ)
   waits = beside ro (layout ro k) latest p
 
-  abbrev at : overflow_pops.PopStage → QueueFlight T
+  abbrev at : PopStage → QueueFlight T
   at stage = Overflow (overflow_pop_at c room stage)
 
   -- once it has read this value
-  abbrev with_value : ℕ → overflow_pops.PopStage → QueueFlight T
+  abbrev with_value : ℕ → PopStage → QueueFlight T
   with_value value stage = Overflow (overflow_pop_at c (record { 0 = value }) stage)
 
   abbrev Does : Option Ask → Bool → After (QueueFlight T) (Answer T) → Effect T → Type 0
-  Does ask back after effect = DoesStep en kinds.TheVariants.Overflow scene [] Pop ask back after effect
+  Does ask back after effect = DoesStep en kinds.Overflow scene [] Pop ask back after effect
 
   abbrev MovesBy : Option Ask → Bool → After (QueueFlight T) (Answer T) → Effect T → Type 0
-  MovesBy ask back after effect = Moves en kinds.TheVariants.Overflow scene Pop ask back after effect
+  MovesBy ask back after effect = Moves en kinds.Overflow scene Pop ask back after effect
 
-  abbrev Moved : overflow_pops.PopStage → Type 0
-  Moved stage = MovesOf en kinds.TheVariants.Overflow scene Pop (at stage)
+  abbrev Moved : PopStage → Type 0
+  Moved stage = MovesOf en kinds.Overflow scene Pop (at stage)
 
   abbrev after_it : Option Ask → Bool → After (QueueFlight T) (Answer T) → Party T
-  after_it ask back after = party_then en kinds.TheVariants.Overflow scene Pop ask back after
+  after_it ask back after = party_then en kinds.Overflow scene Pop ask back after
 
   module _ (calm : (position : ℕ) → pending_at position (flight_of (doing_of (party_of p latest))) ≡ None) where
     finds_none : (ask : Option Ask) → words_after (layout ro k) ask ≡ layout ro k → k.waiting ≡ []
@@ -69,7 +70,7 @@ module _ {T : Type 0} (en : Coding T) (scene : Scene T kinds.TheVariants.Overflo
             right = (waiting_is events (map Index k.waiting) inv.queue.book ∙ none, (tt, tt));
             lengths = (tt, (tt, tt));
             good = inv.queue.good;
-            hangs = still_hangs en kinds.TheVariants.Overflow scene inv small k (after_it ask false (Done PoppedNone)) refl refl refl (calm k.read);
+            hangs = still_hangs en kinds.Overflow scene inv small k (after_it ask false (Done PoppedNone)) refl refl refl (calm k.read);
             out = omega arith;
             book = append-nil (map Index k.waiting);
             goes = rw list refl;
@@ -84,33 +85,33 @@ module _ {T : Type 0} (en : Coding T) (scene : Scene T kinds.TheVariants.Overflo
         )
 
     loads_read : 0 < c → steps ≤ 2 * backs + 0 → backs + since ≤ changes
-        → Does (Some load_of_read) false (GoOn (at (overflow_pops.TheVariants.LoadsWrite k.read))) Quiet
+        → Does (Some load_of_read) false (GoOn (at (overflow_pops.LoadsWrite k.read))) Quiet
     loads_read some s paid =
-        quiet en kinds.TheVariants.Overflow scene inv small (calm k.read) false Pop (Some load_of_read)
-        (at (overflow_pops.TheVariants.LoadsWrite k.read)) k refl refl refl refl inv.queue.good refl
+        quiet en kinds.Overflow scene inv small (calm k.read) false Pop (Some load_of_read)
+        (at (overflow_pops.LoadsWrite k.read)) k refl refl refl refl inv.queue.good refl
         (record { span = refl; steps = omega arith; at = (holds, refl, (some, omega arith, λ less. absurd (omega arith))) })
         (omega arith, omega arith)
         (λ q ne st f h. (h, refl))
 
     goes_on : (read : ℕ) → 0 < c → read ≤ k.read → k.read < k.write → steps ≤ 2 * backs + 1 → backs + since + k.read ≤ changes + read
-        → Does (Some load_of_write) false (GoOn (at (overflow_pops.TheVariants.LoadsCell read))) Quiet
+        → Does (Some load_of_write) false (GoOn (at (overflow_pops.LoadsCell read))) Quiet
     goes_on read some low waits s paid =
-        quiet en kinds.TheVariants.Overflow scene inv small (calm k.read) false Pop (Some load_of_write)
-        (at (overflow_pops.TheVariants.LoadsCell read)) k refl refl refl refl inv.queue.good refl
+        quiet en kinds.Overflow scene inv small (calm k.read) false Pop (Some load_of_write)
+        (at (overflow_pops.LoadsCell read)) k refl refl refl refl inv.queue.good refl
         (record { span = refl; steps = omega arith; at = (holds, refl, (some, low, waits)) })
         (low, omega arith)
         (λ q ne st f h. (h, refl))
 
     loads_write : (read : ℕ) → 0 < c → read ≤ k.read → (read < k.read → k.read < k.write) → steps ≤ 2 * backs + 1 → backs + since + k.read ≤ changes + read
-        → Does (Some load_of_write) false (after en (at (overflow_pops.TheVariants.LoadsWrite read)) k.write) Acts
+        → Does (Some load_of_write) false (after en (at (overflow_pops.LoadsWrite read)) k.write) Acts
     loads_write read some low ahead s paid = go (k.write == read) refl
       where
-        go : (b : Bool) → (k.write == read) ≡ b → Does (Some load_of_write) false (after en (at (overflow_pops.TheVariants.LoadsWrite read)) k.write) Acts
+        go : (b : Bool) → (k.write == read) ≡ b → Does (Some load_of_write) false (after en (at (overflow_pops.LoadsWrite read)) k.write) Acts
         go true t =
             let g = inv.queue.good in
             let write = g.write in
             let same : k.write ≡ read = grind (arith, nat_tests) in
-            let goes : after en (at (overflow_pops.TheVariants.LoadsWrite read)) k.write ≡ Done PoppedNone = rw t refl in
+            let goes : after en (at (overflow_pops.LoadsWrite read)) k.write ≡ Done PoppedNone = rw t refl in
             let none : length k.waiting ≡ 0 = omega arith in
             subst (λ a. Does (Some load_of_write) false a Acts) (sym goes)
             (finds_none (Some load_of_write) refl (nil_from_length k.waiting none) (omega arith) (omega arith))
@@ -118,7 +119,7 @@ module _ {T : Type 0} (en : Coding T) (scene : Scene T kinds.TheVariants.Overflo
             let g = inv.queue.good in
             let write = g.write in
             let other : k.write ≢ read = grind (arith, nat_tests) in
-            let goes : after en (at (overflow_pops.TheVariants.LoadsWrite read)) k.write ≡ GoOn (at (overflow_pops.TheVariants.LoadsCell read)) = rw t refl in
+            let goes : after en (at (overflow_pops.LoadsWrite read)) k.write ≡ GoOn (at (overflow_pops.LoadsCell read)) = rw t refl in
             let moved : read < k.read → k.read < k.write = ahead in
             let still : k.read ≤ read → k.read < k.write = λ h. omega arith in
             let waits : k.read < k.write = ⊎_elim moved still (cases_lt read k.read) in
@@ -126,16 +127,16 @@ module _ {T : Type 0} (en : Coding T) (scene : Scene T kinds.TheVariants.Overflo
 
     loads_cell : (read : ℕ) → 0 < c → read ≤ k.read → k.read < k.write → steps ≤ 2 * backs + 2 → backs + since + k.read ≤ changes + read
         → Does (Some (record { word = cell_word c read; op = Load })) false
-        (GoOn (with_value (get_or k.cells (read % (c + 1)) 0) (overflow_pops.TheVariants.MovesRead read))) Quiet
+        (GoOn (with_value (get_or k.cells (read % (c + 1)) 0) (overflow_pops.MovesRead read))) Quiet
     loads_cell read some low waits s paid =
         let g = inv.queue.good in
         let write = g.write in
         let old = oldest c k g (omega arith) in
         let same : words_after (layout ro k) (Some (record { word = cell_word c read; op = Load })) ≡ layout ro k =
         set-get_or (layout ro k) (cell_word c read) 0 in
-        quiet en kinds.TheVariants.Overflow scene inv small (calm k.read) false Pop
+        quiet en kinds.Overflow scene inv small (calm k.read) false Pop
         (Some (record { word = cell_word c read; op = Load }))
-        (with_value (get_or k.cells (read % (c + 1)) 0) (overflow_pops.TheVariants.MovesRead read)) k refl refl refl
+        (with_value (get_or k.cells (read % (c + 1)) 0) (overflow_pops.MovesRead read)) k refl refl refl
         refl inv.queue.good same
         (record {
           span = refl;
@@ -154,21 +155,21 @@ module _ {T : Type 0} (en : Coding T) (scene : Scene T kinds.TheVariants.Overflo
 
     -- a push has moved the read position, and the cell is loaded again
     moves_back : (read : ℕ) → 0 < c → read < k.read → k.read < k.write → steps ≤ 2 * backs + 3 → backs + since + k.read ≤ changes + read
-        → Does (asks_move read) true (GoOn (at (overflow_pops.TheVariants.LoadsCell k.read))) Quiet
+        → Does (asks_move read) true (GoOn (at (overflow_pops.LoadsCell k.read))) Quiet
     moves_back read some moved waits s paid =
         let t : (k.read == read) ≡ false = (let apart : k.read ≢ read = λ e. absurd (omega arith) in grind (arith, nat_tests)) in
-        quiet en kinds.TheVariants.Overflow scene inv small (calm k.read) true Pop (asks_move read)
-        (at (overflow_pops.TheVariants.LoadsCell k.read)) k refl refl refl refl inv.queue.good (rw t refl)
+        quiet en kinds.Overflow scene inv small (calm k.read) true Pop (asks_move read)
+        (at (overflow_pops.LoadsCell k.read)) k refl refl refl refl inv.queue.good (rw t refl)
         (record { span = refl; steps = omega arith; at = (holds, refl, (some, omega arith, waits)) })
         (omega arith, omega arith)
         (λ q ne st f h. (h, refl))
 
-    moves_read : (read : ℕ) → KnowsOverflowPop c k room (overflow_pops.TheVariants.MovesRead read)
+    moves_read : (read : ℕ) → KnowsOverflowPop c k room (overflow_pops.MovesRead read)
         → steps ≤ 2 * backs + 3 → backs + since + k.read ≤ changes + read → span_of p events ≡ Open (Queues Pop) []
-        → Moved (overflow_pops.TheVariants.MovesRead read)
+        → Moved (overflow_pops.MovesRead read)
     moves_read read knows s paid seen = go (k.read == read) refl
       where
-        go : (here : Bool) → (k.read == read) ≡ here → Moved (overflow_pops.TheVariants.MovesRead read)
+        go : (here : Bool) → (k.read == read) ≡ here → Moved (overflow_pops.MovesRead read)
         go true e =
             let same : read ≡ k.read = grind (arith, nat_tests) in
             let t : (k.read == k.read) ≡ true = grind (arith, nat_tests) in
@@ -181,68 +182,68 @@ module _ {T : Type 0} (en : Coding T) (scene : Scene T kinds.TheVariants.Overflo
             let cell : get_or k.cells (k.read % (c + 1)) 0 ≡ room.0 = cc in
             let place : get_or (layout ro k) (cell_word c k.read) 0 ≡ room.0 =
             word_at k.write k.read (free ro.producer) (free ro.consumer) k.cells (cell_word c k.read) (k.read % (c + 1)) refl ∙ cell in
-            let goes : after en (at (overflow_pops.TheVariants.MovesRead k.read)) k.read ≡ Done (PoppedIndex room.0) = rw t refl in
-            let back : goes_back (at (overflow_pops.TheVariants.MovesRead k.read)) k.read ≡ false = rw t refl in
-            let told : effect_of en (layout ro k) waits (at (overflow_pops.TheVariants.MovesRead k.read)) k.read
+            let goes : after en (at (overflow_pops.MovesRead k.read)) k.read ≡ Done (PoppedIndex room.0) = rw t refl in
+            let back : goes_back (at (overflow_pops.MovesRead k.read)) k.read ≡ false = rw t refl in
+            let told : effect_of en (layout ro k) waits (at (overflow_pops.MovesRead k.read)) k.read
             ≡ takes_effect (Index room.0) waits =
             rw (t, place) refl in
-            subst (λ r. Moved (overflow_pops.TheVariants.MovesRead r)) (sym same)
-            (subst (λ n. MovesBy (asks_move k.read) n (after en (at (overflow_pops.TheVariants.MovesRead k.read)) k.read)
-            (effect_of en (layout ro k) waits (at (overflow_pops.TheVariants.MovesRead k.read)) k.read))
+            subst (λ r. Moved (overflow_pops.MovesRead r)) (sym same)
+            (subst (λ n. MovesBy (asks_move k.read) n (after en (at (overflow_pops.MovesRead k.read)) k.read)
+            (effect_of en (layout ro k) waits (at (overflow_pops.MovesRead k.read)) k.read))
             (sym back)
             (subst (λ a. MovesBy (asks_move k.read) false a
-            (effect_of en (layout ro k) waits (at (overflow_pops.TheVariants.MovesRead k.read)) k.read))
+            (effect_of en (layout ro k) waits (at (overflow_pops.MovesRead k.read)) k.read))
             (sym goes)
             (subst (λ f. MovesBy (asks_move k.read) false (Done (PoppedIndex room.0)) f) (sym told)
             (takes_it en scene inv small room holds calm room.0 last.0 knows.0 last.1 s (omega arith) seen))))
         go false e =
             let apart : k.read ≢ read = grind (arith, nat_tests) in
             let low = knows.1 in
-            let goes : after en (at (overflow_pops.TheVariants.MovesRead read)) k.read ≡ GoOn (at (overflow_pops.TheVariants.LoadsCell k.read)) = rw e refl in
-            let back : goes_back (at (overflow_pops.TheVariants.MovesRead read)) k.read ≡ true = rw e refl in
-            let told : effect_of en (layout ro k) waits (at (overflow_pops.TheVariants.MovesRead read)) k.read ≡ Quiet = rw e refl in
-            subst (λ n. MovesBy (asks_move read) n (after en (at (overflow_pops.TheVariants.MovesRead read)) k.read)
-            (effect_of en (layout ro k) waits (at (overflow_pops.TheVariants.MovesRead read)) k.read))
+            let goes : after en (at (overflow_pops.MovesRead read)) k.read ≡ GoOn (at (overflow_pops.LoadsCell k.read)) = rw e refl in
+            let back : goes_back (at (overflow_pops.MovesRead read)) k.read ≡ true = rw e refl in
+            let told : effect_of en (layout ro k) waits (at (overflow_pops.MovesRead read)) k.read ≡ Quiet = rw e refl in
+            subst (λ n. MovesBy (asks_move read) n (after en (at (overflow_pops.MovesRead read)) k.read)
+            (effect_of en (layout ro k) waits (at (overflow_pops.MovesRead read)) k.read))
             (sym back)
-            (subst (λ a. MovesBy (asks_move read) true a (effect_of en (layout ro k) waits (at (overflow_pops.TheVariants.MovesRead read)) k.read)) (sym goes)
-            (subst (λ f. MovesBy (asks_move read) true (GoOn (at (overflow_pops.TheVariants.LoadsCell k.read))) f) (sym told)
-            (alone en kinds.TheVariants.Overflow scene inv [] Pop (asks_move read) true
-            (GoOn (at (overflow_pops.TheVariants.LoadsCell k.read))) Quiet seen
+            (subst (λ a. MovesBy (asks_move read) true a (effect_of en (layout ro k) waits (at (overflow_pops.MovesRead read)) k.read)) (sym goes)
+            (subst (λ f. MovesBy (asks_move read) true (GoOn (at (overflow_pops.LoadsCell k.read))) f) (sym told)
+            (alone en kinds.Overflow scene inv [] Pop (asks_move read) true
+            (GoOn (at (overflow_pops.LoadsCell k.read))) Quiet seen
             (moves_back read knows.0 (omega arith) knows.2 s paid))))
 
   -- ---- every step
 
   by_itself : (ask : Option Ask) (after : After (QueueFlight T) (Answer T)) (effect : Effect T)
       → span_of p events ≡ Open (Queues Pop) [] → Does ask false after effect → MovesBy ask false after effect
-  by_itself ask after effect seen step = alone en kinds.TheVariants.Overflow scene inv [] Pop ask false after effect seen step
+  by_itself ask after effect seen step = alone en kinds.Overflow scene inv [] Pop ask false after effect seen step
 
-  calm_at : (stage : overflow_pops.PopStage)
-      → flight_of (doing_of (party_of p latest)) ≡ Some (flights.TheVariants.Queues (at stage)) → (position : ℕ)
+  calm_at : (stage : PopStage)
+      → flight_of (doing_of (party_of p latest)) ≡ Some (flights.Queues (at stage)) → (position : ℕ)
       → pending_at position (flight_of (doing_of (party_of p latest))) ≡ None
   calm_at stage found position = ap (pending_at position) found
 
   pub overflow_pop_step :
-      (stage : overflow_pops.PopStage) → KnowsOverflowPop c k room stage
+      (stage : PopStage) → KnowsOverflowPop c k room stage
       → steps ≤ 2 * backs + overflow_pop_number stage → KnowsBacks k since changes backs stage
-      → flight_of (doing_of (party_of p latest)) ≡ Some (flights.TheVariants.Queues (at stage)) → span_of p events ≡ Open (Queues Pop) [] → Moved stage
-  overflow_pop_step overflow_pops.TheVariants.FindsNone knows s b found seen =
-      let none = nothing_waits en kinds.TheVariants.Overflow c k (pending k.read ro.producer latest) knows inv.queue.good inv.queue.hangs in
+      → flight_of (doing_of (party_of p latest)) ≡ Some (flights.Queues (at stage)) → span_of p events ≡ Open (Queues Pop) [] → Moved stage
+  overflow_pop_step overflow_pops.FindsNone knows s b found seen =
+      let none = nothing_waits en kinds.Overflow c k (pending k.read ro.producer latest) knows inv.queue.good inv.queue.hangs in
       by_itself None (Done PoppedNone) Acts seen
-      (finds_none (calm_at overflow_pops.TheVariants.FindsNone found) None refl (nil_from_length k.waiting none) (omega arith) b)
-  overflow_pop_step overflow_pops.TheVariants.LoadsRead knows s b found seen =
-      by_itself (Some load_of_read) (GoOn (at (overflow_pops.TheVariants.LoadsWrite k.read))) Quiet seen
-      (loads_read (calm_at overflow_pops.TheVariants.LoadsRead found) knows s b)
-  overflow_pop_step (overflow_pops.TheVariants.LoadsWrite read) knows s b found seen =
-      by_itself (Some load_of_write) (after en (at (overflow_pops.TheVariants.LoadsWrite read)) k.write) Acts seen
-      (loads_write (calm_at (overflow_pops.TheVariants.LoadsWrite read) found) read knows.0 knows.1 knows.2 s b.1)
-  overflow_pop_step (overflow_pops.TheVariants.LoadsCell read) knows s b found seen =
+      (finds_none (calm_at overflow_pops.FindsNone found) None refl (nil_from_length k.waiting none) (omega arith) b)
+  overflow_pop_step overflow_pops.LoadsRead knows s b found seen =
+      by_itself (Some load_of_read) (GoOn (at (overflow_pops.LoadsWrite k.read))) Quiet seen
+      (loads_read (calm_at overflow_pops.LoadsRead found) knows s b)
+  overflow_pop_step (overflow_pops.LoadsWrite read) knows s b found seen =
+      by_itself (Some load_of_write) (after en (at (overflow_pops.LoadsWrite read)) k.write) Acts seen
+      (loads_write (calm_at (overflow_pops.LoadsWrite read) found) read knows.0 knows.1 knows.2 s b.1)
+  overflow_pop_step (overflow_pops.LoadsCell read) knows s b found seen =
       let old : get_or (layout ro k) (cell_word c read) 0 ≡ get_or k.cells (read % (c + 1)) 0 =
       word_at k.write k.read (free ro.producer) (free ro.consumer) k.cells (cell_word c read) (read % (c + 1)) refl in
       subst (λ n. MovesBy (Some (record { word = cell_word c read; op = Load })) false
-      (GoOn (with_value n (overflow_pops.TheVariants.MovesRead read))) Quiet)
+      (GoOn (with_value n (overflow_pops.MovesRead read))) Quiet)
       (sym old)
       (by_itself (Some (record { word = cell_word c read; op = Load }))
-      (GoOn (with_value (get_or k.cells (read % (c + 1)) 0) (overflow_pops.TheVariants.MovesRead read))) Quiet seen
-      (loads_cell (calm_at (overflow_pops.TheVariants.LoadsCell read) found) read knows.0 knows.1 knows.2 s b.1))
-  overflow_pop_step (overflow_pops.TheVariants.MovesRead read) knows s b found seen =
-      moves_read (calm_at (overflow_pops.TheVariants.MovesRead read) found) read knows s b.1 seen
+      (GoOn (with_value (get_or k.cells (read % (c + 1)) 0) (overflow_pops.MovesRead read))) Quiet seen
+      (loads_cell (calm_at (overflow_pops.LoadsCell read) found) read knows.0 knows.1 knows.2 s b.1))
+  overflow_pop_step (overflow_pops.MovesRead read) knows s b found seen =
+      moves_read (calm_at (overflow_pops.MovesRead read) found) read knows s b.1 seen

@@ -7,9 +7,10 @@ use Rattle.laws_queues.proofs.Names.{PushIndex, Answer, PoppedNone, Event, Queue
 use Rattle.laws_queues.proofs.Names.{answer_of_item, write_word, after, words_of_index, pending, effect_of, put}
 use Rattle.laws_queues.proofs.Names.{words_after, change_of}
 use Rattle.std.proofs.Common.{arith}
-use Rattle.steps.specs.declared.queues.overflow.PushStage as overflow_pushes
+use Rattle.steps.specs.declared.queues.overflow.PushStage.{PushStage}
+use Rattle.steps.specs.declared.queues.overflow.PushStage.TheVariants as overflow_pushes
 use Rattle.model.specs.declared.families.queues.calls.QueueFlight.TheVariants.{Overflow}
-use Rattle.model.specs.declared.families.queues.QueueKind as kinds
+use Rattle.model.specs.declared.families.queues.QueueKind.TheVariants as kinds
 use Rattle.laws_queues.proofs.Queues.Invariant.{Scene, Inv}
 use Rattle.laws_queues.proofs.Overflow.Core.{one_passes, push_room, push_waits}
 use Rattle.laws_queues.proofs.Queues.Core as core
@@ -21,20 +22,20 @@ use Rattle.laws_queues.proofs.Queues.Pending.{pending_after, none_hangs}
 use Rattle.laws_queues.proofs.Queues.Stages.{party_then, DoesStep}
 use Rattle.laws_queues.proofs.Overflow.Keeping.{publish_keeps_pop}
 
-module _ {T : Type 0} (en : Coding T) (scene : Scene T kinds.TheVariants.Overflow)
-    (inv : Inv en kinds.TheVariants.Overflow scene) (small : scene.core.write < 2 ^ 64) (v : ℕ) (room : OneWord)
+module _ {T : Type 0} (en : Coding T) (scene : Scene T kinds.Overflow)
+    (inv : Inv en kinds.Overflow scene) (small : scene.core.write < 2 ^ 64) (v : ℕ) (room : OneWord)
     (holds : scene.roles.producer ≡ Some scene.party) (b : scene.backs ≡ 0) where
   open scene use {capacity as c, roles as ro, core as k, party as p, steps, since, latest, events}
 
-  abbrev at : overflow_pushes.PushStage → QueueFlight T
+  abbrev at : PushStage → QueueFlight T
   at stage = Overflow (overflow_push_at c v room stage)
 
   abbrev Does : List (Event T) → Option Ask → After (QueueFlight T) (Answer T) → Effect T → Type 0
-  Does wrote ask after effect = DoesStep en kinds.TheVariants.Overflow scene wrote (PushIndex v) ask false after effect
+  Does wrote ask after effect = DoesStep en kinds.Overflow scene wrote (PushIndex v) ask false after effect
 
   -- the party after a step of this operation
   abbrev after_it : Option Ask → After (QueueFlight T) (Answer T) → Party T
-  after_it ask after = party_then en kinds.TheVariants.Overflow scene (PushIndex v) ask false after
+  after_it ask after = party_then en kinds.Overflow scene (PushIndex v) ask false after
 
   -- ---- the store of the next write position
 
@@ -79,7 +80,7 @@ module _ {T : Type 0} (en : Coding T) (scene : Scene T kinds.TheVariants.Overflo
             right = (tt, (tt, (tt, tt)));
             lengths = (tt, (tt, (tt, tt)));
             good = good_publish;
-            hangs = none_hangs T kinds.TheVariants.Overflow c after_publish _ (pending_after k.read p ro.producer holds _ latest) (omega arith);
+            hangs = none_hangs T kinds.Overflow c after_publish _ (pending_after k.read p ro.producer holds _ latest) (omega arith);
             out = omega arith;
             book = joined;
             goes = list.0;
@@ -94,7 +95,7 @@ module _ {T : Type 0} (en : Coding T) (scene : Scene T kinds.TheVariants.Overflo
             knows = omega arith;
             up = record { write = omega arith; read = omega arith; paid = omega arith };
             others =
-                λ q ne. kept ro ro q (λ h. h) (λ h. h) en c kinds.TheVariants.Overflow k after_publish (record {
+                λ q ne. kept ro ro q (λ h. h) (λ h. h) en c kinds.Overflow k after_publish (record {
                   push = λ mine w stage h. absurd (clash ro.producer p q ne holds mine);
                   pop = λ mine other stage h. publish_keeps_pop c k v other stage h;
                 });
@@ -104,15 +105,15 @@ module _ {T : Type 0} (en : Coding T) (scene : Scene T kinds.TheVariants.Overflo
         )
 
     -- the queue is full, and the value waits as one more than the capacity
-    publishes_over : read ≡ k.read → k.write ≡ read + c → Does [] next_write (GoOn (at (overflow_pushes.TheVariants.MovesRead read))) (Publishes (Index v))
+    publishes_over : read ≡ k.read → k.write ≡ read + c → Does [] next_write (GoOn (at (overflow_pushes.MovesRead read))) (Publishes (Index v))
     publishes_over here full =
         let g = inv.queue.good in
         let write = g.write in
         let change = one in
         let reached = inv.queue.reached in
         let t : (read == k.read) ≡ true = grind (arith, nat_tests) in
-        let hung : pending k.read ro.producer (put p (after_it next_write (GoOn (at (overflow_pushes.TheVariants.MovesRead read)))) latest) ≡ Some (p, v) =
-        pending_after k.read p ro.producer holds (after_it next_write (GoOn (at (overflow_pushes.TheVariants.MovesRead read)))) latest ∙ (rw t refl)
+        let hung : pending k.read ro.producer (put p (after_it next_write (GoOn (at (overflow_pushes.MovesRead read)))) latest) ≡ Some (p, v) =
+        pending_after k.read p ro.producer holds (after_it next_write (GoOn (at (overflow_pushes.MovesRead read)))) latest ∙ (rw t refl)
         in
         let many : length k.waiting ≡ c = omega arith in (
           after_publish,
@@ -126,7 +127,7 @@ module _ {T : Type 0} (en : Coding T) (scene : Scene T kinds.TheVariants.Overflo
             right = (tt, tt);
             lengths = (tt, tt);
             good = good_publish;
-            hangs = subst (Hangs T kinds.TheVariants.Overflow c after_publish) (sym hung) (some, k.waiting, refl, many);
+            hangs = subst (Hangs T kinds.Overflow c after_publish) (sym hung) (some, k.waiting, refl, many);
             out = omega arith;
             book = joined;
             goes = push_waits c k.waiting v many;
@@ -135,7 +136,7 @@ module _ {T : Type 0} (en : Coding T) (scene : Scene T kinds.TheVariants.Overflo
             knows = omega arith;
             up = record { write = omega arith; read = omega arith; paid = omega arith };
             others =
-                λ q ne. kept ro ro q (λ h. h) (λ h. h) en c kinds.TheVariants.Overflow k after_publish (record {
+                λ q ne. kept ro ro q (λ h. h) (λ h. h) en c kinds.Overflow k after_publish (record {
                   push = λ mine w stage h. absurd (clash ro.producer p q ne holds mine);
                   pop = λ mine other stage h. publish_keeps_pop c k v other stage h;
                 });
@@ -146,7 +147,7 @@ module _ {T : Type 0} (en : Coding T) (scene : Scene T kinds.TheVariants.Overflo
 
     -- the queue was full, and a pop has made room since
     publishes_late : read < k.read → k.write ≡ read + c
-        → Does [] next_write (GoOn (at (overflow_pushes.TheVariants.MovesRead read))) (PublishesAndActs (Index v))
+        → Does [] next_write (GoOn (at (overflow_pushes.MovesRead read))) (PublishesAndActs (Index v))
     publishes_late moved full =
         let g = inv.queue.good in
         let write = g.write in
@@ -156,8 +157,8 @@ module _ {T : Type 0} (en : Coding T) (scene : Scene T kinds.TheVariants.Overflo
         let list = push_room {T = T} c k.waiting v below in
         let longer = length-append k.waiting (v ∷ []) in
         let t : (read == k.read) ≡ false = grind (arith, nat_tests) in
-        let calm : pending k.read ro.producer (put p (after_it next_write (GoOn (at (overflow_pushes.TheVariants.MovesRead read)))) latest) ≡ None =
-        pending_after k.read p ro.producer holds (after_it next_write (GoOn (at (overflow_pushes.TheVariants.MovesRead read)))) latest ∙ (rw t refl)
+        let calm : pending k.read ro.producer (put p (after_it next_write (GoOn (at (overflow_pushes.MovesRead read)))) latest) ≡ None =
+        pending_after k.read p ro.producer holds (after_it next_write (GoOn (at (overflow_pushes.MovesRead read)))) latest ∙ (rw t refl)
         in (
           after_publish,
           words_publish,
@@ -171,7 +172,7 @@ module _ {T : Type 0} (en : Coding T) (scene : Scene T kinds.TheVariants.Overflo
             lengths = (tt, (tt, tt));
             good = good_publish;
             hangs =
-                none_hangs T kinds.TheVariants.Overflow c after_publish _ calm (omega arith);
+                none_hangs T kinds.Overflow c after_publish _ calm (omega arith);
             out = omega arith;
             book = joined;
             goes = list.0;
@@ -180,7 +181,7 @@ module _ {T : Type 0} (en : Coding T) (scene : Scene T kinds.TheVariants.Overflo
             knows = omega arith;
             up = record { write = omega arith; read = omega arith; paid = omega arith };
             others =
-                λ q ne. kept ro ro q (λ h. h) (λ h. h) en c kinds.TheVariants.Overflow k after_publish (record {
+                λ q ne. kept ro ro q (λ h. h) (λ h. h) en c kinds.Overflow k after_publish (record {
                   push = λ mine w stage h. absurd (clash ro.producer p q ne holds mine);
                   pop = λ mine other stage h. publish_keeps_pop c k v other stage h;
                 });
@@ -190,12 +191,12 @@ module _ {T : Type 0} (en : Coding T) (scene : Scene T kinds.TheVariants.Overflo
         )
 
     pub stores_write : Does [] next_write
-        (after en (at (overflow_pushes.TheVariants.StoresWrite k.write read)) k.write)
-        (effect_of en (layout ro k) (pending k.read ro.producer latest) (at (overflow_pushes.TheVariants.StoresWrite k.write read)) k.write)
+        (after en (at (overflow_pushes.StoresWrite k.write read)) k.write)
+        (effect_of en (layout ro k) (pending k.read ro.producer latest) (at (overflow_pushes.StoresWrite k.write read)) k.write)
     stores_write = go (distance k.write read == c) (k.read == read) refl refl
       where
         go : (full here : Bool) → (distance k.write read == c) ≡ full → (k.read == read) ≡ here
-            → Does [] next_write (after en (at (overflow_pushes.TheVariants.StoresWrite k.write read)) k.write)
+            → Does [] next_write (after en (at (overflow_pushes.StoresWrite k.write read)) k.write)
             (effect_of en (layout ro k) (pending k.read ro.producer latest)
-            (at (overflow_pushes.TheVariants.StoresWrite k.write read)) k.write)
+            (at (overflow_pushes.StoresWrite k.write read)) k.write)
         go x0 x1 x2 x3 = grind (arith, length, publishes_done, publishes_over, publishes_late, nat_tests)

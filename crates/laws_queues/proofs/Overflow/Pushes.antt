@@ -9,11 +9,12 @@ use Rattle.laws_queues.proofs.Names.{answer_of_item, write_word, read_word, afte
 use Rattle.laws_queues.proofs.Names.{pending, effect_of, party_of, doing_of, flight_of, Open, span_of, words_after}
 use Rattle.laws_queues.proofs.Names.{change_of, load_of_write, load_of_read}
 use Rattle.std.proofs.Common.{arith}
-use Rattle.steps.specs.declared.queues.overflow.PushStage as overflow_pushes
+use Rattle.steps.specs.declared.queues.overflow.PushStage.{PushStage}
+use Rattle.steps.specs.declared.queues.overflow.PushStage.TheVariants as overflow_pushes
 use Rattle.steps.specs.Queues.Overflow.{cell_word}
 use Rattle.model.specs.declared.families.queues.calls.QueueFlight.TheVariants.{Overflow}
-use Rattle.model.specs.declared.families.Flight as flights
-use Rattle.model.specs.declared.families.queues.QueueKind as kinds
+use Rattle.model.specs.declared.families.Flight.TheVariants as flights
+use Rattle.model.specs.declared.families.queues.QueueKind.TheVariants as kinds
 use Rattle.laws_queues.proofs.Queues.Invariant.{Scene, Inv}
 use Rattle.laws_queues.proofs.Overflow.Core.{none_passes, one_passes, oldest, push_over}
 use Rattle.laws_queues.proofs.Queues.Core.{Holds, filled, taken, fills, one_filled, takes, word_at, set_at}
@@ -25,29 +26,29 @@ use Rattle.laws_queues.proofs.Queues.Stages.{party_then, DoesStep, Moves, MovesO
 use Rattle.laws_queues.proofs.Overflow.Publishes.{stores_write}
 use Rattle.laws_queues.proofs.Overflow.Keeping.{fill_keeps_pop, take_keeps_pop}
 
-module _ {T : Type 0} (en : Coding T) (scene : Scene T kinds.TheVariants.Overflow)
-    (inv : Inv en kinds.TheVariants.Overflow scene) (small : scene.core.write < 2 ^ 64) (v : ℕ) (room : OneWord)
+module _ {T : Type 0} (en : Coding T) (scene : Scene T kinds.Overflow)
+    (inv : Inv en kinds.Overflow scene) (small : scene.core.write < 2 ^ 64) (v : ℕ) (room : OneWord)
     (holds : scene.roles.producer ≡ Some scene.party) (b : scene.backs ≡ 0) where
   open scene use {capacity as c, roles as ro, core as k, party as p, steps, since, latest, events}
 
-  abbrev at : overflow_pushes.PushStage → QueueFlight T
+  abbrev at : PushStage → QueueFlight T
   at stage = Overflow (overflow_push_at c v room stage)
 
   abbrev Does : List (Event T) → Option Ask → After (QueueFlight T) (Answer T) → Effect T → Type 0
-  Does wrote ask after effect = DoesStep en kinds.TheVariants.Overflow scene wrote (PushIndex v) ask false after effect
+  Does wrote ask after effect = DoesStep en kinds.Overflow scene wrote (PushIndex v) ask false after effect
 
-  abbrev Moved : overflow_pushes.PushStage → Type 0
-  Moved stage = MovesOf en kinds.TheVariants.Overflow scene (PushIndex v) (at stage)
+  abbrev Moved : PushStage → Type 0
+  Moved stage = MovesOf en kinds.Overflow scene (PushIndex v) (at stage)
 
   abbrev MovesBy : Option Ask → After (QueueFlight T) (Answer T) → Effect T → Type 0
-  MovesBy ask after effect = Moves en kinds.TheVariants.Overflow scene (PushIndex v) ask false after effect
+  MovesBy ask after effect = Moves en kinds.Overflow scene (PushIndex v) ask false after effect
 
   abbrev IsCalm : Type 0
   IsCalm = pending_at k.read (flight_of (doing_of (party_of p latest))) ≡ None
 
   -- the party after a step of this operation
   abbrev after_it : Option Ask → After (QueueFlight T) (Answer T) → Party T
-  after_it ask after = party_then en kinds.TheVariants.Overflow scene (PushIndex v) ask false after
+  after_it ask after = party_then en kinds.Overflow scene (PushIndex v) ask false after
 
   calm_none : (position : ℕ) → pending_at position (flight_of (doing_of (party_of p latest))) ≡ None → pending position ro.producer latest ≡ None
   calm_none x0 x1 = grind (arith, pending, option_map)
@@ -77,7 +78,7 @@ module _ {T : Type 0} (en : Coding T) (scene : Scene T kinds.TheVariants.Overflo
       right = (tt, (tt, tt));
       lengths = (tt, (tt, tt));
       good = inv.queue.good;
-      hangs = still_hangs en kinds.TheVariants.Overflow scene inv small k (after_it None (Done (PoppedIndex v))) refl refl refl calm;
+      hangs = still_hangs en kinds.Overflow scene inv small k (after_it None (Done (PoppedIndex v))) refl refl refl calm;
       out = omega arith;
       book = append-nil (map Index k.waiting);
       goes = rw none refl;
@@ -98,41 +99,41 @@ module _ {T : Type 0} (en : Coding T) (scene : Scene T kinds.TheVariants.Overflo
   )
 
   loads_write : k.write < 2 ^ 64 - 1 → 0 < c → steps ≤ 0 → IsCalm
-      → Does [] (Some load_of_write) (after en (at overflow_pushes.TheVariants.LoadsWrite) k.write) Quiet
+      → Does [] (Some load_of_write) (after en (at overflow_pushes.LoadsWrite) k.write) Quiet
   loads_write fresh some s calm =
       let low = inv.queue.reached in
       let t : (k.write == 2 ^ 64 - 1) ≡ false = grind (arith, nat_tests) in
-      let goes : after en (at overflow_pushes.TheVariants.LoadsWrite) k.write ≡ GoOn (at (overflow_pushes.TheVariants.LoadsRead k.write)) = rw t refl in
+      let goes : after en (at overflow_pushes.LoadsWrite) k.write ≡ GoOn (at (overflow_pushes.LoadsRead k.write)) = rw t refl in
       subst (λ a. Does [] (Some load_of_write) a Quiet) (sym goes)
-      (quiet en kinds.TheVariants.Overflow scene inv small calm false (PushIndex v) (Some load_of_write)
-      (at (overflow_pushes.TheVariants.LoadsRead k.write)) k refl refl refl refl inv.queue.good refl
+      (quiet en kinds.Overflow scene inv small calm false (PushIndex v) (Some load_of_write)
+      (at (overflow_pushes.LoadsRead k.write)) k refl refl refl refl inv.queue.good refl
       (record { span = refl; steps = omega arith; at = (holds, refl, refl, (some, refl, fresh)) })
       (omega arith)
       (λ q ne st f h. (h, refl)))
 
   loads_read : k.write < 2 ^ 64 - 1 → 0 < c → steps ≤ 1 → IsCalm
-      → Does [] (Some load_of_read) (GoOn (at (overflow_pushes.TheVariants.StoresCell k.write k.read))) Quiet
+      → Does [] (Some load_of_read) (GoOn (at (overflow_pushes.StoresCell k.write k.read))) Quiet
   loads_read fresh some s calm =
       let below = few calm in
       let g = inv.queue.good in
       let write = g.write in
-      quiet en kinds.TheVariants.Overflow scene inv small calm false (PushIndex v) (Some load_of_read)
-      (at (overflow_pushes.TheVariants.StoresCell k.write k.read)) k refl refl refl refl inv.queue.good refl
+      quiet en kinds.Overflow scene inv small calm false (PushIndex v) (Some load_of_read)
+      (at (overflow_pushes.StoresCell k.write k.read)) k refl refl refl refl inv.queue.good refl
       (record { span = refl; steps = omega arith; at = (holds, refl, refl, (some, refl, omega arith, omega arith, fresh)) })
       (omega arith)
       (λ q ne st f h. (h, refl))
 
   stores_cell : k.write < 2 ^ 64 - 1 → (read : ℕ) → 0 < c → read ≤ k.read → k.write ≤ read + c → steps ≤ 2 → IsCalm
-      → Does [] (Some (record { word = cell_word c k.write; op = Store v })) (GoOn (at (overflow_pushes.TheVariants.StoresWrite k.write read))) Quiet
+      → Does [] (Some (record { word = cell_word c k.write; op = Store v })) (GoOn (at (overflow_pushes.StoresWrite k.write read))) Quiet
   stores_cell fresh read some low far s calm =
       let g = inv.queue.good in
       let write = g.write in
       let none : Holds 1 words_of_index (c + 1) k.cells k.write v 0 = λ i h. absurd (omega arith) in
       let good = fills 1 words_of_index (c + 1) k 0 v (omega arith) (omega arith) g in
       let place : cell_word c k.write ≡ 4 + (1 * (k.write % (c + 1)) + 0) = omega arith in
-      quiet en kinds.TheVariants.Overflow scene inv small calm false (PushIndex v)
+      quiet en kinds.Overflow scene inv small calm false (PushIndex v)
       (Some (record { word = cell_word c k.write; op = Store v }))
-      (at (overflow_pushes.TheVariants.StoresWrite k.write read)) (filled 1 words_of_index (c + 1) k 0 v) refl refl
+      (at (overflow_pushes.StoresWrite k.write read)) (filled 1 words_of_index (c + 1) k 0 v) refl refl
       refl refl good
       (set_at k.write k.read (free ro.producer) (free ro.consumer) k.cells (cell_word c k.write) (1 * (k.write % (c + 1)) + 0) v place)
       (record {
@@ -142,7 +143,7 @@ module _ {T : Type 0} (en : Coding T) (scene : Scene T kinds.TheVariants.Overflo
             (holds, refl, refl, (some, refl, low, far, one_filled 1 words_of_index (c + 1) k v 0 (omega arith) (omega arith) g none, fresh));
       })
       (omega arith)
-      (λ q ne. kept ro ro q (λ h. h) (λ h. h) en c kinds.TheVariants.Overflow k
+      (λ q ne. kept ro ro q (λ h. h) (λ h. h) en c kinds.Overflow k
       (filled 1 words_of_index (c + 1) k 0 v) (record {
         push = λ mine w stage h. absurd (clash ro.producer p q ne holds mine);
         pop = λ mine other stage h. fill_keeps_pop c k 0 v other stage h;
@@ -154,7 +155,7 @@ module _ {T : Type 0} (en : Coding T) (scene : Scene T kinds.TheVariants.Overflo
   takes_out : 0 < c → k.write ≡ k.read + c + 1 → (others : List ℕ) → k.waiting ≡ others ++ v ∷ [] → steps ≤ 4
       → Does (Published p (Index v) ∷ [])
       (Some (record { word = read_word; op = Exchange k.read (after_position k.read) }))
-      (GoOn (at (overflow_pushes.TheVariants.LoadsCell k.read))) (TakesOut (get_or k.cells (k.read % (c + 1)) 0))
+      (GoOn (at (overflow_pushes.LoadsCell k.read))) (TakesOut (get_or k.cells (k.read % (c + 1)) 0))
   takes_out some far others is s =
       let g = inv.queue.good in
       let write = g.write in
@@ -170,7 +171,7 @@ module _ {T : Type 0} (en : Coding T) (scene : Scene T kinds.TheVariants.Overflo
       let next : after_position k.read ≡ k.read + 1 = omega arith in
       let moved : (after_position k.read == k.read) ≡ false = grind (arith, nat_tests) in
       let ask : Option Ask = Some (record { word = read_word; op = Exchange k.read (after_position k.read) }) in
-      let after : After (QueueFlight T) (Answer T) = GoOn (at (overflow_pushes.TheVariants.LoadsCell k.read)) in
+      let after : After (QueueFlight T) (Answer T) = GoOn (at (overflow_pushes.LoadsCell k.read)) in
       let words : words_after (layout ro k) (Some (record { word = read_word; op = Exchange k.read (after_position k.read) }))
       ≡ layout ro (taken 1 words_of_index (c + 1) k rest) =
       rw t (ap (λ n. k.write ∷ n ∷ free ro.producer ∷ free ro.consumer ∷ k.cells) next) in
@@ -187,7 +188,7 @@ module _ {T : Type 0} (en : Coding T) (scene : Scene T kinds.TheVariants.Overflo
           lengths = (tt, (tt, tt));
           good = takes 1 words_of_index (c + 1) k (get_or k.cells (k.read % (c + 1)) 0) rest first g;
           hangs =
-              none_hangs T kinds.TheVariants.Overflow c (taken 1 words_of_index (c + 1) k rest) _
+              none_hangs T kinds.Overflow c (taken 1 words_of_index (c + 1) k rest) _
               (pending_after (k.read + 1) p ro.producer holds _ latest) (omega arith);
           out = omega arith;
           book = append-nil (map Index k.waiting) ∙ ap (map Index) first;
@@ -197,7 +198,7 @@ module _ {T : Type 0} (en : Coding T) (scene : Scene T kinds.TheVariants.Overflo
           knows = omega arith;
           up = record { write = omega arith; read = omega arith; paid = omega arith };
           others =
-              λ q ne. kept ro ro q (λ h. h) (λ h. h) en c kinds.TheVariants.Overflow k
+              λ q ne. kept ro ro q (λ h. h) (λ h. h) en c kinds.Overflow k
               (taken 1 words_of_index (c + 1) k rest) (record {
                 push = λ mine w stage h. absurd (clash ro.producer p q ne holds mine);
                 pop = λ mine other stage h. take_keeps_pop c k rest far other stage h;
@@ -226,7 +227,7 @@ module _ {T : Type 0} (en : Coding T) (scene : Scene T kinds.TheVariants.Overflo
           right = (tt, tt);
           lengths = (tt, tt);
           good = inv.queue.good;
-          hangs = still_hangs en kinds.TheVariants.Overflow scene inv small k (after_it ask (Done PoppedNone)) refl refl refl calm;
+          hangs = still_hangs en kinds.Overflow scene inv small k (after_it ask (Done PoppedNone)) refl refl refl calm;
           out = omega arith;
           book = append-nil (map Index k.waiting);
           goes = refl;
@@ -279,7 +280,7 @@ module _ {T : Type 0} (en : Coding T) (scene : Scene T kinds.TheVariants.Overflo
           right = (tt, tt);
           lengths = (tt, tt);
           good = inv.queue.good;
-          hangs = still_hangs en kinds.TheVariants.Overflow scene inv small k (after_it ask (Done (PoppedIndex (oldest_at read)))) refl refl refl calm;
+          hangs = still_hangs en kinds.Overflow scene inv small k (after_it ask (Done (PoppedIndex (oldest_at read)))) refl refl refl calm;
           out = omega arith;
           book = append-nil (map Index k.waiting);
           goes = refl;
@@ -305,23 +306,23 @@ module _ {T : Type 0} (en : Coding T) (scene : Scene T kinds.TheVariants.Overflo
   by_itself : (wrote : List (Event T)) (ask : Option Ask) (after : After (QueueFlight T) (Answer T)) (effect : Effect T)
       → span_of p events ≡ Open (Queues (PushIndex v)) wrote → Does wrote ask after effect
       → MovesBy ask after effect
-  by_itself wrote ask after effect seen step = alone en kinds.TheVariants.Overflow scene inv wrote (PushIndex v) ask false after effect seen step
+  by_itself wrote ask after effect seen step = alone en kinds.Overflow scene inv wrote (PushIndex v) ask false after effect seen step
 
-  calm_at : (stage : overflow_pushes.PushStage)
-      → flight_of (doing_of (party_of p latest)) ≡ Some (flights.TheVariants.Queues (at stage))
-      → pending_at k.read (Some (flights.TheVariants.Queues (at stage))) ≡ None → IsCalm
+  calm_at : (stage : PushStage)
+      → flight_of (doing_of (party_of p latest)) ≡ Some (flights.Queues (at stage))
+      → pending_at k.read (Some (flights.Queues (at stage))) ≡ None → IsCalm
   calm_at stage found none = ap (pending_at k.read) found ∙ none
 
   abbrev asks_move : ℕ → Option Ask
   asks_move read = Some (record { word = read_word; op = Exchange read (after_position read) })
 
-  moves_read : (read : ℕ) → KnowsOverflowPush c k v (overflow_pushes.TheVariants.MovesRead read) → steps ≤ 4
-      → flight_of (doing_of (party_of p latest)) ≡ Some (flights.TheVariants.Queues (at (overflow_pushes.TheVariants.MovesRead read)))
-      → span_of p events ≡ Open (Queues (PushIndex v)) (has_written c k p (at (overflow_pushes.TheVariants.MovesRead read)))
-      → Moved (overflow_pushes.TheVariants.MovesRead read)
+  moves_read : (read : ℕ) → KnowsOverflowPush c k v (overflow_pushes.MovesRead read) → steps ≤ 4
+      → flight_of (doing_of (party_of p latest)) ≡ Some (flights.Queues (at (overflow_pushes.MovesRead read)))
+      → span_of p events ≡ Open (Queues (PushIndex v)) (has_written c k p (at (overflow_pushes.MovesRead read)))
+      → Moved (overflow_pushes.MovesRead read)
   moves_read read knows s found seen = go (k.read == read) refl
     where
-      go : (here : Bool) → (k.read == read) ≡ here → Moved (overflow_pushes.TheVariants.MovesRead read)
+      go : (here : Bool) → (k.read == read) ≡ here → Moved (overflow_pushes.MovesRead read)
       go true e =
           let same : read ≡ k.read = grind (arith, nat_tests) in
           let t : (k.read == k.read) ≡ true = grind (arith, nat_tests) in
@@ -329,84 +330,84 @@ module _ {T : Type 0} (en : Coding T) (scene : Scene T kinds.TheVariants.Overflo
           let far = knows.2 in
           let place : get_or (layout ro k) (cell_word c k.read) 0 ≡ get_or k.cells (k.read % (c + 1)) 0 =
           word_at k.write k.read (free ro.producer) (free ro.consumer) k.cells (cell_word c k.read) (k.read % (c + 1)) refl in
-          let wrote : has_written {T = T} c k p (at (overflow_pushes.TheVariants.MovesRead k.read)) ≡ Published p (Index v) ∷ [] = rw t refl in
-          let goes : after en (at (overflow_pushes.TheVariants.MovesRead k.read)) k.read
-          ≡ GoOn (at (overflow_pushes.TheVariants.LoadsCell k.read)) =
+          let wrote : has_written {T = T} c k p (at (overflow_pushes.MovesRead k.read)) ≡ Published p (Index v) ∷ [] = rw t refl in
+          let goes : after en (at (overflow_pushes.MovesRead k.read)) k.read
+          ≡ GoOn (at (overflow_pushes.LoadsCell k.read)) =
           rw t refl in
           let told : effect_of en (layout ro k) (pending k.read ro.producer latest)
-          (at (overflow_pushes.TheVariants.MovesRead k.read)) k.read
+          (at (overflow_pushes.MovesRead k.read)) k.read
           ≡ TakesOut (get_or k.cells (k.read % (c + 1)) 0) =
           rw (t, place) refl in
           let as_seen : span_of p events
-          ≡ Open (Queues (PushIndex v)) (has_written c k p (at (overflow_pushes.TheVariants.MovesRead k.read))) =
-          subst (λ r. span_of p events ≡ Open (Queues (PushIndex v)) (has_written c k p (at (overflow_pushes.TheVariants.MovesRead r))))
+          ≡ Open (Queues (PushIndex v)) (has_written c k p (at (overflow_pushes.MovesRead k.read))) =
+          subst (λ r. span_of p events ≡ Open (Queues (PushIndex v)) (has_written c k p (at (overflow_pushes.MovesRead r))))
           same seen in
           let step = takes_out knows.0 (omega arith) last.0 last.1 s in
           let all =
           by_itself (Published p (Index v) ∷ []) (asks_move k.read)
-          (GoOn (at (overflow_pushes.TheVariants.LoadsCell k.read)))
+          (GoOn (at (overflow_pushes.LoadsCell k.read)))
           (TakesOut (get_or k.cells (k.read % (c + 1)) 0))
           (as_seen ∙ ap (λ es. Open (Queues (PushIndex v)) es) wrote) step in
-          subst (λ r. Moved (overflow_pushes.TheVariants.MovesRead r)) (sym same)
+          subst (λ r. Moved (overflow_pushes.MovesRead r)) (sym same)
           (subst (λ a. MovesBy (asks_move k.read) a
-          (effect_of en (layout ro k) (pending k.read ro.producer latest) (at (overflow_pushes.TheVariants.MovesRead k.read)) k.read))
+          (effect_of en (layout ro k) (pending k.read ro.producer latest) (at (overflow_pushes.MovesRead k.read)) k.read))
           (sym goes)
-          (subst (λ e. MovesBy (asks_move k.read) (GoOn (at (overflow_pushes.TheVariants.LoadsCell k.read))) e) (sym told) all))
+          (subst (λ e. MovesBy (asks_move k.read) (GoOn (at (overflow_pushes.LoadsCell k.read))) e) (sym told) all))
       go false e =
           let other : k.read ≢ read = grind (arith, nat_tests) in
           let low = knows.1 in
           let moved : read < k.read = omega arith in
           let t : (read == k.read) ≡ false = grind (arith, nat_tests) in
-          let wrote : has_written {T = T} c k p (at (overflow_pushes.TheVariants.MovesRead read))
+          let wrote : has_written {T = T} c k p (at (overflow_pushes.MovesRead read))
           ≡ Published p (Index v) ∷ Acted p (Queues (PushIndex v)) PoppedNone ∷ [] =
           rw t refl in
-          let goes : after en (at (overflow_pushes.TheVariants.MovesRead read)) k.read ≡ Done PoppedNone = rw e refl in
+          let goes : after en (at (overflow_pushes.MovesRead read)) k.read ≡ Done PoppedNone = rw e refl in
           let told : effect_of en (layout ro k) (pending k.read ro.producer latest)
-          (at (overflow_pushes.TheVariants.MovesRead read)) k.read
+          (at (overflow_pushes.MovesRead read)) k.read
           ≡ Quiet =
           rw e refl in
-          let calm = calm_at (overflow_pushes.TheVariants.MovesRead read) found (rw t refl) in
+          let calm = calm_at (overflow_pushes.MovesRead read) found (rw t refl) in
           let all =
           by_itself (Published p (Index v) ∷ Acted p (Queues (PushIndex v)) PoppedNone ∷ []) (asks_move read)
           (Done PoppedNone) Quiet (seen ∙ ap (λ es. Open (Queues (PushIndex v)) es) wrote)
           (gives_up read knows.0 moved s calm) in
           subst (λ a. MovesBy (asks_move read) a
-          (effect_of en (layout ro k) (pending k.read ro.producer latest) (at (overflow_pushes.TheVariants.MovesRead read)) k.read))
+          (effect_of en (layout ro k) (pending k.read ro.producer latest) (at (overflow_pushes.MovesRead read)) k.read))
           (sym goes)
           (subst (λ e. MovesBy (asks_move read) (Done PoppedNone) e) (sym told) all)
 
   pub overflow_push_step :
-      (stage : overflow_pushes.PushStage) → IsFreshOver k.write stage → KnowsOverflowPush c k v stage
+      (stage : PushStage) → IsFreshOver k.write stage → KnowsOverflowPush c k v stage
       → steps ≤ overflow_push_number stage
-      → flight_of (doing_of (party_of p latest)) ≡ Some (flights.TheVariants.Queues (at stage))
+      → flight_of (doing_of (party_of p latest)) ≡ Some (flights.Queues (at stage))
       → span_of p events ≡ Open (Queues (PushIndex v)) (has_written c k p (at stage)) → Moved stage
-  overflow_push_step overflow_pushes.TheVariants.HandsBack fresh knows s found seen =
-      by_itself [] None (Done (PoppedIndex v)) Acts seen (hands_back knows s (calm_at overflow_pushes.TheVariants.HandsBack found refl))
-  overflow_push_step overflow_pushes.TheVariants.LoadsWrite fresh knows s found seen =
-      by_itself [] (Some load_of_write) (after en (at overflow_pushes.TheVariants.LoadsWrite) k.write) Quiet seen
-      (loads_write fresh knows s (calm_at overflow_pushes.TheVariants.LoadsWrite found refl))
-  overflow_push_step (overflow_pushes.TheVariants.LoadsRead write) fresh knows s found seen =
-      subst (λ w. Moved (overflow_pushes.TheVariants.LoadsRead w)) (sym knows.1)
-      (by_itself [] (Some load_of_read) (GoOn (at (overflow_pushes.TheVariants.StoresCell k.write k.read))) Quiet
-      seen (loads_read knows.2 knows.0 s (calm_at (overflow_pushes.TheVariants.LoadsRead write) found refl)))
-  overflow_push_step (overflow_pushes.TheVariants.StoresCell write read) fresh knows s found seen =
-      subst (λ w. Moved (overflow_pushes.TheVariants.StoresCell w read)) (sym knows.1)
+  overflow_push_step overflow_pushes.HandsBack fresh knows s found seen =
+      by_itself [] None (Done (PoppedIndex v)) Acts seen (hands_back knows s (calm_at overflow_pushes.HandsBack found refl))
+  overflow_push_step overflow_pushes.LoadsWrite fresh knows s found seen =
+      by_itself [] (Some load_of_write) (after en (at overflow_pushes.LoadsWrite) k.write) Quiet seen
+      (loads_write fresh knows s (calm_at overflow_pushes.LoadsWrite found refl))
+  overflow_push_step (overflow_pushes.LoadsRead write) fresh knows s found seen =
+      subst (λ w. Moved (overflow_pushes.LoadsRead w)) (sym knows.1)
+      (by_itself [] (Some load_of_read) (GoOn (at (overflow_pushes.StoresCell k.write k.read))) Quiet
+      seen (loads_read knows.2 knows.0 s (calm_at (overflow_pushes.LoadsRead write) found refl)))
+  overflow_push_step (overflow_pushes.StoresCell write read) fresh knows s found seen =
+      subst (λ w. Moved (overflow_pushes.StoresCell w read)) (sym knows.1)
       (by_itself [] (Some (record { word = cell_word c k.write; op = Store v }))
-      (GoOn (at (overflow_pushes.TheVariants.StoresWrite k.write read))) Quiet seen
-      (stores_cell knows.4 read knows.0 knows.2 knows.3 s (calm_at (overflow_pushes.TheVariants.StoresCell write read) found refl)))
-  overflow_push_step (overflow_pushes.TheVariants.StoresWrite write read) fresh knows s found seen =
-      subst (λ w. Moved (overflow_pushes.TheVariants.StoresWrite w read)) (sym knows.1)
+      (GoOn (at (overflow_pushes.StoresWrite k.write read))) Quiet seen
+      (stores_cell knows.4 read knows.0 knows.2 knows.3 s (calm_at (overflow_pushes.StoresCell write read) found refl)))
+  overflow_push_step (overflow_pushes.StoresWrite write read) fresh knows s found seen =
+      subst (λ w. Moved (overflow_pushes.StoresWrite w read)) (sym knows.1)
       (by_itself [] (Some (record { word = write_word; op = Store (after_position k.write) }))
-      (after en (at (overflow_pushes.TheVariants.StoresWrite k.write read)) k.write)
+      (after en (at (overflow_pushes.StoresWrite k.write read)) k.write)
       (effect_of en (layout ro k) (pending k.read ro.producer latest)
-      (at (overflow_pushes.TheVariants.StoresWrite k.write read)) k.write)
+      (at (overflow_pushes.StoresWrite k.write read)) k.write)
       seen (stores_write en scene inv small v room holds b read knows.0 knows.2 knows.3 knows.4 knows.5 s))
-  overflow_push_step (overflow_pushes.TheVariants.MovesRead read) fresh knows s found seen = moves_read read knows s found seen
-  overflow_push_step (overflow_pushes.TheVariants.LoadsCell read) fresh knows s found seen =
+  overflow_push_step (overflow_pushes.MovesRead read) fresh knows s found seen = moves_read read knows s found seen
+  overflow_push_step (overflow_pushes.LoadsCell read) fresh knows s found seen =
       let old : get_or (layout ro k) (cell_word c read) 0 ≡ get_or k.cells (read % (c + 1)) 0 =
       word_at k.write k.read (free ro.producer) (free ro.consumer) k.cells (cell_word c read) (read % (c + 1)) refl in
       subst (λ n. MovesBy (Some (record { word = cell_word c read; op = Load })) (Done (PoppedIndex n)) Quiet) (sym old)
       (by_itself (Published p (Index v) ∷ HandedOut p (Index (oldest_at read))
       ∷ Acted p (Queues (PushIndex v)) (PoppedIndex (oldest_at read)) ∷ [])
       (Some (record { word = cell_word c read; op = Load })) (Done (PoppedIndex (oldest_at read))) Quiet seen
-      (loads_cell read knows.0 s (calm_at (overflow_pushes.TheVariants.LoadsCell read) found refl)))
+      (loads_cell read knows.0 s (calm_at (overflow_pushes.LoadsCell read) found refl)))

@@ -9,12 +9,12 @@ use Rattle.laws_queues.proofs.Names.{answer_of_item, read_word, after, words_of_
 use Rattle.laws_queues.proofs.Names.{pending, beside, takes_effect, party_of, put, doing_of, flight_of, Stands, Open}
 use Rattle.laws_queues.proofs.Names.{Ended, own_after, span_of, words_after, change_of, span_of-own, span_of-other}
 use Rattle.std.proofs.Common.{arith}
-use Rattle.steps.specs.declared.queues.overflow.PushStage as overflow_pushes
-use Rattle.model.specs.declared.families.queues.calls.OverflowCall as overflows
+use Rattle.steps.specs.declared.queues.overflow.PushStage.TheVariants as overflow_pushes
+use Rattle.model.specs.declared.families.queues.calls.OverflowCall.TheVariants as overflows
 use Rattle.model.specs.declared.families.queues.calls.QueueFlight.TheVariants.{Overflow}
 use Rattle.model.specs.declared.families.queues.effects.Effect.TheVariants.{HandsOut}
-use Rattle.model.specs.declared.families.Flight as flights
-use Rattle.model.specs.declared.families.queues.QueueKind as kinds
+use Rattle.model.specs.declared.families.Flight.TheVariants as flights
+use Rattle.model.specs.declared.families.queues.QueueKind.TheVariants as kinds
 use Rattle.model.proofs.Frame as frame
 use Rattle.laws_queues.proofs.Queues.Invariant.{Queue, Scene, Inv, family, queue_in, any_stays, any_knows}
 use Rattle.laws_queues.proofs.Overflow.Core.{one_passes, pop_front, pop_room}
@@ -26,8 +26,8 @@ use Rattle.laws_queues.proofs.Queues.Pending.{pending_put, few_wait, none_hangs}
 use Rattle.laws_queues.proofs.Queues.Stages.{party_then, DoesStep, Moves, alone}
 use Rattle.laws_queues.proofs.Overflow.Keeping.{take_keeps_push}
 
-module _ {T : Type 0} (en : Coding T) (scene : Scene T kinds.TheVariants.Overflow)
-    (inv : Inv en kinds.TheVariants.Overflow scene) (small : scene.core.write < 2 ^ 64) (room : OneWord)
+module _ {T : Type 0} (en : Coding T) (scene : Scene T kinds.Overflow)
+    (inv : Inv en kinds.Overflow scene) (small : scene.core.write < 2 ^ 64) (room : OneWord)
     (holds : scene.roles.consumer ≡ Some scene.party) where
   open scene use {capacity as c, roles as ro, core as k, party as p, steps, backs, since, changes, latest, events}
 
@@ -39,13 +39,13 @@ module _ {T : Type 0} (en : Coding T) (scene : Scene T kinds.TheVariants.Overflo
   waits_is = let t : (p == p) ≡ true = grind (arith, nat_tests) in rw (holds, t) refl
 
   abbrev Does : Option Ask → Bool → After (QueueFlight T) (Answer T) → Effect T → Type 0
-  Does ask back after effect = DoesStep en kinds.TheVariants.Overflow scene [] Pop ask back after effect
+  Does ask back after effect = DoesStep en kinds.Overflow scene [] Pop ask back after effect
 
   abbrev MovesBy : Option Ask → Bool → After (QueueFlight T) (Answer T) → Effect T → Type 0
-  MovesBy ask back after effect = Moves en kinds.TheVariants.Overflow scene Pop ask back after effect
+  MovesBy ask back after effect = Moves en kinds.Overflow scene Pop ask back after effect
 
   abbrev after_it : Option Ask → Bool → After (QueueFlight T) (Answer T) → Party T
-  after_it ask back after = party_then en kinds.TheVariants.Overflow scene Pop ask back after
+  after_it ask back after = party_then en kinds.Overflow scene Pop ask back after
 
   abbrev pub asks_move : ℕ → Option Ask
   asks_move read = Some (record { word = read_word; op = Exchange read (after_position read) })
@@ -76,7 +76,7 @@ module _ {T : Type 0} (en : Coding T) (scene : Scene T kinds.TheVariants.Overflo
       few_rest = let g = inv.queue.good in let few = g.few in let long = shorter in omega arith
 
       -- no push waits for the next read position
-      hangs_take : Hangs T kinds.TheVariants.Overflow c after_take
+      hangs_take : Hangs T kinds.Overflow c after_take
           (pending (k.read + 1) ro.producer (put p (after_it (asks_move k.read) false (Done answer)) latest))
       hangs_take = grind (arith, false, pending, put, pending_put, past_none, none_hangs, few_rest)
 
@@ -85,7 +85,7 @@ module _ {T : Type 0} (en : Coding T) (scene : Scene T kinds.TheVariants.Overflo
       takes_alone none =
           let g = inv.queue.good in
           let write = g.write in
-          let few = few_wait en kinds.TheVariants.Overflow c k (pending k.read ro.producer latest) none inv.queue.good inv.queue.hangs in
+          let few = few_wait en kinds.Overflow c k (pending k.read ro.producer latest) none inv.queue.good inv.queue.hangs in
           let list = pop_front {T = T} c k.waiting value rest first few in
           let change = one in
           let reached = inv.queue.reached in (
@@ -121,7 +121,7 @@ module _ {T : Type 0} (en : Coding T) (scene : Scene T kinds.TheVariants.Overflo
               knows = omega arith;
               up = record { write = omega arith; read = omega arith; paid = omega arith };
               others =
-                  λ q ne. kept ro ro q (λ h. h) (λ h. h) en c kinds.TheVariants.Overflow k after_take (record {
+                  λ q ne. kept ro ro q (λ h. h) (λ h. h) en c kinds.Overflow k after_take (record {
                     push = λ mine w stage h. take_keeps_push c k q rest g few w stage h;
                     pop = λ mine other stage h. absurd (clash ro.consumer p q ne holds mine);
                   });
@@ -162,18 +162,18 @@ module _ {T : Type 0} (en : Coding T) (scene : Scene T kinds.TheVariants.Overflo
         whole = grind (arith, append_assoc)
 
         abbrev pushing : Pushing → QueueFlight T
-        pushing run = Overflow (overflows.TheVariants.Push run)
+        pushing run = Overflow (overflows.Push run)
 
         abbrev after_queue : Queue ℕ
         after_queue = record { roles = ro; core = after_take }
 
         abbrev IsAt : Queue ℕ → Start T → Pushing → Type 0
-        IsAt state start run = (family en kinds.TheVariants.Overflow c).At state q start (flights.TheVariants.Queues (pushing run))
+        IsAt state start run = (family en kinds.Overflow c).At state q start (flights.Queues (pushing run))
 
         start_is : (start : Start T) (run : Pushing) → IsAt (queue_in scene) start run → run.given ≡ w → start ≡ Queues (PushIndex w)
         start_is x0 x1 x2 x3 = grind arith
 
-        still_at : (start : Start T) (run : Pushing) → run.call.stage ≡ overflow_pushes.TheVariants.MovesRead k.read
+        still_at : (start : Start T) (run : Pushing) → run.call.stage ≡ overflow_pushes.MovesRead k.read
             → IsAt (queue_in scene) start run → IsAt after_queue start run
         still_at x0 x1 x2 x3 = grind arith
 
@@ -181,7 +181,7 @@ module _ {T : Type 0} (en : Coding T) (scene : Scene T kinds.TheVariants.Overflo
           other : q ≢ p
           other x0 = grind arith
 
-          under : frame.IsUnderWay (family en kinds.TheVariants.Overflow c) (queue_in scene) q x (flights.TheVariants.Queues (pushing run)) (span_of q events)
+          under : frame.IsUnderWay (family en kinds.Overflow c) (queue_in scene) q x (flights.Queues (pushing run)) (span_of q events)
           under = grind arith
 
           start : x.start ≡ Queues (PushIndex w)
@@ -225,18 +225,18 @@ module _ {T : Type 0} (en : Coding T) (scene : Scene T kinds.TheVariants.Overflo
               ∙ (span_of-other q r run_2 (acts_q ∷ []) nq (refl, tt)
               ∙ (span_of-other p r run_1 (acts_p ∷ []) np (refl, tt) ∙ span_of-other p r events (hands ∷ []) np (refl, tt))))
 
-          pushing_fits : frame.Fits (family en kinds.TheVariants.Overflow c) after_queue q (party_of q latest) (span_of q (events ++ told))
+          pushing_fits : frame.Fits (family en kinds.Overflow c) after_queue q (party_of q latest) (span_of q (events ++ told))
           pushing_fits = grind (arith, family, q_4, writes, start, still_at)
 
           other_fits : (r : ℕ) → r ≢ p → r ≢ q
-              → frame.Fits (family en kinds.TheVariants.Overflow c) after_queue r (party_of r latest) (span_of r (events ++ told))
+              → frame.Fits (family en kinds.Overflow c) after_queue r (party_of r latest) (span_of r (events ++ told))
           other_fits x0 x1 x2 = grind (arith, family, theirs, any_stays, kept, clash)
 
           takes_for : MovesBy (asks_move k.read) false (Done answer) (MakesRoom (Index value) q w)
           takes_for =
               let g = inv.queue.good in
               let write = g.write in
-              let over = subst (Hangs T kinds.TheVariants.Overflow c k) hung inv.queue.hangs in
+              let over = subst (Hangs T kinds.Overflow c k) hung inv.queue.hangs in
               let list = pop_room {T = T} c k.waiting over.1 value w rest some over.2 over.3 first in
               let change = one in
               let reached = inv.queue.reached in
@@ -267,13 +267,13 @@ module _ {T : Type 0} (en : Coding T) (scene : Scene T kinds.TheVariants.Overflo
                 },
                 record {
                   stands = (
-                    subst (λ a. Stands (promise kinds.TheVariants.Overflow) c hands a) (sym seen) (inl refl, refl),
+                    subst (λ a. Stands (promise kinds.Overflow) c hands a) (sym seen) (inl refl, refl),
                     (
-                      subst (λ a. Stands (promise kinds.TheVariants.Overflow) c acts_p a) (sym p_1) (refl, refl),
+                      subst (λ a. Stands (promise kinds.Overflow) c acts_p a) (sym p_1) (refl, refl),
                       (
-                        subst (λ a. Stands (promise kinds.TheVariants.Overflow) c acts_q a) (sym q_2) (refl, refl),
+                        subst (λ a. Stands (promise kinds.Overflow) c acts_q a) (sym q_2) (refl, refl),
                         (
-                          subst (λ a. Stands (promise kinds.TheVariants.Overflow) c ends_p a) (sym p_3)
+                          subst (λ a. Stands (promise kinds.Overflow) c ends_p a) (sym p_3)
                               (refl, record { moments = refl; published = refl; handed_out = sym (one_passes c (Index value) some) }),
                           tt,
                         ),
@@ -283,12 +283,12 @@ module _ {T : Type 0} (en : Coding T) (scene : Scene T kinds.TheVariants.Overflo
                   here = record { answer = answer; wrote = hands ∷ acts_p ∷ []; span = p_4; steps = omega arith };
                   knows = omega arith;
                   others =
-                      λ r np. ⊎_elim (λ e. subst (λ n. frame.Fits (family en kinds.TheVariants.Overflow c) after_queue n (party_of n latest)
+                      λ r np. ⊎_elim (λ e. subst (λ n. frame.Fits (family en kinds.Overflow c) after_queue n (party_of n latest)
                       (span_of n (events ++ told)))
                       (sym e) pushing_fits)
                       (other_fits r np) (cases_eq r q);
                   others_know =
-                      λ r np. frame.still_knows (family en kinds.TheVariants.Overflow c) (queue_in scene) after_queue r
+                      λ r np. frame.still_knows (family en kinds.Overflow c) (queue_in scene) after_queue r
                       events told changes (changes + change_of (layout ro k) (asks_move k.read))
                       (any_knows en c k after_take r events told changes (changes + change_of (layout ro k) (asks_move k.read)) up tt)
                       (party_of r latest) (inv.frame.knows r);
@@ -306,5 +306,5 @@ module _ {T : Type 0} (en : Coding T) (scene : Scene T kinds.TheVariants.Overflo
           (go (pending k.read ro.producer latest) refl)
         where
           go : (o : Option (ℕ × ℕ)) → pending k.read ro.producer latest ≡ o → MovesBy (asks_move k.read) false (Done answer) (takes_effect (Index value) o)
-          go None e = alone en kinds.TheVariants.Overflow scene inv [] Pop (asks_move k.read) false (Done answer) (HandsOut (Index value)) seen (takes_alone e)
+          go None e = alone en kinds.Overflow scene inv [] Pop (asks_move k.read) false (Done answer) (HandsOut (Index value)) seen (takes_alone e)
           go (Some push) e = makes_room seen push.0 push.1 e

@@ -4,11 +4,11 @@ use Rattle.laws_queues.proofs.Names.{Running, Event, Going, Party, Roles, Coding
 use Rattle.laws_queues.proofs.Names.{party_of, doing_of, flight_of, span_of}
 use Rattle.std.proofs.Common.{arith}
 use Rattle.steps.specs.declared.queues.overflow.Push as overflow_push
-use Rattle.steps.specs.declared.queues.overflow.PushStage as overflow_pushes
-use Rattle.model.specs.declared.families.queues.calls.OverflowCall as overflows
+use Rattle.steps.specs.declared.queues.overflow.PushStage.TheVariants as overflow_pushes
+use Rattle.model.specs.declared.families.queues.calls.OverflowCall.TheVariants as overflows
 use Rattle.model.specs.declared.families.queues.calls.QueueFlight.TheVariants.{Overflow}
-use Rattle.model.specs.declared.families.Flight as flights
-use Rattle.model.specs.declared.families.queues.QueueKind as kinds
+use Rattle.model.specs.declared.families.Flight.TheVariants as flights
+use Rattle.model.specs.declared.families.queues.QueueKind.TheVariants as kinds
 use Rattle.laws_queues.proofs.Queues.Core.{Core}
 use Rattle.model.proofs.Frame as frame
 use Rattle.laws_queues.proofs.Queues.Invariant.{family}
@@ -18,7 +18,7 @@ use Rattle.laws_queues.proofs.Queues.Invariant.{family}
 module _ {T : Type 0} (en : Coding T) (c : ℕ) (ro : Roles) (k : Core ℕ) (position : ℕ) (past : k.read < position) where
   pub past_none : (latest : List (ℕ × Party T)) (events : List (Event T))
       → ((q : ℕ)
-      → frame.Fits (family en kinds.TheVariants.Overflow c) (record { roles = ro; core = k }) q (party_of q latest) (span_of q events))
+      → frame.Fits (family en kinds.Overflow c) (record { roles = ro; core = k }) q (party_of q latest) (span_of q events))
       → (o : Option ℕ) → pending position o latest ≡ None
   past_none x0 x1 x2 x3 = grind arith
 
@@ -31,9 +31,9 @@ Pushing = Running overflow_push.Push ℕ OneWord
 pub record IsPending {T : Type 0} (position : ℕ) (latest : List (ℕ × Party T)) (q w : ℕ) (x : Party T) (run : Pushing) (since : ℕ) : Type 0 where
   pub waits : pending_at position (flight_of (doing_of (party_of q latest))) ≡ Some w
   pub found : party_of q latest ≡ Some x
-  pub doing : x.doing ≡ Going (flights.TheVariants.Queues (Overflow (overflows.TheVariants.Push run))) since
+  pub doing : x.doing ≡ Going (flights.Queues (Overflow (overflows.Push run))) since
   pub value : run.given ≡ w
-  pub stage : run.call.stage ≡ overflow_pushes.TheVariants.MovesRead position
+  pub stage : run.call.stage ≡ overflow_pushes.MovesRead position
 
 module _ {T : Type 0} (position : ℕ) (latest : List (ℕ × Party T)) (q w : ℕ) where
   party_is : (o : Option (Party T)) → pending_at position (flight_of (doing_of (party_of q latest))) ≡ Some w

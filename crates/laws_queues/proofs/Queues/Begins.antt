@@ -2,7 +2,7 @@
 use Rattle.laws_queues.proofs.Names.{◌≡◌, ℕ, false, Some, None, List, [], Event, QueueStart, Roles}
 use Rattle.laws_queues.proofs.Names.{QueueFlight, QueueKind, Coding, IsCoding, first, lacks_role, pending_at}
 use Rattle.std.proofs.Common.{arith}
-use Rattle.model.specs.declared.families.Flight as flights
+use Rattle.model.specs.declared.families.Flight.TheVariants as flights
 use Rattle.laws_queues.proofs.Queues.Core.{Core}
 use Rattle.laws_queues.proofs.Queues.Knows.{has_written, KnowsFlight, At}
 use Rattle.laws_queues.proofs.Queues.Values.{Val}
@@ -13,7 +13,7 @@ pub record IsFirst {T : Type 0} (en : Coding T) (kd : QueueKind) (c : ℕ) (ro :
     (events : List (Event T)) (changes : ℕ) (start : QueueStart T) (flight : QueueFlight T) : Type 0 where
   pub at : At en kd c ro k p start flight
   pub knows : KnowsFlight c k p events changes changes 0 flight
-  pub calm : pending_at k.read (Some (flights.TheVariants.Queues flight)) ≡ None
+  pub calm : pending_at k.read (Some (flights.Queues flight)) ≡ None
   pub wrote : has_written {T = T} c k p flight ≡ []
 
 module _ {T : Type 0} (en : Coding T) (law : IsCoding en) (c : ℕ) (ro : Roles) (p : ℕ) (events : List (Event T)) (changes : ℕ) where

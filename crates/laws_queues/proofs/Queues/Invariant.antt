@@ -11,11 +11,11 @@ use Rattle.laws_queues.proofs.Names.{others_begin_none, AreRight, Each-append, A
 use Rattle.std.proofs.Common.{arith}
 use Rattle.std.proofs.lemmas.List.Concat.{flat_map-append}
 use Rattle.std.proofs.lemmas.List.Sums.{fold-append}
-use Rattle.model.specs.declared.event.Start as starts
-use Rattle.model.specs.declared.families.Flight as flights
-use Rattle.model.specs.declared.families.Registry as registries
-use Rattle.model.specs.declared.families.queues.QueueKind as kinds
-use Rattle.model.specs.declared.turn.Kind as any_kinds
+use Rattle.model.specs.declared.event.Start.TheVariants as starts
+use Rattle.model.specs.declared.families.Flight.TheVariants as flights
+use Rattle.model.specs.declared.families.Registry.TheVariants as registries
+use Rattle.model.specs.declared.families.queues.QueueKind.TheVariants as kinds
+use Rattle.model.specs.declared.turn.Kind.TheVariants as any_kinds
 use Rattle.model.specs.Families.Loan.Opening.{is_loan}
 use Rattle.model.proofs.Family as families
 use Rattle.model.proofs.Family.{Outline}
@@ -31,10 +31,10 @@ pub record Queue (V : Type 0) : Type 0 where
   pub core : Core V
 
 abbrev pub Represents : {T V : Type 0} → Registry T → List ℕ → Queue V → Type 0
-Represents kept words s = families.Represents kept words (registries.TheVariants.Queues s.roles) (layout s.roles s.core)
+Represents kept words s = families.Represents kept words (registries.Queues s.roles) (layout s.roles s.core)
 
 abbrev number : {T : Type 0} → Coding T → Flight T → ℕ → ℕ
-number en (flights.TheVariants.Queues flight) backs = number_of en flight backs
+number en (flights.Queues flight) backs = number_of en flight backs
 number en flight backs = 0
 
 -- ---- where a party's call stands, with the machine around it
@@ -68,7 +68,7 @@ module _ {T : Type 0} where
 
   -- what a party's call under way has written
   abbrev written : {V : Type 0} → ℕ → Core V → ℕ → Flight T → List (Event T)
-  written c k p (flights.TheVariants.Queues flight) = has_written c k p flight
+  written c k p (flights.Queues flight) = has_written c k p flight
   written c k p flight = []
 
   abbrev pub queue_in : {kd : QueueKind} → Scene T kd → Queue (Val T kd)
@@ -76,9 +76,9 @@ module _ {T : Type 0} where
 
 -- the kind of a machine that has this queue
 abbrev pub machine_kind : QueueKind → Kind
-machine_kind kinds.TheVariants.IndexQueue = any_kinds.TheVariants.IndexQueue
-machine_kind kinds.TheVariants.Overflow = any_kinds.TheVariants.Overflow
-machine_kind kinds.TheVariants.Queue = any_kinds.TheVariants.Queue
+machine_kind kinds.IndexQueue = any_kinds.IndexQueue
+machine_kind kinds.Overflow = any_kinds.Overflow
+machine_kind kinds.Queue = any_kinds.Queue
 
 pub no_loan : (kd : QueueKind) → is_loan (machine_kind kd) ≡ false
 no_loan x0 = grind arith
@@ -110,11 +110,11 @@ module _ {T : Type 0} (en : Coding T) where
   -- ---- the family of the queues
 
   abbrev FlightAt : (kd : QueueKind) → ℕ → Roles → Core (Val T kd) → ℕ → Start T → Flight T → Type 0
-  FlightAt kd c ro k p (starts.TheVariants.Queues start) (flights.TheVariants.Queues flight) = At en kd c ro k p start flight
+  FlightAt kd c ro k p (starts.Queues start) (flights.Queues flight) = At en kd c ro k p start flight
   FlightAt kd c ro k p start flight = ⊥
 
   abbrev Knowing : {V : Type 0} → ℕ → Core V → ℕ → List (Event T) → ℕ → ℕ → ℕ → Flight T → Type 0
-  Knowing c k p events since changes backs (flights.TheVariants.Queues flight) = KnowsFlight c k p events since changes backs flight
+  Knowing c k p events since changes backs (flights.Queues flight) = KnowsFlight c k p events since changes backs flight
   Knowing c k p events since changes backs flight = ⊥
 
 module _ {T : Type 0} where
@@ -127,7 +127,7 @@ module _ {T : Type 0} where
         promise = promise kd;
         State = Queue (Val T kd);
         words = λ s. layout s.roles s.core;
-        kept = λ s. registries.TheVariants.Queues s.roles;
+        kept = λ s. registries.Queues s.roles;
         Holds = λ en c s latest events turns. Holds en kd c s.roles s.core latest events turns;
         written = λ c s p flight. written c s.core p flight;
         number = λ en c. number en;

@@ -16,17 +16,19 @@ use Rattle.std.proofs.Common.{arith}
 use Rattle.std.specs.List.{AllByRecursion}
 use Rattle.steps.specs.declared.queues.overflow.Pop as overflow_pop
 use Rattle.steps.specs.declared.queues.overflow.PushStage as overflow_pushes
-use Rattle.steps.specs.declared.queues.overflow.PopStage as overflow_pops
+use Rattle.steps.specs.declared.queues.overflow.PopStage.{PopStage}
+use Rattle.steps.specs.declared.queues.overflow.PopStage.TheVariants as overflow_pops
 use Rattle.steps.specs.declared.copied.Buffer as cells
 use Rattle.steps.specs.Queues.Overflow.{cell_word, pop_answer}
-use Rattle.model.specs.declared.event.Answer as answers
-use Rattle.model.specs.declared.families.Flight as flights
-use Rattle.model.specs.declared.families.Registry as registries
-use Rattle.model.specs.declared.families.queues.calls.OverflowCall as overflows
+use Rattle.model.specs.declared.event.Answer.TheVariants as answers
+use Rattle.model.specs.declared.families.Flight.TheVariants as flights
+use Rattle.model.specs.declared.families.Registry.TheVariants as registries
+use Rattle.model.specs.declared.families.queues.calls.OverflowCall.{OverflowCall}
+use Rattle.model.specs.declared.families.queues.calls.OverflowCall.TheVariants as overflows
 use Rattle.model.specs.declared.families.queues.calls.QueueFlight.TheVariants.{Overflow}
 use Rattle.model.specs.declared.families.queues.calls.RingCall as rings
 use Rattle.model.specs.declared.families.queues.effects.Effect.TheVariants.{HandsOut}
-use Rattle.model.specs.declared.families.queues.QueueKind as kinds
+use Rattle.model.specs.declared.families.queues.QueueKind.TheVariants as kinds
 use Rattle.model.specs.Promises.Turns.{ask_in, IsParty, IsEffectOf, IsAct, ActsRight}
 use Rattle.model.proofs.Frame as frame
 use Rattle.model.proofs.FamilyLaws.{Writes}
@@ -44,7 +46,7 @@ use Rattle.laws_queues.proofs.Ring.Kinds.{Ring, of_indices, of_values, kind_of, 
 ring_finds : (r : Ring) (c : ℕ) → finding_none (kind_of r) c ≡ Some load_of_write
 ring_finds x0 x1 = grind arith
 
-overflow_finds : (c : ℕ) → (0 < c → finding_none kinds.TheVariants.Overflow c ≡ Some load_of_write) × (c ≡ 0 → finding_none kinds.TheVariants.Overflow c ≡ None)
+overflow_finds : (c : ℕ) → (0 < c → finding_none kinds.Overflow c ≡ Some load_of_write) × (c ≡ 0 → finding_none kinds.Overflow c ≡ None)
 overflow_finds x0 = grind arith
 
 module _ {T : Type 0} where
@@ -65,10 +67,10 @@ module _ {T : Type 0} where
   acts_of p start Quiet outcome = []
   acts_of p start Acts outcome = acts_if_done p start outcome
   acts_of p start (Publishes item) outcome = acts_if_done p start outcome
-  acts_of p start (PublishesAndActs item) outcome = Acted p (Queues start) answers.TheVariants.PoppedNone ∷ []
+  acts_of p start (PublishesAndActs item) outcome = Acted p (Queues start) answers.PoppedNone ∷ []
   acts_of p start (HandsOut item) outcome = acts_if_done p start outcome
-  acts_of p start (TakesOut index) outcome = Acted p (Queues start) (answers.TheVariants.PoppedIndex index) ∷ []
-  acts_of p start (MakesRoom item q pushed) outcome = acts_if_done p start outcome ++ Acted q (Queues (PushIndex pushed)) answers.TheVariants.PoppedNone ∷ []
+  acts_of p start (TakesOut index) outcome = Acted p (Queues start) (answers.PoppedIndex index) ∷ []
+  acts_of p start (MakesRoom item q pushed) outcome = acts_if_done p start outcome ++ Acted q (Queues (PushIndex pushed)) answers.PoppedNone ∷ []
 
   effects_are : (p : ℕ) (start : QueueStart T) (effect : Effect T) (outcome : Option (Answer T))
       → effects_of p start effect outcome ≡ did p effect ++ acts_of p start effect outcome
@@ -105,7 +107,7 @@ module _ {T : Type 0} (own : QueueKind) (t : Trace T) (turn : Turn T) (p : ℕ) 
   -- it goes on, or it is done with None
   abbrev FindsNone : After (QueueFlight T) (Answer T) → Type 0
   FindsNone (GoOn flight) = Unit {0}
-  FindsNone (Done answer) = answer ≡ answers.TheVariants.PoppedNone
+  FindsNone (Done answer) = answer ≡ answers.PoppedNone
 
   pop_acts : (after : After (QueueFlight T) (Answer T)) → FindsNone after → asked ≡ finding_none own c
       → Right (told_after p Pop Acts after) → Justified (acts_if_done p Pop (answer_in after))
@@ -145,7 +147,7 @@ module _ {T : Type 0} (own : QueueKind) (t : Trace T) (turn : Turn T) (p : ℕ) 
         → (room : OneWord) (on : overflow_pop.Pop) (b : Bool) → (b ≡ true → Adds read_word)
         → Justified (acts_of p Pop (cond b (takes_effect item push) Quiet)
         (answer_in {C = QueueFlight T}
-        (as_call (λ r. Overflow (overflows.TheVariants.Pop r)) popped
+        (as_call (λ r. Overflow (overflows.Pop r)) popped
         (went_on (λ end given room. pop_answer room.0 end) tt room (cond b (Done true) (GoOn on))))))
     taking item None other room on true adds = ((mine, adds refl), tt)
     taking item (Some push) other room on true adds = ((mine, adds refl), (inr ((λ his. other push.0 push.1 refl (alone push.0 his)), adds refl), tt))
@@ -153,32 +155,32 @@ module _ {T : Type 0} (own : QueueKind) (t : Trace T) (turn : Turn T) (p : ℕ) 
 
     -- the push that waits is not this call
     abbrev Waits : QueueFlight T → Type 0
-    Waits flight = (q w : ℕ) → waits ≡ Some (q, w) → q ≡ p → pending_at (get_or words 1 0) (Some (flights.TheVariants.Queues flight)) ≡ Some w
+    Waits flight = (q w : ℕ) → waits ≡ Some (q, w) → q ≡ p → pending_at (get_or words 1 0) (Some (flights.Queues flight)) ≡ Some w
 
     overflow_pop_right :
-        (k : Core ℕ) (place : Positions k.write k.read) (room : OneWord) (stage : overflow_pops.PopStage) (old : ℕ)
+        (k : Core ℕ) (place : Positions k.write k.read) (room : OneWord) (stage : PopStage) (old : ℕ)
         → KnowsOverflowPop c k room stage → asked ≡ ask_of (want en (Overflow (overflow_pop_at c room stage)))
         → old ≡ old_of (k.write ∷ k.read ∷ place.rest) asked
         → Waits (Overflow (overflow_pop_at c room stage)) → (0 < c → finding_none own c ≡ Some load_of_write)
         → (c ≡ 0 → finding_none own c ≡ None) → Tells Pop (Overflow (overflow_pop_at c room stage)) old
         → Acting Pop (Overflow (overflow_pop_at c room stage)) old
-    overflow_pop_right k place room overflow_pops.TheVariants.FindsNone old knows asks handed waiter some none h =
-        pop_acts (after en (Overflow (overflow_pop_at c room overflow_pops.TheVariants.FindsNone)) old) refl (asks ∙ sym (none knows)) h
-    overflow_pop_right k place room overflow_pops.TheVariants.LoadsRead old knows asks handed waiter some none h = tt
-    overflow_pop_right k place room (overflow_pops.TheVariants.LoadsWrite read) old knows asks handed waiter some none h =
+    overflow_pop_right k place room overflow_pops.FindsNone old knows asks handed waiter some none h =
+        pop_acts (after en (Overflow (overflow_pop_at c room overflow_pops.FindsNone)) old) refl (asks ∙ sym (none knows)) h
+    overflow_pop_right k place room overflow_pops.LoadsRead old knows asks handed waiter some none h = tt
+    overflow_pop_right k place room (overflow_pops.LoadsWrite read) old knows asks handed waiter some none h =
         pop_acts (after en flight old) (finds (old == read) refl) (asks ∙ sym (some knows.0)) h
       where
         flight : QueueFlight T
-        flight = Overflow (overflow_pop_at c room (overflow_pops.TheVariants.LoadsWrite read))
+        flight = Overflow (overflow_pop_at c room (overflow_pops.LoadsWrite read))
 
         finds : (b : Bool) → (old == read) ≡ b → FindsNone (after en flight old)
         finds true e = rw e refl
         finds false e = rw e tt
-    overflow_pop_right k place room (overflow_pops.TheVariants.LoadsCell read) old knows asks handed waiter some none h = tt
-    overflow_pop_right k place room (overflow_pops.TheVariants.MovesRead read) old knows asks handed waiter some none h =
+    overflow_pop_right k place room (overflow_pops.LoadsCell read) old knows asks handed waiter some none h = tt
+    overflow_pop_right k place room (overflow_pops.MovesRead read) old knows asks handed waiter some none h =
         taking (Index (get_or words (cell_word c read) 0)) waits
         (λ q w is same. let here = waiter q w is same in absurd (cc)) room
-        (record { capacity = c; stage = overflow_pops.TheVariants.LoadsCell old }) (old == read)
+        (record { capacity = c; stage = overflow_pops.LoadsCell old }) (old == read)
         (λ e.
         let found : old ≡ read = grind (arith, nat_tests) in
         let now : old ≡ k.read = handed ∙ ap (old_of (k.write ∷ k.read ∷ place.rest)) asks in
@@ -187,23 +189,23 @@ module _ {T : Type 0} (own : QueueKind) (t : Trace T) (turn : Turn T) (p : ℕ) 
 
     index_right : (ro : Roles) (k : Core ℕ) → Positions k.write k.read
         → (start : QueueStart T) (call : rings.RingCall ℕ OneWord) (old : ℕ)
-        → IndexAt kinds.TheVariants.IndexQueue c ro k p start call → finding_none own c ≡ Some load_of_write
+        → IndexAt kinds.IndexQueue c ro k p start call → finding_none own c ≡ Some load_of_write
         → asked ≡ ask_of (want en (Indices call)) → Tells start (Indices call) old → Acting start (Indices call) old
     index_right x0 x1 x2 x3 x4 x5 x6 x7 x8 x9 = grind arith
 
     value_right : (ro : Roles) (k : Core T) → Positions k.write k.read
         → (start : QueueStart T) (call : rings.RingCall T (cells.Buffer 128)) (old : ℕ)
-        → ValueAt en kinds.TheVariants.Queue c ro k p start call → finding_none own c ≡ Some load_of_write
+        → ValueAt en kinds.Queue c ro k p start call → finding_none own c ≡ Some load_of_write
         → asked ≡ ask_of (want en (Values call)) → Tells start (Values call) old → Acting start (Values call) old
     value_right x0 x1 x2 x3 x4 x5 x6 x7 x8 x9 = grind arith
 
     overflow_right :
-        (ro : Roles) (k : Core ℕ) (place : Positions k.write k.read) (start : QueueStart T) (call : overflows.OverflowCall) (old : ℕ)
+        (ro : Roles) (k : Core ℕ) (place : Positions k.write k.read) (start : QueueStart T) (call : OverflowCall) (old : ℕ)
         → OverflowAt c ro k p start call → (0 < c → finding_none own c ≡ Some load_of_write)
         → (c ≡ 0 → finding_none own c ≡ None)
         → asked ≡ ask_of (want en (Overflow call)) → old ≡ old_of (k.write ∷ k.read ∷ place.rest) asked
         → Waits (Overflow call) → Tells start (Overflow call) old → Acting start (Overflow call) old
-    overflow_right ro k place (PushIndex v) (overflows.TheVariants.Push run) old at some none asks handed waiter h =
+    overflow_right ro k place (PushIndex v) (overflows.Push run) old at some none asks handed waiter h =
         subst (λ n. asked ≡ ask_of (want en (Overflow (overflow_push_at n run.given run.room run.call.stage)))
         → Acting (PushIndex v) (Overflow (overflow_push_at n run.given run.room run.call.stage)) old)
         (sym at.1)
@@ -212,7 +214,7 @@ module _ {T : Type 0} (own : QueueKind) (t : Trace T) (turn : Turn T) (p : ℕ) 
         (sym at.2)
         (λ asks. overflow_push_right k place v run.room run.call.stage old at.3 asks handed))
         asks
-    overflow_right ro k place Pop (overflows.TheVariants.Pop run) old at some none asks handed waiter h =
+    overflow_right ro k place Pop (overflows.Pop run) old at some none asks handed waiter h =
         subst (λ x. Tells Pop (Overflow (overflow_pop_at x run.room run.call.stage)) old
         → asked ≡ ask_of (want en (Overflow (overflow_pop_at x run.room run.call.stage)))
         → Waits (Overflow (overflow_pop_at x run.room run.call.stage))
@@ -230,37 +232,37 @@ module _ {T : Type 0} (own : QueueKind) (t : Trace T) (turn : Turn T) (p : ℕ) 
         → old ≡ old_of (k.write ∷ k.read ∷ place.rest) asked → Waits flight
         → Tells start flight old → Acting start flight old
     step_right kd same ro k place start (Role call) old at asks handed waiter h = tt
-    step_right kinds.TheVariants.IndexQueue same ro k place start (Indices call) old at asks handed waiter h =
+    step_right kinds.IndexQueue same ro k place start (Indices call) old at asks handed waiter h =
         index_right ro k place start call old at (ap (λ n. finding_none n c) same ∙ ring_finds of_indices c) asks h
-    step_right kinds.TheVariants.Overflow same ro k place start (Indices call) old at asks handed waiter h = absurd at
-    step_right kinds.TheVariants.Queue same ro k place start (Indices call) old at asks handed waiter h = absurd at
-    step_right kinds.TheVariants.IndexQueue same ro k place start (Values call) old at asks handed waiter h = absurd at
-    step_right kinds.TheVariants.Overflow same ro k place start (Values call) old at asks handed waiter h = absurd at
-    step_right kinds.TheVariants.Queue same ro k place start (Values call) old at asks handed waiter h =
+    step_right kinds.Overflow same ro k place start (Indices call) old at asks handed waiter h = absurd at
+    step_right kinds.Queue same ro k place start (Indices call) old at asks handed waiter h = absurd at
+    step_right kinds.IndexQueue same ro k place start (Values call) old at asks handed waiter h = absurd at
+    step_right kinds.Overflow same ro k place start (Values call) old at asks handed waiter h = absurd at
+    step_right kinds.Queue same ro k place start (Values call) old at asks handed waiter h =
         value_right ro k place start call old at (ap (λ n. finding_none n c) same ∙ ring_finds of_values c) asks h
-    step_right kinds.TheVariants.IndexQueue same ro k place start (Overflow call) old at asks handed waiter h = absurd at
-    step_right kinds.TheVariants.Overflow same ro k place start (Overflow call) old at asks handed waiter h =
+    step_right kinds.IndexQueue same ro k place start (Overflow call) old at asks handed waiter h = absurd at
+    step_right kinds.Overflow same ro k place start (Overflow call) old at asks handed waiter h =
         let finds = overflow_finds c in
         overflow_right ro k place start call old at (λ some. ap (λ n. finding_none n c) same ∙ finds.0 some)
         (λ none. ap (λ n. finding_none n c) same ∙ finds.1 none) asks handed waiter h
-    step_right kinds.TheVariants.Queue same ro k place start (Overflow call) old at asks handed waiter h = absurd at
+    step_right kinds.Queue same ro k place start (Overflow call) old at asks handed waiter h = absurd at
     step_right kd same ro k place start (Length which call) old at asks handed waiter h = tt
 
 -- ---- every turn
 
 -- the party whose push waits is the one whose call it is
 waiter_is : {T : Type 0} (roles : Roles) (words : List ℕ) (latest : List (ℕ × Party T)) (p : ℕ) (flight : QueueFlight T)
-    → flight_of (doing_of (party_of p latest)) ≡ Some (flights.TheVariants.Queues flight) → (q w : ℕ)
+    → flight_of (doing_of (party_of p latest)) ≡ Some (flights.Queues flight) → (q w : ℕ)
     → beside roles words latest p ≡ Some (q, w) → q ≡ p
-    → pending_at (get_or words 1 0) (Some (flights.TheVariants.Queues flight)) ≡ Some w
+    → pending_at (get_or words 1 0) (Some (flights.Queues flight)) ≡ Some w
 waiter_is x0 x1 x2 x3 x4 x5 x6 x7 x8 x9 = grind arith
 
 module _ {T : Type 0} (en : Coding T) (law : IsCoding en) (kd : QueueKind) (c : ℕ) (t : Trace T) (s : frame.Sound (family en kd c) t) where
   pub writes : (p : ℕ) (x : Party T) (since : ℕ) → t.world.turns < 2 ^ 64 - 2 → (start : Start T) (flight : Flight T)
       → StandsThere (family en kd c) t s p x since start flight
       → Writes (outline kd) t (Next p)
-      (step_from t p t.world.coding (layout s.state.roles s.state.core) (registries.TheVariants.Queues s.state.roles) start flight)
-  writes p x since small (Queues start) (flights.TheVariants.Queues flight) here =
+      (step_from t p t.world.coding (layout s.state.roles s.state.core) (registries.Queues s.state.roles) start flight)
+  writes p x since small (Queues start) (flights.Queues flight) here =
       let scene = scene_of en law kd c t s p x since in
       let words = layout s.state.roles s.state.core in
       let moves =

@@ -10,7 +10,7 @@ use Rattle.steps.specs.declared.queues.overflow.PopStage as overflow_pops
 use Rattle.model.specs.declared.families.queues.calls.RingCall as rings
 use Rattle.model.specs.declared.families.queues.calls.OverflowCall as overflows
 use Rattle.model.specs.declared.families.queues.calls.QueueFlight.TheVariants.{Overflow}
-use Rattle.model.specs.declared.families.queues.QueueKind as kinds
+use Rattle.model.specs.declared.families.queues.QueueKind.TheVariants as kinds
 use Rattle.laws_queues.proofs.Queues.Core.{Core}
 use Rattle.laws_queues.proofs.Queues.Values.{Val}
 use Rattle.laws_queues.proofs.Ring.Knows.{KnowsPush, KnowsPop}
@@ -32,15 +32,15 @@ pub record OverflowKeeps (T : Type 0) (c : ℕ) (ro : Roles) (k k' : Core ℕ) (
 
 -- what the pushes and pops of the kind keep
 abbrev pub Keeps : {T : Type 0} → Coding T → (kd : QueueKind) → ℕ → Roles → Core (Val T kd) → Core (Val T kd) → ℕ → Type 0
-Keeps en kinds.TheVariants.IndexQueue c ro k k' q = RingKeeps one_word c ro k k' q
-Keeps {T = T} en kinds.TheVariants.Overflow c ro k k' q = OverflowKeeps T c ro k k' q
-Keeps en kinds.TheVariants.Queue c ro k k' q = RingKeeps en c ro k k' q
+Keeps en kinds.IndexQueue c ro k k' q = RingKeeps one_word c ro k k' q
+Keeps {T = T} en kinds.Overflow c ro k k' q = OverflowKeeps T c ro k k' q
+Keeps en kinds.Queue c ro k k' q = RingKeeps en c ro k k' q
 
 -- where the queue stays
 pub keeps_same : {T : Type 0} → (en : Coding T) (kd : QueueKind) (c : ℕ) (ro : Roles) (k : Core (Val T kd)) (q : ℕ) → Keeps en kd c ro k k q
-keeps_same en kinds.TheVariants.IndexQueue c ro k q = record { push = λ mine v stage h. h; pop = λ mine room stage h. h }
-keeps_same en kinds.TheVariants.Overflow c ro k q = record { push = λ mine v stage h. (h, refl); pop = λ mine room stage h. h }
-keeps_same en kinds.TheVariants.Queue c ro k q = record { push = λ mine v stage h. h; pop = λ mine room stage h. h }
+keeps_same en kinds.IndexQueue c ro k q = record { push = λ mine v stage h. h; pop = λ mine room stage h. h }
+keeps_same en kinds.Overflow c ro k q = record { push = λ mine v stage h. (h, refl); pop = λ mine room stage h. h }
+keeps_same en kinds.Queue c ro k q = record { push = λ mine v stage h. h; pop = λ mine room stage h. h }
 
 module _ (ro ro' : Roles) (q : ℕ) (producer : ro.producer ≡ Some q → ro'.producer ≡ Some q) (consumer : ro.consumer ≡ Some q → ro'.consumer ≡ Some q) where
   role_kept : {T : Type 0} → (start : QueueStart T) (call : RoleCall) → RoleAt ro q start call → RoleAt ro' q start call
@@ -48,11 +48,11 @@ module _ (ro ro' : Roles) (q : ℕ) (producer : ro.producer ≡ Some q → ro'.p
 
   module _ {T : Type 0} (en : Coding T) (c : ℕ) where
     index_kept : (k k' : Core ℕ) → RingKeeps one_word c ro k k' q → (start : QueueStart T) (call : rings.RingCall ℕ OneWord)
-        → IndexAt kinds.TheVariants.IndexQueue c ro k q start call → IndexAt kinds.TheVariants.IndexQueue c ro' k' q start call
+        → IndexAt kinds.IndexQueue c ro k q start call → IndexAt kinds.IndexQueue c ro' k' q start call
     index_kept x0 x1 x2 x3 x4 x5 = grind arith
 
     value_kept : (k k' : Core T) → RingKeeps en c ro k k' q → (start : QueueStart T) (call : rings.RingCall T (Buffer 128))
-        → ValueAt en kinds.TheVariants.Queue c ro k q start call → ValueAt en kinds.TheVariants.Queue c ro' k' q start call
+        → ValueAt en kinds.Queue c ro k q start call → ValueAt en kinds.Queue c ro' k' q start call
     value_kept x0 x1 x2 x3 x4 x5 = grind arith
 
     overflow_kept : (k k' : Core ℕ) → OverflowKeeps T c ro k k' q → (start : QueueStart T) (call : overflows.OverflowCall) → OverflowAt c ro k q start call
@@ -66,13 +66,13 @@ module _ (ro ro' : Roles) (q : ℕ) (producer : ro.producer ≡ Some q → ro'.p
     pub kept : (kd : QueueKind) (k k' : Core (Val T kd)) → Keeps en kd c ro k k' q
         → (start : QueueStart T) (flight : QueueFlight T) → KeptAt kd k k' start flight
     kept kd k k' keeps start (Role call) h = (role_kept start call h, refl)
-    kept kinds.TheVariants.IndexQueue k k' keeps start (Indices call) h = (index_kept k k' keeps start call h, refl)
-    kept kinds.TheVariants.Overflow k k' keeps start (Indices call) h = absurd h
-    kept kinds.TheVariants.Queue k k' keeps start (Indices call) h = absurd h
-    kept kinds.TheVariants.IndexQueue k k' keeps start (Values call) h = absurd h
-    kept kinds.TheVariants.Overflow k k' keeps start (Values call) h = absurd h
-    kept kinds.TheVariants.Queue k k' keeps start (Values call) h = (value_kept k k' keeps start call h, refl)
-    kept kinds.TheVariants.IndexQueue k k' keeps start (Overflow call) h = absurd h
-    kept kinds.TheVariants.Overflow k k' keeps start (Overflow call) h = overflow_kept k k' keeps start call h
-    kept kinds.TheVariants.Queue k k' keeps start (Overflow call) h = absurd h
+    kept kinds.IndexQueue k k' keeps start (Indices call) h = (index_kept k k' keeps start call h, refl)
+    kept kinds.Overflow k k' keeps start (Indices call) h = absurd h
+    kept kinds.Queue k k' keeps start (Indices call) h = absurd h
+    kept kinds.IndexQueue k k' keeps start (Values call) h = absurd h
+    kept kinds.Overflow k k' keeps start (Values call) h = absurd h
+    kept kinds.Queue k k' keeps start (Values call) h = (value_kept k k' keeps start call h, refl)
+    kept kinds.IndexQueue k k' keeps start (Overflow call) h = absurd h
+    kept kinds.Overflow k k' keeps start (Overflow call) h = overflow_kept k k' keeps start call h
+    kept kinds.Queue k k' keeps start (Overflow call) h = absurd h
     kept kd k k' keeps start (Length which call) h = (h, refl)

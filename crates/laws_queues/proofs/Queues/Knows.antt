@@ -6,13 +6,14 @@ use Rattle.laws_queues.proofs.Names.{OneWord, QueueStart, AcquireProducer, Relea
 use Rattle.laws_queues.proofs.Names.{ReleaseConsumer, PushIndex, Push, Pop, IsEmpty, IsFull, Event, Roles, QueueKind}
 use Rattle.laws_queues.proofs.Names.{Coding, one_word, waiting, BeginsNone, HeldSometime, held_later, Flight}
 use Rattle.std.proofs.Common.{arith}
-use Rattle.steps.specs.declared.queues.lengths.LenStage as lens
+use Rattle.steps.specs.declared.queues.lengths.LenStage.TheVariants as lens
 use Rattle.model.specs.declared.families.queues.calls.RingCall as rings
-use Rattle.model.specs.declared.families.queues.calls.OverflowCall as overflows
-use Rattle.model.specs.declared.families.queues.calls.LengthOf as measures
+use Rattle.model.specs.declared.families.queues.calls.OverflowCall.{OverflowCall}
+use Rattle.model.specs.declared.families.queues.calls.OverflowCall.TheVariants as overflows
+use Rattle.model.specs.declared.families.queues.calls.LengthOf.TheVariants as measures
 use Rattle.model.specs.declared.families.queues.calls.QueueFlight.TheVariants.{Overflow}
-use Rattle.model.specs.declared.families.queues.QueueStart as starts
-use Rattle.model.specs.declared.families.queues.QueueKind as kinds
+use Rattle.model.specs.declared.families.queues.QueueStart.TheVariants as starts
+use Rattle.model.specs.declared.families.queues.QueueKind.TheVariants as kinds
 use Rattle.laws_queues.proofs.Queues.Core.{Core}
 use Rattle.laws_queues.proofs.Queues.Core.{GoesUp}
 use Rattle.laws_queues.proofs.Queues.Values.{Val, item}
@@ -35,10 +36,10 @@ len_at c stage = record { call = record { capacity = c; stage = stage }; given =
 
 -- How many steps the call has taken at most, having turned back so often. Which of a length call's loads turned it back is not kept.
 abbrev pub len_number : LenStage → ℕ
-len_number lens.TheVariants.LoadsWrite = 0
-len_number (lens.TheVariants.LoadsRead write) = 1
-len_number (lens.TheVariants.LoadsWriteAgain write read) = 2
-len_number (lens.TheVariants.LoadsReadAgain write read) = 3
+len_number lens.LoadsWrite = 0
+len_number (lens.LoadsRead write) = 1
+len_number (lens.LoadsWriteAgain write read) = 2
+len_number (lens.LoadsReadAgain write read) = 3
 
 -- the words in a room
 abbrev pub in_one : OneWord → List ℕ
@@ -51,8 +52,8 @@ abbrev pub number_of : {T : Type 0} → Coding T → QueueFlight T → ℕ → �
 number_of en (Role call) backs = 0
 number_of en (Indices call) backs = ring_number one_word in_one call
 number_of en (Values call) backs = ring_number en in_cell call
-number_of en (Overflow (overflows.TheVariants.Push run)) backs = overflow_push_number run.call.stage
-number_of en (Overflow (overflows.TheVariants.Pop run)) backs = 2 * backs + overflow_pop_number run.call.stage
+number_of en (Overflow (overflows.Push run)) backs = overflow_push_number run.call.stage
+number_of en (Overflow (overflows.Pop run)) backs = 2 * backs + overflow_pop_number run.call.stage
 number_of en (Length which run) backs = 4 * backs + len_number run.call.stage
 
 -- Of a length call: the positions that it loaded are not above those of now. Each turn back is paid by a change since
@@ -63,17 +64,17 @@ IsPaid k since changes backs write read =
 
 -- more values than the capacity wait only while the push of the newest has published and not acted
 abbrev pub Hangs : (T : Type 0) (kd : QueueKind) → ℕ → Core (Val T kd) → Option (ℕ × ℕ) → Type 0
-Hangs T kinds.TheVariants.IndexQueue c k push = Unit {0}
-Hangs T kinds.TheVariants.Overflow c k None = length k.waiting ≤ c
-Hangs T kinds.TheVariants.Overflow c k (Some push) = (0 < c) × (others : List ℕ) × (k.waiting ≡ others ++ push.1 ∷ []) × (length others ≡ c)
-Hangs T kinds.TheVariants.Queue c k push = Unit {0}
+Hangs T kinds.IndexQueue c k push = Unit {0}
+Hangs T kinds.Overflow c k None = length k.waiting ≤ c
+Hangs T kinds.Overflow c k (Some push) = (0 < c) × (others : List ℕ) × (k.waiting ≡ others ++ push.1 ∷ []) × (length others ≡ c)
+Hangs T kinds.Queue c k push = Unit {0}
 
 module _ {T : Type 0} where
   -- the list that the calls answer as
   abbrev pub listed : (kd : QueueKind) → ℕ → List (Val T kd) → List (Item T)
-  listed kinds.TheVariants.IndexQueue c xs = map (item kinds.TheVariants.IndexQueue) xs
-  listed kinds.TheVariants.Overflow c xs = map (item kinds.TheVariants.Overflow) (take c xs)
-  listed kinds.TheVariants.Queue c xs = map (item kinds.TheVariants.Queue) xs
+  listed kinds.IndexQueue c xs = map (item kinds.IndexQueue) xs
+  listed kinds.Overflow c xs = map (item kinds.Overflow) (take c xs)
+  listed kinds.Queue c xs = map (item kinds.Queue) xs
 
   -- ---- what a call under way has written since its begin
 
@@ -81,8 +82,8 @@ module _ {T : Type 0} where
   has_written c k p (Role call) = []
   has_written c k p (Indices call) = []
   has_written c k p (Values call) = []
-  has_written c k p (Overflow (overflows.TheVariants.Push run)) = overflow_wrote c k p run.given run.call.stage
-  has_written c k p (Overflow (overflows.TheVariants.Pop call)) = []
+  has_written c k p (Overflow (overflows.Push run)) = overflow_wrote c k p run.given run.call.stage
+  has_written c k p (Overflow (overflows.Pop call)) = []
   has_written c k p (Length which call) = []
 
   -- ---- what a length call knows
@@ -93,12 +94,12 @@ module _ {T : Type 0} where
 
   -- while the write position has not moved, the load of the read position was such a moment
   abbrev pub KnowsLen : {V : Type 0} → ℕ → Core V → ℕ → List (Event T) → ℕ → ℕ → ℕ → LenStage → Type 0
-  KnowsLen c k p events since changes backs lens.TheVariants.LoadsWrite = backs + since ≤ changes
-  KnowsLen c k p events since changes backs (lens.TheVariants.LoadsRead write) =
+  KnowsLen c k p events since changes backs lens.LoadsWrite = backs + since ≤ changes
+  KnowsLen c k p events since changes backs (lens.LoadsRead write) =
       IsPaid k since changes backs write k.read
-  KnowsLen c k p events since changes backs (lens.TheVariants.LoadsWriteAgain write read) =
+  KnowsLen c k p events since changes backs (lens.LoadsWriteAgain write read) =
       IsPaid k since changes backs write read × (write ≡ k.write → Waited c p events write read)
-  KnowsLen c k p events since changes backs (lens.TheVariants.LoadsReadAgain write read) =
+  KnowsLen c k p events since changes backs (lens.LoadsReadAgain write read) =
       IsPaid k since changes backs write read × Waited c p events write read
 
   -- what a call under way knows of the events and the counts: one without a loop has not turned back
@@ -106,8 +107,8 @@ module _ {T : Type 0} where
   KnowsFlight c k p events since changes backs (Role call) = backs ≡ 0
   KnowsFlight c k p events since changes backs (Indices call) = backs ≡ 0
   KnowsFlight c k p events since changes backs (Values call) = backs ≡ 0
-  KnowsFlight c k p events since changes backs (Overflow (overflows.TheVariants.Push call)) = backs ≡ 0
-  KnowsFlight c k p events since changes backs (Overflow (overflows.TheVariants.Pop run)) =
+  KnowsFlight c k p events since changes backs (Overflow (overflows.Push call)) = backs ≡ 0
+  KnowsFlight c k p events since changes backs (Overflow (overflows.Pop run)) =
       KnowsBacks k since changes backs run.call.stage
   KnowsFlight c k p events since changes backs (Length which run) =
       KnowsLen c k p events since changes backs run.call.stage
@@ -145,30 +146,30 @@ module _ {T : Type 0} where
   RoleAt ro p start call = ⊥
 
   abbrev pub LengthAt : ℕ → QueueStart T → LengthOf → ℕ → Type 0
-  LengthAt c starts.TheVariants.Len measures.TheVariants.Len capacity = capacity ≡ c
-  LengthAt c IsEmpty measures.TheVariants.IsEmpty capacity = capacity ≡ c
-  LengthAt c IsFull measures.TheVariants.IsFull capacity = capacity ≡ c
+  LengthAt c starts.Len measures.Len capacity = capacity ≡ c
+  LengthAt c IsEmpty measures.IsEmpty capacity = capacity ≡ c
+  LengthAt c IsFull measures.IsFull capacity = capacity ≡ c
   LengthAt c start which capacity = ⊥
 
   -- each kind has its own pushes and pops
   abbrev pub IndexAt : (kd : QueueKind) → ℕ → Roles → Core (Val T kd) → ℕ → QueueStart T → rings.RingCall ℕ OneWord → Type 0
-  IndexAt kinds.TheVariants.IndexQueue c ro k p (PushIndex v) call = PushAt one_word in_one c ro k p v call
-  IndexAt kinds.TheVariants.IndexQueue c ro k p Pop call = PopAt one_word in_one c ro k p call
-  IndexAt kinds.TheVariants.IndexQueue c ro k p start call = ⊥
-  IndexAt kinds.TheVariants.Overflow c ro k p start call = ⊥
-  IndexAt kinds.TheVariants.Queue c ro k p start call = ⊥
+  IndexAt kinds.IndexQueue c ro k p (PushIndex v) call = PushAt one_word in_one c ro k p v call
+  IndexAt kinds.IndexQueue c ro k p Pop call = PopAt one_word in_one c ro k p call
+  IndexAt kinds.IndexQueue c ro k p start call = ⊥
+  IndexAt kinds.Overflow c ro k p start call = ⊥
+  IndexAt kinds.Queue c ro k p start call = ⊥
 
   abbrev pub ValueAt : Coding T → (kd : QueueKind) → ℕ → Roles → Core (Val T kd) → ℕ → QueueStart T → rings.RingCall T (Buffer 128) → Type 0
-  ValueAt en kinds.TheVariants.IndexQueue c ro k p start call = ⊥
-  ValueAt en kinds.TheVariants.Overflow c ro k p start call = ⊥
-  ValueAt en kinds.TheVariants.Queue c ro k p (Push v) call = PushAt en in_cell c ro k p v call
-  ValueAt en kinds.TheVariants.Queue c ro k p Pop call = PopAt en in_cell c ro k p call
-  ValueAt en kinds.TheVariants.Queue c ro k p start call = ⊥
+  ValueAt en kinds.IndexQueue c ro k p start call = ⊥
+  ValueAt en kinds.Overflow c ro k p start call = ⊥
+  ValueAt en kinds.Queue c ro k p (Push v) call = PushAt en in_cell c ro k p v call
+  ValueAt en kinds.Queue c ro k p Pop call = PopAt en in_cell c ro k p call
+  ValueAt en kinds.Queue c ro k p start call = ⊥
 
-  abbrev pub OverAt : (kd : QueueKind) → ℕ → Roles → Core (Val T kd) → ℕ → QueueStart T → overflows.OverflowCall → Type 0
-  OverAt kinds.TheVariants.IndexQueue c ro k p start call = ⊥
-  OverAt kinds.TheVariants.Overflow c ro k p start call = OverflowAt c ro k p start call
-  OverAt kinds.TheVariants.Queue c ro k p start call = ⊥
+  abbrev pub OverAt : (kd : QueueKind) → ℕ → Roles → Core (Val T kd) → ℕ → QueueStart T → OverflowCall → Type 0
+  OverAt kinds.IndexQueue c ro k p start call = ⊥
+  OverAt kinds.Overflow c ro k p start call = OverflowAt c ro k p start call
+  OverAt kinds.Queue c ro k p start call = ⊥
 
   abbrev pub At : Coding T → (kd : QueueKind) → ℕ → Roles → Core (Val T kd) → ℕ → QueueStart T → QueueFlight T → Type 0
   At en kd c ro k p start (Role call) = RoleAt ro p start call

@@ -8,9 +8,9 @@ use Rattle.laws_queues.proofs.Names.{length_answer, TellsLength, cells_of, publi
 use Rattle.laws_queues.proofs.Names.{producer_after, consumer_after, GrantsRight, Wrote, pending, as_call, old_of}
 use Rattle.laws_queues.proofs.Names.{held_now, held_so, load_of_write, load_of_read}
 use Rattle.std.proofs.Common.{arith}
-use Rattle.steps.specs.declared.queues.lengths.LenStage as lens
-use Rattle.model.specs.declared.families.queues.calls.LengthOf as measures
-use Rattle.model.specs.declared.families.queues.QueueStart as starts
+use Rattle.steps.specs.declared.queues.lengths.LenStage.TheVariants as lens
+use Rattle.model.specs.declared.families.queues.calls.LengthOf.TheVariants as measures
+use Rattle.model.specs.declared.families.queues.QueueStart.TheVariants as starts
 use Rattle.laws_queues.proofs.Queues.Invariant.{Scene, Inv}
 use Rattle.laws_queues.proofs.Queues.Core.{Core, Good}
 use Rattle.laws_queues.proofs.Queues.Knows.{layout, len_at, Hangs, Waited, KnowsLen, len_number, At}
@@ -70,33 +70,33 @@ module _ {T : Type 0} (en : Coding T) (kd : QueueKind) (scene : Scene T kd) (inv
         (after en (call_at which c stage) (old_of (layout ro k) (ask_of (want en (call_at which c stage)))))
         Quiet
 
-    loads_write : steps ≤ 4 * backs + 0 → KnowsLen c k p events since changes backs lens.TheVariants.LoadsWrite → StaysAt lens.TheVariants.LoadsWrite
+    loads_write : steps ≤ 4 * backs + 0 → KnowsLen c k p events since changes backs lens.LoadsWrite → StaysAt lens.LoadsWrite
     loads_write s h =
-        quiet en kd scene inv small before false start (Some load_of_write) (call_at which c (lens.TheVariants.LoadsRead k.write)) k refl refl refl refl g refl
-        (record { span = refl; steps = omega arith; at = at (lens.TheVariants.LoadsRead k.write) })
+        quiet en kd scene inv small before false start (Some load_of_write) (call_at which c (lens.LoadsRead k.write)) k refl refl refl refl g refl
+        (record { span = refl; steps = omega arith; at = at (lens.LoadsRead k.write) })
         (omega arith, omega arith, omega arith)
         (λ q ne st f h. (h, refl))
 
     loads_read : (write : ℕ) → steps ≤ 4 * backs + 1
-        → KnowsLen c k p events since changes backs (lens.TheVariants.LoadsRead write)
-        → StaysAt (lens.TheVariants.LoadsRead write)
+        → KnowsLen c k p events since changes backs (lens.LoadsRead write)
+        → StaysAt (lens.LoadsRead write)
     loads_read write s h =
         let low = h.0 in
         let paid = h.2 in
         quiet en kd scene inv small before false start (Some load_of_read)
-        (call_at which c (lens.TheVariants.LoadsWriteAgain write k.read)) k refl refl refl refl g refl
-        (record { span = refl; steps = omega arith; at = at (lens.TheVariants.LoadsWriteAgain write k.read) })
+        (call_at which c (lens.LoadsWriteAgain write k.read)) k refl refl refl refl g refl
+        (record { span = refl; steps = omega arith; at = at (lens.LoadsWriteAgain write k.read) })
         ((omega arith, omega arith, omega arith), λ same. rw same waits_now)
         (λ q ne st f h. (h, refl))
 
     loads_write_again : (write read : ℕ) → steps ≤ 4 * backs + 2
-        → KnowsLen c k p events since changes backs (lens.TheVariants.LoadsWriteAgain write read)
-        → StaysAt (lens.TheVariants.LoadsWriteAgain write read)
+        → KnowsLen c k p events since changes backs (lens.LoadsWriteAgain write read)
+        → StaysAt (lens.LoadsWriteAgain write read)
     loads_write_again write read s h = go (k.write == write) refl
       where
         go : (b : Bool) → (k.write == write) ≡ b
             → Stays en kd scene start (Some load_of_write) (not b)
-            (goes_on (cond b (GoOn (record { capacity = c; stage = lens.TheVariants.LoadsReadAgain write read })) (GoOn (first_len c))))
+            (goes_on (cond b (GoOn (record { capacity = c; stage = lens.LoadsReadAgain write read })) (GoOn (first_len c))))
             Quiet
         go true e =
             let low = h.0.0 in
@@ -104,8 +104,8 @@ module _ {T : Type 0} (en : Coding T) (kd : QueueKind) (scene : Scene T kd) (inv
             let paid = h.0.2 in
             let same : write ≡ k.write = grind (arith, nat_tests) in
             quiet en kd scene inv small before false start (Some load_of_write)
-            (call_at which c (lens.TheVariants.LoadsReadAgain write read)) k refl refl refl refl g refl
-            (record { span = refl; steps = omega arith; at = at (lens.TheVariants.LoadsReadAgain write read) })
+            (call_at which c (lens.LoadsReadAgain write read)) k refl refl refl refl g refl
+            (record { span = refl; steps = omega arith; at = at (lens.LoadsReadAgain write read) })
             ((omega arith, omega arith, omega arith), h.1 same)
             (λ q ne st f h. (h, refl))
         go false e =
@@ -113,14 +113,14 @@ module _ {T : Type 0} (en : Coding T) (kd : QueueKind) (scene : Scene T kd) (inv
             let early = h.0.1 in
             let paid = h.0.2 in
             let moved : k.write ≢ write = grind (arith, nat_tests) in
-            quiet en kd scene inv small before true start (Some load_of_write) (call_at which c lens.TheVariants.LoadsWrite) k refl refl refl refl g refl
-            (record { span = refl; steps = omega arith; at = at lens.TheVariants.LoadsWrite })
+            quiet en kd scene inv small before true start (Some load_of_write) (call_at which c lens.LoadsWrite) k refl refl refl refl g refl
+            (record { span = refl; steps = omega arith; at = at lens.LoadsWrite })
             (omega arith)
             (λ q ne st f h. (h, refl))
 
     loads_read_again : (write read : ℕ) → steps ≤ 4 * backs + 3
-        → KnowsLen c k p events since changes backs (lens.TheVariants.LoadsReadAgain write read)
-        → StaysAt (lens.TheVariants.LoadsReadAgain write read)
+        → KnowsLen c k p events since changes backs (lens.LoadsReadAgain write read)
+        → StaysAt (lens.LoadsReadAgain write read)
     loads_read_again write read s h = go (k.read == read) refl
       where
         go : (b : Bool) → (k.read == read) ≡ b
@@ -150,25 +150,25 @@ module _ {T : Type 0} (en : Coding T) (kd : QueueKind) (scene : Scene T kd) (inv
             let early = h.0.1 in
             let paid = h.0.2 in
             let moved : k.read ≢ read = grind (arith, nat_tests) in
-            quiet en kd scene inv small before true start (Some load_of_read) (call_at which c lens.TheVariants.LoadsWrite) k refl refl refl refl g refl
-            (record { span = refl; steps = omega arith; at = at lens.TheVariants.LoadsWrite })
+            quiet en kd scene inv small before true start (Some load_of_read) (call_at which c lens.LoadsWrite) k refl refl refl refl g refl
+            (record { span = refl; steps = omega arith; at = at lens.LoadsWrite })
             (omega arith)
             (λ q ne st f h. (h, refl))
 
     length_step : (stage : LenStage) → steps ≤ 4 * backs + len_number stage → KnowsLen c k p events since changes backs stage → StaysAt stage
-    length_step lens.TheVariants.LoadsWrite s h = loads_write s h
-    length_step (lens.TheVariants.LoadsRead write) s h = loads_read write s h
-    length_step (lens.TheVariants.LoadsWriteAgain write read) s h = loads_write_again write read s h
-    length_step (lens.TheVariants.LoadsReadAgain write read) s h = loads_read_again write read s h
+    length_step lens.LoadsWrite s h = loads_write s h
+    length_step (lens.LoadsRead write) s h = loads_read write s h
+    length_step (lens.LoadsWriteAgain write read) s h = loads_write_again write read s h
+    length_step (lens.LoadsReadAgain write read) s h = loads_read_again write read s h
 
   pub len_step : (stage : LenStage) → steps ≤ 4 * backs + len_number stage → KnowsLen c k p events since changes backs stage
-      → StepOf en kd scene starts.TheVariants.Len (call_at measures.TheVariants.Len c stage)
+      → StepOf en kd scene starts.Len (call_at measures.Len c stage)
   len_step = grind (arith, length_step, published, handed_out, held_so, length, waiting)
 
   pub is_empty_step : (stage : LenStage) → steps ≤ 4 * backs + len_number stage → KnowsLen c k p events since changes backs stage
-      → StepOf en kd scene starts.TheVariants.IsEmpty (call_at measures.TheVariants.IsEmpty c stage)
+      → StepOf en kd scene starts.IsEmpty (call_at measures.IsEmpty c stage)
   is_empty_step = grind (arith, length_step, published, handed_out, held_so, length, waiting)
 
   pub is_full_step : (stage : LenStage) → steps ≤ 4 * backs + len_number stage → KnowsLen c k p events since changes backs stage
-      → StepOf en kd scene starts.TheVariants.IsFull (call_at measures.TheVariants.IsFull c stage)
+      → StepOf en kd scene starts.IsFull (call_at measures.IsFull c stage)
   is_full_step = grind (arith, length_step, published, handed_out, held_so, length, waiting)

@@ -3,7 +3,7 @@ use Rattle.laws_queues.proofs.Names.{◌≡◌, ◌≢◌, ℕ, ◌≤◌, ⊎_e
 use Rattle.laws_queues.proofs.Names.{sym, ap, subst, ◌∙◌, cases_eq, Party, QueueKind, Coding, cells_of, pending_at}
 use Rattle.laws_queues.proofs.Names.{pending, party_of, put, doing_of, flight_of}
 use Rattle.std.proofs.Common.{arith}
-use Rattle.model.specs.declared.families.queues.QueueKind as kinds
+use Rattle.model.specs.declared.families.queues.QueueKind.TheVariants as kinds
 use Rattle.model.proofs.Parties.{party_put_same, party_put_other}
 use Rattle.laws_queues.proofs.Queues.Core.{Core, Good}
 use Rattle.laws_queues.proofs.Queues.Knows.{Hangs}
@@ -41,11 +41,11 @@ module _ {T : Type 0} where
 
 pub hangs_same : (T : Type 0) (kd : QueueKind) (c : ℕ) (k k' : Core (Val T kd)) (o o' : Option (ℕ × ℕ))
     → k'.waiting ≡ k.waiting → o' ≡ o → Hangs T kd c k o → Hangs T kd c k' o'
-hangs_same T kinds.TheVariants.IndexQueue c k k' o o' same e h = tt
-hangs_same T kinds.TheVariants.Queue c k k' o o' same e h = tt
-hangs_same T kinds.TheVariants.Overflow c k k' o o' same e h = subst (Hangs T kinds.TheVariants.Overflow c k') (sym e) (go o h)
+hangs_same T kinds.IndexQueue c k k' o o' same e h = tt
+hangs_same T kinds.Queue c k k' o o' same e h = tt
+hangs_same T kinds.Overflow c k k' o o' same e h = subst (Hangs T kinds.Overflow c k') (sym e) (go o h)
   where
-    go : (o : Option (ℕ × ℕ)) → Hangs T kinds.TheVariants.Overflow c k o → Hangs T kinds.TheVariants.Overflow c k' o
+    go : (o : Option (ℕ × ℕ)) → Hangs T kinds.Overflow c k o → Hangs T kinds.Overflow c k' o
     go None h = rw same h
     go (Some push) h = (h.0, h.1, same ∙ h.2, h.3)
 
@@ -53,22 +53,22 @@ hangs_same T kinds.TheVariants.Overflow c k k' o o' same e h = subst (Hangs T ki
 pub few_wait : {T : Type 0} → (en : Coding T) (kd : QueueKind) (c : ℕ) (k : Core (Val T kd)) (o : Option (ℕ × ℕ))
     → o ≡ None → Good (encoded en kd).size (encoded en kd).words_of (cells_of kd c) k → Hangs T kd c k o
     → length k.waiting ≤ c
-few_wait {T = T} en kinds.TheVariants.IndexQueue c k o e g h = g.few
-few_wait {T = T} en kinds.TheVariants.Queue c k o e g h = g.few
-few_wait {T = T} en kinds.TheVariants.Overflow c k o e g h = subst (Hangs T kinds.TheVariants.Overflow c k) e h
+few_wait {T = T} en kinds.IndexQueue c k o e g h = g.few
+few_wait {T = T} en kinds.Queue c k o e g h = g.few
+few_wait {T = T} en kinds.Overflow c k o e g h = subst (Hangs T kinds.Overflow c k) e h
 
 pub none_hangs : (T : Type 0) (kd : QueueKind) (c : ℕ) (k : Core (Val T kd)) (o : Option (ℕ × ℕ)) → o ≡ None → length k.waiting ≤ c → Hangs T kd c k o
-none_hangs T kinds.TheVariants.IndexQueue c k o e few = tt
-none_hangs T kinds.TheVariants.Queue c k o e few = tt
-none_hangs T kinds.TheVariants.Overflow c k o e few = subst (Hangs T kinds.TheVariants.Overflow c k) (sym e) few
+none_hangs T kinds.IndexQueue c k o e few = tt
+none_hangs T kinds.Queue c k o e few = tt
+none_hangs T kinds.Overflow c k o e few = subst (Hangs T kinds.Overflow c k) (sym e) few
 
 -- without capacity nothing waits
 pub nothing_waits : {T : Type 0}
     → (en : Coding T) (kd : QueueKind) (c : ℕ) (k : Core (Val T kd)) (o : Option (ℕ × ℕ)) → c ≡ 0
     → Good (encoded en kd).size (encoded en kd).words_of (cells_of kd c) k → Hangs T kd c k o → length k.waiting ≡ 0
-nothing_waits {T = T} en kinds.TheVariants.IndexQueue c k o e g h = let few = g.few in omega arith
-nothing_waits {T = T} en kinds.TheVariants.Queue c k o e g h = let few = g.few in omega arith
-nothing_waits {T = T} en kinds.TheVariants.Overflow c k o e g h = go o h
+nothing_waits {T = T} en kinds.IndexQueue c k o e g h = let few = g.few in omega arith
+nothing_waits {T = T} en kinds.Queue c k o e g h = let few = g.few in omega arith
+nothing_waits {T = T} en kinds.Overflow c k o e g h = go o h
   where
-    go : (o : Option (ℕ × ℕ)) → Hangs T kinds.TheVariants.Overflow c k o → length k.waiting ≡ 0
+    go : (o : Option (ℕ × ℕ)) → Hangs T kinds.Overflow c k o → length k.waiting ≡ 0
     go x0 x1 = grind arith

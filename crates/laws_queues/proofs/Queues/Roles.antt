@@ -4,7 +4,7 @@ use Rattle.laws_queues.proofs.Names.{subst, sym, ◌∙◌, Ask, Store, Exchange
 use Rattle.laws_queues.proofs.Names.{AcquireConsumer, ReleaseConsumer, QueueKind, Coding, acquire_of, release_of}
 use Rattle.laws_queues.proofs.Names.{producer_word, consumer_word, pending}
 use Rattle.std.proofs.Common.{arith}
-use Rattle.model.specs.declared.event.Answer as answers
+use Rattle.model.specs.declared.event.Answer.TheVariants as answers
 use Rattle.laws_queues.proofs.Queues.Invariant.{Scene, Inv}
 use Rattle.laws_queues.proofs.Queues.Keeping.{clash, kept, keeps_same}
 use Rattle.laws_queues.proofs.Queues.Pending.{pending_here, few_wait, none_hangs}
@@ -33,7 +33,7 @@ module _ {T : Type 0} (en : Coding T) (kd : QueueKind) (scene : Scene T kd) (sma
     k,
     refl,
     ends en kd (with_roles scene None co) inv small (record { producer = Some scene.party; consumer = co }) false
-        AcquireProducer (answers.TheVariants.Truth true) (takes producer_word)
+        AcquireProducer (answers.Truth true) (takes producer_word)
         (record { moments = refl; published = refl; handed_out = refl })
         tt
         (rw inv.queue.producers refl)
@@ -48,7 +48,7 @@ module _ {T : Type 0} (en : Coding T) (kd : QueueKind) (scene : Scene T kd) (sma
     k,
     refl,
     ends en kd (with_roles scene (Some r) co) inv small (record { producer = Some r; consumer = co }) false
-        AcquireProducer (answers.TheVariants.Truth false) (takes producer_word)
+        AcquireProducer (answers.Truth false) (takes producer_word)
         (record { moments = refl; published = refl; handed_out = refl })
         tt
         (rw inv.queue.producers refl)
@@ -65,7 +65,7 @@ module _ {T : Type 0} (en : Coding T) (kd : QueueKind) (scene : Scene T kd) (sma
     k,
     refl,
     ends en kd (with_roles scene pr None) inv small (record { producer = pr; consumer = Some scene.party }) false
-        AcquireConsumer (answers.TheVariants.Truth true) (takes consumer_word)
+        AcquireConsumer (answers.Truth true) (takes consumer_word)
         (record { moments = refl; published = refl; handed_out = refl })
         tt
         (rw inv.queue.consumers refl)
@@ -79,7 +79,7 @@ module _ {T : Type 0} (en : Coding T) (kd : QueueKind) (scene : Scene T kd) (sma
     k,
     refl,
     ends en kd (with_roles scene pr (Some r)) inv small (record { producer = pr; consumer = Some r }) false
-        AcquireConsumer (answers.TheVariants.Truth false) (takes consumer_word)
+        AcquireConsumer (answers.Truth false) (takes consumer_word)
         (record { moments = refl; published = refl; handed_out = refl })
         tt
         (rw inv.queue.consumers refl)
@@ -96,7 +96,7 @@ module _ {T : Type 0} (en : Coding T) (kd : QueueKind) (scene : Scene T kd) (sma
     k,
     refl,
     ends en kd (with_roles scene pr co) inv small (record { producer = None; consumer = co }) false ReleaseProducer
-        answers.TheVariants.Done (gives producer_word)
+        answers.Done (gives producer_word)
         (record { moments = refl; published = refl; handed_out = refl })
         tt
         (refl, inv.queue.producers ∙ holds)
@@ -116,7 +116,7 @@ module _ {T : Type 0} (en : Coding T) (kd : QueueKind) (scene : Scene T kd) (sma
     k,
     refl,
     ends en kd (with_roles scene pr co) inv small (record { producer = pr; consumer = None }) false ReleaseConsumer
-        answers.TheVariants.Done (gives consumer_word)
+        answers.Done (gives consumer_word)
         (record { moments = refl; published = refl; handed_out = refl })
         tt
         (refl, inv.queue.consumers ∙ holds)

@@ -11,7 +11,7 @@ use Rattle.laws_queues.proofs.Names.{list_of, words_of_cell, IsKept, Turn, Next,
 use native.Mathlib.Nat.{mul-le-mul_left}
 use Rattle.std.proofs.Common.{arith}
 use Rattle.steps.specs.Queues.Ring.{cell_word}
-use Rattle.model.specs.declared.families.queues.QueueKind as kinds
+use Rattle.model.specs.declared.families.queues.QueueKind.TheVariants as kinds
 use Rattle.model.specs.Promises.Families.{promise_of}
 use Rattle.laws_queues.proofs.Queues.Core.{Core, Good, take_all, at_below, word_at}
 use Rattle.laws_queues.proofs.Queues.Knows.{free, layout, listed}
@@ -20,7 +20,7 @@ use Rattle.laws_queues.proofs.Queues.Invariant.{machine_kind, family, waiting_is
 use Rattle.laws_queues.proofs.Queues.Stages.{cell_place}
 use Rattle.laws_queues.proofs.Queues.Values.{Val, encoded, item}
 use Rattle.laws_queues.proofs.Ring.Pops.{same_words}
-use Rattle.model.specs.declared.families.Registry as registries
+use Rattle.model.specs.declared.families.Registry.TheVariants as registries
 use Rattle.model.proofs.FamilyLaws as laws
 use Rattle.model.proofs.FamilyLaws.{Opens, Turns, AllTurns, Owed, OwesAll}
 use Rattle.model.proofs.Orders.{Keeps}
@@ -32,8 +32,8 @@ use Rattle.laws_queues.proofs.Queues.Steps.{comes, begin_comes, no_question, few
 
 cell_size : {T : Type 0} → (en : Coding T) (kd : QueueKind) → words_of_cell en.size kd ≡ (encoded en kd).size
 cell_size en IndexQueue = refl
-cell_size en kinds.TheVariants.Overflow = refl
-cell_size en kinds.TheVariants.Queue = refl
+cell_size en kinds.Overflow = refl
+cell_size en kinds.Queue = refl
 
 module _ {T : Type 0} (en : Coding T) where
   -- ---- progress
@@ -48,9 +48,9 @@ module _ {T : Type 0} (en : Coding T) where
       → ((i : ℕ) → i < (encoded en kd).size → get_or words (cell + i) 0 ≡ get_or ((encoded en kd).words_of v) i 0) → item_at en kd words cell ≡ item kd v
   item_is law IndexQueue words cell v long held =
       (let same : cell + 0 ≡ cell = omega arith in ap Index (ap (λ n. get_or words n 0) (sym same) ∙ held 0 (omega arith)))
-  item_is law kinds.TheVariants.Overflow words cell v long held =
+  item_is law kinds.Overflow words cell v long held =
       (let same : cell + 0 ≡ cell = omega arith in ap Index (ap (λ n. get_or words n 0) (sym same) ∙ held 0 (omega arith)))
-  item_is law kinds.TheVariants.Queue words cell v long held =
+  item_is law kinds.Queue words cell v long held =
       let size = law.sized v in
       let behind = length-drop cell words in
       let same : take en.size (drop cell words) ≡ en.words_of v =
@@ -113,12 +113,12 @@ module _ {T : Type 0} (en : Coding T) where
       let few = g.few in
       let long : length (map {B = Item T} (item IndexQueue) k.waiting) ≡ length k.waiting = length-map k.waiting (item {T = T} IndexQueue) in
       sym (take_all c (map {B = Item T} (item IndexQueue) k.waiting) (omega arith))
-  listed_is kinds.TheVariants.Queue c k g =
+  listed_is kinds.Queue c k g =
       let few = g.few in
-      let long : length (map {B = Item T} (item kinds.TheVariants.Queue) k.waiting) ≡ length k.waiting =
-      length-map k.waiting (item {T = T} kinds.TheVariants.Queue) in
-      sym (take_all c (map {B = Item T} (item kinds.TheVariants.Queue) k.waiting) (omega arith))
-  listed_is kinds.TheVariants.Overflow c k g = sym (take-map (item {T = T} kinds.TheVariants.Overflow) c k.waiting)
+      let long : length (map {B = Item T} (item kinds.Queue) k.waiting) ≡ length k.waiting =
+      length-map k.waiting (item {T = T} kinds.Queue) in
+      sym (take_all c (map {B = Item T} (item kinds.Queue) k.waiting) (omega arith))
+  listed_is kinds.Overflow c k g = sym (take-map (item {T = T} kinds.Overflow) c k.waiting)
 
   -- ---- what is promised
 
@@ -177,8 +177,8 @@ admitted_fits x0 x1 x2 = grind arith
 module _ {T : Type 0} (en : Coding T) (law : IsCoding en) where
   empty : (kd : QueueKind) (c : ℕ) → (list_of {T = T} kd c).opening ≡ listed kd c []
   empty IndexQueue c = refl
-  empty kinds.TheVariants.Overflow c = sym (ap (map (item kinds.TheVariants.Overflow)) (take-nil {A = ℕ} c))
-  empty kinds.TheVariants.Queue c = refl
+  empty kinds.Overflow c = sym (ap (map (item kinds.Overflow)) (take-nil {A = ℕ} c))
+  empty kinds.Queue c = refl
 
   opens : (kd : QueueKind) (c : ℕ) → c < 2 ^ 32 → Opens (outline kd) en c
   opens kd c fits =
@@ -221,8 +221,8 @@ module _ {T : Type 0} (en : Coding T) (law : IsCoding en) where
   -- a call of a queue goes on as its table says
   told : (kd : QueueKind) (c : ℕ) (s : Queue (Val T kd)) (p : ℕ) (start : Start T) (flight : Flight T) → (family en kd c).At s p start flight
       → (z : Coding T) (words : List ℕ) (beside : Option (ℕ × ℕ)) (answer : ℕ)
-      → (step_of z words beside p start flight answer (registries.TheVariants.Queues s.roles)).after
-      ≡ goes_of z p flight answer (registries.TheVariants.Queues s.roles)
+      → (step_of z words beside p start flight answer (registries.Queues s.roles)).after
+      ≡ goes_of z p flight answer (registries.Queues s.roles)
   told x0 x1 x2 x3 x4 x5 x6 x7 x8 x9 x10 = grind arith
 
   turns : (kd : QueueKind) (c : ℕ) → Turns (outline kd) en c IsFreshTurn

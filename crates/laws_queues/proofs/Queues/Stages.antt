@@ -11,8 +11,8 @@ use Rattle.laws_queues.proofs.Names.{words_after, change_of, step_count, party_a
 use Rattle.std.proofs.Common.{arith}
 use native.Mathlib.Nat.{mul-le-mul_right}
 use Rattle.steps.specs.Queues.Ring.{cell_word}
-use Rattle.model.specs.declared.families.Flight as flights
-use Rattle.model.specs.declared.families.Registry as registries
+use Rattle.model.specs.declared.families.Flight.TheVariants as flights
+use Rattle.model.specs.declared.families.Registry.TheVariants as registries
 use Rattle.model.proofs.Frame as frame
 use Rattle.laws_queues.proofs.Queues.Core.{Core, Good, cell_within}
 use Rattle.laws_queues.proofs.Queues.Invariant.{Scene, Inv, ShowsQueue, Shows, family, owes, queue_part}
@@ -44,7 +44,7 @@ asked_place x0 x1 x2 x3 x4 x5 x6 x7 = grind (arith, cell_place, cell_within, mul
 module _ {T : Type 0} where
   -- a queue's call as one of any family
   abbrev pub any_call : After (QueueFlight T) (Answer T) → After (Flight T) (Answer T)
-  any_call after = as_call flights.TheVariants.Queues (λ answer. answer) after
+  any_call after = as_call flights.Queues (λ answer. answer) after
 
   -- the events of a step, the end of the call last
   abbrev pub told_after : ℕ → QueueStart T → Effect T → After (QueueFlight T) (Answer T) → List (Event T)
@@ -64,7 +64,7 @@ module _ {T : Type 0} (en : Coding T) (kd : QueueKind) (scene : Scene T kd) wher
   abbrev pub party_then : QueueStart T → Option Ask → Bool → After (QueueFlight T) (Answer T) → Party T
   party_then start ask back after =
       party_after (party start) scene.since scene.changes (step_count ask) (change_of words ask)
-      (record { after = any_call after; back = back; wrote = []; kept = registries.TheVariants.Queues ro })
+      (record { after = any_call after; back = back; wrote = []; kept = registries.Queues ro })
 
   -- how often words have changed then
   abbrev pub changes_then : Option Ask → ℕ
@@ -108,11 +108,11 @@ module _ {T : Type 0} (en : Coding T) (kd : QueueKind) (scene : Scene T kd) wher
     -- the call goes on, and the positions and what waits stay
     pub quiet :
         IsCalm k.read → (back : Bool) (start : QueueStart T) (ask : Option Ask) (flight : QueueFlight T) (k' : Core (Val T kd))
-        → pending_at k.read (Some (flights.TheVariants.Queues flight)) ≡ None → k'.waiting ≡ k.waiting
+        → pending_at k.read (Some (flights.Queues flight)) ≡ None → k'.waiting ≡ k.waiting
         → k'.write ≡ k.write → k'.read ≡ k.read
         → Good (encoded en kd).size (encoded en kd).words_of (cells_of kd c) k' → words_after words ask ≡ layout ro k'
         → frame.IsUnderWay (family en kd c) (record { roles = ro; core = k' }) p
-        (party_then start ask back (GoOn flight)) (flights.TheVariants.Queues flight) (Open (Queues start) [])
+        (party_then start ask back (GoOn flight)) (flights.Queues flight) (Open (Queues start) [])
         → KnowsFlight c k' p scene.events (scene.since + change_of words ask) (changes_then ask) (scene.backs + one_if back) flight
         → ((q : ℕ) → q ≢ p → (s : QueueStart T) (f : QueueFlight T) → At en kd c ro k q s f
         → At en kd c ro k' q s f × (has_written {T = T} c k' q f ≡ has_written c k q f))

@@ -13,14 +13,16 @@ use Rattle.laws_queues.proofs.Names.{party_at_begin, Next, Trace}
 use Rattle.laws_queues.proofs.Names.{row_passed, MayBegin, StandsThere, ComesFrom}
 use Rattle.std.proofs.Common.{arith}
 use Rattle.steps.specs.declared.copied.Buffer as cells
-use Rattle.model.specs.declared.families.Flight as flights
-use Rattle.model.specs.declared.families.Registry as registries
-use Rattle.model.specs.declared.families.queues.QueueStart as starts
-use Rattle.model.specs.declared.families.queues.calls.RingCall as rings
-use Rattle.model.specs.declared.families.queues.calls.OverflowCall as overflows
-use Rattle.model.specs.declared.families.queues.calls.LengthOf as measures
+use Rattle.model.specs.declared.families.Flight.TheVariants as flights
+use Rattle.model.specs.declared.families.Registry.TheVariants as registries
+use Rattle.model.specs.declared.families.queues.QueueStart.TheVariants as starts
+use Rattle.model.specs.declared.families.queues.calls.RingCall.{RingCall}
+use Rattle.model.specs.declared.families.queues.calls.RingCall.TheVariants as rings
+use Rattle.model.specs.declared.families.queues.calls.OverflowCall.{OverflowCall}
+use Rattle.model.specs.declared.families.queues.calls.OverflowCall.TheVariants as overflows
+use Rattle.model.specs.declared.families.queues.calls.LengthOf.TheVariants as measures
 use Rattle.model.specs.declared.families.queues.calls.QueueFlight.TheVariants.{Overflow}
-use Rattle.model.specs.declared.families.queues.QueueKind as kinds
+use Rattle.model.specs.declared.families.queues.QueueKind.TheVariants as kinds
 use Rattle.model.specs.declared.turn.Refusal.TheVariants.{NoRole}
 use Rattle.model.specs.Families.{begin_of}
 use Rattle.model.proofs.Frame as frame
@@ -63,27 +65,27 @@ module _ {T : Type 0} (en : Coding T) (kd : QueueKind) (scene : Scene T kd) (sma
       → scene.steps ≤ number_of en (Length which run) scene.backs
       → KnowsLen scene.capacity scene.core scene.party scene.events scene.since scene.changes scene.backs run.call.stage
       → IsCalm en kd scene scene.core.read → StepOf en kd scene start (Length which run)
-  length_step starts.TheVariants.Len measures.TheVariants.Len run at s b before =
-      subst (λ n. StepOf en kd scene starts.TheVariants.Len (Length measures.TheVariants.Len (len_at n run.call.stage)))
+  length_step starts.Len measures.Len run at s b before =
+      subst (λ n. StepOf en kd scene starts.Len (Length measures.Len (len_at n run.call.stage)))
       (sym at) (len_step en kd scene inv small before run.call.stage s b)
-  length_step IsEmpty measures.TheVariants.IsEmpty run at s b before =
-      subst (λ n. StepOf en kd scene IsEmpty (Length measures.TheVariants.IsEmpty (len_at n run.call.stage)))
+  length_step IsEmpty measures.IsEmpty run at s b before =
+      subst (λ n. StepOf en kd scene IsEmpty (Length measures.IsEmpty (len_at n run.call.stage)))
       (sym at) (is_empty_step en kd scene inv small before run.call.stage s b)
-  length_step IsFull measures.TheVariants.IsFull run at s b before =
-      subst (λ n. StepOf en kd scene IsFull (Length measures.TheVariants.IsFull (len_at n run.call.stage))) (sym at)
+  length_step IsFull measures.IsFull run at s b before =
+      subst (λ n. StepOf en kd scene IsFull (Length measures.IsFull (len_at n run.call.stage))) (sym at)
       (is_full_step en kd scene inv small before run.call.stage s b)
   length_step start which call at s b before = absurd at
 
-abbrev IsFreshRing : {V R : Type 0} → ℕ → rings.RingCall V R → Type 0
-IsFreshRing write (rings.TheVariants.Push run) = IsFresh write run.call.stage
-IsFreshRing write (rings.TheVariants.Pop run) = Unit {0}
+abbrev IsFreshRing : {V R : Type 0} → ℕ → RingCall V R → Type 0
+IsFreshRing write (rings.Push run) = IsFresh write run.call.stage
+IsFreshRing write (rings.Pop run) = Unit {0}
 
-fresh_ring : {T : Type 0} (en : Coding T) (write : ℕ) (r : Ring) (call : rings.RingCall (Val T (kind_of r)) (Room r))
+fresh_ring : {T : Type 0} (en : Coding T) (write : ℕ) (r : Ring) (call : RingCall (Val T (kind_of r)) (Room r))
     → IsFreshAt {T = T} write (ring.flight r call) → IsFreshRing write call
-fresh_ring en write of_indices (rings.TheVariants.Push run) h = h
-fresh_ring en write of_indices (rings.TheVariants.Pop run) h = tt
-fresh_ring en write of_values (rings.TheVariants.Push run) h = h
-fresh_ring en write of_values (rings.TheVariants.Pop run) h = tt
+fresh_ring en write of_indices (rings.Push run) h = h
+fresh_ring en write of_indices (rings.Pop run) h = tt
+fresh_ring en write of_values (rings.Push run) h = h
+fresh_ring en write of_values (rings.Pop run) h = tt
 
 -- a bounded queue of either kind
 module _ {T : Type 0} (en : Coding T) (law : IsCoding en) (r : Ring) (scene : Scene T (kind_of r))
@@ -92,72 +94,72 @@ module _ {T : Type 0} (en : Coding T) (law : IsCoding en) (r : Ring) (scene : Sc
   abbrev words : List ℕ
   words = layout scene.roles scene.core
 
-  abbrev RingStep : QueueStart T → rings.RingCall (Val T (kind_of r)) (Room r) → Type 0
+  abbrev RingStep : QueueStart T → RingCall (Val T (kind_of r)) (Room r) → Type 0
   RingStep start call =
       DoesStep en (kind_of r) scene [] start (ask_of (ring_want en r call)) false
       (ring_after en r call (old_of words (ask_of (ring_want en r call)))) (ring_effect en r call)
 
-  push_call : (v : Val T (kind_of r)) (call : rings.RingCall (Val T (kind_of r)) (Room r))
+  push_call : (v : Val T (kind_of r)) (call : RingCall (Val T (kind_of r)) (Room r))
       → PushAt (encoded en (kind_of r)) (words_in r) scene.capacity scene.roles scene.core scene.party v call
       → scene.steps ≤ ring_number (encoded en (kind_of r)) (words_in r) call → IsFreshRing scene.core.write call → RingStep (ring.push r v) call
-  push_call v (rings.TheVariants.Push run) at s fresh =
+  push_call v (rings.Push run) at s fresh =
       subst (λ n. RingStep (ring.push r v) (push_at n run.given run.call.stage)) (sym at.1)
       (subst (λ n. RingStep (ring.push r v) (push_at scene.capacity n run.call.stage)) (sym at.2)
       (push_step en r law scene inv small before v at.0 b run.call.stage fresh at.3 s))
-  push_call v (rings.TheVariants.Pop run) at s fresh = absurd at
+  push_call v (rings.Pop run) at s fresh = absurd at
 
-  pop_call : (call : rings.RingCall (Val T (kind_of r)) (Room r))
+  pop_call : (call : RingCall (Val T (kind_of r)) (Room r))
       → PopAt (encoded en (kind_of r)) (words_in r) scene.capacity scene.roles scene.core scene.party call
       → scene.steps ≤ ring_number (encoded en (kind_of r)) (words_in r) call → RingStep Pop call
-  pop_call (rings.TheVariants.Push run) at s = absurd at
-  pop_call (rings.TheVariants.Pop run) at s =
+  pop_call (rings.Push run) at s = absurd at
+  pop_call (rings.Pop run) at s =
       subst (λ n. RingStep Pop (pop_at n run.room run.call.stage)) (sym at.1) (pop_step en r law scene inv small before run.room at.0 b run.call.stage at.2 s)
 
 module _ {T : Type 0} (en : Coding T) (law : IsCoding en) where
   index_step : (scene : Scene T IndexQueue) → scene.core.write < 2 ^ 64 → Inv en IndexQueue scene
-      → (start : QueueStart T) (call : rings.RingCall ℕ OneWord)
+      → (start : QueueStart T) (call : RingCall ℕ OneWord)
       → IndexAt IndexQueue scene.capacity scene.roles scene.core scene.party start call
       → IsFreshRing scene.core.write call → scene.steps ≤ ring_number one_word in_one call → scene.backs ≡ 0
       → IsCalm en IndexQueue scene scene.core.read → StepOf en IndexQueue scene start (Indices call)
-  index_step scene small inv (PushIndex v) (rings.TheVariants.Push run) at fresh s b before =
-      push_call en law of_indices scene small inv b before v (rings.TheVariants.Push run) at s fresh
-  index_step scene small inv Pop (rings.TheVariants.Pop run) at fresh s b before =
-      pop_call en law of_indices scene small inv b before (rings.TheVariants.Pop run) at s
+  index_step scene small inv (PushIndex v) (rings.Push run) at fresh s b before =
+      push_call en law of_indices scene small inv b before v (rings.Push run) at s fresh
+  index_step scene small inv Pop (rings.Pop run) at fresh s b before =
+      pop_call en law of_indices scene small inv b before (rings.Pop run) at s
   index_step scene small inv start call at fresh s b before = absurd at
 
-  value_step : (scene : Scene T kinds.TheVariants.Queue) → scene.core.write < 2 ^ 64
-      → Inv en kinds.TheVariants.Queue scene → (start : QueueStart T) (call : rings.RingCall T (cells.Buffer 128))
-      → ValueAt en kinds.TheVariants.Queue scene.capacity scene.roles scene.core scene.party start call
+  value_step : (scene : Scene T kinds.Queue) → scene.core.write < 2 ^ 64
+      → Inv en kinds.Queue scene → (start : QueueStart T) (call : RingCall T (cells.Buffer 128))
+      → ValueAt en kinds.Queue scene.capacity scene.roles scene.core scene.party start call
       → IsFreshRing scene.core.write call → scene.steps ≤ ring_number en in_cell call → scene.backs ≡ 0
-      → IsCalm en kinds.TheVariants.Queue scene scene.core.read
-      → StepOf en kinds.TheVariants.Queue scene start (Values call)
-  value_step scene small inv (Push v) (rings.TheVariants.Push run) at fresh s b before =
-      push_call en law of_values scene small inv b before v (rings.TheVariants.Push run) at s fresh
-  value_step scene small inv Pop (rings.TheVariants.Pop run) at fresh s b before =
-      pop_call en law of_values scene small inv b before (rings.TheVariants.Pop run) at s
+      → IsCalm en kinds.Queue scene scene.core.read
+      → StepOf en kinds.Queue scene start (Values call)
+  value_step scene small inv (Push v) (rings.Push run) at fresh s b before =
+      push_call en law of_values scene small inv b before v (rings.Push run) at s fresh
+  value_step scene small inv Pop (rings.Pop run) at fresh s b before =
+      pop_call en law of_values scene small inv b before (rings.Pop run) at s
   value_step scene small inv start call at fresh s b before = absurd at
 
 -- where the party's call stands
 abbrev IsCall : {T : Type 0} → {kd : QueueKind} → Scene T kd → QueueStart T → QueueFlight T → Type 0
 IsCall scene start flight =
-    (flight_of (doing_of (party_of scene.party scene.latest)) ≡ Some (flights.TheVariants.Queues flight))
+    (flight_of (doing_of (party_of scene.party scene.latest)) ≡ Some (flights.Queues flight))
     × (span_of scene.party scene.events ≡ Open (Queues start) (has_written scene.capacity scene.core scene.party flight))
 
-module _ {T : Type 0} (en : Coding T) (scene : Scene T kinds.TheVariants.Overflow) (small : scene.core.write < 2 ^ 64) where
-  abbrev MovesFrom : QueueStart T → overflows.OverflowCall → Type 0
-  MovesFrom start call = IsCall scene start (Overflow call) → MovesOf en kinds.TheVariants.Overflow scene start (Overflow call)
+module _ {T : Type 0} (en : Coding T) (scene : Scene T kinds.Overflow) (small : scene.core.write < 2 ^ 64) where
+  abbrev MovesFrom : QueueStart T → OverflowCall → Type 0
+  MovesFrom start call = IsCall scene start (Overflow call) → MovesOf en kinds.Overflow scene start (Overflow call)
 
-  overflow_step : Inv en kinds.TheVariants.Overflow scene → (start : QueueStart T) (call : overflows.OverflowCall)
+  overflow_step : Inv en kinds.Overflow scene → (start : QueueStart T) (call : OverflowCall)
       → OverflowAt scene.capacity scene.roles scene.core scene.party start call
       → scene.steps ≤ number_of en (Overflow call) scene.backs
       → KnowsFlight scene.capacity scene.core scene.party scene.events scene.since scene.changes scene.backs (Overflow call)
       → IsFreshAt {T = T} scene.core.write (Overflow call) → MovesFrom start call
-  overflow_step inv (PushIndex v) (overflows.TheVariants.Push run) at s b fresh is =
+  overflow_step inv (PushIndex v) (overflows.Push run) at s b fresh is =
       subst (λ n. MovesFrom (PushIndex v) (overflow_push_at n run.given run.room run.call.stage)) (sym at.1)
       (subst (λ n. MovesFrom (PushIndex v) (overflow_push_at scene.capacity n run.room run.call.stage)) (sym at.2)
       (λ is. overflow_push_step en scene inv small v run.room at.0 b run.call.stage fresh at.3 s is.0 is.1))
       is
-  overflow_step inv Pop (overflows.TheVariants.Pop run) at s b fresh is =
+  overflow_step inv Pop (overflows.Pop run) at s b fresh is =
       subst (λ n. MovesFrom Pop (overflow_pop_at n run.room run.call.stage)) (sym at.1)
       (λ is. overflow_pop_step en scene inv small run.room at.0 run.call.stage at.2 s b is.0 is.1) is
   overflow_step inv start call at s b fresh is = absurd at
@@ -175,17 +177,17 @@ module _ {T : Type 0} (en : Coding T) (law : IsCoding en) where
       of_step en IndexQueue scene inv start (Indices call) is.1
       (index_step en law scene small inv start call at (fresh_ring en scene.core.write of_indices call fresh) s b
       (ap (pending_at scene.core.read) is.0))
-  step_moves kinds.TheVariants.Overflow scene small inv start (Indices call) at s b fresh is = absurd at
-  step_moves kinds.TheVariants.Queue scene small inv start (Indices call) at s b fresh is = absurd at
+  step_moves kinds.Overflow scene small inv start (Indices call) at s b fresh is = absurd at
+  step_moves kinds.Queue scene small inv start (Indices call) at s b fresh is = absurd at
   step_moves IndexQueue scene small inv start (Values call) at s b fresh is = absurd at
-  step_moves kinds.TheVariants.Overflow scene small inv start (Values call) at s b fresh is = absurd at
-  step_moves kinds.TheVariants.Queue scene small inv start (Values call) at s b fresh is =
-      of_step en kinds.TheVariants.Queue scene inv start (Values call) is.1
+  step_moves kinds.Overflow scene small inv start (Values call) at s b fresh is = absurd at
+  step_moves kinds.Queue scene small inv start (Values call) at s b fresh is =
+      of_step en kinds.Queue scene inv start (Values call) is.1
       (value_step en law scene small inv start call at (fresh_ring en scene.core.write of_values call fresh) s b
       (ap (pending_at scene.core.read) is.0))
   step_moves IndexQueue scene small inv start (Overflow call) at s b fresh is = absurd at
-  step_moves kinds.TheVariants.Overflow scene small inv start (Overflow call) at s b fresh is = overflow_step en scene small inv start call at s b fresh is
-  step_moves kinds.TheVariants.Queue scene small inv start (Overflow call) at s b fresh is = absurd at
+  step_moves kinds.Overflow scene small inv start (Overflow call) at s b fresh is = overflow_step en scene small inv start call at s b fresh is
+  step_moves kinds.Queue scene small inv start (Overflow call) at s b fresh is = absurd at
   step_moves kd scene small inv start (Length which call) at s b fresh is =
       of_step en kd scene inv start (Length which call) is.1 (length_step en kd scene small inv start which call at s b (ap (pending_at scene.core.read) is.0))
 
@@ -195,7 +197,7 @@ call_is : {T : Type 0} (kd : QueueKind) (c : ℕ) (start : QueueStart T) → cal
 call_is x0 x1 x2 = grind arith
 
 some_mapped : {T : Type 0} → (o : Option (QueueFlight T)) (flight : QueueFlight T)
-    → option_map flights.TheVariants.Queues o ≡ Some (flights.TheVariants.Queues flight) → o ≡ Some flight
+    → option_map flights.Queues o ≡ Some (flights.Queues flight) → o ≡ Some flight
 some_mapped x0 x1 x2 = grind arith
 
 module _ {T : Type 0} (en : Coding T) (kd : QueueKind) (c : ℕ) (t : Trace T) (s : frame.Sound (family en kd c) t) where
@@ -231,13 +233,13 @@ module _ {T : Type 0} (en : Coding T) (law : IsCoding en) (kd : QueueKind) (c : 
     pub comes : IsFreshTurn t (Next p) → (start : Start T) (flight : Flight T)
         → StandsThere (family en kd c) t s p x since start flight
         → ComesFrom (family en kd c) t s p x since en (layout s.state.roles s.state.core)
-        (registries.TheVariants.Queues s.state.roles) start flight
-    comes fresh (Queues start) (flights.TheVariants.Queues flight) here =
+        (registries.Queues s.state.roles) start flight
+    comes fresh (Queues start) (flights.Queues flight) here =
         let moves =
         step_moves en law kd (scene_of x since) s.holds.within (inv_of x since) start flight here.at here.steps
         here.knows
         (subst (λ n. IsFreshAt n flight) (write_is en kd c t s)
-        (fresh_there t.world.coding t.world.words flight (fresh (flights.TheVariants.Queues flight) here.found)))
+        (fresh_there t.world.coding t.world.words flight (fresh (flights.Queues flight) here.found)))
         (here.found, here.span) in
         record {
           state = record { roles = _; core = moves.0 };
@@ -252,11 +254,11 @@ module _ {T : Type 0} (en : Coding T) (law : IsCoding en) (kd : QueueKind) (c : 
   begins : (start : QueueStart T) (flight : QueueFlight T)
       → IsFirst en kd c s.state.roles s.state.core p (t.events ++ Begun p (Queues start) ∷ []) t.world.changes start flight
       → flight_of (doing_of (party_of p t.world.latest)) ≡ None
-      → frame.Comes (family en kd c) t p (registries.TheVariants.Queues s.state.roles) (layout s.state.roles s.state.core)
-      (party_at_begin (Queues start) (flights.TheVariants.Queues flight) t.world.changes)
+      → frame.Comes (family en kd c) t p (registries.Queues s.state.roles) (layout s.state.roles s.state.core)
+      (party_at_begin (Queues start) (flights.Queues flight) t.world.changes)
       (Begun p (Queues start) ∷ []) t.world.changes
   begins start flight first free =
-      let y : Party T = party_at_begin (Queues start) (flights.TheVariants.Queues flight) t.world.changes in
+      let y : Party T = party_at_begin (Queues start) (flights.Queues flight) t.world.changes in
       let scene = scene_of y t.world.changes in
       let k = s.state.core in
       let pr = s.state.roles.producer in
@@ -294,11 +296,11 @@ module _ {T : Type 0} (en : Coding T) (law : IsCoding en) (kd : QueueKind) (c : 
       }
 
   pub begin_comes : (start : Start T) (flight : Flight T) → MayBegin t.world p start
-      → first_of (machine_kind kd) c start (registries.TheVariants.Queues s.state.roles) ≡ Some flight
-      → first_row ((begin_of (machine_kind kd) c start).rows (registries.TheVariants.Queues s.state.roles) p) ≡ None
-      → frame.Comes (family en kd c) t p (kept_after_begin en c start p (registries.TheVariants.Queues s.state.roles))
+      → first_of (machine_kind kd) c start (registries.Queues s.state.roles) ≡ Some flight
+      → first_row ((begin_of (machine_kind kd) c start).rows (registries.Queues s.state.roles) p) ≡ None
+      → frame.Comes (family en kd c) t p (kept_after_begin en c start p (registries.Queues s.state.roles))
       (layout s.state.roles s.state.core) (party_at_begin start flight t.world.changes) (Begun p start ∷ []) t.world.changes
-  begin_comes (Queues start) (flights.TheVariants.Queues flight) may e rows =
+  begin_comes (Queues start) (flights.Queues flight) may e rows =
       let role = (row_passed (lacks_role s.state.roles p start) NoRole None rows).0 in
       let called : first kd c start ≡ Some flight = sym (call_is kd c start) ∙ some_mapped (call_of (machine_kind kd) c start) flight e in
       begins start flight (first_is en law c s.state.roles p (t.events ++ Begun p (Queues start) ∷ []) t.world.changes kd s.state.core

@@ -1,24 +1,25 @@
 -- What a step of a push of a bounded queue keeps of what a pop knows, and one of a pop of what a push knows.
 use Rattle.laws_queues.proofs.Names.{◌≡◌, ℕ, List, [], ◌∷◌, ◌++◌, ap, Coding}
 use Rattle.std.proofs.Common.{arith}
-use Rattle.steps.specs.declared.queues.ring.PopStage as pops
+use Rattle.steps.specs.declared.queues.ring.PopStage.{PopStage}
+use Rattle.steps.specs.declared.queues.ring.PopStage.TheVariants as pops
 use Rattle.steps.specs.declared.queues.ring.PushStage as pushes
 use Rattle.laws_queues.proofs.Queues.Core.{Core, filled, published, taken}
 use Rattle.laws_queues.proofs.Ring.Knows.{KnowsPush, KnowsPop}
 
 module _ {V : Type 0} (en : Coding V) (c : ℕ) (k : Core V) where
   -- a store into a cell keeps what a pop knows
-  pub fill_keeps : (at word : ℕ) (room : List ℕ) (stage : pops.PopStage) → KnowsPop en c k room stage
+  pub fill_keeps : (at word : ℕ) (room : List ℕ) (stage : PopStage) → KnowsPop en c k room stage
       → KnowsPop en c (filled en.size en.words_of c k at word) room stage
   fill_keeps x0 x1 x2 x3 x4 = grind arith
 
   -- so does the next write position
-  pub publish_keeps : (w : V) (room : List ℕ) (stage : pops.PopStage) → KnowsPop en c k room stage
+  pub publish_keeps : (w : V) (room : List ℕ) (stage : PopStage) → KnowsPop en c k room stage
       → KnowsPop en c (published en.size en.words_of c k w) room stage
-  publish_keeps w room pops.TheVariants.LoadsRead h = h
-  publish_keeps w room (pops.TheVariants.LoadsWrite read) h = h
-  publish_keeps w room (pops.TheVariants.LoadsCell read cell place) h = (h.0, h.1, h.2 ++ w ∷ [], h.3, ap (λ xs. xs ++ w ∷ []) h.4, h.5, h.6, h.7)
-  publish_keeps w room (pops.TheVariants.StoresRead read) h = (h.0 ++ w ∷ [], h.1, ap (λ xs. xs ++ w ∷ []) h.2)
+  publish_keeps w room pops.LoadsRead h = h
+  publish_keeps w room (pops.LoadsWrite read) h = h
+  publish_keeps w room (pops.LoadsCell read cell place) h = (h.0, h.1, h.2 ++ w ∷ [], h.3, ap (λ xs. xs ++ w ∷ []) h.4, h.5, h.6, h.7)
+  publish_keeps w room (pops.StoresRead read) h = (h.0 ++ w ∷ [], h.1, ap (λ xs. xs ++ w ∷ []) h.2)
 
   -- and the next read position what a push knows
   pub take_keeps : (v : V) (rest : List V) → k.waiting ≡ v ∷ rest → (w : V) (stage : pushes.PushStage)

@@ -11,9 +11,10 @@ use Rattle.laws_queues.proofs.Names.{push_effect, pop_effect, roles_after, pendi
 use Rattle.std.proofs.Common.{arith}
 use Rattle.steps.specs.declared.ask.Want.{Want}
 use Rattle.steps.specs.Queues.Ring.{pop_answer}
-use Rattle.model.specs.declared.event.Answer as answers
-use Rattle.model.specs.declared.families.Flight as flights
-use Rattle.model.specs.declared.families.queues.calls.RingCall as rings
+use Rattle.model.specs.declared.event.Answer.TheVariants as answers
+use Rattle.model.specs.declared.families.Flight.TheVariants as flights
+use Rattle.model.specs.declared.families.queues.calls.RingCall.{RingCall}
+use Rattle.model.specs.declared.families.queues.calls.RingCall.TheVariants as rings
 use Rattle.model.specs.Families.Queues.Spans.{HandsOut}
 use Rattle.laws_queues.proofs.Queues.Core.{Core}
 use Rattle.laws_queues.proofs.Queues.Keeping.{RingKeeps, Keeps}
@@ -50,7 +51,7 @@ put_in of_values room at word = refl
 -- ---- the calls
 
 module _ {T : Type 0} where
-  abbrev pub flight : (r : Ring) → rings.RingCall (Val T (kind_of r)) (Room r) → QueueFlight T
+  abbrev pub flight : (r : Ring) → RingCall (Val T (kind_of r)) (Room r) → QueueFlight T
   flight of_indices call = Indices call
   flight of_values call = Values call
 
@@ -59,11 +60,11 @@ module _ {T : Type 0} where
   push of_values v = Push v
 
   abbrev pub got : (r : Ring) → Val T (kind_of r) → Answer T
-  got of_indices v = answers.TheVariants.PoppedIndex v
-  got of_values v = answers.TheVariants.Popped v
+  got of_indices v = answers.PoppedIndex v
+  got of_values v = answers.Popped v
 
   abbrev pub popped_of : (r : Ring) → Option (Val T (kind_of r)) → Answer T
-  popped_of r None = answers.TheVariants.PoppedNone
+  popped_of r None = answers.PoppedNone
   popped_of r (Some v) = got r v
 
 module _ {T : Type 0} (en : Coding T) (r : Ring) where
@@ -73,22 +74,22 @@ module _ {T : Type 0} (en : Coding T) (r : Ring) where
   abbrev pub read_in : Room r → Val T (kind_of r)
   read_in room = value_in enc.value_of enc.size (words_in r room)
 
-  abbrev pub ring_want : rings.RingCall (Val T (kind_of r)) (Room r) → Want (Unit {0})
-  ring_want (rings.TheVariants.Push run) = push_want enc.words_of run.call run.given
-  ring_want (rings.TheVariants.Pop run) = pop_want run.call
+  abbrev pub ring_want : RingCall (Val T (kind_of r)) (Room r) → Want (Unit {0})
+  ring_want (rings.Push run) = push_want enc.words_of run.call run.given
+  ring_want (rings.Pop run) = pop_want run.call
 
-  abbrev pub ring_after : rings.RingCall (Val T (kind_of r)) (Room r) → ℕ → After (QueueFlight T) (Answer T)
-  ring_after (rings.TheVariants.Push run) old =
-      as_call (λ x. flight r (rings.TheVariants.Push x)) answers.TheVariants.Truth
+  abbrev pub ring_after : RingCall (Val T (kind_of r)) (Room r) → ℕ → After (QueueFlight T) (Answer T)
+  ring_after (rings.Push run) old =
+      as_call (λ x. flight r (rings.Push x)) answers.Truth
       (went_on as_it_is run.given run.room (push_after enc.size run.call old))
-  ring_after (rings.TheVariants.Pop run) old =
-      as_call (λ x. flight r (rings.TheVariants.Pop x)) (popped_of r)
+  ring_after (rings.Pop run) old =
+      as_call (λ x. flight r (rings.Pop x)) (popped_of r)
       (went_on (λ end given room. pop_answer (read_in room) end) run.given
       (pop_kept (with_word r) run.call run.room old) (pop_after enc.size run.call old))
 
-  abbrev pub ring_effect : rings.RingCall (Val T (kind_of r)) (Room r) → Effect T
-  ring_effect (rings.TheVariants.Push run) = push_effect (item (kind_of r) run.given) run.call.stage
-  ring_effect (rings.TheVariants.Pop run) = pop_effect (item (kind_of r) (read_in run.room)) run.call.stage
+  abbrev pub ring_effect : RingCall (Val T (kind_of r)) (Room r) → Effect T
+  ring_effect (rings.Push run) = push_effect (item (kind_of r) run.given) run.call.stage
+  ring_effect (rings.Pop run) = pop_effect (item (kind_of r) (read_in run.room)) run.call.stage
 
 -- ---- what is so of both
 
@@ -100,8 +101,8 @@ pub cells_are : (r : Ring) (c : ℕ) → cells_of (kind_of r) c ≡ c
 cells_are x0 x1 = grind arith
 
 module _ (T : Type 0) where
-  pub calm : (r : Ring) (position : ℕ) (call : rings.RingCall (Val T (kind_of r)) (Room r))
-      → pending_at position (Some (flights.TheVariants.Queues (flight {T = T} r call))) ≡ None
+  pub calm : (r : Ring) (position : ℕ) (call : RingCall (Val T (kind_of r)) (Room r))
+      → pending_at position (Some (flights.Queues (flight {T = T} r call))) ≡ None
   calm x0 x1 x2 = grind arith
 
   pub none_hangs : (r : Ring) (c : ℕ) (k : Core (Val T (kind_of r))) (o : Option (ℕ × ℕ)) → Hangs T (kind_of r) c k o
@@ -111,28 +112,28 @@ module _ (T : Type 0) where
   hands_out x0 = grind arith
 
 module _ {T : Type 0} where
-  pub wrote_none : (r : Ring) (c : ℕ) (k : Core (Val T (kind_of r))) (p : ℕ) (call : rings.RingCall (Val T (kind_of r)) (Room r))
+  pub wrote_none : (r : Ring) (c : ℕ) (k : Core (Val T (kind_of r))) (p : ℕ) (call : RingCall (Val T (kind_of r)) (Room r))
       → has_written {T = T} c k p (flight r call) ≡ []
   wrote_none x0 x1 x2 x3 x4 = grind arith
 
   pub knows : (r : Ring) (c : ℕ) (k : Core (Val T (kind_of r))) (p : ℕ) (events : List (Event T))
-      (since changes backs : ℕ) (call : rings.RingCall (Val T (kind_of r)) (Room r))
+      (since changes backs : ℕ) (call : RingCall (Val T (kind_of r)) (Room r))
       → backs ≡ 0
       → KnowsFlight c k p events since changes backs (flight r call)
   knows x0 x1 x2 x3 x4 x5 x6 x7 x8 x9 = grind arith
 
-  pub number : (en : Coding T) (r : Ring) (call : rings.RingCall (Val T (kind_of r)) (Room r)) (backs : ℕ)
+  pub number : (en : Coding T) (r : Ring) (call : RingCall (Val T (kind_of r)) (Room r)) (backs : ℕ)
       → number_of en (flight r call) backs ≡ ring_number (encoded en (kind_of r)) (words_in r) call
   number en of_indices call backs = refl
   number en of_values call backs = refl
 
   pub push_here : (en : Coding T) (r : Ring) (c : ℕ) (ro : Roles) (k : Core (Val T (kind_of r))) (p : ℕ)
-      (v : Val T (kind_of r)) (call : rings.RingCall (Val T (kind_of r)) (Room r))
+      (v : Val T (kind_of r)) (call : RingCall (Val T (kind_of r)) (Room r))
       → PushAt (encoded en (kind_of r)) (words_in r) c ro k p v call → At en (kind_of r) c ro k p (push r v) (flight r call)
   push_here en of_indices c ro k p v call h = h
   push_here en of_values c ro k p v call h = h
 
-  pub pop_here : (en : Coding T) (r : Ring) (c : ℕ) (ro : Roles) (k : Core (Val T (kind_of r))) (p : ℕ) (call : rings.RingCall (Val T (kind_of r)) (Room r))
+  pub pop_here : (en : Coding T) (r : Ring) (c : ℕ) (ro : Roles) (k : Core (Val T (kind_of r))) (p : ℕ) (call : RingCall (Val T (kind_of r)) (Room r))
       → PopAt (encoded en (kind_of r)) (words_in r) c ro k p call → At en (kind_of r) c ro k p Pop (flight r call)
   pop_here en of_indices c ro k p call h = h
   pop_here en of_values c ro k p call h = h
@@ -152,7 +153,7 @@ module _ {T : Type 0} where
 
   pub list_answers_push : (r : Ring) (c : ℕ) (xs : List (Val T (kind_of r))) (v : Val T (kind_of r))
       → answers_from (list_of (kind_of r) c) (listed (kind_of r) c xs) (Queues (push r v) ∷ [])
-      ≡ answers.TheVariants.Truth (nat_lt (length (map (item {T = T} (kind_of r)) xs)) c) ∷ []
+      ≡ answers.Truth (nat_lt (length (map (item {T = T} (kind_of r)) xs)) c) ∷ []
   list_answers_push of_indices c xs v = refl
   list_answers_push of_values c xs v = refl
 
@@ -180,25 +181,25 @@ module _ {T : Type 0} where
   push_roles x0 x1 x2 x3 x4 = grind arith
 
   module _ (r : Ring) (c : ℕ) (before : List (Event T)) (p : ℕ) (v : Val T (kind_of r)) (b : Bool) where
-    pub push_grants : GrantsRight before (Finished p (Queues (push r v)) (answers.TheVariants.Truth b))
+    pub push_grants : GrantsRight before (Finished p (Queues (push r v)) (answers.Truth b))
     push_grants = grind arith
 
-    pub push_tells : TellsLength c before (Finished p (Queues (push r v)) (answers.TheVariants.Truth b))
+    pub push_tells : TellsLength c before (Finished p (Queues (push r v)) (answers.Truth b))
     push_tells = grind arith
 
-    pub push_producer : (o : Option ℕ) → producer_after {T = T} o (Finished p (Queues (push r v)) (answers.TheVariants.Truth b)) ≡ o
+    pub push_producer : (o : Option ℕ) → producer_after {T = T} o (Finished p (Queues (push r v)) (answers.Truth b)) ≡ o
     push_producer x0 = grind arith
 
-    pub push_consumer : (o : Option ℕ) → consumer_after {T = T} o (Finished p (Queues (push r v)) (answers.TheVariants.Truth b)) ≡ o
+    pub push_consumer : (o : Option ℕ) → consumer_after {T = T} o (Finished p (Queues (push r v)) (answers.Truth b)) ≡ o
     push_consumer x0 = grind arith
 
   pub false_is_right : (r : Ring) (c : ℕ) (before : List (Event T)) (p : ℕ) (v : Val T (kind_of r))
       → length (waiting before) ≡ c
-      → AnswersRight c before (Acted p (Queues (push r v)) (answers.TheVariants.Truth false))
+      → AnswersRight c before (Acted p (Queues (push r v)) (answers.Truth false))
   false_is_right x0 x1 x2 x3 x4 x5 = grind arith
 
   pub true_is_right : (r : Ring) (c : ℕ) (before : List (Event T)) (p : ℕ) (v : Val T (kind_of r))
-      → AnswersRight c before (Acted p (Queues (push r v)) (answers.TheVariants.Truth true))
+      → AnswersRight c before (Acted p (Queues (push r v)) (answers.Truth true))
   true_is_right x0 x1 x2 x3 x4 = grind arith
 
   pub named : (r : Ring) (v : Val T (kind_of r)) → Queues (push {T = T} r v) ≡ push_of (item (kind_of r) v)
@@ -206,13 +207,13 @@ module _ {T : Type 0} where
   named of_values v = refl
 
   pub wrote_false : (r : Ring) (c p : ℕ) (v : Val T (kind_of r))
-      → Wrote {T = T} (kind_of r) c (push r v) (answers.TheVariants.Truth false)
-      (Acted p (Queues (push r v)) (answers.TheVariants.Truth false) ∷ [])
+      → Wrote {T = T} (kind_of r) c (push r v) (answers.Truth false)
+      (Acted p (Queues (push r v)) (answers.Truth false) ∷ [])
   wrote_false x0 x1 x2 x3 = grind arith
 
   pub wrote_true : (r : Ring) (c p : ℕ) (v : Val T (kind_of r))
-      → Wrote {T = T} (kind_of r) c (push r v) (answers.TheVariants.Truth true)
-      (Published p (item (kind_of r) v) ∷ Acted p (Queues (push r v)) (answers.TheVariants.Truth true) ∷ [])
+      → Wrote {T = T} (kind_of r) c (push r v) (answers.Truth true)
+      (Published p (item (kind_of r) v) ∷ Acted p (Queues (push r v)) (answers.Truth true) ∷ [])
   wrote_true of_indices c p v = record { moments = refl; published = refl; handed_out = refl }
   wrote_true of_values c p v = record { moments = refl; published = refl; handed_out = refl }
 

@@ -1,71 +1,74 @@
 -- What a push and a pop of the bounded queue know where they stand. V is the type of the values, R of the rooms.
 use Rattle.laws_queues.proofs.Names.{◌≡◌, ℕ, ◌+◌, ◌-◌, ◌^◌, ◌<◌, ◌≤◌, Some, List, ◌∷◌, length, get_or, value_in}
 use Rattle.laws_queues.proofs.Names.{Roles, Coding}
-use Rattle.steps.specs.declared.queues.ring.PushStage as pushes
-use Rattle.steps.specs.declared.queues.ring.PopStage as pops
+use Rattle.steps.specs.declared.queues.ring.PushStage.{PushStage}
+use Rattle.steps.specs.declared.queues.ring.PushStage.TheVariants as pushes
+use Rattle.steps.specs.declared.queues.ring.PopStage.{PopStage}
+use Rattle.steps.specs.declared.queues.ring.PopStage.TheVariants as pops
 use Rattle.steps.specs.Queues.Ring.{cell_word}
-use Rattle.model.specs.declared.families.queues.calls.RingCall as rings
+use Rattle.model.specs.declared.families.queues.calls.RingCall.{RingCall}
+use Rattle.model.specs.declared.families.queues.calls.RingCall.TheVariants as rings
 use Rattle.laws_queues.proofs.Queues.Core.{Core, Holds}
 pub use Rattle.laws_queues.specs.Fresh.{IsFresh}
 
 -- ---- the calls by their stages
 
 module _ {V R : Type 0} where
-  abbrev pub push_at : ℕ → V → pushes.PushStage → rings.RingCall V R
+  abbrev pub push_at : ℕ → V → PushStage → RingCall V R
   push_at c v stage =
-      rings.TheVariants.Push (record { call = record { capacity = c; stage = stage; of = record {} }; given = v; room = tt })
+      rings.Push (record { call = record { capacity = c; stage = stage; of = record {} }; given = v; room = tt })
 
-  abbrev pub pop_at : ℕ → R → pops.PopStage → rings.RingCall V R
+  abbrev pub pop_at : ℕ → R → PopStage → RingCall V R
   pop_at c room stage =
-      rings.TheVariants.Pop (record { call = record { capacity = c; stage = stage; of = record {} }; given = tt; room = room })
+      rings.Pop (record { call = record { capacity = c; stage = stage; of = record {} }; given = tt; room = room })
 
 -- ---- what they know
 
 module _ {V : Type 0} (en : Coding V) where
-  abbrev pub KnowsPush : ℕ → Core V → V → pushes.PushStage → Type 0
-  KnowsPush c k v pushes.TheVariants.LoadsWrite = Unit {0}
-  KnowsPush c k v (pushes.TheVariants.LoadsRead write) = (write ≡ k.write) × (k.write < 2 ^ 64 - 1)
-  KnowsPush c k v (pushes.TheVariants.StoresCell write cell at) =
+  abbrev pub KnowsPush : ℕ → Core V → V → PushStage → Type 0
+  KnowsPush c k v pushes.LoadsWrite = Unit {0}
+  KnowsPush c k v (pushes.LoadsRead write) = (write ≡ k.write) × (k.write < 2 ^ 64 - 1)
+  KnowsPush c k v (pushes.StoresCell write cell at) =
       (write ≡ k.write) × (length k.waiting < c) × (cell ≡ cell_word c en.size k.write) × (at < en.size)
       × Holds en.size en.words_of c k.cells k.write v at × (k.write < 2 ^ 64 - 1)
-  KnowsPush c k v (pushes.TheVariants.StoresWrite write) =
+  KnowsPush c k v (pushes.StoresWrite write) =
       (write ≡ k.write) × (length k.waiting < c) × Holds en.size en.words_of c k.cells k.write v en.size × (k.write < 2 ^ 64 - 1)
 
   -- the words of the front value that are loaded so far; once all are, the room has that value
-  abbrev pub KnowsPop : ℕ → Core V → List ℕ → pops.PopStage → Type 0
-  KnowsPop c k room pops.TheVariants.LoadsRead = en.size ≤ length room
-  KnowsPop c k room (pops.TheVariants.LoadsWrite read) = (en.size ≤ length room) × (read ≡ k.read)
-  KnowsPop c k room (pops.TheVariants.LoadsCell read cell at) =
+  abbrev pub KnowsPop : ℕ → Core V → List ℕ → PopStage → Type 0
+  KnowsPop c k room pops.LoadsRead = en.size ≤ length room
+  KnowsPop c k room (pops.LoadsWrite read) = (en.size ≤ length room) × (read ≡ k.read)
+  KnowsPop c k room (pops.LoadsCell read cell at) =
       (en.size ≤ length room) × (v : V) × (rest : List V) × (read ≡ k.read) × (k.waiting ≡ v ∷ rest)
       × (cell ≡ cell_word c en.size k.read) × (at < en.size)
       × ((i : ℕ) → i < at → get_or room i 0 ≡ get_or (en.words_of v) i 0)
-  KnowsPop c k room (pops.TheVariants.StoresRead read) =
+  KnowsPop c k room (pops.StoresRead read) =
       (rest : List V) × (read ≡ k.read) × (k.waiting ≡ value_in en.value_of en.size room ∷ rest)
 
 -- how many steps the call has taken at most, where a value has so many words
-abbrev pub push_number : ℕ → pushes.PushStage → ℕ
-push_number size pushes.TheVariants.LoadsWrite = 0
-push_number size (pushes.TheVariants.LoadsRead write) = 1
-push_number size (pushes.TheVariants.StoresCell write cell at) = 2 + at
-push_number size (pushes.TheVariants.StoresWrite write) = 2 + size
+abbrev pub push_number : ℕ → PushStage → ℕ
+push_number size pushes.LoadsWrite = 0
+push_number size (pushes.LoadsRead write) = 1
+push_number size (pushes.StoresCell write cell at) = 2 + at
+push_number size (pushes.StoresWrite write) = 2 + size
 
-abbrev pub pop_number : ℕ → pops.PopStage → ℕ
-pop_number size pops.TheVariants.LoadsRead = 0
-pop_number size (pops.TheVariants.LoadsWrite read) = 1
-pop_number size (pops.TheVariants.LoadsCell read cell at) = 2 + at
-pop_number size (pops.TheVariants.StoresRead read) = 2 + size
+abbrev pub pop_number : ℕ → PopStage → ℕ
+pop_number size pops.LoadsRead = 0
+pop_number size (pops.LoadsWrite read) = 1
+pop_number size (pops.LoadsCell read cell at) = 2 + at
+pop_number size (pops.StoresRead read) = 2 + size
 
 module _ {V R : Type 0} (en : Coding V) (words_in : R → List ℕ) where
-  abbrev pub ring_number : rings.RingCall V R → ℕ
-  ring_number (rings.TheVariants.Push run) = push_number en.size run.call.stage
-  ring_number (rings.TheVariants.Pop run) = pop_number en.size run.call.stage
+  abbrev pub ring_number : RingCall V R → ℕ
+  ring_number (rings.Push run) = push_number en.size run.call.stage
+  ring_number (rings.Pop run) = pop_number en.size run.call.stage
 
-  abbrev pub PushAt : ℕ → Roles → Core V → ℕ → V → rings.RingCall V R → Type 0
-  PushAt c ro k p v (rings.TheVariants.Push run) =
+  abbrev pub PushAt : ℕ → Roles → Core V → ℕ → V → RingCall V R → Type 0
+  PushAt c ro k p v (rings.Push run) =
       (ro.producer ≡ Some p) × (run.call.capacity ≡ c) × (run.given ≡ v) × KnowsPush en c k v run.call.stage
-  PushAt c ro k p v (rings.TheVariants.Pop run) = ⊥
+  PushAt c ro k p v (rings.Pop run) = ⊥
 
-  abbrev pub PopAt : ℕ → Roles → Core V → ℕ → rings.RingCall V R → Type 0
-  PopAt c ro k p (rings.TheVariants.Push run) = ⊥
-  PopAt c ro k p (rings.TheVariants.Pop run) =
+  abbrev pub PopAt : ℕ → Roles → Core V → ℕ → RingCall V R → Type 0
+  PopAt c ro k p (rings.Push run) = ⊥
+  PopAt c ro k p (rings.Pop run) =
       (ro.consumer ≡ Some p) × (run.call.capacity ≡ c) × KnowsPop en c k (words_in run.room) run.call.stage

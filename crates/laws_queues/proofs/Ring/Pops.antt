@@ -8,9 +8,10 @@ use Rattle.laws_queues.proofs.Names.{Queues, HandedOut, Acted, Coding, IsCoding,
 use Rattle.laws_queues.proofs.Names.{load_of_write, load_of_read, published, handed_out, Open, old_of, words_after}
 use Rattle.laws_queues.proofs.Names.{change_of, step_count}
 use Rattle.std.proofs.Common.{arith}
-use Rattle.steps.specs.declared.queues.ring.PopStage as pops
+use Rattle.steps.specs.declared.queues.ring.PopStage.{PopStage}
+use Rattle.steps.specs.declared.queues.ring.PopStage.TheVariants as pops
 use Rattle.steps.specs.Queues.Ring.{cell_word}
-use Rattle.model.specs.declared.event.Answer as answers
+use Rattle.model.specs.declared.event.Answer.TheVariants as answers
 use Rattle.laws_queues.proofs.Queues.Core.{Core, Good, one_more, taken, takes, front, word_at}
 use Rattle.laws_queues.proofs.Queues.Invariant.{Scene, Inv, waiting_is}
 use Rattle.laws_queues.proofs.Queues.Keeping.{clash, kept}
@@ -69,20 +70,20 @@ module _ {T : Type 0} (en : Coding T) (r : Ring) (law : IsCoding en) (scene : Sc
   book : published events ≡ handed_out events ++ items k.waiting
   book = inv.queue.book
 
-  abbrev at : pops.PopStage → RingCall (Val T (kind_of r)) (Room r)
+  abbrev at : PopStage → RingCall (Val T (kind_of r)) (Room r)
   at stage = pop_at c room stage
 
   abbrev Does : Option Ask → After (QueueFlight T) (Answer T) → Effect T → Type 0
   Does ask after effect = DoesStep en (kind_of r) scene [] Pop ask false after effect
 
-  abbrev DoesOf : pops.PopStage → Type 0
+  abbrev DoesOf : PopStage → Type 0
   DoesOf stage =
       Does (ask_of (ring_want en r (at stage)))
       (ring_after en r (at stage) (old_of (layout ro k) (ask_of (ring_want en r (at stage)))))
       (ring_effect en r (at stage))
 
   -- a step after which the pop stands here with this room, and the queue is as it was
-  goes_on : (ask : Option Ask) (room' : Room r) (stage : pops.PopStage)
+  goes_on : (ask : Option Ask) (room' : Room r) (stage : PopStage)
       → words_after (layout ro k) ask ≡ layout ro k → KnowsPop (encoded en (kind_of r)) c k (words_in r room') stage
       → steps + step_count ask ≤ pop_number size stage
       → Does ask (GoOn (flight r (pop_at c room' stage))) Quiet
@@ -97,10 +98,10 @@ module _ {T : Type 0} (en : Coding T) (r : Ring) (law : IsCoding en) (scene : Sc
       (knows r c k p events (since + change_of (layout ro k) ask) (changes + change_of (layout ro k) ask) (backs + 0) (pop_at c room' stage) (omega arith))
       (λ q ne st f h. (h, refl))
 
-  loads_read : size ≤ length (words_in r room) → steps ≤ 0 → DoesOf pops.TheVariants.LoadsRead
-  loads_read long s = goes_on (Some load_of_read) room (pops.TheVariants.LoadsWrite k.read) refl (long, refl) (omega arith)
+  loads_read : size ≤ length (words_in r room) → steps ≤ 0 → DoesOf pops.LoadsRead
+  loads_read long s = goes_on (Some load_of_read) room (pops.LoadsWrite k.read) refl (long, refl) (omega arith)
 
-  refused : k.waiting ≡ [] → steps ≤ 1 → Does (Some load_of_write) (Done (answers.TheVariants.PoppedNone)) Acts
+  refused : k.waiting ≡ [] → steps ≤ 1 → Does (Some load_of_write) (Done (answers.PoppedNone)) Acts
   refused empty s =
       let reached = inv.queue.reached in
       let none : items k.waiting ≡ [] = ap items empty in
@@ -123,8 +124,8 @@ module _ {T : Type 0} (en : Coding T) (r : Ring) (law : IsCoding en) (scene : Sc
           answers = list_answers_pop r c k.waiting ∙ ap (λ (xs : List (Item T)). answer_of_item (slice_get xs 0) ∷ []) none;
           here =
               record {
-                answer = answers.TheVariants.PoppedNone;
-                wrote = Acted p (Queues Pop) (answers.TheVariants.PoppedNone) ∷ [];
+                answer = answers.PoppedNone;
+                wrote = Acted p (Queues Pop) (answers.PoppedNone) ∷ [];
                 span = refl;
                 steps = subst (λ n. steps + 1 ≤ n) (sym most) (omega arith);
               };
@@ -144,18 +145,18 @@ module _ {T : Type 0} (en : Coding T) (r : Ring) (law : IsCoding en) (scene : Sc
   some : (c == 0 || k.write == k.read) ≡ false → 0 < length k.waiting
   some x0 = grind arith
 
-  abbrev loads_cell : ℕ → pops.PopStage
-  loads_cell i = pops.TheVariants.LoadsCell k.read (cell_word c size k.read) i
+  abbrev loads_cell : ℕ → PopStage
+  loads_cell i = pops.LoadsCell k.read (cell_word c size k.read) i
 
-  loads_write : size ≤ length (words_in r room) → steps ≤ 1 → DoesOf (pops.TheVariants.LoadsWrite k.read)
+  loads_write : size ≤ length (words_in r room) → steps ≤ 1 → DoesOf (pops.LoadsWrite k.read)
   loads_write long s = go (c == 0 || k.write == k.read) refl
     where
-      go : (t : Bool) → (c == 0 || k.write == k.read) ≡ t → DoesOf (pops.TheVariants.LoadsWrite k.read)
+      go : (t : Bool) → (c == 0 || k.write == k.read) ≡ t → DoesOf (pops.LoadsWrite k.read)
       go true t =
-          let goes : ring_after en r (at (pops.TheVariants.LoadsWrite k.read)) k.write ≡ Done (answers.TheVariants.PoppedNone) = rw t refl in
+          let goes : ring_after en r (at (pops.LoadsWrite k.read)) k.write ≡ Done (answers.PoppedNone) = rw t refl in
           subst (λ a. Does (Some load_of_write) a Acts) (sym goes) (refused (empty t) s)
       go false t =
-          let goes : ring_after en r (at (pops.TheVariants.LoadsWrite k.read)) k.write ≡ GoOn (flight r (at (loads_cell 0))) = rw t refl in
+          let goes : ring_after en r (at (pops.LoadsWrite k.read)) k.write ≡ GoOn (flight r (at (loads_cell 0))) = rw t refl in
           let first = first_of_some k.waiting (some t) in
           let one = lawful.some in
           let known : KnowsPop (encoded en (kind_of r)) c k (words_in r room) (loads_cell 0) =
@@ -219,14 +220,14 @@ module _ {T : Type 0} (en : Coding T) (r : Ring) (law : IsCoding en) (scene : Sc
           let further : i + 1 < size = grind (arith, nat_tests) in
           subst (λ a. Does ask a Quiet) (sym goes) (goes_on ask next (loads_cell (i + 1)) same (wide, v, rest, refl, is, refl, further, each) (omega arith))
       go false t =
-          let goes : ring_after en r (at (loads_cell i)) old ≡ GoOn (flight r (pop_at c next (pops.TheVariants.StoresRead k.read))) = rw t refl in
+          let goes : ring_after en r (at (loads_cell i)) old ≡ GoOn (flight r (pop_at c next (pops.StoresRead k.read))) = rw t refl in
           let last : size ≡ i + 1 = (let over : size ≤ i + 1 = grind (arith, nat_tests) in omega arith) in
           let value : value_in (encoded en (kind_of r)).value_of size (words_in r next) ≡ v =
           room_value (encoded en (kind_of r)) lawful (words_in r next) v wide (λ j low. each j (omega arith)) in
           subst (λ a. Does ask a Quiet) (sym goes)
-          (goes_on ask next (pops.TheVariants.StoresRead k.read) same (rest, refl, is ∙ ap (λ x. x ∷ rest) (sym value)) (omega arith))
+          (goes_on ask next (pops.StoresRead k.read) same (rest, refl, is ∙ ap (λ x. x ∷ rest) (sym value)) (omega arith))
 
-  stores_read : (rest : List (Val T (kind_of r))) → k.waiting ≡ read_in en r room ∷ rest → steps ≤ 2 + size → DoesOf (pops.TheVariants.StoresRead k.read)
+  stores_read : (rest : List (Val T (kind_of r))) → k.waiting ≡ read_in en r room ∷ rest → steps ≤ 2 + size → DoesOf (pops.StoresRead k.read)
   stores_read rest is s =
       let v : Val T (kind_of r) = read_in en r room in
       let write = g.write in
@@ -275,13 +276,13 @@ module _ {T : Type 0} (en : Coding T) (r : Ring) (law : IsCoding en) (scene : Sc
         },
       )
 
-  pub pop_step : (stage : pops.PopStage) → KnowsPop (encoded en (kind_of r)) c k (words_in r room) stage → steps ≤ pop_number size stage → DoesOf stage
-  pop_step pops.TheVariants.LoadsRead known s = loads_read known s
-  pop_step (pops.TheVariants.LoadsWrite read) known s =
-      subst (λ q. DoesOf (pops.TheVariants.LoadsWrite q)) (sym known.1) (loads_write known.0 s)
-  pop_step (pops.TheVariants.LoadsCell read cell i) known s =
-      subst (λ q. DoesOf (pops.TheVariants.LoadsCell q cell i)) (sym known.3)
-      (subst (λ n. DoesOf (pops.TheVariants.LoadsCell k.read n i)) (sym known.5)
+  pub pop_step : (stage : PopStage) → KnowsPop (encoded en (kind_of r)) c k (words_in r room) stage → steps ≤ pop_number size stage → DoesOf stage
+  pop_step pops.LoadsRead known s = loads_read known s
+  pop_step (pops.LoadsWrite read) known s =
+      subst (λ q. DoesOf (pops.LoadsWrite q)) (sym known.1) (loads_write known.0 s)
+  pop_step (pops.LoadsCell read cell i) known s =
+      subst (λ q. DoesOf (pops.LoadsCell q cell i)) (sym known.3)
+      (subst (λ n. DoesOf (pops.LoadsCell k.read n i)) (sym known.5)
       (loads_word i (known.0, known.1, known.2, refl, known.4, refl, known.6, known.7) s))
-  pop_step (pops.TheVariants.StoresRead read) known s =
-      subst (λ q. DoesOf (pops.TheVariants.StoresRead q)) (sym known.1) (stores_read known.0 known.2 s)
+  pop_step (pops.StoresRead read) known s =
+      subst (λ q. DoesOf (pops.StoresRead q)) (sym known.1) (stores_read known.0 known.2 s)

@@ -7,9 +7,10 @@ use Rattle.laws_queues.proofs.Names.{Publishes, Item, QueueStart, Answer, Queues
 use Rattle.laws_queues.proofs.Names.{ask_of, write_word, appended, load_of_write, load_of_read, published, handed_out}
 use Rattle.laws_queues.proofs.Names.{Open, old_of, words_after, change_of, step_count}
 use Rattle.std.proofs.Common.{arith}
-use Rattle.steps.specs.declared.queues.ring.PushStage as pushes
+use Rattle.steps.specs.declared.queues.ring.PushStage.{PushStage}
+use Rattle.steps.specs.declared.queues.ring.PushStage.TheVariants as pushes
 use Rattle.steps.specs.Queues.Ring.{cell_word}
-use Rattle.model.specs.declared.event.Answer as answers
+use Rattle.model.specs.declared.event.Answer.TheVariants as answers
 use Rattle.laws_queues.proofs.Queues.Core as core
 use Rattle.laws_queues.proofs.Queues.Core.{Core, Holds, Good, filled, fills, one_filled, publishes, set_at}
 use Rattle.laws_queues.proofs.Queues.Invariant.{Scene, Inv, waiting_is}
@@ -52,7 +53,7 @@ module _ {T : Type 0} (en : Coding T) (r : Ring) (law : IsCoding en) (scene : Sc
   book : published events ≡ handed_out events ++ items k.waiting
   book = inv.queue.book
 
-  abbrev at : pushes.PushStage → RingCall (Val T (kind_of r)) (Room r)
+  abbrev at : PushStage → RingCall (Val T (kind_of r)) (Room r)
   at stage = push_at c v stage
 
   abbrev Does : Option Ask → After (QueueFlight T) (Answer T) → Effect T → Type 0
@@ -63,14 +64,14 @@ module _ {T : Type 0} (en : Coding T) (r : Ring) (law : IsCoding en) (scene : Sc
       → Leaves en (kind_of r) scene ro [] (push r v) ask false after effect → Does ask after effect
   stays x0 x1 x2 x3 = grind (arith, push, false, push_roles)
 
-  abbrev DoesOf : pushes.PushStage → Type 0
+  abbrev DoesOf : PushStage → Type 0
   DoesOf stage =
       Does (ask_of (ring_want en r (at stage)))
       (ring_after en r (at stage) (old_of (layout ro k) (ask_of (ring_want en r (at stage)))))
       (ring_effect en r (at stage))
 
   -- a step after which the push stands here, and of the queue at most the cells have changed
-  goes_on : (ask : Option Ask) (stage : pushes.PushStage) (k' : Core (Val T (kind_of r))) → k'.waiting ≡ k.waiting
+  goes_on : (ask : Option Ask) (stage : PushStage) (k' : Core (Val T (kind_of r))) → k'.waiting ≡ k.waiting
       → k'.write ≡ k.write → k'.read ≡ k.read → Good size words_of c k' → words_after (layout ro k) ask ≡ layout ro k'
       → KnowsPush (encoded en (kind_of r)) c k' v stage → steps + step_count ask ≤ push_number size stage
       → ((q : ℕ) → q ≢ p → (s : QueueStart T) (f : QueueFlight T) → At en (kind_of r) c ro k q s f
@@ -89,12 +90,12 @@ module _ {T : Type 0} (en : Coding T) (r : Ring) (law : IsCoding en) (scene : Sc
       (knows r c k' p events (since + change_of (layout ro k) ask) (changes + change_of (layout ro k) ask) (backs + 0) (at stage) (omega arith))
       others)
 
-  loads_write : k.write < 2 ^ 64 - 1 → steps ≤ 0 → DoesOf pushes.TheVariants.LoadsWrite
+  loads_write : k.write < 2 ^ 64 - 1 → steps ≤ 0 → DoesOf pushes.LoadsWrite
   loads_write fresh s =
       let t : (k.write == 2 ^ 64 - 1) ≡ false = grind (arith, nat_tests) in
-      let goes : ring_after en r (at pushes.TheVariants.LoadsWrite) k.write ≡ GoOn (flight r (at (pushes.TheVariants.LoadsRead k.write))) = rw t refl in
+      let goes : ring_after en r (at pushes.LoadsWrite) k.write ≡ GoOn (flight r (at (pushes.LoadsRead k.write))) = rw t refl in
       subst (λ a. Does (Some load_of_write) a Quiet) (sym goes)
-      (goes_on (Some load_of_write) (pushes.TheVariants.LoadsRead k.write) k refl refl refl g refl (refl, fresh) (omega arith) (λ q ne st f h. (h, refl)))
+      (goes_on (Some load_of_write) (pushes.LoadsRead k.write) k refl refl refl g refl (refl, fresh) (omega arith) (λ q ne st f h. (h, refl)))
 
   full : (c == 0 || distance k.write k.read == c) ≡ true → length k.waiting ≡ c
   full x0 = grind arith
@@ -102,34 +103,34 @@ module _ {T : Type 0} (en : Coding T) (r : Ring) (law : IsCoding en) (scene : Sc
   room : (c == 0 || distance k.write k.read == c) ≡ false → length k.waiting < c
   room x0 = grind arith
 
-  refused : length k.waiting ≡ c → steps ≤ 1 → Does (Some load_of_read) (Done (answers.TheVariants.Truth false)) Acts
+  refused : length k.waiting ≡ c → steps ≤ 1 → Does (Some load_of_read) (Done (answers.Truth false)) Acts
   refused lap s =
       let reached = inv.queue.reached in
       let long : length (items k.waiting) ≡ length k.waiting = length-map k.waiting (item (kind_of r)) in
       let t : nat_lt (length (items k.waiting)) c ≡ false = grind (arith, nat_tests) in
       let none : appended c (items k.waiting) (item (kind_of r) v) ≡ items k.waiting = rw t refl in
       let most = most_push en r v (backs + 0) in
-      stays (Some load_of_read) (Done (answers.TheVariants.Truth false)) Acts (
+      stays (Some load_of_read) (Done (answers.Truth false)) Acts (
         k,
         refl,
         record {
           own = (refl, (refl, tt));
           stands = ((refl, refl), ((refl, wrote_false r c p v), tt));
-          grants = (tt, (push_grants r c (events ++ Acted p (Queues (push r v)) (answers.TheVariants.Truth false) ∷ []) p v false, tt));
+          grants = (tt, (push_grants r c (events ++ Acted p (Queues (push r v)) (answers.Truth false) ∷ []) p v false, tt));
           producers = push_producer r c events p v false ro.producer;
           consumers = push_consumer r c events p v false ro.consumer;
           right = (false_is_right r c events p v (ap length (waiting_is events (items k.waiting) book) ∙ (long ∙ lap)), (tt, tt));
-          lengths = (tt, (push_tells r c (events ++ Acted p (Queues (push r v)) (answers.TheVariants.Truth false) ∷ []) p v false, tt));
+          lengths = (tt, (push_tells r c (events ++ Acted p (Queues (push r v)) (answers.Truth false) ∷ []) p v false, tt));
           good = inv.queue.good;
           hangs = none_hangs T r c k _;
           out = omega arith;
           book = append-nil (items k.waiting);
           goes = list_after_push r c k.waiting v ∙ (none ∙ sym (listed_is r c k.waiting));
-          answers = list_answers_push r c k.waiting v ∙ ap (λ x. answers.TheVariants.Truth x ∷ []) t;
+          answers = list_answers_push r c k.waiting v ∙ ap (λ x. answers.Truth x ∷ []) t;
           here =
               record {
-                answer = answers.TheVariants.Truth false;
-                wrote = Acted p (Queues (push r v)) (answers.TheVariants.Truth false) ∷ [];
+                answer = answers.Truth false;
+                wrote = Acted p (Queues (push r v)) (answers.Truth false) ∷ [];
                 span = refl;
                 steps = subst (λ n. steps + 1 ≤ n) (sym most) (omega arith);
               };
@@ -141,18 +142,18 @@ module _ {T : Type 0} (en : Coding T) (r : Ring) (law : IsCoding en) (scene : Sc
         },
       )
 
-  abbrev stores_cell : ℕ → pushes.PushStage
-  stores_cell i = pushes.TheVariants.StoresCell k.write (cell_word c size k.write) i
+  abbrev stores_cell : ℕ → PushStage
+  stores_cell i = pushes.StoresCell k.write (cell_word c size k.write) i
 
-  loads_read : k.write < 2 ^ 64 - 1 → steps ≤ 1 → DoesOf (pushes.TheVariants.LoadsRead k.write)
+  loads_read : k.write < 2 ^ 64 - 1 → steps ≤ 1 → DoesOf (pushes.LoadsRead k.write)
   loads_read fresh s = go (c == 0 || distance k.write k.read == c) refl
     where
-      go : (t : Bool) → (c == 0 || distance k.write k.read == c) ≡ t → DoesOf (pushes.TheVariants.LoadsRead k.write)
+      go : (t : Bool) → (c == 0 || distance k.write k.read == c) ≡ t → DoesOf (pushes.LoadsRead k.write)
       go true t =
-          let goes : ring_after en r (at (pushes.TheVariants.LoadsRead k.write)) k.read ≡ Done (answers.TheVariants.Truth false) = rw t refl in
+          let goes : ring_after en r (at (pushes.LoadsRead k.write)) k.read ≡ Done (answers.Truth false) = rw t refl in
           subst (λ a. Does (Some load_of_read) a Acts) (sym goes) (refused (full t) s)
       go false t =
-          let goes : ring_after en r (at (pushes.TheVariants.LoadsRead k.write)) k.read ≡ GoOn (flight r (at (stores_cell 0))) = rw t refl in
+          let goes : ring_after en r (at (pushes.LoadsRead k.write)) k.read ≡ GoOn (flight r (at (stores_cell 0))) = rw t refl in
           let some = lawful.some in
           subst (λ a. Does (Some load_of_read) a Acts) (sym goes)
           (goes_on (Some load_of_read) (stores_cell 0) k refl refl refl g refl
@@ -203,16 +204,16 @@ module _ {T : Type 0} (en : Coding T) (r : Ring) (law : IsCoding en) (scene : Sc
           (goes_on ask (stores_cell (i + 1)) next refl refl refl good words (refl, room, refl, further, more, fresh) (omega arith) others)
       go false t =
           let goes : ring_after en r (at (stores_cell i)) (get_or (layout ro k) (cell_asked size c k.write i) 0)
-          ≡ GoOn (flight r (at (pushes.TheVariants.StoresWrite k.write))) =
+          ≡ GoOn (flight r (at (pushes.StoresWrite k.write))) =
           rw t refl in
           let last : size ≡ i + 1 = (let over : size ≤ i + 1 = grind (arith, nat_tests) in omega arith) in
           subst (λ a. Does ask a Quiet) (sym goes)
-          (goes_on ask (pushes.TheVariants.StoresWrite k.write) next refl refl refl good words
+          (goes_on ask (pushes.StoresWrite k.write) next refl refl refl good words
           (refl, room, subst (λ n. Holds size words_of c next.cells next.write v n) (sym last) more, fresh)
           (omega arith) others)
 
   stores_write : k.write < 2 ^ 64 - 1 → length k.waiting < c → Holds size words_of c k.cells k.write v size
-      → steps ≤ 2 + size → DoesOf (pushes.TheVariants.StoresWrite k.write)
+      → steps ≤ 2 + size → DoesOf (pushes.StoresWrite k.write)
   stores_write fresh room whole s =
       let reached = inv.queue.reached in
       let long : length (items k.waiting) ≡ length k.waiting = length-map k.waiting (item (kind_of r)) in
@@ -225,7 +226,7 @@ module _ {T : Type 0} (en : Coding T) (r : Ring) (law : IsCoding en) (scene : Sc
       let most = most_push en r v (backs + 0) in
       let after : Core (Val T (kind_of r)) = core.published size words_of c k v in
       stays (Some (record { word = write_word; op = Store (after_position k.write) }))
-      (Done (answers.TheVariants.Truth true)) (Publishes (item (kind_of r) v)) (
+      (Done (answers.Truth true)) (Publishes (item (kind_of r) v)) (
         after,
         ap (λ n. n ∷ k.read ∷ free ro.producer ∷ free ro.consumer ∷ k.cells) next,
         record {
@@ -237,7 +238,7 @@ module _ {T : Type 0} (en : Coding T) (r : Ring) (law : IsCoding en) (scene : Sc
               tt,
               (
                 push_grants r c
-                    ((events ++ Published p (item (kind_of r) v) ∷ []) ++ Acted p (Queues (push r v)) (answers.TheVariants.Truth true) ∷ [])
+                    ((events ++ Published p (item (kind_of r) v) ∷ []) ++ Acted p (Queues (push r v)) (answers.Truth true) ∷ [])
                     p v true,
                 tt,
               ),
@@ -252,7 +253,7 @@ module _ {T : Type 0} (en : Coding T) (r : Ring) (law : IsCoding en) (scene : Sc
               tt,
               (
                 push_tells r c
-                    ((events ++ Published p (item (kind_of r) v) ∷ []) ++ Acted p (Queues (push r v)) (answers.TheVariants.Truth true) ∷ [])
+                    ((events ++ Published p (item (kind_of r) v) ∷ []) ++ Acted p (Queues (push r v)) (answers.Truth true) ∷ [])
                     p v true,
                 tt,
               ),
@@ -263,11 +264,11 @@ module _ {T : Type 0} (en : Coding T) (r : Ring) (law : IsCoding en) (scene : Sc
           out = omega arith;
           book = joined;
           goes = list_after_push r c k.waiting v ∙ (all ∙ sym (listed_is r c (k.waiting ++ v ∷ [])));
-          answers = list_answers_push r c k.waiting v ∙ ap (λ x. answers.TheVariants.Truth x ∷ []) t;
+          answers = list_answers_push r c k.waiting v ∙ ap (λ x. answers.Truth x ∷ []) t;
           here =
               record {
-                answer = answers.TheVariants.Truth true;
-                wrote = Published p (item (kind_of r) v) ∷ Acted p (Queues (push r v)) (answers.TheVariants.Truth true) ∷ [];
+                answer = answers.Truth true;
+                wrote = Published p (item (kind_of r) v) ∷ Acted p (Queues (push r v)) (answers.Truth true) ∷ [];
                 span = refl;
                 steps = subst (λ n. steps + 1 ≤ n) (sym most) (omega arith);
               };
@@ -283,13 +284,13 @@ module _ {T : Type 0} (en : Coding T) (r : Ring) (law : IsCoding en) (scene : Sc
         },
       )
 
-  pub push_step : (stage : pushes.PushStage) → IsFresh k.write stage
+  pub push_step : (stage : PushStage) → IsFresh k.write stage
       → KnowsPush (encoded en (kind_of r)) c k v stage → steps ≤ push_number size stage → DoesOf stage
-  push_step pushes.TheVariants.LoadsWrite fresh known s = loads_write fresh s
-  push_step (pushes.TheVariants.LoadsRead write) fresh known s = subst (λ w. DoesOf (pushes.TheVariants.LoadsRead w)) (sym known.0) (loads_read known.1 s)
-  push_step (pushes.TheVariants.StoresCell write cell i) fresh known s =
-      subst (λ w. DoesOf (pushes.TheVariants.StoresCell w cell i)) (sym known.0)
-      (subst (λ n. DoesOf (pushes.TheVariants.StoresCell k.write n i)) (sym known.2)
+  push_step pushes.LoadsWrite fresh known s = loads_write fresh s
+  push_step (pushes.LoadsRead write) fresh known s = subst (λ w. DoesOf (pushes.LoadsRead w)) (sym known.0) (loads_read known.1 s)
+  push_step (pushes.StoresCell write cell i) fresh known s =
+      subst (λ w. DoesOf (pushes.StoresCell w cell i)) (sym known.0)
+      (subst (λ n. DoesOf (pushes.StoresCell k.write n i)) (sym known.2)
       (stores_word known.5 i known.1 known.3 known.4 s))
-  push_step (pushes.TheVariants.StoresWrite write) fresh known s =
-      subst (λ w. DoesOf (pushes.TheVariants.StoresWrite w)) (sym known.0) (stores_write known.3 known.1 known.2 s)
+  push_step (pushes.StoresWrite write) fresh known s =
+      subst (λ w. DoesOf (pushes.StoresWrite w)) (sym known.0) (stores_write known.3 known.1 known.2 s)

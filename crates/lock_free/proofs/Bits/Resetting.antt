@@ -12,7 +12,7 @@ use Rattle.steps.specs.declared.ask.After.TheVariants.{GoOn, Done}
 use Rattle.steps.specs.declared.ask.Want.TheVariants as wants
 use Rattle.steps.specs.declared.bits.bit_set.ResetNext.{ResetNext as Resetting}
 use Rattle.steps.specs.declared.bits.bit_set.ResetNextStage.{ResetNextStage}
-use Rattle.steps.specs.declared.bits.bit_set.ResetNextStage as resets
+use Rattle.steps.specs.declared.bits.bit_set.ResetNextStage.TheVariants as resets
 use Rattle.model.specs.declared.event.Answer.TheVariants.{Reset}
 use Rattle.model.specs.declared.turn.Kind.TheVariants as kinds
 use Rattle.model.specs.Families.Bits.Promises.{CameTo}
@@ -50,16 +50,16 @@ tests x0 x1 x2 x3 x4 x5 x6 x7 = grind (arith, by_test, has_flag, place_after, re
 takes : (cap p n : ℕ) (m : Unit {0}) (stage : ResetNextStage) → ResetStands cap stage
     → Stands cap p (reset_after (at_stage cap stage) n)
     (reset_so_far p stage ++ set_effects p (resets_next.flight (at_stage cap stage) m) n)
-takes cap p n m resets.TheVariants.LoadsPosition h = comes_to cap p (at_most cap n) 0 resets.TheVariants.LoadsPosition (at_most_below cap n)
-takes cap p n m (resets.TheVariants.LoadsElement start passed) h = tests cap p start passed n (resets.TheVariants.LoadsElement start passed) h.0 h.1
-takes cap p n m (resets.TheVariants.ExchangesElement start passed found) h = go (n == found) refl
+takes cap p n m resets.LoadsPosition h = comes_to cap p (at_most cap n) 0 resets.LoadsPosition (at_most_below cap n)
+takes cap p n m (resets.LoadsElement start passed) h = tests cap p start passed n (resets.LoadsElement start passed) h.0 h.1
+takes cap p n m (resets.ExchangesElement start passed found) h = go (n == found) refl
   where
     go : (b : Bool) → (n == found) ≡ b
-        → Stands cap p (reset_after (at_stage cap (resets.TheVariants.ExchangesElement start passed found)) n)
-        ([] ++ set_effects p (resets_next.flight (at_stage cap (resets.TheVariants.ExchangesElement start passed found)) m) n)
+        → Stands cap p (reset_after (at_stage cap (resets.ExchangesElement start passed found)) n)
+        ([] ++ set_effects p (resets_next.flight (at_stage cap (resets.ExchangesElement start passed found)) m) n)
     go true t = rw t (refl, place_below cap start passed h.0 h.1, refl)
-    go false t = rw t (tests cap p start passed n (resets.TheVariants.ExchangesElement start passed found) h.0 h.1)
-takes cap p n m (resets.TheVariants.StoresPosition place) h = (h, refl)
+    go false t = rw t (tests cap p start passed n (resets.ExchangesElement start passed found) h.0 h.1)
+takes cap p n m (resets.StoresPosition place) h = (h, refl)
 
 stands_on : (cap p n : ℕ) (m : Unit {0}) (c : Resetting) → (c.capacity ≡ cap) × ResetStands cap c.stage
     → Stands cap p (reset_after c n) (reset_so_far p c.stage ++ set_effects p (resets_next.flight c m) n)
@@ -84,38 +84,38 @@ asks cap c h = subst (λ k. (a : Ask) × (a.word < 1 + elements cap) × (reset_a
     near place below = omega arith
 
     at : (stage : ResetNextStage) → ResetStands cap stage → (a : Ask) × (a.word < 1 + elements cap) × (reset_asks cap stage ≡ wants.Ask a)
-    at resets.TheVariants.LoadsPosition s = (record { word = 0; op = Load }, omega arith, refl)
-    at (resets.TheVariants.LoadsElement start passed) s = (
+    at resets.LoadsPosition s = (record { word = 0; op = Load }, omega arith, refl)
+    at (resets.LoadsElement start passed) s = (
       record { word = element_of (place_after cap start passed); op = Load },
       near (place_after cap start passed) (place_below cap start passed s.0 s.1),
       refl,
     )
-    at (resets.TheVariants.ExchangesElement start passed found) s = (
+    at (resets.ExchangesElement start passed found) s = (
       record { word = element_of (place_after cap start passed); op = Exchange found (without_flag found (place_after cap start passed)) },
       near (place_after cap start passed) (place_below cap start passed s.0 s.1),
       refl,
     )
-    at (resets.TheVariants.StoresPosition place) s = (record { word = 0; op = Store (after_position place) }, omega arith, refl)
+    at (resets.StoresPosition place) s = (record { word = 0; op = Store (after_position place) }, omega arith, refl)
 
 -- a load and an exchange tell what they found, and a store is heard by nobody
 hears : (c : Resetting) (a : Ask) (n : ℕ) → reset_want c ≡ wants.Ask a → reset_after c (answered a.op n) ≡ reset_after c n
 hears c a n e = at c.stage e
   where
     at : (stage : ResetNextStage) → reset_asks c.capacity stage ≡ wants.Ask a → reset_takes c stage (answered a.op n) ≡ reset_takes c stage n
-    at resets.TheVariants.LoadsPosition w =
+    at resets.LoadsPosition w =
         let same : record { word = 0; op = Load } ≡ a = cc in
-        ap (λ (z : Ask). reset_takes c resets.TheVariants.LoadsPosition (answered z.op n)) (sym same)
-    at (resets.TheVariants.LoadsElement start passed) w =
+        ap (λ (z : Ask). reset_takes c resets.LoadsPosition (answered z.op n)) (sym same)
+    at (resets.LoadsElement start passed) w =
         let same : record { word = element_of (place_after c.capacity start passed); op = Load } ≡ a = cc in
-        ap (λ (z : Ask). reset_takes c (resets.TheVariants.LoadsElement start passed) (answered z.op n)) (sym same)
-    at (resets.TheVariants.ExchangesElement start passed found) w =
+        ap (λ (z : Ask). reset_takes c (resets.LoadsElement start passed) (answered z.op n)) (sym same)
+    at (resets.ExchangesElement start passed found) w =
         let same : record {
           word = element_of (place_after c.capacity start passed);
           op = Exchange found (without_flag found (place_after c.capacity start passed));
         } ≡ a =
         cc in
-        ap (λ (z : Ask). reset_takes c (resets.TheVariants.ExchangesElement start passed found) (answered z.op n)) (sym same)
-    at (resets.TheVariants.StoresPosition place) w = refl
+        ap (λ (z : Ask). reset_takes c (resets.ExchangesElement start passed found) (answered z.op n)) (sym same)
+    at (resets.StoresPosition place) w = refl
 
 is_call : IsCallOf one_word set_effects (λ capacity. 1 + elements capacity) reset_want reset_after (λ c m n. m) (resets_next {T = ℕ})
 is_call = grind (arith, same_after, hears, reset_so_far, set_effects, resets_next, stands_on, asks)

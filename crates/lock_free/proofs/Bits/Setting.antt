@@ -10,7 +10,7 @@ use Rattle.steps.specs.declared.ask.After.TheVariants.{GoOn, Done}
 use Rattle.steps.specs.declared.ask.Want.TheVariants as wants
 use Rattle.steps.specs.declared.bits.bit_set.Set.{Set as Setting}
 use Rattle.steps.specs.declared.bits.bit_set.SetStage.{SetStage}
-use Rattle.steps.specs.declared.bits.bit_set.SetStage as sets
+use Rattle.steps.specs.declared.bits.bit_set.SetStage.TheVariants as sets
 use Rattle.model.specs.declared.turn.Kind.TheVariants as kinds
 use Rattle.history.proofs.Sets.{bits_starts, set_effects, bits_owe}
 use Rattle.lock_free.specs.Driven.{IsIdle}
@@ -24,25 +24,25 @@ module _ (place : ℕ) where
   same_after c m n = at c.stage
     where
       tests : (b : Bool) → has_flag n place ≡ b → (k : SetStage)
-          → after_of one_word ((sets_place {T = ℕ} place).flight (record { stage = sets.TheVariants.LoadsElement }) m) n
+          → after_of one_word ((sets_place {T = ℕ} place).flight (record { stage = sets.LoadsElement }) m) n
           ≡ goes (sets_place place) (set_tests place n) m
       tests true t k = rw t refl
       tests false t k = rw t refl
 
       at : (stage : SetStage) → after_of one_word ((sets_place {T = ℕ} place).flight (record { stage = stage }) m) n
           ≡ goes (sets_place place) (set_after (record { stage = stage }) place n) m
-      at sets.TheVariants.LoadsElement = tests (has_flag n place) refl sets.TheVariants.LoadsElement
-      at (sets.TheVariants.ExchangesElement found) = go (n == found) refl
+      at sets.LoadsElement = tests (has_flag n place) refl sets.LoadsElement
+      at (sets.ExchangesElement found) = go (n == found) refl
         where
           go : (b : Bool) → (n == found) ≡ b
-              → after_of one_word ((sets_place {T = ℕ} place).flight (record { stage = sets.TheVariants.ExchangesElement found }) m) n
-              ≡ goes (sets_place place) (set_after (record { stage = sets.TheVariants.ExchangesElement found }) place n) m
+              → after_of one_word ((sets_place {T = ℕ} place).flight (record { stage = sets.ExchangesElement found }) m) n
+              ≡ goes (sets_place place) (set_after (record { stage = sets.ExchangesElement found }) place n) m
           go true t = rw t refl
           go false t = test (has_flag n place) refl
             where
               test : (b : Bool) → has_flag n place ≡ b
-                  → after_of one_word ((sets_place {T = ℕ} place).flight (record { stage = sets.TheVariants.ExchangesElement found }) m) n
-                  ≡ goes (sets_place place) (set_after (record { stage = sets.TheVariants.ExchangesElement found }) place n) m
+                  → after_of one_word ((sets_place {T = ℕ} place).flight (record { stage = sets.ExchangesElement found }) m) n
+                  ≡ goes (sets_place place) (set_after (record { stage = sets.ExchangesElement found }) place n) m
               test true u = rw (t, u) refl
               test false u = rw (t, u) refl
 
@@ -53,20 +53,20 @@ module _ (place : ℕ) where
       near = omega arith
 
       at : (stage : SetStage) → (a : Ask) × (a.word < 1 + elements capacity) × (set_want (record { stage = stage }) place ≡ wants.Ask a)
-      at sets.TheVariants.LoadsElement = (record { word = element_of place; op = Load }, near, refl)
-      at (sets.TheVariants.ExchangesElement found) = (record { word = element_of place; op = Exchange found (with_flag found place) }, near, refl)
+      at sets.LoadsElement = (record { word = element_of place; op = Load }, near, refl)
+      at (sets.ExchangesElement found) = (record { word = element_of place; op = Exchange found (with_flag found place) }, near, refl)
 
   hears : (c : Setting) (a : Ask) (n : ℕ) → set_want c place ≡ wants.Ask a → set_after c place (answered a.op n) ≡ set_after c place n
   hears c a n e = at c.stage e
     where
       at : (stage : SetStage) → set_want (record { stage = stage }) place ≡ wants.Ask a
           → set_after (record { stage = stage }) place (answered a.op n) ≡ set_after (record { stage = stage }) place n
-      at sets.TheVariants.LoadsElement w =
+      at sets.LoadsElement w =
           let same : record { word = element_of place; op = Load } ≡ a = cc in
-          ap (λ (z : Ask). set_after (record { stage = sets.TheVariants.LoadsElement }) place (answered z.op n)) (sym same)
-      at (sets.TheVariants.ExchangesElement found) w =
+          ap (λ (z : Ask). set_after (record { stage = sets.LoadsElement }) place (answered z.op n)) (sym same)
+      at (sets.ExchangesElement found) w =
           let same : record { word = element_of place; op = Exchange found (with_flag found place) } ≡ a = cc in
-          ap (λ (z : Ask). set_after (record { stage = sets.TheVariants.ExchangesElement found }) place (answered z.op n)) (sym same)
+          ap (λ (z : Ask). set_after (record { stage = sets.ExchangesElement found }) place (answered z.op n)) (sym same)
 
   -- what a step writes, by how it goes on
   abbrev Wrote : ℕ → After Setting Bool → List (Event ℕ) → Type 0
@@ -85,12 +85,12 @@ module _ (place : ℕ) where
     where
       at : (stage : SetStage) → Wrote p (set_after (record { stage = stage }) place n)
           (set_effects p ((sets_place place).flight (record { stage = stage }) m) n)
-      at sets.TheVariants.LoadsElement = tested p n
-      at (sets.TheVariants.ExchangesElement found) = go (n == found) refl
+      at sets.LoadsElement = tested p n
+      at (sets.ExchangesElement found) = go (n == found) refl
         where
           go : (b : Bool) → (n == found) ≡ b
-              → Wrote p (set_after (record { stage = sets.TheVariants.ExchangesElement found }) place n)
-              (set_effects p ((sets_place place).flight (record { stage = sets.TheVariants.ExchangesElement found }) m) n)
+              → Wrote p (set_after (record { stage = sets.ExchangesElement found }) place n)
+              (set_effects p ((sets_place place).flight (record { stage = sets.ExchangesElement found }) m) n)
           go true t = rw t refl
           go false t = rw t (tested p n)
 

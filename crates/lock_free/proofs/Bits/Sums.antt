@@ -5,7 +5,7 @@ use Rattle.lock_free.proofs.Names.{◌++◌, refl, sym, ap, subst, ◌∙◌, ap
 use Rattle.lock_free.proofs.Names.{Truth, ResetNone, Event, Begun, Finished, Cleared, Bits, Set, ResetNext, one_word}
 use Rattle.lock_free.proofs.Names.{IsBitSet, BeginsNone, bits_go_on, View, IsHistory}
 use Rattle.std.specs.List.{sum_by}
-use Rattle.model.specs.declared.event.Event as events
+use Rattle.model.specs.declared.event.Event.TheVariants as events
 use Rattle.model.specs.declared.turn.Kind.TheVariants as kinds
 use Rattle.model.specs.Families.Bits.Calls.{reset_answer}
 use Rattle.model.specs.Families.Bits.Reading.{is_set_of, is_clear_of, sets, clears}
@@ -35,7 +35,7 @@ module _ (old new : View ℕ) where
   pub set_adds : (place : ℕ) → HasSet place true old new → (b : ℕ)
       → (sets b new.made ≡ sets b old.made + cond (place == b) 1 0) × (clears b new.made ≡ clears b old.made)
   set_adds place h b =
-      let wrote : List (Event ℕ) = events.TheVariants.Set h.by place ∷ [] in
+      let wrote : List (Event ℕ) = events.Set h.by place ∷ [] in
       let s = sum_made (λ e. cond (is_set_of b e) 1 0) h.by (Bits (Set place)) (Truth true) wrote old new h.called in
       let c = sum_made (λ e. cond (is_clear_of b e) 1 0) h.by (Bits (Set place)) (Truth true) wrote old new h.called in
       (omega arith, omega arith)
@@ -59,7 +59,7 @@ module _ (old new : View ℕ) where
   pub was_set : (place : ℕ) (answer : Bool) → HasSet place answer old new → (answer ≡ false → StoodOnce place new) → 1 ≤ sets place new.seen
   was_set place false h stood = stood_was_set place (stood refl)
   was_set place true h stood =
-      let wrote : List (Event ℕ) = events.TheVariants.Set h.by place ∷ [] in
+      let wrote : List (Event ℕ) = events.Set h.by place ∷ [] in
       let some = sum_seen (λ e. cond (is_set_of place e) 1 0) h.by (Bits (Set place)) (Truth true) wrote old new h.called in
       let t : (place == place) ≡ true = grind (arith, nat_tests) in
       let one : sets place wrote ≡ 1 = rw t refl in

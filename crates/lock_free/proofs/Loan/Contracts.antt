@@ -3,7 +3,7 @@ use Rattle.lock_free.proofs.Names.{◌≡◌, ℕ, zero, suc, ◌+◌, ◌≤◌
 use Rattle.lock_free.proofs.Names.{List, [], ◌∷◌, ◌++◌, length, Option, Some, None, refl, sym, ap, subst, ◌∙◌, arith}
 use Rattle.lock_free.proofs.Names.{append_assoc, append-nil, range_with_len, Start, Answer, Event, Begun}
 use Rattle.lock_free.proofs.Names.{Finished, View, Called, IsBeginning, ReleaseState, Unlocked, claims, frees}
-use Rattle.std.proofs.Common.{sum_by}
+use Rattle.std.proofs.Common.{length-append, sum_by}
 use Rattle.std.specs.Prelude.{not, is_some, IfNone}
 use Rattle.std.specs.Option.{option_map}
 use Rattle.std.specs.List.{filter}
@@ -56,6 +56,7 @@ has_freed old new index state goes unlocked given =
     record {
       given = subst (λ s. HasGiven index s (view old) (view new)) unlocked given;
       goes = set_goes old new goes (begins_before _ _ _ _ (view old) (view new) given.called);
+      aside = goes.aside;
     }
 
 -- what is freed in turn is claimed no more, and freed as often as it stands in the list
@@ -132,9 +133,11 @@ pub record Popping (old now : View ℕ) : Type 0 where
   pub first : AreFirst old.turns now.turns
   pub numbers : List ℕ
   pub popped : InTurn HasPoppedOne numbers old now
+  pub aside : now.aside ≤ old.aside + length numbers
 
 pub pops_none : (v : View ℕ) → Popping v v
-pops_none v = record { share = refl; since = itself v.seen; first = first_all v.turns; numbers = []; popped = refl }
+pops_none v =
+    record { share = refl; since = itself v.seen; first = first_all v.turns; numbers = []; popped = refl; aside = omega arith }
 
 module _ (old now new : View ℕ) (before : Popping old now) (goes : Goes now new) where
   pub still_goes : Goes old new
@@ -147,23 +150,31 @@ module _ (old now new : View ℕ) (before : Popping old now) (goes : Goes now ne
       }
 
   pub pops_on : (answer : Option ℕ) (none : Bool) → is_some answer ≡ not none → none ≡ false
-      → HasPopped (option_map Index answer) now new → Popping old new
-  pops_on None none is off popped = absurd (true≢false (sym (is ∙ ap not off)))
-  pops_on (Some x) none is off popped =
+      → HasPopped (option_map Index answer) now new → new.aside ≤ now.aside + 1 → Popping old new
+  pops_on None none is off popped once = absurd (true≢false (sym (is ∙ ap not off)))
+  pops_on (Some x) none is off popped once =
       record {
         share = goes.share ∙ before.share;
         since = begins_further old.seen now.seen new.seen before.since goes.since;
         first = first_further old.turns now.turns new.turns before.first goes.first;
         numbers = before.numbers ++ x ∷ [];
         popped = in_turn_more HasPoppedOne before.numbers x old now new before.popped popped;
+        aside = (let so_far = before.aside in let one = length-append before.numbers (x ∷ []) in omega arith);
       }
 
 module _ (old now new : View ℕ) (before : Popping old now) where
   pub is_emptied : (answer : Option ℕ) (none : Bool) → is_some answer ≡ not none → none ≡ true
-      → HasPopped (option_map Index answer) now new → IfNone answer (FoundNone now new) → HasEmptied old new
-  is_emptied None none is on popped found =
-      record { numbers = before.numbers; last = now; popped = before.popped; none = popped; empty = found }
-  is_emptied (Some x) none is on popped found = absurd (true≢false (is ∙ ap not on))
+      → HasPopped (option_map Index answer) now new → IfNone answer (FoundNone now new) → new.aside ≤ now.aside + 1 → HasEmptied old new
+  is_emptied None none is on popped found once =
+      record {
+        numbers = before.numbers;
+        last = now;
+        popped = before.popped;
+        none = popped;
+        empty = found;
+        aside = (let so_far = before.aside in omega arith);
+      }
+  is_emptied (Some x) none is on popped found once = absurd (true≢false (is ∙ ap not on))
 
 in_turn_since : (xs : List ℕ) (old new : View ℕ) → InTurn HasPoppedOne xs old new → IsBeginning old.seen new.seen
 in_turn_since [] old new same = subst (λ (v : View ℕ). IsBeginning old.seen v.seen) (sym same) (itself old.seen)

@@ -10,7 +10,7 @@ use Rattle.model.specs.declared.event.Start.TheVariants.{Indices}
 use Rattle.model.specs.declared.families.indices.IndexStart.TheVariants.{Release}
 use Rattle.model.specs.declared.turn.Kind.TheVariants as kinds
 use Rattle.threaded.specs.Shares.{IsAll}
-use Rattle.history.specs.History.{AreFirst, Knows}
+use Rattle.history.specs.History.{AreFirst, IsPart, Knows}
 use Rattle.history.proofs.Ended.{known_then, less_first, then_view}
 use Rattle.history.proofs.Known.{begins_further, itself}
 use Rattle.history.proofs.OneRun.{first_all, first_further}
@@ -30,9 +30,10 @@ record AreAlike (v w : View ℕ) : Type 0 where
   pub made : w.made ≡ v.made
   pub party : w.party ≡ v.party
   pub share : w.share ≡ v.share
+  pub aside : w.aside ≡ v.aside
 
 alike : (v : View ℕ) → AreAlike v v
-alike v = record { seen = refl; made = refl; party = refl; share = refl }
+alike v = record { seen = refl; made = refl; party = refl; share = refl; aside = refl }
 
 module _ {old old' new new' : View ℕ} (a : AreAlike old old') (b : AreAlike new new') where
   called_alike : (p : ℕ) (start : Start ℕ) (answer : Answer ℕ) (wrote : List (Event ℕ)) → Called p start answer wrote old new
@@ -65,6 +66,7 @@ module _ {old old' new new' : View ℕ} (a : AreAlike old old') (b : AreAlike ne
               first = less_first one_word kinds.Indices capacity old'.turns new'.turns old'.seen new'.seen now.turns first then before.is after.is less;
               all = λ whole f. ap (sum_by f) b.seen ∙ (h.goes.all (subst IsAll b.share whole) f ∙ ap (sum_by f) (sym b.made));
             };
+        aside = (let here = h.aside in let was = a.aside in let now_is = b.aside in omega arith);
         knows = after;
       }
     where
@@ -100,9 +102,10 @@ module _ (capacity : ℕ) where
       let k =
       known_then one_word kinds.Indices capacity each.0 new (until_end x old each.0 each.1) each.1.given.by
       (Indices (Release x modes.Default)) (State Unlocked) after
+      (subst IsPart (a.share ∙ sym each.1.goes.share) before.asked.share)
       (seen_is x old each.0 each.1) (begins_in_turn (y ∷ ys) each.0 new each.2) in
       let now : View ℕ = then_view one_word kinds.Indices capacity each.0 k.0 in
-      let b : AreAlike each.0 now = record { seen = refl; made = refl; party = refl; share = refl } in (
+      let b : AreAlike each.0 now = record { seen = refl; made = refl; party = refl; share = refl; aside = refl } in (
         now,
         freed_so a b new each.1 first k.1 before k.2,
         from_there y ys each.0 now new b each.2 k.1 k.2 after,

@@ -14,7 +14,7 @@ use Rattle.model.specs.Turns.{after_turn}
 use Rattle.history.specs.Known.{events_by}
 use Rattle.history.specs.Stages.{IsFirst}
 use Rattle.history.proofs.CallReady.{ready}
-use Rattle.history.proofs.CallTurns.{then_gained, next_between, view_then, ends_then}
+use Rattle.history.proofs.CallTurns.{then_gained, next_between, view_then, gains_then, ends_then}
 use Rattle.history.proofs.Drives.{NeverPushes, all_laws, all_kept_laws}
 use Rattle.history.proofs.Known.{by_mine, AreOf}
 use Rattle.history.proofs.Passes.{set_same}
@@ -52,9 +52,10 @@ module _ {T C M E : Type 0} (code : Coding T) (kind : Kind) (effects : ℕ → F
                 views = slice_set s.views id (view_then code kind (λ w. effects) size_of there call s v v.capacity id c m at refl y None tt asks_none finds);
               }))
               (sym (set_same s.words word))
-              (settle code kind v.capacity id y.p y.owner (v.asked + 1) s.words s v
+              (settle code kind v.capacity id y.p y.owner (v.asked + 1) (v.aside + 1) s.words s v
               (then_gained code kind (λ w. effects) size_of there call s v v.capacity id c m at refl y None tt asks_none finds) u at first.some
-              (next_between code kind (λ w. effects) size_of there call s v v.capacity id c m at refl y None tt asks_none finds)),
+              (next_between code kind (λ w. effects) size_of there call s v v.capacity id c m at refl y None tt asks_none finds)
+              (gains_then code kind (λ w. effects) size_of there call s v v.capacity id c m at refl y None tt asks_none finds)),
           (
             ends_then code kind (λ w. effects) size_of there call s v v.capacity id c m at refl y None tt asks_none finds v (inl first) end m'
                 (goes_on_alike code kind v.capacity (size_of v.capacity) (λ w. effects)

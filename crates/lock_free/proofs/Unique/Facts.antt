@@ -27,7 +27,7 @@ use Rattle.history.proofs.Indices.{is_index_set}
 use Rattle.history.proofs.Locks.{not_locked}
 use Rattle.history.proofs.OneHolder.{first_wrote}
 use Rattle.lock_free.specs.Unique.Held.{HoldsNothing, IsSound}
-use Rattle.lock_free.proofs.Ends.{has_made}
+use Rattle.lock_free.proofs.Ends.{has_made, aside_most}
 use Rattle.lock_free.proofs.Unique.Machine.{holds_right, none_held, held_within}
 use Rattle.lock_free.specs.UniqueIndexSet.{set_of, view, SamePass}
 use Rattle.lock_free.specs.declared.mpmc.unique_index_set.Pass.{Pass}
@@ -242,5 +242,6 @@ same_pass {old = old} {new = new} set ends =
       share = ends.share;
       sound = sound (view old).capacity (view new) ends.capacity ends.history ends.parties;
       first = ends.ran.first;
+      aside = aside_most ends.aside;
       all = λ whole. ends.all (subst IsAll ends.share whole);
     }

@@ -2,25 +2,26 @@
 use Rattle.std.specs.Prelude.{◌≡◌, ℕ, ◌<◌, ◌≤◌, Bool, true, false, Option, Some, None, IfSome, List, [], ◌∷◌}
 use Rattle.steps.specs.declared.bits.bit_set.Set.{Set as Setting}
 use Rattle.steps.specs.declared.bits.bit_set.ResetNext.{ResetNext as Resetting}
-use Rattle.steps.specs.declared.bits.bit_set.ResetNextStage as resets
+use Rattle.steps.specs.declared.bits.bit_set.ResetNextStage.{ResetNextStage}
+use Rattle.steps.specs.declared.bits.bit_set.ResetNextStage.TheVariants as resets
 use Rattle.model.specs.declared.event.Answer.TheVariants.{Truth}
 use Rattle.model.specs.declared.event.Event.{Event}
-use Rattle.model.specs.declared.event.Event as events
+use Rattle.model.specs.declared.event.Event.TheVariants as events
 use Rattle.model.specs.declared.event.Start.TheVariants.{Bits}
-use Rattle.model.specs.declared.families.Flight as flights
+use Rattle.model.specs.declared.families.Flight.TheVariants as flights
 use Rattle.model.specs.declared.families.bits.BitsStart.TheVariants.{Set, ResetNext}
-use Rattle.model.specs.declared.families.bits.calls.BitsFlight as calls
+use Rattle.model.specs.declared.families.bits.calls.BitsFlight.TheVariants as calls
 use Rattle.model.specs.Families.Bits.Calls.{reset_answer}
 use Rattle.history.specs.Stages.{Calling}
 
 -- the place that it comes to, or has come to, is below the capacity
-abbrev pub ResetStands : ℕ → resets.ResetNextStage → Type 0
-ResetStands capacity resets.TheVariants.LoadsPosition = Unit {0}
-ResetStands capacity (resets.TheVariants.LoadsElement start passed) =
+abbrev pub ResetStands : ℕ → ResetNextStage → Type 0
+ResetStands capacity resets.LoadsPosition = Unit {0}
+ResetStands capacity (resets.LoadsElement start passed) =
     (start ≤ capacity) × (passed < capacity)
-ResetStands capacity (resets.TheVariants.ExchangesElement start passed found) =
+ResetStands capacity (resets.ExchangesElement start passed found) =
     (start ≤ capacity) × (passed < capacity)
-ResetStands capacity (resets.TheVariants.StoresPosition place) = place < capacity
+ResetStands capacity (resets.StoresPosition place) = place < capacity
 
 abbrev pub IsPlace : ℕ → Option ℕ → Type 0
 IsPlace capacity None = Unit {0}
@@ -30,7 +31,7 @@ module _ {T : Type 0} where
   -- ---- setting a place
 
   abbrev pub set_wrote : ℕ → ℕ → Bool → List (Event T)
-  set_wrote p place true = events.TheVariants.Set p place ∷ []
+  set_wrote p place true = events.Set p place ∷ []
   set_wrote p place false = []
 
   abbrev pub sets_place : ℕ → Calling T Setting (Unit {0}) Bool
@@ -40,8 +41,8 @@ module _ {T : Type 0} where
         by = λ was p. IfSome was (λ q. q ≡ p);
         stands = λ capacity c. place < capacity;
         flight = λ c m.
-            flights.TheVariants.Bits
-            (calls.TheVariants.Set (record { call = c; given = place; room = m }));
+            flights.Bits
+            (calls.Set (record { call = c; given = place; room = m }));
         answer = λ b m. Truth b;
         skips = λ c n. false;
         left = λ e. ⊥;
@@ -51,16 +52,16 @@ module _ {T : Type 0} where
 
   -- ---- resetting the next place
 
-  abbrev pub reset_so_far : ℕ → resets.ResetNextStage → List (Event T)
-  reset_so_far p resets.TheVariants.LoadsPosition = []
-  reset_so_far p (resets.TheVariants.LoadsElement start passed) = []
-  reset_so_far p (resets.TheVariants.ExchangesElement start passed found) = []
-  reset_so_far p (resets.TheVariants.StoresPosition place) =
-      events.TheVariants.Cleared p place ∷ []
+  abbrev pub reset_so_far : ℕ → ResetNextStage → List (Event T)
+  reset_so_far p resets.LoadsPosition = []
+  reset_so_far p (resets.LoadsElement start passed) = []
+  reset_so_far p (resets.ExchangesElement start passed found) = []
+  reset_so_far p (resets.StoresPosition place) =
+      events.Cleared p place ∷ []
 
   abbrev pub reset_wrote : ℕ → Option ℕ → List (Event T)
   reset_wrote p None = []
-  reset_wrote p (Some place) = events.TheVariants.Cleared p place ∷ []
+  reset_wrote p (Some place) = events.Cleared p place ∷ []
 
   abbrev pub resets_next : Calling T Resetting (Unit {0}) (Option ℕ)
   resets_next =
@@ -69,8 +70,8 @@ module _ {T : Type 0} where
         by = λ was p. IfSome was (λ q. q ≡ p);
         stands = λ capacity c. (c.capacity ≡ capacity) × ResetStands capacity c.stage;
         flight = λ c m.
-            flights.TheVariants.Bits
-            (calls.TheVariants.ResetNext (record { call = c; given = tt; room = m }));
+            flights.Bits
+            (calls.ResetNext (record { call = c; given = tt; room = m }));
         answer = λ o m. reset_answer o;
         skips = λ c n. false;
         left = λ e. ⊥;

@@ -4,9 +4,9 @@ use Rattle.steps.specs.declared.bits.counting_bit_set.Set as counting
 use Rattle.model.specs.declared.event.Answer.TheVariants.{Number}
 use Rattle.model.specs.declared.event.Event.TheVariants.{Counted}
 use Rattle.model.specs.declared.event.Start.TheVariants.{Bits}
-use Rattle.model.specs.declared.families.Flight as flights
+use Rattle.model.specs.declared.families.Flight.TheVariants as flights
 use Rattle.model.specs.declared.families.bits.BitsStart.TheVariants.{Set}
-use Rattle.model.specs.declared.families.bits.calls.BitsFlight as calls
+use Rattle.model.specs.declared.families.bits.calls.BitsFlight.TheVariants as calls
 use Rattle.history.specs.Stages.{Calling}
 
 module _ {T : Type 0} where
@@ -17,8 +17,8 @@ module _ {T : Type 0} where
         by = λ was p. IfSome was (λ q. q ≡ p);
         stands = λ capacity c. place < capacity;
         flight = λ c m.
-            flights.TheVariants.Bits
-            (calls.TheVariants.Count (record { call = c; given = place; room = m }));
+            flights.Bits
+            (calls.Count (record { call = c; given = place; room = m }));
         answer = λ n m. Number n;
         skips = λ c n. false;
         left = λ e. ⊥;

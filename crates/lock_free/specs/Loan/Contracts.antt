@@ -1,5 +1,5 @@
 -- What a sender's calls do to its set, and to the two queues.
-use Rattle.std.specs.Prelude.{◌≡◌, ℕ, Some, None, List, [], ◌∷◌, length, if◌then◌else◌}
+use Rattle.std.specs.Prelude.{◌≡◌, ◌≤◌, ℕ, ◌+◌, Some, None, List, [], ◌∷◌, length, if◌then◌else◌}
 use Rattle.std.specs.List.{filter, range_with_len}
 use Rattle.steps.specs.declared.indices.enums.ReleaseState.TheVariants.{Unlocked}
 use Rattle.model.specs.declared.event.Item.TheVariants.{Index}
@@ -24,12 +24,15 @@ InTurn Does (x ∷ xs) old new = (between : View ℕ) × Does x old between × I
 pub record HasFreed (index : ℕ) (old new : View ℕ) : Type 0 where
   pub given : HasGiven index Unlocked old new
   pub goes : Goes old new
+  -- at most one operation was no step of a call
+  pub aside : new.aside ≤ old.aside + 1
 
 -- And what the pass knew then is a run. Of several that are freed in turn this is a law of the pass that has freed them,
 -- since nobody else sees the pass between two of them.
 pub record HasFreedInRun (capacity index : ℕ) (old new : View ℕ) : Type 0 where
   pub given : HasGiven index Unlocked old new
   pub goes : Goes old new
+  pub aside : new.aside ≤ old.aside + 1
   pub knows : Knows one_word kinds.Indices capacity new
 
 -- the indices that are sent, in ascending order
@@ -53,3 +56,5 @@ pub record HasEmptied (old new : View ℕ) : Type 0 where
   pub popped : InTurn HasPoppedOne numbers old last
   pub none : HasPopped None last new
   pub empty : FoundNone last new
+  -- of each pop at most one operation was no step of a call
+  pub aside : new.aside ≤ old.aside + (length numbers + 1)

@@ -1,5 +1,5 @@
 -- What the clauses of a sender's calls speak of: its table, its pass, and its guards of both queues.
-use Rattle.std.specs.Prelude.{◌≡◌, ℕ, List}
+use Rattle.std.specs.Prelude.{◌≡◌, ◌≤◌, ℕ, ◌+◌, List}
 use Rattle.lock_free.specs.UniqueIndexSet.{SetId, view, set_of, IsPassOf}
 use Rattle.history.specs.declared.view.View.{View}
 use Rattle.threaded.specs.declared.share.Share.{Share}
@@ -47,6 +47,12 @@ completion_of s = consumer_queue s.completion
 abbrev pub KeepsQueues : LoanSender → LoanSender → Type 0
 KeepsQueues s t =
     (submission_view t ≡ submission_view s) × (completion_view t ≡ completion_view s)
+
+-- at its set and at each queue at most one operation was no step of a call
+pub record IsAsideOnce (s t : LoanSender) : Type 0 where
+  pub pass : (pass_view t).aside ≤ (pass_view s).aside + 1
+  pub submission : (submission_view t).aside ≤ (submission_view s).aside + 1
+  pub completion : (completion_view t).aside ≤ (completion_view s).aside + 1
 
 -- it loans from the same set, sends through the same queue, and takes back from the same one
 abbrev pub IsSame : LoanSender → LoanSender → Type 0

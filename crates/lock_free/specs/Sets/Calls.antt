@@ -1,5 +1,5 @@
 -- Which set a pass is for, and what it knows of the set's history.
-use Rattle.std.specs.Prelude.{◌≡◌, ℕ, Option, Some, IfSome, List}
+use Rattle.std.specs.Prelude.{◌≡◌, ◌≤◌, ℕ, ◌+◌, Option, Some, IfSome, List}
 use Rattle.steps.specs.declared.words.Words as Words
 use Rattle.model.specs.declared.event.Event.{Event}
 use Rattle.model.specs.Coding.{one_word}
@@ -74,6 +74,8 @@ module _ {E : Type 0} {kind : Ghosts E} {words : Words.Ghosts ℕ} where
     pub share : share new ≡ share old
     pub party : IsSameParty old new
     pub first : AreFirst (view old).turns (view new).turns
+    -- at most one operation was no step of a call
+    pub aside : (view new).aside ≤ (view old).aside + 1
     pub all : MissesNothing new
 
   -- what a join leaves of a pass, which has what both had

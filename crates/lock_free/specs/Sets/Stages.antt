@@ -8,10 +8,10 @@ use Rattle.model.specs.declared.event.Event.{Event}
 use Rattle.model.specs.declared.event.Start.{Start}
 use Rattle.model.specs.declared.event.Start.TheVariants.{Bits}
 use Rattle.model.specs.declared.families.Flight.{Flight}
-use Rattle.model.specs.declared.families.Flight as flights
+use Rattle.model.specs.declared.families.Flight.TheVariants as flights
 use Rattle.model.specs.declared.families.bits.BitsStart.TheVariants.{ResetAll}
 use Rattle.model.specs.declared.families.bits.calls.BitsFlight.{BitsFlight}
-use Rattle.model.specs.declared.families.bits.calls.BitsFlight as calls
+use Rattle.model.specs.declared.families.bits.calls.BitsFlight.TheVariants as calls
 use Rattle.model.specs.Families.Bits.Steps.{clear_events, take_events}
 use Rattle.history.specs.Stages.{Calling}
 use Rattle.lock_free.specs.Sets.Kinds.{SetKind, Flags, Counts, first_word, words_of}
@@ -23,13 +23,13 @@ all_words Counts capacity = all_counts capacity
 
 -- the word to which the call had come
 abbrev pub set_word : BitsFlight → ℕ
-set_word (calls.TheVariants.ResetAll run) = run.call.word
-set_word (calls.TheVariants.TakeAll run) = run.call.word
+set_word (calls.ResetAll run) = run.call.word
+set_word (calls.TakeAll run) = run.call.word
 set_word flight = 0
 
 module _ {T : Type 0} where
   abbrev pub flight_word : Flight T → ℕ
-  flight_word (flights.TheVariants.Bits flight) = set_word flight
+  flight_word (flights.Bits flight) = set_word flight
   flight_word flight = 0
 
   abbrev pub word_of : ℕ → Option (Start T × Flight T) → ℕ
@@ -39,11 +39,11 @@ module _ {T : Type 0} where
   -- the call on its way
   abbrev pub flight_at : SetKind → Emptying → OneWord → Flight T
   flight_at Flags c m =
-      flights.TheVariants.Bits
-      (calls.TheVariants.ResetAll (record { call = c; given = tt; room = m }))
+      flights.Bits
+      (calls.ResetAll (record { call = c; given = tt; room = m }))
   flight_at Counts c m =
-      flights.TheVariants.Bits
-      (calls.TheVariants.TakeAll (record { call = c; given = tt; room = m }))
+      flights.Bits
+      (calls.TakeAll (record { call = c; given = tt; room = m }))
 
   -- what emptying a word that held this writes
   abbrev pub emptied : SetKind → ℕ → ℕ → ℕ → List (Event T)

@@ -1,6 +1,6 @@
 -- What a call on a pass whose last one may rest leaves: of one that has ended, and of one that rests itself.
 use Rattle.std.proofs.Common.{arith}
-use Rattle.lock_free_owners.proofs.Names.{◌≡◌, inl, inr, ℕ, false, Option, Some, None, IfSome, List, [], ◌∷◌, ◌++◌}
+use Rattle.lock_free_owners.proofs.Names.{◌≡◌, ◌≤◌, ⊎_elim, inl, inr, ℕ, ◌+◌, false, Option, Some, None, IfSome, List, [], ◌∷◌, ◌++◌}
 use Rattle.lock_free_owners.proofs.Names.{sym, ap, subst, ◌∙◌, append_assoc, append-nil, Answer, Event, Begun}
 use Rattle.lock_free_owners.proofs.Names.{Finished, Start, Container, ContainerStart, Coding, is_locked, IsUnlocked}
 use Rattle.lock_free_owners.proofs.Names.{HeldSometime, IsAll, View, IsHistory, Called, IsBeginning, Goes}
@@ -10,6 +10,7 @@ use Rattle.model.specs.declared.turn.Kind.TheVariants as kinds
 use Rattle.laws_robust.specs.Gone.{Word}
 use Rattle.laws_container.specs.Gone.{AnswersBy}
 use Rattle.lock_free_owners.specs.Container.Contracts.{Answered}
+use Rattle.lock_free_owners.specs.Container.Steps.{one_if_some, to_settle, FewAside}
 use Rattle.lock_free_owners.specs.Worn.{MayBeWorn}
 use Rattle.lock_free_owners.proofs.ContainerSet.Sound.{sound_history, worn_on}
 use Rattle.lock_free_owners.proofs.Worn.Laws.{worn_container}
@@ -43,6 +44,11 @@ module _ {T : Type 0} (code : Coding T) (base from : View T) (settled : SettledF
 
   settled_state : SettledFrom code kinds.Container base from → from.state ≡ base.state
   settled_state x0 = grind arith
+
+  settled_aside : SettledFrom code kinds.Container base from → from.aside ≤ base.aside + to_settle base
+  settled_aside (inl h) = (let same = ap (λ (z : View T). z.aside) h.0 in omega arith)
+  settled_aside (inr h) =
+      (let few = h.asked in let all = h.aside in let rests = ap one_if_some h.resting.going in omega arith)
 
   pub settled_ran : SettledFrom code kinds.Container base from → AreFirst base.turns from.turns
   settled_ran (inl h) = subst (λ (z : View T). AreFirst base.turns z.turns) (sym h.0) (first_all base.turns)
@@ -101,6 +107,11 @@ module _ {T : Type 0} (code : Coding T) (base from : View T) (settled : SettledF
             all = λ whole. ends.all (subst IsAll ends.share whole);
           }
 
+      pub ended_aside : FewAside base w
+      ended_aside =
+          let before = settled_aside settled in
+          ⊎_elim (λ (same : w.aside ≡ from.aside). omega arith) (λ (more : w.aside ≡ from.aside + 1). omega arith) ends.aside
+
       module _ (start : ContainerStart T) (is_start : call.start ≡ Container start) (answer : Answer T) (is_answer : call.answer e m ≡ answer) where
         pub ended_called : Called ends.party (Container start) answer ends.wrote from w
         ended_called = grind (arith, called, idle_from)
@@ -144,6 +155,9 @@ module _ {T : Type 0} (code : Coding T) (base from : View T) (settled : SettledF
             first = (ran_base w under.ran).first;
             all = λ whole. under.all (subst IsAll under.share whole);
           }
+
+      pub under_aside : FewAside base w
+      under_aside = (let before = settled_aside settled in let same = under.aside in omega arith)
 
     -- ---- its party has the state that it had
 

@@ -2,7 +2,7 @@
 use Rattle.lock_free_owners.proofs.Names.{arith}
 use Rattle.lock_free_owners.proofs.Names.{◌≡◌, ℕ, ◌+◌, ◌-◌, ◌^◌, ◌<◌, ◌≤◌, None, List, [], ◌∷◌, ◌++◌, fold, sym, subst}
 use Rattle.lock_free_owners.proofs.Names.{false, fold-append, Event, Turn, events_of, after_turn, Trace, capacity_error}
-use Rattle.model.specs.declared.turn.Kind as kinds
+use Rattle.model.specs.declared.turn.Kind.TheVariants as kinds
 use Rattle.model.specs.World.{opening}
 use Rattle.laws_robust.specs.Gone.{Word}
 use Rattle.laws_robust.specs.Open.{IsReachedOpen, open_refusal}
@@ -39,11 +39,11 @@ module _ {T : Type 0} where
   pub fewer : (t : Trace T) (turn : Turn T) → Few (after_turn t turn) → Few t
   fewer t turn few = let grow = changes_fewer t.events (events_of t.world turn) in omega arith
 
-  pub counts_after : (t : Trace T) (is : t.world.kind ≡ kinds.TheVariants.Container) (r : IsReachedOpen t) (few : Few t)
+  pub counts_after : (t : Trace T) (is : t.world.kind ≡ kinds.Container) (r : IsReachedOpen t) (few : Few t)
       → CountsChanges t → (turn : Turn T) → open_refusal t.world turn ≡ None → CountsChanges (after_turn t turn)
   counts_after t is r few h turn free = counting.turn_counts by_word t (reached_open_sound t is r) few h turn (allowed_open t.world turn free)
 
-  pub counts_first : (t : Trace T) → t.world.kind ≡ kinds.TheVariants.Container → IsReachedOpen t
+  pub counts_first : (t : Trace T) → t.world.kind ≡ kinds.Container → IsReachedOpen t
       → CountsChanges (opening t.world.coding t.world.kind t.world.capacity t.world.parties)
   counts_first t is r =
       subst (λ kind. CountsChanges (opening t.world.coding kind t.world.capacity t.world.parties)) (sym is)

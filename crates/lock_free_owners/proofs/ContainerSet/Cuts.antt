@@ -5,8 +5,7 @@ use Rattle.lock_free_owners.proofs.Names.{List, [], ◌∷◌, ◌++◌, refl, s
 use Rattle.lock_free_owners.proofs.Names.{Answer, Event, Finished, Start, Flight, Turn, Coding, Trace}
 use Rattle.lock_free_owners.proofs.Names.{after_turn, ending_of, events_of, IsBeginning, IsRun, View, refusal_as}
 use Rattle.steps.specs.declared.container.state.ContainerState.{ContainerState}
-use Rattle.model.specs.declared.families.Registry.{Registry}
-use Rattle.model.specs.declared.families.Registry as registries
+use Rattle.model.specs.declared.families.Registry.TheVariants as registries
 use Rattle.model.specs.declared.families.container.calls.ContainerFlight.{ContainerFlight}
 use Rattle.model.specs.declared.party.Doing.{Doing}
 use Rattle.model.specs.declared.party.Doing.TheVariants.{Going, Over}
@@ -51,7 +50,7 @@ module _ {T : Type 0} where
 
   step_none : (code : Coding T) (words : List ℕ) (beside : Option (ℕ × ℕ)) (p : ℕ) (start : Start T) (flight : Flight T) (old : ℕ)
       (dead : List ℕ) (states : List (ℕ × ContainerState T))
-      → NoEnds (step_of code words beside p start flight old (registries.TheVariants.Container dead states)).wrote
+      → NoEnds (step_of code words beside p start flight old (registries.Container dead states)).wrote
   step_none x0 x1 x2 x3 x4 x5 x6 x7 x8 = grind (arith, both_none, effects_none, questions_none)
 
   -- ---- so a turn writes it last
@@ -257,6 +256,7 @@ module _ {T : Type 0} (code : Coding T) (capacity : ℕ) where
             fresh = fresh_first start turns first.rest (subst (λ ts. AreFresh start ts) first.is knows.fresh);
             is = sym cut.2;
             others = refl;
+            asked = record { share = knows.asked.share; most = omega arith; all = λ whole. omega arith };
           };
           since = goes_on;
         }

@@ -20,12 +20,13 @@ use Rattle.lock_free_owners.specs.Container.Contracts.{IsSound, HasMade, HasAdde
 use Rattle.lock_free_owners.specs.Container.Contracts.{HasTested, HasLooked, Answered, WasNotAdded}
 use Rattle.lock_free_owners.specs.Container.Contracts.{RemovesRight, IsRightRemove, IsRightReplace, IsRightLength, IsRightTest, IsRightLook}
 use Rattle.lock_free_owners.specs.Worn.{MayBeWorn}
+use Rattle.lock_free_owners.specs.Container.Steps.{FewAside}
 use Rattle.lock_free_owners.specs.Container.Turns.{CallEnds, AddEnds, RemoveEnds, ReplaceEnds, CountEnds, LockEnds}
 use Rattle.lock_free_owners.specs.Container.Turns.{BeginsAdd, BeginsRemove, BeginsReplace, BeginsCount, BeginsLock}
 use Rattle.lock_free_owners.proofs.ContainerSet.Sound.{sound_history}
 use Rattle.lock_free_owners.proofs.ContainerSet.Resting.{settled_so}
 use Rattle.lock_free_owners.proofs.ContainerSet.Began.{history_of as began_history, share_from, capacity_from}
-use Rattle.lock_free_owners.proofs.ContainerSet.Began.{AnsweredBy, idle_from, later, ended_goes, ended_called, ended_answered}
+use Rattle.lock_free_owners.proofs.ContainerSet.Began.{AnsweredBy, idle_from, later, ended_goes, ended_aside, ended_called, ended_answered}
 use Rattle.lock_free_owners.proofs.ContainerSet.Began.{ended_keeps}
 use Rattle.history.proofs.Known.{begins_further}
 use Rattle.history.proofs.Locks.{lock_stays, not_locked}
@@ -50,6 +51,9 @@ module _ {T : Type 0} (code : Coding T) where
 
     pub goes : Goes base w
     goes = ended_goes code base from ends.settled call w e tt ends.over
+
+    pub few_aside : FewAside base w
+    few_aside = ended_aside code base from ends.settled call w e tt ends.over
 
     module _ (leaves : LeavesState call) (by_same : (was : Option ℕ) (p : ℕ) → call.by was p → IfSome was (λ q. q ≡ p)) where
       pub keeps : KeepsState base w

@@ -26,7 +26,7 @@ use Rattle.lock_free_owners.proofs.ContainerSet.FindCounts.{counts_whole, counts
 use Rattle.lock_free_owners.proofs.ContainerSet.Idle.{rests, idle_none}
 use Rattle.lock_free_owners.proofs.ContainerSet.Resting.{settled_so, resting_so}
 use Rattle.lock_free_owners.proofs.ContainerSet.Began.{idle_from, capacity_from, share_from, seen_is, made_is}
-use Rattle.lock_free_owners.proofs.ContainerSet.Began.{ended_goes, ended_knows, ended_called, ended_answered, under_goes, under_knows}
+use Rattle.lock_free_owners.proofs.ContainerSet.Began.{ended_goes, ended_aside, ended_knows, ended_called, ended_answered, under_goes, under_aside, under_knows}
 use Rattle.lock_free_owners.proofs.ContainerSet.Began.{ended_keeps, under_keeps}
 
 -- what it has copied is what its closure was called with
@@ -239,6 +239,7 @@ module _ {T : Type 0} (code : Coding T) (law : IsCoding code) (owner : ℕ) wher
             share = under.share ∙ share_from code base from settled;
             alone = under.alone;
             goes = under_goes code base from settled (finding code owner) w rest.asking m under;
+            aside = under_aside code base from settled (finding code owner) w rest.asking m under;
             knows = under_knows code base from settled (finding code owner) w rest.asking m under;
             keeps =
                 under_keeps code base from settled (finding code owner) w
@@ -277,6 +278,7 @@ module _ {T : Type 0} (code : Coding T) (law : IsCoding code) (owner : ℕ) wher
             share = ends.share ∙ share_from code base from settled;
             alone = ends.alone;
             goes = ended_goes code base from settled (finding code owner) w e m ends;
+            aside = ended_aside code base from settled (finding code owner) w e m ends;
             knows = ended_knows code base from settled (finding code owner) w e m ends;
             keeps = ended_keeps code base from settled (finding code owner) w (record { start = refl; flight = λ c k. refl }) (λ was p by. by) e m ends;
           }

@@ -5,7 +5,8 @@ use Rattle.lock_free_owners.proofs.Names.{refl, sym, ap, subst, ◌∙◌, arith
 use Rattle.lock_free_owners.proofs.Names.{GoOn, Done, ContainerHandle, Buffer, CallbackProgression, Continue, Stop}
 use Rattle.lock_free_owners.proofs.Names.{Coding, IsCoding, fresh_cell, kept_at, View, value_of_room}
 use Rattle.steps.specs.Indices.Robust.Parts.{one_more}
-use Rattle.steps.specs.Container.Find.{first_find, at_find, find_comes_to, find_takes}
+use Rattle.steps.specs.Container.Find.{first_find, at_find, find_comes_to, find_takes, find_left}
+use Rattle.steps.specs.Container.Laws.{find_fewer}
 use Rattle.steps.specs.declared.container.find.Find.{Find}
 use Rattle.steps.specs.declared.container.find.FindStage.{FindStage}
 use Rattle.steps.specs.declared.container.find.FindStage.TheVariants as finds
@@ -236,3 +237,52 @@ module _ {T F : Type 0} (code : Coding T) (step : F → T → ContainerHandle �
       → FindAt code owner base base (first_find cap) (fresh_cell, [])
       → Searching base c m f
   starts x0 x1 x2 x3 x4 x5 = grind (arith, came_none)
+
+-- ---- it ends
+
+module _ {T F : Type 0} (code : Coding T) (few : code.size ≤ 128) (step : F → T → ContainerHandle → CallbackProgression → F → Type 0) (owner id : ℕ) where
+  abbrev left : Find T (Buffer 128) → ℕ
+  left c = find_left code.size c.capacity c.stage
+
+  abbrev left_after : After (Find T (Buffer 128)) ℕ → ℕ
+  left_after (GoOn d) = left d
+  left_after (Done n) = 0
+
+  lands_lower : (capacity index found : ℕ) (stage : FindStage) (v w : View T) → PassesTo capacity index found stage v w
+      → find_left code.size capacity stage ≤ 140 * (capacity - index) + 139
+  lands_lower capacity index found (finds.LoadsCell at count) v w to = absurd to
+  lands_lower capacity index found (finds.LoadsCount at count) v w to = (let low = to.0 in omega arith)
+  lands_lower capacity index found (finds.LoadsWord at count number place) v w to = absurd to
+  lands_lower capacity index found (finds.ChecksCount at count number) v w to = absurd to
+  lands_lower capacity index found (finds.Asks at count) v w to = absurd to
+
+  passes_lower : (c d : Find T (Buffer 128)) (stage : FindStage) (v w : View T) → c.stage ≡ stage → PassesFrom c stage (GoOn d) v w → left d ≤ left c
+  passes_lower c d (finds.LoadsCell index found) v w is to =
+      let size : d.capacity ≡ c.capacity = to.0 in
+      let lower = lands_lower c.capacity index found d.stage v w to.1 in
+      let same = ap (λ n. find_left code.size n d.stage) size in
+      let here = ap (find_left code.size c.capacity) is in
+      omega arith
+  passes_lower c d (finds.LoadsCount index found) v w is to = (let same = ap left_after to.0 in omega arith)
+  passes_lower c d (finds.LoadsWord index found count at) v w is to = (let same = ap left_after to.0 in omega arith)
+  passes_lower c d (finds.ChecksCount index found count) v w is to = (let same = ap left_after to.0 in omega arith)
+  passes_lower c d (finds.Asks index found) v w is to = (let same = ap left_after to.0 in omega arith)
+
+  turns_lower : (c d : Find T (Buffer 128)) (stage : FindStage) (v w : View T) (m n : Buffer 128) (x : T) (p q : F)
+      → FindTurns code owner stage v c m (GoOn d) n w → FindMoves step code.size id c owner stage x p (GoOn d) q → left d < left c
+  turns_lower c d (finds.LoadsCell index found) v w m n x p q goes moves = find_fewer code.size few c d owner goes.0 (sym goes.1)
+  turns_lower c d (finds.LoadsCount index found) v w m n x p q goes moves = find_fewer code.size few c d owner goes.0 (sym goes.1)
+  turns_lower c d (finds.LoadsWord index found count at) v w m n x p q goes moves = find_fewer code.size few c d owner goes.0 (sym goes.1)
+  turns_lower c d (finds.ChecksCount index found count) v w m n x p q goes moves = find_fewer code.size few c d owner goes.0 (sym goes.1)
+  turns_lower c d (finds.Asks index found) v w m n x p q goes moves = find_fewer code.size few c d owner (says moves.0) (sym moves.2)
+
+  -- past cells, and by a turn
+  pub goes_lower : (c d e : Find T (Buffer 128)) (a b : After (Find T (Buffer 128)) ℕ) (v u w : View T) (m n : Buffer 128) (x : T) (p q : F)
+      → a ≡ GoOn d → PassesFrom c c.stage a v u → b ≡ GoOn e → FindTurns code owner d.stage u d m b n w
+      → FindMoves step code.size id d owner d.stage x p b q → left e < left c
+  goes_lower c d e a b v u w m n x p q passed passes turned turns moves =
+      let cells = passes_lower c d c.stage v u refl (subst (λ z. PassesFrom c c.stage z v u) passed passes) in
+      let turn =
+      turns_lower d e d.stage u w m n x p q (subst (λ z. FindTurns code owner d.stage u d m z n w) turned turns)
+      (subst (λ z. FindMoves step code.size id d owner d.stage x p z q) turned moves) in
+      omega arith

@@ -4,33 +4,33 @@ use Rattle.lock_free_owners.proofs.Names.{◌≡◌, ◌⊎◌, inl, inr, ℕ, �
 use Rattle.lock_free_owners.proofs.Names.{refl, sym, ap, ◌∙◌, Done, Number, Start, Flight, Coding, goes_of, number_of}
 use Rattle.lock_free_owners.proofs.Names.{View, IsResting}
 use Rattle.steps.specs.declared.container.find.FindStage.{FindStage}
-use Rattle.steps.specs.declared.container.find.FindStage as finds
-use Rattle.model.specs.declared.families.Flight as flights
+use Rattle.steps.specs.declared.container.find.FindStage.TheVariants as finds
+use Rattle.model.specs.declared.families.Flight.TheVariants as flights
 use Rattle.model.specs.declared.families.Registry.{Registry}
-use Rattle.model.specs.declared.families.Registry as registries
+use Rattle.model.specs.declared.families.Registry.TheVariants as registries
 use Rattle.model.specs.declared.families.container.calls.ContainerFlight.{ContainerFlight}
-use Rattle.model.specs.declared.families.container.calls.ContainerFlight as calls
+use Rattle.model.specs.declared.families.container.calls.ContainerFlight.TheVariants as calls
 use Rattle.lock_free_owners.specs.Container.Idle.{asks, is_at_question, may_rest, IsIdle}
 
 module _ {T : Type 0} (code : Coding T) (v : View T) (fresh : v.other ≡ []) (some : 0 < v.share.part) where
   abbrev Rests : Type 0
   Rests = (v.going ≡ None) ⊎ IsResting code v
 
-  of_find : (p : ℕ) (start : Start T) (flight : ContainerFlight T) → v.party ≡ Some p → v.going ≡ Some (start, flights.TheVariants.Container flight)
-      → is_at_question (flights.TheVariants.Container flight) ≡ true → Rests
-  of_find p start (calls.TheVariants.Find run) mine going due = go run.call.stage refl due
+  of_find : (p : ℕ) (start : Start T) (flight : ContainerFlight T) → v.party ≡ Some p → v.going ≡ Some (start, flights.Container flight)
+      → is_at_question (flights.Container flight) ≡ true → Rests
+  of_find p start (calls.Find run) mine going due = go run.call.stage refl due
     where
       go : (stage : FindStage) → run.call.stage ≡ stage → asks stage ≡ true → Rests
-      go (finds.TheVariants.LoadsCell index found) is t = absurd (true≢false (sym t))
-      go (finds.TheVariants.LoadsCount index found) is t = absurd (true≢false (sym t))
-      go (finds.TheVariants.LoadsWord index found count at) is t = absurd (true≢false (sym t))
-      go (finds.TheVariants.ChecksCount index found count) is t = absurd (true≢false (sym t))
-      go (finds.TheVariants.Asks index found) is t =
+      go (finds.LoadsCell index found) is t = absurd (true≢false (sym t))
+      go (finds.LoadsCount index found) is t = absurd (true≢false (sym t))
+      go (finds.LoadsWord index found count at) is t = absurd (true≢false (sym t))
+      go (finds.ChecksCount index found count) is t = absurd (true≢false (sym t))
+      go (finds.Asks index found) is t =
           inr (record {
             party = p;
             mine = mine;
             start = start;
-            flight = flights.TheVariants.Container (calls.TheVariants.Find run);
+            flight = flights.Container (calls.Find run);
             going = going;
             asks = rw is refl;
             answer = Number found;
@@ -39,8 +39,8 @@ module _ {T : Type 0} (code : Coding T) (v : View T) (fresh : v.other ≡ []) (s
             some = some;
           })
         where
-          ends : (kept : Registry T) → goes_of code p (flights.TheVariants.Container (calls.TheVariants.Find run)) (number_of false) kept ≡ Done (Number found)
-          ends (registries.TheVariants.Container dead states) = rw is refl
+          ends : (kept : Registry T) → goes_of code p (flights.Container (calls.Find run)) (number_of false) kept ≡ Done (Number found)
+          ends (registries.Container dead states) = rw is refl
           ends kept = rw is refl
   of_find p start flight mine going due = absurd (true≢false (sym due))
 

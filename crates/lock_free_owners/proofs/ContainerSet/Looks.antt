@@ -21,8 +21,11 @@ use Rattle.lock_free_owners.specs.Container.Idle.{IsIdle}
 use Rattle.lock_free_owners.specs.Container.LookTurns.{IsOnHistory, LookAt, LookOver, IsPast, LookOnAt, LookOnOver}
 use Rattle.lock_free_owners.specs.Container.Names.{unnumbered}
 use Rattle.lock_free_owners.specs.Container.Contracts.{HasMade}
+use Rattle.lock_free_owners.specs.Container.Steps.{FewAside}
 use Rattle.lock_free_owners.proofs.ContainerSet.Resting.{settled_so}
-use Rattle.lock_free_owners.proofs.ContainerSet.Began.{AnsweredBy, capacity_from, idle_from, share_from, ended_answered, ended_goes, ended_knows, ended_called}
+use Rattle.lock_free_owners.proofs.ContainerSet.Began.{AnsweredBy, capacity_from, idle_from, share_from}
+use Rattle.lock_free_owners.proofs.ContainerSet.Began.{ended_answered, ended_goes, ended_aside, ended_knows}
+use Rattle.lock_free_owners.proofs.ContainerSet.Began.{ended_called}
 use Rattle.lock_free_owners.proofs.ContainerSet.Idle.{rests, idle_none}
 use Rattle.lock_free_owners.proofs.ContainerSet.SameStates.{Decided}
 use Rattle.lock_free_owners.proofs.Rules.Container.LookRuns.{state_rule}
@@ -158,6 +161,9 @@ module _ {T : Type 0} (code : Coding T) (which : LookOf) (from w : View T) (seen
   pub look_goes : Goes from w
   look_goes = ended_goes code from ends.from ends.settled (looking code which from.capacity seen) w changed m ends.over.0
 
+  pub look_aside : FewAside from w
+  look_aside = ended_aside code from ends.from ends.settled (looking code which from.capacity seen) w changed m ends.over.0
+
   pub look_answered : AnsweredBy (look_start which) (looked which (state_of_look from.capacity seen m) changed) from w
   look_answered =
       ended_answered code from ends.from ends.settled (looking code which from.capacity seen) w changed m ends.over.0 (look_start which) refl
@@ -218,7 +224,7 @@ module _ {T : Type 0} (code : Coding T) (which : LookOf) (from : View T) (shown 
       ended_knows code from ends.from ends.settled (looking code which from.capacity seen) w changed m ends.over.0
   knows_so (inr beside) knows over =
       let counted = over.1 beside in
-      subst (λ (z : View T). Knows code kinds.Container from.capacity z) (sym counted)
+      subst (λ (z : View T). Knows code kinds.Container from.capacity z) (sym counted.known)
       (record {
         coded = knows.coded;
         admitted = knows.admitted;
@@ -226,4 +232,10 @@ module _ {T : Type 0} (code : Coding T) (which : LookOf) (from : View T) (shown 
         fresh = knows.fresh;
         is = knows.is;
         others = knows.others;
+        asked =
+            record {
+              share = knows.asked.share;
+              most = (let most = knows.asked.most in let aside = counted.aside in omega arith);
+              all = λ whole. (let all = knows.asked.all whole in let aside = counted.aside in omega arith);
+            };
       })

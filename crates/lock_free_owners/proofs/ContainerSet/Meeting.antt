@@ -4,7 +4,7 @@ use Rattle.lock_free_owners.proofs.Names.{◌≡◌, ℕ, ◌-◌, ◌^◌, ◌<
 use Rattle.lock_free_owners.proofs.Names.{Container, Turn, Each, after_turn, Trace, turn_making, Coding, IsHistory, Truth, View}
 use Rattle.model.specs.World.{opening}
 use Rattle.model.specs.declared.families.container.ContainerStart.TheVariants.{UpdateState}
-use Rattle.model.specs.declared.turn.Kind as kinds
+use Rattle.model.specs.declared.turn.Kind.TheVariants as kinds
 use Rattle.laws_robust.proofs.OpenRuns.{reached_open_more}
 use Rattle.model.proofs.Reached.{kept_by}
 use Rattle.laws_robust.specs.Open.{IsReachedOpen, open_refusal}
@@ -21,7 +21,7 @@ use Rattle.lock_free_owners.proofs.ContainerSet.Changes.{by_word, Few, fewer, co
 
 module _ {T : Type 0} where
   abbrev MetSoFar : Trace T → Type 0
-  MetSoFar t = IsReachedOpen t × (t.world.kind ≡ kinds.TheVariants.Container → Few t → CountsChanges t × Extra t)
+  MetSoFar t = IsReachedOpen t × (t.world.kind ≡ kinds.Container → Few t → CountsChanges t × Extra t)
 
   turn_met : (u : Trace T) (turn : Turn T) → open_refusal u.world turn ≡ None → MetSoFar u → MetSoFar (after_turn u turn)
   turn_met u turn free h = (
@@ -36,7 +36,7 @@ module _ {T : Type 0} where
         ),
   )
 
-  pub meets_changes_open : (t : Trace T) → t.world.kind ≡ kinds.TheVariants.Container → IsReachedOpen t → Few t → Each MeetsChanges t.events
+  pub meets_changes_open : (t : Trace T) → t.world.kind ≡ kinds.Container → IsReachedOpen t → Few t → Each MeetsChanges t.events
   meets_changes_open t is r few =
       ((kept_by open_refusal MetSoFar turn_met t (
         record { coded = r.coded; admitted = r.admitted; turns = []; is = refl },
@@ -50,7 +50,7 @@ module _ {T : Type 0} where
 -- ---- every history
 
 module _ {T : Type 0} (code : Coding T) where
-  pub history_meets : (capacity : ℕ) (events : List (Event T)) → IsHistory code kinds.TheVariants.Container capacity events
+  pub history_meets : (capacity : ℕ) (events : List (Event T)) → IsHistory code kinds.Container capacity events
       → changes_of events < 2 ^ 64 - 1 → Each MeetsChanges events
   history_meets capacity events h few =
       subst (Each MeetsChanges) (sym h.is)
@@ -58,7 +58,7 @@ module _ {T : Type 0} (code : Coding T) where
 
   -- of the end of an update
   pub has_met : (changed : Bool) (old new : View T) → AnsweredBy UpdateState (Truth changed) old new
-      → IsHistory code kinds.TheVariants.Container old.capacity new.seen → HasMet changed old new
+      → IsHistory code kinds.Container old.capacity new.seen → HasMet changed old new
   has_met changed old new a h =
       record {
         by = a.by;

@@ -37,9 +37,9 @@ pub settled_once : {T : Type 0} (code : Coding T) (v w : View T) → v.other ≡
 settled_once code v w alone part parts h =
     let s = settled code v h.from alone part parts h.settled in
     record {
-      idle = ap (λ (z : View _). z.going) h.counted ∙ s.idle;
-      fresh = ap (λ (z : View _). z.other) h.counted ∙ s.fresh;
-      capacity = ap (λ (z : View _). z.capacity) h.counted ∙ s.capacity;
-      part = subst (λ (z : View _). 0 < z.share.part) (sym h.counted) s.part;
-      parts = subst (λ (z : View _). 0 < z.share.parts) (sym h.counted) s.parts;
+      idle = ap (λ (z : View _). z.going) h.counted.known ∙ s.idle;
+      fresh = ap (λ (z : View _). z.other) h.counted.known ∙ s.fresh;
+      capacity = ap (λ (z : View _). z.capacity) h.counted.known ∙ s.capacity;
+      part = subst (λ (z : View _). 0 < z.share.part) (sym h.counted.known) s.part;
+      parts = subst (λ (z : View _). 0 < z.share.parts) (sym h.counted.known) s.parts;
     }

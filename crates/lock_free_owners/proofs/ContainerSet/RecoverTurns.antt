@@ -29,8 +29,10 @@ use Rattle.lock_free_owners.specs.Container.RecoverTurns.{Visiting, BeginsRecove
 use Rattle.lock_free_owners.specs.Container.RecoverTurns.{recover_visiting, RecoverBegun, RecoverAt, RecoverEnds}
 use Rattle.lock_free_owners.specs.Container.RecoverTurns.{RecoverTells}
 use Rattle.lock_free_owners.specs.Container.Contracts.{IsRightRecovery}
+use Rattle.lock_free_owners.specs.Container.Steps.{FewAside}
 use Rattle.lock_free_owners.proofs.ContainerSet.Idle.{rests}
-use Rattle.lock_free_owners.proofs.ContainerSet.Began.{AnsweredBy, idle_from, seen_is, from_since, ended_goes, ended_called, ended_answered, open_since}
+use Rattle.lock_free_owners.proofs.ContainerSet.Began.{AnsweredBy, idle_from, seen_is, from_since, ended_goes}
+use Rattle.lock_free_owners.proofs.ContainerSet.Began.{ended_aside, ended_called, ended_answered, open_since}
 use Rattle.lock_free_owners.proofs.ContainerSet.Sound.{sound_history}
 use Rattle.history.proofs.Locks.{lock_stays, not_locked}
 use Rattle.lock_free_owners.proofs.RobustSet.Events.{find_own, covers}
@@ -202,6 +204,9 @@ module _ {T : Type 0} (code : Coding T) (law : IsCoding code) (given : DeadOwner
   module _ (base w : View T) (e : ReleaseState) (m : Visiting T) (ends : RecoverEnds code given base e m w) where
     pub recovered_goes : Goes base w
     recovered_goes = ended_goes code base ends.from ends.settled (recovering code given) w e m ends.over
+
+    pub recovered_aside : FewAside base w
+    recovered_aside = ended_aside code base ends.from ends.settled (recovering code given) w e m ends.over
 
     -- it has written just what it did
     pub recovered_called : Called ends.over.party (Container (starts.Recover given.owner given.mode)) (State e)

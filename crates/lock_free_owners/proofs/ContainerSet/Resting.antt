@@ -2,11 +2,11 @@
 use Rattle.lock_free_owners.proofs.Names.{◌≡◌, inl, inr, ℕ, false, true, true≢false, refl, sym, subst, ◌∙◌, Done, Number}
 use Rattle.lock_free_owners.proofs.Names.{Answer, Flight, Coding, goes_of, want_of, is_question, number_of, View}
 use Rattle.steps.specs.declared.container.find.FindStage.{FindStage}
-use Rattle.steps.specs.declared.container.find.FindStage as finds
-use Rattle.model.specs.declared.families.Flight as flights
+use Rattle.steps.specs.declared.container.find.FindStage.TheVariants as finds
+use Rattle.model.specs.declared.families.Flight.TheVariants as flights
 use Rattle.model.specs.declared.families.Registry.{Registry}
-use Rattle.model.specs.declared.families.Registry as registries
-use Rattle.model.specs.declared.families.container.calls.ContainerFlight as calls
+use Rattle.model.specs.declared.families.Registry.TheVariants as registries
+use Rattle.model.specs.declared.families.container.calls.ContainerFlight.TheVariants as calls
 use Rattle.model.specs.declared.turn.Kind.TheVariants as kinds
 use Rattle.history.specs.Settled as machine
 use Rattle.lock_free_owners.specs.Container.Resting.{FindEndsAs, EndsAs, IsResting, Settles, SettledFrom}
@@ -14,17 +14,17 @@ use Rattle.lock_free_owners.specs.Container.Resting.{FindEndsAs, EndsAs, IsResti
 module _ {T : Type 0} (code : Coding T) where
   pub ends_as : (p : ℕ) (answer : Answer T) (flight : Flight T) → is_question (want_of code flight) ≡ true
       → ((kept : Registry T) → goes_of code p flight (number_of false) kept ≡ Done answer) → EndsAs flight answer
-  ends_as p answer (flights.TheVariants.Container (calls.TheVariants.Find run)) asks ends = go run.call.stage refl
+  ends_as p answer (flights.Container (calls.Find run)) asks ends = go run.call.stage refl
     where
       go : (stage : FindStage) → run.call.stage ≡ stage → FindEndsAs run.call.stage answer
-      go (finds.TheVariants.LoadsCell index found) is = absurd (true≢false (sym asks ∙ rw is refl))
-      go (finds.TheVariants.LoadsCount index found) is = absurd (true≢false (sym asks ∙ rw is refl))
-      go (finds.TheVariants.LoadsWord index found count at) is = absurd (true≢false (sym asks ∙ rw is refl))
-      go (finds.TheVariants.ChecksCount index found count) is = absurd (true≢false (sym asks ∙ rw is refl))
-      go (finds.TheVariants.Asks index found) is =
-          let flight : Flight T = flights.TheVariants.Container (calls.TheVariants.Find run) in
-          let no : goes_of code p flight (number_of false) registries.TheVariants.Nothing ≡ Done (Number found) = rw is refl in
-          let ended = ends registries.TheVariants.Nothing in
+      go (finds.LoadsCell index found) is = absurd (true≢false (sym asks ∙ rw is refl))
+      go (finds.LoadsCount index found) is = absurd (true≢false (sym asks ∙ rw is refl))
+      go (finds.LoadsWord index found count at) is = absurd (true≢false (sym asks ∙ rw is refl))
+      go (finds.ChecksCount index found count) is = absurd (true≢false (sym asks ∙ rw is refl))
+      go (finds.Asks index found) is =
+          let flight : Flight T = flights.Container (calls.Find run) in
+          let no : goes_of code p flight (number_of false) registries.Nothing ≡ Done (Number found) = rw is refl in
+          let ended = ends registries.Nothing in
           let same : answer ≡ Number found = cc in
           subst (λ stage. FindEndsAs stage answer) (sym is) same
   ends_as p answer flight asks ends = tt
@@ -53,6 +53,7 @@ module _ {T : Type 0} (code : Coding T) where
         state = h.state;
         idle = h.idle;
         asked = h.asked;
+        aside = h.aside;
         fresh = h.fresh;
         others = h.others;
         seen = h.seen;

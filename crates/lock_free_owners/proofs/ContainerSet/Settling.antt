@@ -10,10 +10,11 @@ use Rattle.model.specs.declared.turn.Kind.TheVariants as kinds
 use Rattle.history.proofs.ContainerRests.{never_late, ends_quiet}
 use Rattle.history.proofs.Known.{within}
 use Rattle.history.proofs.Settling.{view_settled, table_settled, machine_settled, settles}
+use Rattle.lock_free_owners.specs.Container.Bare.{IsCounted}
 use Rattle.lock_free_owners.specs.Container.Idle.{IsIdle}
 use Rattle.lock_free_owners.specs.Container.Settling.{HasSettled}
 use Rattle.lock_free_owners.proofs.ContainerSet.Idle.{rests}
-use Rattle.lock_free_owners.proofs.Rules.Container.Bare.{leaves}
+use Rattle.lock_free_owners.proofs.Rules.Container.Bare.{leaves, counted_one}
 
 module _ {T : Type 0} (code : Coding T) where
   abbrev Owed : (key words slots id word : ℕ) → View T → Type 0
@@ -27,7 +28,7 @@ module _ {T : Type 0} (code : Coding T) where
     below,
     λ s r long at small.
         leaves code key slots id v word (λ n. n) (λ k. refl) (λ u n w. HasSettled code u w)
-        (λ k. record { from = v; settled = inl (refl, idle); counted = refl }) s r long at small,
+        (λ k. record { from = v; settled = inl (refl, idle); counted = counted_one v }) s r long at small,
   )
   settles_by key words slots id word v below known (inr h) = (
     below,
@@ -36,7 +37,7 @@ module _ {T : Type 0} (code : Coding T) where
         view_settled code kinds.Container tt container_effects (container_words code) (containers_owe code) (never_late code) (ends_quiet code)
         s v key id r at known h in
         let x =
-        leaves code key slots id vh word (λ n. n) (λ k. refl) (λ u n w. w ≡ record u { asked = w.asked }) (λ k. refl)
+        leaves code key slots id vh word (λ n. n) (λ k. refl) (λ u n w. IsCounted u w) (λ k. counted_one vh)
         (table_settled code kinds.Container tt container_effects (container_words code) (containers_owe code) (never_late code) (ends_quiet code)
         s v key id r at known h)
         (machine_settled code kinds.Container tt container_effects (container_words code) (containers_owe code) (never_late code) (ends_quiet code)
@@ -76,4 +77,4 @@ module _ {T : Type 0} (code : Coding T) where
   of_from v from (inr s) = s.capacity
 
   pub settled_capacity : (v w : View T) → HasSettled code v w → w.capacity ≡ v.capacity
-  settled_capacity v w h = ap (λ (z : View T). z.capacity) h.counted ∙ of_from v h.from h.settled
+  settled_capacity v w h = ap (λ (z : View T). z.capacity) h.counted.known ∙ of_from v h.from h.settled

@@ -1,5 +1,5 @@
 -- What is known of whole calls on a set.
-use Rattle.lock_free_owners.proofs.Names.{◌≡◌, ⊎_elim, ℕ, ◌+◌, ◌<◌, ◌≤◌, Bool, true, false, true≢false, None, Ok, Err}
+use Rattle.lock_free_owners.proofs.Names.{◌≡◌, ◌⊎◌, ⊎_elim, ℕ, ◌+◌, ◌<◌, ◌≤◌, Bool, true, false, true≢false, None, Ok, Err}
 use Rattle.lock_free_owners.proofs.Names.{IfOk, IfErr, OnOk, List, [], ◌∷◌, ◌++◌, refl, sym, ap, ◌∙◌}
 use Rattle.lock_free_owners.proofs.Names.{append_assoc, arith, Acquired, Released, ReleaseMode, LockIfLastIndex}
 use Rattle.lock_free_owners.proofs.Names.{Default, ReleaseState, OutOfIndices, WasLocked, GiveBack, Answer, State}
@@ -26,6 +26,8 @@ use Rattle.history.proofs.Robusts.{robust_pays}
 use Rattle.history.specs.Steps.{TakesAtMost, TakesAlone}
 use Rattle.lock_free_owners.specs.Robust.Callable.{HasVisited}
 use Rattle.lock_free_owners.specs.Robust.Steps.{ReleaseTakes, RecoverTakes}
+use Rattle.lock_free_owners.specs.RobustUniqueIndexSet.{set_of, view, SamePass}
+use Rattle.lock_free_owners.specs.declared.mpmc.robust_unique_index_set.Pass.{Pass}
 use Rattle.lock_free_owners.proofs.RobustSet.Asking.{visits_none}
 use Rattle.lock_free_owners.proofs.RobustSet.Sound.{sound_history, worn_on}
 use Rattle.lock_free_owners.proofs.Worn.Laws.{worn_set}
@@ -90,8 +92,20 @@ last_of {start} {answer} a = record { rest = Finished a.by (Robust start) answer
 
 -- what any call leaves of what a pass knows
 module _ {C M E : Type 0} (call : Calling ℕ C M E) where
-  pub goes : (base w : View ℕ) (e : E) (m : M) → Ends one_word kinds.Robust call base e m w → Goes base w
+  goes : (base w : View ℕ) (e : E) (m : M) → Ends one_word kinds.Robust call base e m w → Goes base w
   goes x0 x1 x2 x3 x4 = grind (arith, opened, append_assoc)
+
+  one_aside : (base w : View ℕ) → (w.aside ≡ base.aside) ⊎ (w.aside ≡ base.aside + 1) → w.aside ≤ base.aside + 1
+  one_aside base w x = ⊎_elim (λ (same : w.aside ≡ base.aside). omega arith) (λ (more : w.aside ≡ base.aside + 1). omega arith) x
+
+pub same_pass : {C M E : Type 0} {call : Calling ℕ C M E} {old new : Pass} {e : E} {m : M} → set_of new ≡ set_of old
+    → Ends one_word kinds.Robust call (view old) e m (view new) → SamePass old new
+same_pass {call = call} {old = old} {new = new} {e = e} {m = m} set ends =
+    record {
+      set = set;
+      goes = goes call (view old) (view new) e m ends;
+      aside = one_aside call (view old) (view new) ends.aside;
+    }
 
 module _ (base w : View ℕ) (m : Unit {0}) (idle : base.going ≡ None) where
   -- ---- acquire
@@ -275,6 +289,7 @@ only_looked capacity v w h =
       state = h.state;
       share = h.share;
       made = h.made;
+      aside = h.aside;
       other = h.other;
       since = h.mine;
       first = h.ran.first;

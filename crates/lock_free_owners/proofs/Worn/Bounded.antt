@@ -7,17 +7,22 @@ use Rattle.std.proofs.lemmas.List.Sums.{sum_by-append}
 use Rattle.steps.specs.Indices.Robust.Parts.{locked}
 use Rattle.steps.specs.declared.indices.enums.ReleaseMode.{ReleaseMode}
 use Rattle.steps.specs.declared.indices.enums.ReleaseMode.TheVariants.{Default, LockIfLastIndex}
-use Rattle.steps.specs.declared.container.recover.RecoverStage as container_recovers
-use Rattle.steps.specs.declared.container.remove.RemoveStage as removes
+use Rattle.steps.specs.declared.container.recover.RecoverStage.{RecoverStage}
+use Rattle.steps.specs.declared.container.recover.RecoverStage.TheVariants as container_recovers
+use Rattle.steps.specs.declared.container.remove.RemoveStage.{RemoveStage}
+use Rattle.steps.specs.declared.container.remove.RemoveStage.TheVariants as removes
 use Rattle.steps.specs.declared.indices.robust.recover.RecoverStage as recovers
-use Rattle.steps.specs.declared.indices.robust.release.ReleaseStage as releases
+use Rattle.steps.specs.declared.indices.robust.release.ReleaseStage.{ReleaseStage}
+use Rattle.steps.specs.declared.indices.robust.release.ReleaseStage.TheVariants as releases
 use Rattle.model.specs.declared.event.Answer.{Answer}
 use Rattle.model.specs.declared.event.Event.{Event}
 use Rattle.model.specs.declared.event.Start.{Start}
 use Rattle.model.specs.declared.families.Flight.{Flight}
-use Rattle.model.specs.declared.families.Flight as flights
-use Rattle.model.specs.declared.families.container.calls.ContainerFlight as container_calls
-use Rattle.model.specs.declared.families.indices.robust.calls.RobustFlight as robust_calls
+use Rattle.model.specs.declared.families.Flight.TheVariants as flights
+use Rattle.model.specs.declared.families.container.calls.ContainerFlight.{ContainerFlight}
+use Rattle.model.specs.declared.families.container.calls.ContainerFlight.TheVariants as container_calls
+use Rattle.model.specs.declared.families.indices.robust.calls.RobustFlight.{RobustFlight}
+use Rattle.model.specs.declared.families.indices.robust.calls.RobustFlight.TheVariants as robust_calls
 use Rattle.model.specs.Turns.{ending_of}
 use Rattle.model.specs.World.{Trace, flight_in}
 use Rattle.laws_indices.proofs.Sums.{sum_below, sum_moved, sum_longer}
@@ -35,34 +40,34 @@ late_by_mode : (mode : ReleaseMode) (n : ℕ) → locks_in mode ≡ false → la
 late_by_mode Default n e = refl
 late_by_mode LockIfLastIndex n e = absurd (cc)
 
-robust_not_late : (n : ℕ) (flight : robust_calls.RobustFlight) → robust_locks flight ≡ false → robust_late n flight ≡ 0
-robust_not_late n (robust_calls.TheVariants.Release run) e = late_by_mode run.given.mode (release_late n run.call.stage) e
-robust_not_late n (robust_calls.TheVariants.Recover run) e = late_by_mode run.given (recover_late n run.call.stage) e
-robust_not_late n (robust_calls.TheVariants.Acquire run) e = refl
-robust_not_late n (robust_calls.TheVariants.Find run) e = refl
-robust_not_late n (robust_calls.TheVariants.BorrowedIndices run) e = refl
-robust_not_late n (robust_calls.TheVariants.IsLocked run) e = refl
+robust_not_late : (n : ℕ) (flight : RobustFlight) → robust_locks flight ≡ false → robust_late n flight ≡ 0
+robust_not_late n (robust_calls.Release run) e = late_by_mode run.given.mode (release_late n run.call.stage) e
+robust_not_late n (robust_calls.Recover run) e = late_by_mode run.given (recover_late n run.call.stage) e
+robust_not_late n (robust_calls.Acquire run) e = refl
+robust_not_late n (robust_calls.Find run) e = refl
+robust_not_late n (robust_calls.BorrowedIndices run) e = refl
+robust_not_late n (robust_calls.IsLocked run) e = refl
 
-release_late_most : (n : ℕ) (stage : releases.ReleaseStage) → release_late n stage ≤ 1
-release_late_most n (releases.TheVariants.Locks lock) = lock_late_most n lock
+release_late_most : (n : ℕ) (stage : ReleaseStage) → release_late n stage ≤ 1
+release_late_most n (releases.Locks lock) = lock_late_most n lock
 release_late_most n stage = omega arith
 
-remove_late_most : (n : ℕ) (stage : removes.RemoveStage) → remove_late n stage ≤ 1
-remove_late_most n (removes.TheVariants.Releases count stage) = release_late_most n stage
+remove_late_most : (n : ℕ) (stage : RemoveStage) → remove_late n stage ≤ 1
+remove_late_most n (removes.Releases count stage) = release_late_most n stage
 remove_late_most n stage = omega arith
 
 recover_late_most : (n : ℕ) (stage : recovers.RecoverStage) → recover_late n stage ≤ 1
 recover_late_most n (recovers.TheVariants.Locks index lock) = lock_late_most n lock
 recover_late_most n stage = omega arith
 
-container_recover_late_most : (n : ℕ) (stage : container_recovers.RecoverStage) → container.recover_late n stage ≤ 1
-container_recover_late_most n (container_recovers.TheVariants.Locks index lock) = lock_late_most n lock
+container_recover_late_most : (n : ℕ) (stage : RecoverStage) → container.recover_late n stage ≤ 1
+container_recover_late_most n (container_recovers.Locks index lock) = lock_late_most n lock
 container_recover_late_most n stage = omega arith
 
-robust_late_once : (n : ℕ) (flight : robust_calls.RobustFlight) → robust_late n flight ≤ 1
-robust_late_once n (robust_calls.TheVariants.Release run) =
+robust_late_once : (n : ℕ) (flight : RobustFlight) → robust_late n flight ≤ 1
+robust_late_once n (robust_calls.Release run) =
     let most = release_late_most n run.call.stage in let less = late_in_most run.given.mode (release_late n run.call.stage) in omega arith
-robust_late_once n (robust_calls.TheVariants.Recover run) =
+robust_late_once n (robust_calls.Recover run) =
     let most = recover_late_most n run.call.stage in let less = late_in_most run.given (recover_late n run.call.stage) in omega arith
 robust_late_once n flight = omega arith
 
@@ -70,18 +75,18 @@ robust_late_once n flight = omega arith
 
 module _ {T : Type 0} where
   abbrev pub credit : Flight T → ℕ
-  credit (flights.TheVariants.Robust flight) = robust_credit flight
-  credit (flights.TheVariants.Container flight) = container_credit flight
+  credit (flights.Robust flight) = robust_credit flight
+  credit (flights.Container flight) = container_credit flight
   credit flight = 0
 
   abbrev pub late : ℕ → Flight T → ℕ
-  late n (flights.TheVariants.Robust flight) = robust_late n flight
-  late n (flights.TheVariants.Container flight) = container_late n flight
+  late n (flights.Robust flight) = robust_late n flight
+  late n (flights.Container flight) = container_late n flight
   late n flight = 0
 
   abbrev pub locks : Flight T → Bool
-  locks (flights.TheVariants.Robust flight) = robust_locks flight
-  locks (flights.TheVariants.Container flight) = container_locks flight
+  locks (flights.Robust flight) = robust_locks flight
+  locks (flights.Container flight) = container_locks flight
   locks flight = false
 
   abbrev pub credit_of : Option (Flight T) → ℕ
@@ -96,37 +101,37 @@ module _ {T : Type 0} where
   locks_of None = false
   locks_of (Some flight) = locks flight
 
-  container_not_late : (n : ℕ) (flight : container_calls.ContainerFlight T) → container_locks flight ≡ false → container_late n flight ≡ 0
-  container_not_late n (container_calls.TheVariants.Remove run) e = late_by_mode run.given.mode (remove_late n run.call.stage) e
-  container_not_late n (container_calls.TheVariants.Recover run) e = late_by_mode run.given.mode (container.recover_late n run.call.stage) e
-  container_not_late n (container_calls.TheVariants.Add run) e = refl
-  container_not_late n (container_calls.TheVariants.Replace run) e = refl
-  container_not_late n (container_calls.TheVariants.Find run) e = refl
-  container_not_late n (container_calls.TheVariants.Look which call) e = refl
-  container_not_late n (container_calls.TheVariants.Count which run) e = refl
-  container_not_late n (container_calls.TheVariants.IsLocked run) e = refl
+  container_not_late : (n : ℕ) (flight : ContainerFlight T) → container_locks flight ≡ false → container_late n flight ≡ 0
+  container_not_late n (container_calls.Remove run) e = late_by_mode run.given.mode (remove_late n run.call.stage) e
+  container_not_late n (container_calls.Recover run) e = late_by_mode run.given.mode (container.recover_late n run.call.stage) e
+  container_not_late n (container_calls.Add run) e = refl
+  container_not_late n (container_calls.Replace run) e = refl
+  container_not_late n (container_calls.Find run) e = refl
+  container_not_late n (container_calls.Look which call) e = refl
+  container_not_late n (container_calls.Count which run) e = refl
+  container_not_late n (container_calls.IsLocked run) e = refl
 
   not_late : (n : ℕ) (flight : Flight T) → locks flight ≡ false → late n flight ≡ 0
-  not_late n (flights.TheVariants.Robust flight) e = robust_not_late n flight e
-  not_late n (flights.TheVariants.Container flight) e = container_not_late n flight e
+  not_late n (flights.Robust flight) e = robust_not_late n flight e
+  not_late n (flights.Container flight) e = container_not_late n flight e
   not_late n flight e = refl
 
   pub none_late : (n : ℕ) (o : Option (Flight T)) → locks_of o ≡ false → late_of n o ≡ 0
   none_late n None e = refl
   none_late n (Some flight) e = not_late n flight e
 
-  container_late_once : (n : ℕ) (flight : container_calls.ContainerFlight T) → container_late n flight ≤ 1
-  container_late_once n (container_calls.TheVariants.Remove run) =
+  container_late_once : (n : ℕ) (flight : ContainerFlight T) → container_late n flight ≤ 1
+  container_late_once n (container_calls.Remove run) =
       let most = remove_late_most n run.call.stage in let less = late_in_most run.given.mode (remove_late n run.call.stage) in omega arith
-  container_late_once n (container_calls.TheVariants.Recover run) =
+  container_late_once n (container_calls.Recover run) =
       let most = container_recover_late_most n run.call.stage in
       let less = late_in_most run.given.mode (container.recover_late n run.call.stage) in
       omega arith
   container_late_once n flight = omega arith
 
   late_once : (n : ℕ) (flight : Flight T) → late n flight ≤ 1
-  late_once n (flights.TheVariants.Robust flight) = robust_late_once n flight
-  late_once n (flights.TheVariants.Container flight) = container_late_once n flight
+  late_once n (flights.Robust flight) = robust_late_once n flight
+  late_once n (flights.Container flight) = container_late_once n flight
   late_once n flight = omega arith
 
   pub late_most : (n : ℕ) (o : Option (Flight T)) → late_of n o ≤ 1

@@ -6,8 +6,10 @@ use Rattle.steps.specs.Container.Recover.{recover_after, recover_kept}
 use Rattle.steps.specs.Container.Remove.{remove_after}
 use Rattle.steps.specs.Container.Replace.{replace_after}
 use Rattle.steps.specs.Indices.Robust.Parts.{count_after, locked}
-use Rattle.steps.specs.declared.container.recover.RecoverStage as recovers
-use Rattle.steps.specs.declared.container.remove.RemoveStage as removes
+use Rattle.steps.specs.declared.container.recover.RecoverStage.{RecoverStage}
+use Rattle.steps.specs.declared.container.recover.RecoverStage.TheVariants as recovers
+use Rattle.steps.specs.declared.container.remove.RemoveStage.{RemoveStage}
+use Rattle.steps.specs.declared.container.remove.RemoveStage.TheVariants as removes
 use Rattle.steps.specs.declared.container.state.ContainerState.{ContainerState}
 use Rattle.steps.specs.declared.indices.enums.ReleaseMode.{ReleaseMode}
 use Rattle.steps.specs.declared.indices.enums.ReleaseMode.TheVariants.{Default, LockIfLastIndex}
@@ -38,28 +40,28 @@ use Rattle.lock_free_owners.proofs.Worn.ContainerPays.{recover_same, looks_same,
 -- ---- a lock alone is late
 
 module _ (n : ℕ) where
-  pub remove_late_in : (mode : ReleaseMode) (stage : removes.RemoveStage) → RemoveStands mode stage → remove_late n stage ≤ late_in mode (remove_late n stage)
-  remove_late_in mode (removes.TheVariants.Releases count stage) stands = release_late_in n mode stage stands
-  remove_late_in mode removes.TheVariants.Refuses stands = omega arith
-  remove_late_in mode removes.TheVariants.LoadsCount stands = omega arith
-  remove_late_in mode (removes.TheVariants.Hides count state) stands = omega arith
-  remove_late_in mode (removes.TheVariants.AddsChange state) stands = omega arith
+  pub remove_late_in : (mode : ReleaseMode) (stage : RemoveStage) → RemoveStands mode stage → remove_late n stage ≤ late_in mode (remove_late n stage)
+  remove_late_in mode (removes.Releases count stage) stands = release_late_in n mode stage stands
+  remove_late_in mode removes.Refuses stands = omega arith
+  remove_late_in mode removes.LoadsCount stands = omega arith
+  remove_late_in mode (removes.Hides count state) stands = omega arith
+  remove_late_in mode (removes.AddsChange state) stands = omega arith
 
-  pub recover_late_in : (mode : ReleaseMode) (stage : recovers.RecoverStage) → RecoverStands mode stage
+  pub recover_late_in : (mode : ReleaseMode) (stage : RecoverStage) → RecoverStands mode stage
       → recover_late n stage ≤ late_in mode (recover_late n stage)
   recover_late_in LockIfLastIndex stage stands = omega arith
-  recover_late_in Default (recovers.TheVariants.Locks index lock) stands = absurd (cc)
-  recover_late_in Default recovers.TheVariants.LoadsCounter stands = omega arith
-  recover_late_in Default (recovers.TheVariants.LoadsCell index) stands = omega arith
-  recover_late_in Default (recovers.TheVariants.LoadsCount index) stands = omega arith
-  recover_late_in Default (recovers.TheVariants.LoadsWord index count at) stands = omega arith
-  recover_late_in Default (recovers.TheVariants.ChecksCount index count) stands = omega arith
-  recover_late_in Default (recovers.TheVariants.Asks index count) stands = omega arith
-  recover_late_in Default (recovers.TheVariants.EmptiesCell index count) stands = omega arith
-  recover_late_in Default (recovers.TheVariants.Hides index count) stands = omega arith
-  recover_late_in Default (recovers.TheVariants.Raises index raise) stands = omega arith
-  recover_late_in Default recovers.TheVariants.LoadsCounterAgain stands = omega arith
-  recover_late_in Default (recovers.TheVariants.AddsChange state) stands = omega arith
+  recover_late_in Default (recovers.Locks index lock) stands = absurd (cc)
+  recover_late_in Default recovers.LoadsCounter stands = omega arith
+  recover_late_in Default (recovers.LoadsCell index) stands = omega arith
+  recover_late_in Default (recovers.LoadsCount index) stands = omega arith
+  recover_late_in Default (recovers.LoadsWord index count at) stands = omega arith
+  recover_late_in Default (recovers.ChecksCount index count) stands = omega arith
+  recover_late_in Default (recovers.Asks index count) stands = omega arith
+  recover_late_in Default (recovers.EmptiesCell index count) stands = omega arith
+  recover_late_in Default (recovers.Hides index count) stands = omega arith
+  recover_late_in Default (recovers.Raises index raise) stands = omega arith
+  recover_late_in Default recovers.LoadsCounterAgain stands = omega arith
+  recover_late_in Default (recovers.AddsChange state) stands = omega arith
 
 -- ---- its step
 

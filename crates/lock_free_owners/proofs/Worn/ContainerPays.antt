@@ -14,15 +14,18 @@ use Rattle.steps.specs.Routine.{went_on}
 use Rattle.steps.specs.declared.ask.After.{After}
 use Rattle.steps.specs.declared.ask.After.TheVariants.{GoOn, Done}
 use Rattle.steps.specs.declared.container.add.Add as adding
-use Rattle.steps.specs.declared.container.add.AddStage as adds
+use Rattle.steps.specs.declared.container.add.AddStage.{AddStage}
+use Rattle.steps.specs.declared.container.add.AddStage.TheVariants as adds
 use Rattle.steps.specs.declared.container.add.Owned.{Owned}
 use Rattle.steps.specs.declared.container.find.Find as finding
 use Rattle.steps.specs.declared.container.look.Look as looking
 use Rattle.steps.specs.declared.container.recover.DeadOwner.{DeadOwner}
 use Rattle.steps.specs.declared.container.recover.Recover as recovering
-use Rattle.steps.specs.declared.container.recover.RecoverStage as recovers
+use Rattle.steps.specs.declared.container.recover.RecoverStage.{RecoverStage}
+use Rattle.steps.specs.declared.container.recover.RecoverStage.TheVariants as recovers
 use Rattle.steps.specs.declared.container.remove.Remove as removing
-use Rattle.steps.specs.declared.container.remove.RemoveStage as removes
+use Rattle.steps.specs.declared.container.remove.RemoveStage.{RemoveStage}
+use Rattle.steps.specs.declared.container.remove.RemoveStage.TheVariants as removes
 use Rattle.steps.specs.declared.container.replace.Replace as replacing
 use Rattle.steps.specs.declared.container.replace.Replacement.{Replacement}
 use Rattle.steps.specs.declared.container.state.ContainerState.{ContainerState}
@@ -30,17 +33,18 @@ use Rattle.steps.specs.declared.copied.Buffer.{Buffer}
 use Rattle.steps.specs.declared.indices.enums.ReleaseMode.{ReleaseMode}
 use Rattle.steps.specs.declared.indices.enums.ReleaseMode.TheVariants.{Default, LockIfLastIndex}
 use Rattle.steps.specs.declared.indices.enums.ReleaseState.{ReleaseState}
-use Rattle.steps.specs.declared.indices.enums.ReleaseState as states
+use Rattle.steps.specs.declared.indices.enums.ReleaseState.TheVariants as states
 use Rattle.steps.specs.declared.indices.robust.acquire.Acquire as acquiring
 use Rattle.steps.specs.declared.indices.robust.looks.BorrowedIndices as counting
 use Rattle.steps.specs.declared.indices.robust.parts.Count as counts
-use Rattle.steps.specs.declared.indices.robust.parts.Counted as ends
+use Rattle.steps.specs.declared.indices.robust.parts.Counted.{Counted}
+use Rattle.steps.specs.declared.indices.robust.parts.Counted.TheVariants as ends
 use Rattle.steps.specs.declared.indices.robust.parts.Lock as locks
 use Rattle.steps.specs.declared.indices.robust.parts.Raise as raises
 use Rattle.steps.specs.declared.indices.robust.release.GiveBack.{GiveBack}
 use Rattle.steps.specs.declared.indices.robust.release.Release as releasing
 use Rattle.model.specs.declared.event.Answer.{Answer}
-use Rattle.model.specs.declared.event.Answer as answers
+use Rattle.model.specs.declared.event.Answer.TheVariants as answers
 use Rattle.model.specs.declared.families.container.calls.ContainerFlight.{ContainerFlight}
 use Rattle.model.specs.declared.families.container.calls.ContainerFlight.TheVariants.{Add, Remove, Replace, Find, Recover, Count}
 use Rattle.model.specs.declared.families.container.calls.CountOf.{CountOf}
@@ -64,34 +68,34 @@ use Rattle.lock_free_owners.proofs.Worn.RobustPays.{late_in, late_in_most}
 
 -- ---- the stages
 
-abbrev pub add_credit : adds.AddStage → ℕ
-add_credit (adds.TheVariants.Acquires stage) = acquire_credit stage
+abbrev pub add_credit : AddStage → ℕ
+add_credit (adds.Acquires stage) = acquire_credit stage
 add_credit stage = 0
 
-abbrev pub remove_credit : ReleaseMode → removes.RemoveStage → ℕ
-remove_credit mode (removes.TheVariants.Releases count stage) = release_credit mode stage
+abbrev pub remove_credit : ReleaseMode → RemoveStage → ℕ
+remove_credit mode (removes.Releases count stage) = release_credit mode stage
 remove_credit mode stage = 0
 
-abbrev pub remove_late : ℕ → removes.RemoveStage → ℕ
-remove_late n (removes.TheVariants.Releases count stage) = release_late n stage
+abbrev pub remove_late : ℕ → RemoveStage → ℕ
+remove_late n (removes.Releases count stage) = release_late n stage
 remove_late n stage = 0
 
-abbrev pub RemoveStands : ReleaseMode → removes.RemoveStage → Type 0
-RemoveStands mode (removes.TheVariants.Releases count stage) = StandsIn mode stage
+abbrev pub RemoveStands : ReleaseMode → RemoveStage → Type 0
+RemoveStands mode (removes.Releases count stage) = StandsIn mode stage
 RemoveStands mode stage = Unit {0}
 
-abbrev pub recover_credit : ReleaseMode → recovers.RecoverStage → ℕ
-recover_credit mode (recovers.TheVariants.Hides index count) = for_mode mode
-recover_credit mode (recovers.TheVariants.Raises index raise) = for_mode mode
-recover_credit mode (recovers.TheVariants.Locks index lock) = lock_credit lock
+abbrev pub recover_credit : ReleaseMode → RecoverStage → ℕ
+recover_credit mode (recovers.Hides index count) = for_mode mode
+recover_credit mode (recovers.Raises index raise) = for_mode mode
+recover_credit mode (recovers.Locks index lock) = lock_credit lock
 recover_credit mode stage = 0
 
-abbrev pub recover_late : ℕ → recovers.RecoverStage → ℕ
-recover_late n (recovers.TheVariants.Locks index lock) = lock_late n lock
+abbrev pub recover_late : ℕ → RecoverStage → ℕ
+recover_late n (recovers.Locks index lock) = lock_late n lock
 recover_late n stage = 0
 
-abbrev pub RecoverStands : ReleaseMode → recovers.RecoverStage → Type 0
-RecoverStands mode (recovers.TheVariants.Locks index lock) = mode ≡ LockIfLastIndex
+abbrev pub RecoverStands : ReleaseMode → RecoverStage → Type 0
+RecoverStands mode (recovers.Locks index lock) = mode ≡ LockIfLastIndex
 RecoverStands mode stage = Unit {0}
 
 -- ---- an add
@@ -107,29 +111,29 @@ module _ {T : Type 0} where
   acquired_same call (Done (Err failure)) = refl
 
   module _ (size : ℕ) (call : adding.Add T) (n new p cell : ℕ) (given : Owned T) where
-    abbrev AddPays : adds.AddStage → Type 0
+    abbrev AddPays : AddStage → Type 0
     AddPays stage =
         new + add_left (add_takes size call stage (add_old stage n cell)) + counts_move false n new
         ≤ n + add_credit stage + 3 * changes {T = T} (add_effects p given stage (add_old stage n cell))
 
-    pub add_pays : (stage : adds.AddStage) → new ≡ add_then stage n → AddPays stage
-    add_pays (adds.TheVariants.Acquires stage) is =
+    pub add_pays : (stage : AddStage) → new ≡ add_then stage n → AddPays stage
+    add_pays (adds.Acquires stage) is =
         let pays = acquire_pays (inner_acquire call.capacity stage) n new T p given.owner cell stage is in
         let same = acquired_same call (acquire_takes (inner_acquire call.capacity stage) stage (acquire_old stage n cell)) in
         omega arith
-    add_pays (adds.TheVariants.LoadsCount index) is = go (is_even cell) refl
+    add_pays (adds.LoadsCount index) is = go (is_even cell) refl
       where
-        go : (t : Bool) → is_even cell ≡ t → AddPays (adds.TheVariants.LoadsCount index)
+        go : (t : Bool) → is_even cell ≡ t → AddPays (adds.LoadsCount index)
         go true t = let still = moved_none n new is in rw t (omega arith)
         go false t = let still = moved_none n new is in rw t (omega arith)
-    add_pays (adds.TheVariants.Hides index count) is = let still = moved_none n new is in omega arith
-    add_pays (adds.TheVariants.Stores index at) is = go (nat_lt (at + 1) size) refl
+    add_pays (adds.Hides index count) is = let still = moved_none n new is in omega arith
+    add_pays (adds.Stores index at) is = go (nat_lt (at + 1) size) refl
       where
-        go : (t : Bool) → nat_lt (at + 1) size ≡ t → AddPays (adds.TheVariants.Stores index at)
+        go : (t : Bool) → nat_lt (at + 1) size ≡ t → AddPays (adds.Stores index at)
         go true t = let still = moved_none n new is in rw t (omega arith)
         go false t = let still = moved_none n new is in rw t (omega arith)
-    add_pays (adds.TheVariants.AddsCount index) is = let still = moved_none n new is in omega arith
-    add_pays (adds.TheVariants.AddsChange index) is = let still = moved_none n new is in omega arith
+    add_pays (adds.AddsCount index) is = let still = moved_none n new is in omega arith
+    add_pays (adds.AddsChange index) is = let still = moved_none n new is in omega arith
 
 -- ---- a remove
 
@@ -148,20 +152,20 @@ released_same call mode new count (Done (Ok state)) = go (is_even count) refl
 released_same call mode new count (Done (Err failure)) = refl
 
 module _ (T : Type 0) (call : removing.Remove) (n new p cell : ℕ) (given : GiveBack) where
-  abbrev RemovePays : removes.RemoveStage → Type 0
+  abbrev RemovePays : RemoveStage → Type 0
   RemovePays stage =
       new + remove_left given.mode new (remove_takes call stage given (remove_old stage n cell)) + counts_move (locks_in given.mode) n new
       ≤ n + (remove_credit given.mode stage + remove_late n stage) + 3 * changes {T = T} (remove_effects p given stage (remove_old stage n cell))
 
-  pub remove_pays : (stage : removes.RemoveStage) → RemoveStands given.mode stage → new ≡ remove_then stage n → new ≢ locked → RemovePays stage
-  remove_pays removes.TheVariants.Refuses stands is open_then = let still = counts_none (locks_in given.mode) n new is in omega arith
-  remove_pays removes.TheVariants.LoadsCount stands is open_then = let still = counts_none (locks_in given.mode) n new is in omega arith
-  remove_pays (removes.TheVariants.Releases count stage) stands is open_then =
+  pub remove_pays : (stage : RemoveStage) → RemoveStands given.mode stage → new ≡ remove_then stage n → new ≢ locked → RemovePays stage
+  remove_pays removes.Refuses stands is open_then = let still = counts_none (locks_in given.mode) n new is in omega arith
+  remove_pays removes.LoadsCount stands is open_then = let still = counts_none (locks_in given.mode) n new is in omega arith
+  remove_pays (removes.Releases count stage) stands is open_then =
       let pays = release_pays (inner_release call.capacity stage) n new T p given cell stage stands is open_then in
       let same = released_same call given.mode new count (release_takes (inner_release call.capacity stage) stage given (release_old stage n cell)) in
       omega arith
-  remove_pays (removes.TheVariants.Hides count state) stands is open_then = let still = counts_none (locks_in given.mode) n new is in omega arith
-  remove_pays (removes.TheVariants.AddsChange state) stands is open_then = let still = counts_none (locks_in given.mode) n new is in omega arith
+  remove_pays (removes.Hides count state) stands is open_then = let still = counts_none (locks_in given.mode) n new is in omega arith
+  remove_pays (removes.AddsChange state) stands is open_then = let still = counts_none (locks_in given.mode) n new is in omega arith
 
 -- ---- a recovery
 
@@ -195,11 +199,11 @@ module _ {T : Type 0} where
         → RecoverLeaves mode (for_mode mode) (recover_raised call index mode a)
     recover_raises Default index (GoOn next) m = let none = moved_none n new m in omega arith
     recover_raises LockIfLastIndex index (GoOn next) m = omega arith
-    recover_raises Default index (Done states.TheVariants.Locked) m = let most = moved_most n new in omega arith
-    recover_raises LockIfLastIndex index (Done states.TheVariants.Locked) m = omega arith
-    recover_raises Default index (Done states.TheVariants.Unlocked) m =
+    recover_raises Default index (Done states.Locked) m = let most = moved_most n new in omega arith
+    recover_raises LockIfLastIndex index (Done states.Locked) m = omega arith
+    recover_raises Default index (Done states.Unlocked) m =
         let most = moved_most n new in let none = comes_none Default (index + 1) in omega arith
-    recover_raises LockIfLastIndex index (Done states.TheVariants.Unlocked) m = omega arith
+    recover_raises LockIfLastIndex index (Done states.Unlocked) m = omega arith
 
     recover_locks : (index : ℕ) (lock : locks.Lock) (a : After locks.Lock ReleaseState) → LockPays n new lock a
         → RecoverLeaves LockIfLastIndex (lock_credit lock + lock_late n lock) (recover_locked call index a)
@@ -207,57 +211,57 @@ module _ {T : Type 0} where
     recover_locks index lock (Done state) m = let none = comes_none LockIfLastIndex (index + 1) in omega arith
 
     module _ (size p cell : ℕ) (given : DeadOwner) (value : T) where
-      abbrev RecoverPays : recovers.RecoverStage → Type 0
+      abbrev RecoverPays : RecoverStage → Type 0
       RecoverPays stage =
           new + recover_left given.mode new (recover_takes size call stage given (recover_old stage n cell)) + counts_move (locks_in given.mode) n new
           ≤ n + (recover_credit given.mode stage + recover_late n stage)
           + 3 * changes {T = T} (recover_effects p given value stage (recover_old stage n cell))
 
-      pub recover_pays : (stage : recovers.RecoverStage) → RecoverStands given.mode stage → new ≡ recover_then stage n → new ≢ locked → RecoverPays stage
-      recover_pays recovers.TheVariants.LoadsCounter stands is open_then = go (cell == locked) refl
+      pub recover_pays : (stage : RecoverStage) → RecoverStands given.mode stage → new ≡ recover_then stage n → new ≢ locked → RecoverPays stage
+      recover_pays recovers.LoadsCounter stands is open_then = go (cell == locked) refl
         where
-          go : (t : Bool) → (cell == locked) ≡ t → RecoverPays recovers.TheVariants.LoadsCounter
+          go : (t : Bool) → (cell == locked) ≡ t → RecoverPays recovers.LoadsCounter
           go true t = let still = counts_none (locks_in given.mode) n new is in rw t (omega arith)
           go false t = let still = counts_none (locks_in given.mode) n new is in let none = comes_none given.mode 0 in rw t (omega arith)
-      recover_pays (recovers.TheVariants.LoadsCell index) stands is open_then = go (cell == given.owner) refl
+      recover_pays (recovers.LoadsCell index) stands is open_then = go (cell == given.owner) refl
         where
-          go : (t : Bool) → (cell == given.owner) ≡ t → RecoverPays (recovers.TheVariants.LoadsCell index)
+          go : (t : Bool) → (cell == given.owner) ≡ t → RecoverPays (recovers.LoadsCell index)
           go true t = let still = counts_none (locks_in given.mode) n new is in rw t (omega arith)
           go false t = let still = counts_none (locks_in given.mode) n new is in let none = comes_none given.mode (index + 1) in rw t (omega arith)
-      recover_pays (recovers.TheVariants.LoadsCount index) stands is open_then =
+      recover_pays (recovers.LoadsCount index) stands is open_then =
           let still = counts_none (locks_in given.mode) n new is in let none = sees_none given.mode index cell in omega arith
-      recover_pays (recovers.TheVariants.LoadsWord index count at) stands is open_then = go (nat_lt (at + 1) size) refl
+      recover_pays (recovers.LoadsWord index count at) stands is open_then = go (nat_lt (at + 1) size) refl
         where
-          go : (t : Bool) → nat_lt (at + 1) size ≡ t → RecoverPays (recovers.TheVariants.LoadsWord index count at)
+          go : (t : Bool) → nat_lt (at + 1) size ≡ t → RecoverPays (recovers.LoadsWord index count at)
           go true t = let still = counts_none (locks_in given.mode) n new is in rw t (omega arith)
           go false t = let still = counts_none (locks_in given.mode) n new is in rw t (omega arith)
-      recover_pays (recovers.TheVariants.ChecksCount index count) stands is open_then = go (cell == count) refl
+      recover_pays (recovers.ChecksCount index count) stands is open_then = go (cell == count) refl
         where
-          go : (t : Bool) → (cell == count) ≡ t → RecoverPays (recovers.TheVariants.ChecksCount index count)
+          go : (t : Bool) → (cell == count) ≡ t → RecoverPays (recovers.ChecksCount index count)
           go true t = let still = counts_none (locks_in given.mode) n new is in rw t (omega arith)
           go false t = let still = counts_none (locks_in given.mode) n new is in let none = sees_none given.mode index cell in rw t (omega arith)
-      recover_pays (recovers.TheVariants.Asks index count) stands is open_then = go (cell == 0) refl
+      recover_pays (recovers.Asks index count) stands is open_then = go (cell == 0) refl
         where
-          go : (t : Bool) → (cell == 0) ≡ t → RecoverPays (recovers.TheVariants.Asks index count)
+          go : (t : Bool) → (cell == 0) ≡ t → RecoverPays (recovers.Asks index count)
           go true t = let still = counts_none (locks_in given.mode) n new is in let none = comes_none given.mode (index + 1) in rw t (omega arith)
           go false t = let still = counts_none (locks_in given.mode) n new is in rw t (omega arith)
-      recover_pays (recovers.TheVariants.EmptiesCell index count) stands is open_then = go (cell == given.owner) refl (is_even count) refl
+      recover_pays (recovers.EmptiesCell index count) stands is open_then = go (cell == given.owner) refl (is_even count) refl
         where
-          go : (t : Bool) → (cell == given.owner) ≡ t → (u : Bool) → is_even count ≡ u → RecoverPays (recovers.TheVariants.EmptiesCell index count)
+          go : (t : Bool) → (cell == given.owner) ≡ t → (u : Bool) → is_even count ≡ u → RecoverPays (recovers.EmptiesCell index count)
           go true t true u =
               let still = counts_none (locks_in given.mode) n new is in let most = for_mode_most given.mode in rw (t, u) (omega arith)
           go true t false u =
               let still = counts_none (locks_in given.mode) n new is in let most = for_mode_most given.mode in rw (t, u) (omega arith)
           go false t u e = let still = counts_none (locks_in given.mode) n new is in let none = comes_none given.mode (index + 1) in rw t (omega arith)
-      recover_pays (recovers.TheVariants.Hides index count) stands is open_then = let still = counts_none (locks_in given.mode) n new is in omega arith
-      recover_pays (recovers.TheVariants.Raises index raise) stands is open_then =
+      recover_pays (recovers.Hides index count) stands is open_then = let still = counts_none (locks_in given.mode) n new is in omega arith
+      recover_pays (recovers.Raises index raise) stands is open_then =
           let leaves = recover_raises given.mode index (raise_after raise n) (raise_moves raise n new is) in omega arith
-      recover_pays (recovers.TheVariants.Locks index lock) stands is open_then =
+      recover_pays (recovers.Locks index lock) stands is open_then =
           let leaves =
           recover_locks index lock (lock_after call.capacity lock (lock_old lock n cell)) (lock_pays call.capacity lock n new cell is open_then) in
           rw stands (omega arith)
-      recover_pays recovers.TheVariants.LoadsCounterAgain stands is open_then = let still = counts_none (locks_in given.mode) n new is in omega arith
-      recover_pays (recovers.TheVariants.AddsChange state) stands is open_then = let still = counts_none (locks_in given.mode) n new is in omega arith
+      recover_pays recovers.LoadsCounterAgain stands is open_then = let still = counts_none (locks_in given.mode) n new is in omega arith
+      recover_pays (recovers.AddsChange state) stands is open_then = let still = counts_none (locks_in given.mode) n new is in omega arith
 
 -- ---- any call
 
@@ -314,12 +318,12 @@ module _ (T : Type 0) where
   replace_same new given room (Done answer) = (omega arith, tt)
 
   pub find_same : (new given : ℕ) (room : Buffer 128) (a : After (finding.Find T (Buffer 128)) ℕ)
-      → Keeps new false 0 (as_call Find answers.TheVariants.Number (went_on as_it_is given room a))
+      → Keeps new false 0 (as_call Find answers.Number (went_on as_it_is given room a))
   find_same new given room (GoOn run) = (omega arith, refl)
   find_same new given room (Done number) = (omega arith, tt)
 
   pub recover_same : (new : ℕ) (given : DeadOwner) (room : Buffer 128) (a : After (Recovering T) ReleaseState)
-      → Keeps new (locks_in given.mode) (recover_left given.mode new a) (as_call Recover answers.TheVariants.State (went_on as_it_is given room a))
+      → Keeps new (locks_in given.mode) (recover_left given.mode new a) (as_call Recover answers.State (went_on as_it_is given room a))
   recover_same new given room (GoOn run) = (let most = late_in_most given.mode (recover_late new run.stage) in omega arith, refl)
   recover_same new given room (Done state) = (omega arith, tt)
 
@@ -333,18 +337,18 @@ module _ (T : Type 0) where
   looks_same code new which call (Some state) cell =
       look_same new which (look_shows code call state cell) (look_after code.size call state.seen cell)
 
-  abbrev count_as : CountOf → Unit {0} → Unit {0} → counting.BorrowedIndices → After counts.Count ends.Counted → After (ContainerFlight T) (Answer T)
+  abbrev count_as : CountOf → Unit {0} → Unit {0} → counting.BorrowedIndices → After counts.Count Counted → After (ContainerFlight T) (Answer T)
   count_as which given room call a = as_call (λ r. Count which r) (counted which) (went_on as_it_is given room (borrowed_counted call a))
 
-  pub count_mode : (which : CountOf) (given room : Unit {0}) (call : counting.BorrowedIndices) (a : After counts.Count ends.Counted)
+  pub count_mode : (which : CountOf) (given room : Unit {0}) (call : counting.BorrowedIndices) (a : After counts.Count Counted)
       → SameMode false (count_as which given room call a)
   count_mode which given room call (GoOn count) = refl
-  count_mode which given room call (Done ends.TheVariants.Locked) = tt
-  count_mode which given room call (Done (ends.TheVariants.Filled filled counter)) = tt
+  count_mode which given room call (Done ends.Locked) = tt
+  count_mode which given room call (Done (ends.Filled filled counter)) = tt
 
-  pub count_same : (n new : ℕ) (which : CountOf) (given room : Unit {0}) (call : counting.BorrowedIndices) (a : After counts.Count ends.Counted)
+  pub count_same : (n new : ℕ) (which : CountOf) (given room : Unit {0}) (call : counting.BorrowedIndices) (a : After counts.Count Counted)
       → CountMoves n new a → new + container_left new (count_as which given room call a) + counts_move false n new ≤ n + 2
   count_same n new which given room call (GoOn count) m = let none = moved_none n new m in omega arith
-  count_same n new which given room call (Done ends.TheVariants.Locked) m = let none = moved_none n new m in omega arith
-  count_same n new which given room call (Done (ends.TheVariants.Filled filled counter)) m =
+  count_same n new which given room call (Done ends.Locked) m = let none = moved_none n new m in omega arith
+  count_same n new which given room call (Done (ends.Filled filled counter)) m =
       let most = moved_most n new in let low = count_ends n new filled counter m in omega arith

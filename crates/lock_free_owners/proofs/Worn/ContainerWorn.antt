@@ -13,17 +13,16 @@ use Rattle.model.specs.declared.event.Answer.{Answer}
 use Rattle.model.specs.declared.event.Start.{Start}
 use Rattle.model.specs.declared.event.Start.TheVariants.{Container}
 use Rattle.model.specs.declared.families.Flight.{Flight}
-use Rattle.model.specs.declared.families.Flight as flights
+use Rattle.model.specs.declared.families.Flight.TheVariants as flights
 use Rattle.model.specs.declared.families.Registry.{Registry}
-use Rattle.model.specs.declared.families.Registry as registries
+use Rattle.model.specs.declared.families.Registry.TheVariants as registries
 use Rattle.model.specs.declared.families.container.ContainerStart.{ContainerStart}
-use Rattle.model.specs.declared.families.container.ContainerStart as starts
+use Rattle.model.specs.declared.families.container.ContainerStart.TheVariants as starts
 use Rattle.model.specs.declared.families.container.calls.ContainerFlight.{ContainerFlight}
 use Rattle.model.specs.declared.party.Doing.{Doing}
 use Rattle.model.specs.declared.party.Doing.TheVariants.{Going, Over}
 use Rattle.model.specs.declared.party.Party.{Party}
-use Rattle.model.specs.declared.turn.Kind.{Kind}
-use Rattle.model.specs.declared.turn.Kind as kinds
+use Rattle.model.specs.declared.turn.Kind.TheVariants as kinds
 use Rattle.model.specs.declared.turn.Turn.{Turn}
 use Rattle.model.specs.Coding.{Coding}
 use Rattle.model.specs.Families.{first_of, want_of, ask_of, is_question, beside_of, step_of}
@@ -82,7 +81,7 @@ module _ {T : Type 0} (code : Coding T) where
   -- ---- a step, as one of any family
 
   abbrev any_call : After (ContainerFlight T) (Answer T) → After (Flight T) (Answer T)
-  any_call a = as_call flights.TheVariants.Container (λ answer. answer) a
+  any_call a = as_call flights.Container (λ answer. answer) a
 
   same_left : (new : ℕ) (a : After (ContainerFlight T) (Answer T)) → left new (any_call a) ≡ container_left new a
   same_left new (GoOn flight) = refl
@@ -94,12 +93,12 @@ module _ {T : Type 0} (code : Coding T) where
 
   abbrev any_step : ℕ → ContainerFlight T → ℕ → List ℕ → List (ℕ × ContainerState T) → Step (Flight T) (Registry T) T
   any_step p flight answer dead states =
-      as_step flights.TheVariants.Container (λ kept. registries.TheVariants.Container kept.0 kept.1) (calls.step code p flight answer dead states)
+      as_step flights.Container (λ kept. registries.Container kept.0 kept.1) (calls.step code p flight answer dead states)
 
   module _ (words : List ℕ) (p : ℕ) (ask : Option Ask) (dead : List ℕ) (states : List (ℕ × ContainerState T)) (flight : ContainerFlight T)
       (stands : ContainerStands flight) (leaves : counter_of (words_after words ask) ≡ container_then flight (counter_of words)) where
     abbrev Paid : ℕ → Type 0
-    Paid answer = PaysBy words (flights.TheVariants.Container flight) ask (any_step p flight answer dead states)
+    Paid answer = PaysBy words (flights.Container flight) ask (any_step p flight answer dead states)
 
     paid_there : (cell : ℕ) → Paid (container_old flight (counter_of words) cell)
     paid_there cell =
@@ -125,33 +124,33 @@ module _ {T : Type 0} (code : Coding T) where
 module _ {T : Type 0} where
   -- ---- a begin
 
-  begins_so : (n c p : ℕ) (start : ContainerStart T) → BeginPays n p (Container start) (flights.TheVariants.Container (first c start))
-  begins_so n c p (starts.TheVariants.Add value owner) = record { pays = omega arith; mode = λ e. absurd (cc) }
-  begins_so n c p (starts.TheVariants.Remove index owner Default) =
+  begins_so : (n c p : ℕ) (start : ContainerStart T) → BeginPays n p (Container start) (flights.Container (first c start))
+  begins_so n c p (starts.Add value owner) = record { pays = omega arith; mode = λ e. absurd (cc) }
+  begins_so n c p (starts.Remove index owner Default) =
       record { pays = (let none = first_credit c (place_of c index) Default in omega arith); mode = λ e. absurd (cc) }
-  begins_so n c p (starts.TheVariants.Remove index owner LockIfLastIndex) =
+  begins_so n c p (starts.Remove index owner LockIfLastIndex) =
       record {
         pays =
             (let none = first_credit c (place_of c index) LockIfLastIndex in let also = first_late n c (place_of c index) in omega arith);
         mode = λ e. refl;
       }
-  begins_so n c p (starts.TheVariants.Replace index value owner) = record { pays = omega arith; mode = λ e. absurd (cc) }
-  begins_so n c p (starts.TheVariants.Find owner) = record { pays = omega arith; mode = λ e. absurd (cc) }
-  begins_so n c p (starts.TheVariants.Recover owner Default) = record { pays = omega arith; mode = λ e. absurd (cc) }
-  begins_so n c p (starts.TheVariants.Recover owner LockIfLastIndex) = record { pays = omega arith; mode = λ e. refl }
-  begins_so n c p starts.TheVariants.GetState = record { pays = omega arith; mode = λ e. absurd (cc) }
-  begins_so n c p starts.TheVariants.UpdateState = record { pays = omega arith; mode = λ e. absurd (cc) }
-  begins_so n c p starts.TheVariants.Len = record { pays = omega arith; mode = λ e. absurd (cc) }
-  begins_so n c p starts.TheVariants.IsEmpty = record { pays = omega arith; mode = λ e. absurd (cc) }
-  begins_so n c p starts.TheVariants.IsLocked = record { pays = omega arith; mode = λ e. absurd (cc) }
+  begins_so n c p (starts.Replace index value owner) = record { pays = omega arith; mode = λ e. absurd (cc) }
+  begins_so n c p (starts.Find owner) = record { pays = omega arith; mode = λ e. absurd (cc) }
+  begins_so n c p (starts.Recover owner Default) = record { pays = omega arith; mode = λ e. absurd (cc) }
+  begins_so n c p (starts.Recover owner LockIfLastIndex) = record { pays = omega arith; mode = λ e. refl }
+  begins_so n c p starts.GetState = record { pays = omega arith; mode = λ e. absurd (cc) }
+  begins_so n c p starts.UpdateState = record { pays = omega arith; mode = λ e. absurd (cc) }
+  begins_so n c p starts.Len = record { pays = omega arith; mode = λ e. absurd (cc) }
+  begins_so n c p starts.IsEmpty = record { pays = omega arith; mode = λ e. absurd (cc) }
+  begins_so n c p starts.IsLocked = record { pays = omega arith; mode = λ e. absurd (cc) }
 
   begins_by : (n c p : ℕ) (start : ContainerStart T) (flight : Flight T) (b : Bool)
-      → option_map flights.TheVariants.Container (if b then Some (first c start) else None) ≡ Some flight → BeginPays n p (Container start) flight
+      → option_map flights.Container (if b then Some (first c start) else None) ≡ Some flight → BeginPays n p (Container start) flight
   begins_by n c p start flight true e =
-      subst (BeginPays n p (Container start)) (some_same (flights.TheVariants.Container (first c start)) flight e) (begins_so n c p start)
+      subst (BeginPays n p (Container start)) (some_same (flights.Container (first c start)) flight e) (begins_so n c p start)
   begins_by n c p start flight false e = absurd (cc)
 
-  begins_any : (n c p : ℕ) (start : Start T) (kept : Registry T) (flight : Flight T) → first_of kinds.TheVariants.Container c start kept ≡ Some flight
+  begins_any : (n c p : ℕ) (start : Start T) (kept : Registry T) (flight : Flight T) → first_of kinds.Container c start kept ≡ Some flight
       → BeginPays n p start flight
   begins_any n c p (Container start) kept flight e = begins_by n c p start flight (names_owner start) e
   begins_any n c p start kept flight e = absurd (cc)
@@ -172,7 +171,7 @@ module _ {T : Type 0} (code : Coding T) (c : ℕ) where
     ws = t.world.words
 
     abbrev Kept : Registry T
-    Kept = registries.TheVariants.Container s.state.dead s.state.states
+    Kept = registries.Container s.state.dead s.state.states
 
     abbrev PaysIn : Coding T → ℕ → Option Ask → ℕ → Registry T → Start T → Flight T → Type 0
     PaysIn z p ask answer kept start flight = PaysBy ws flight ask (step_of z ws (beside_of ws kept t.world.latest p) p start flight answer kept)
@@ -183,14 +182,14 @@ module _ {T : Type 0} (code : Coding T) (c : ℕ) where
     pays_in : (p : ℕ) (all : List SetAct) (done : List (Act T)) (start : Start T) (flight : Flight T)
         → FlightAt c code.size all done start flight → 0 < length ws
         → PaysIn code p (ask_of (want_of code flight)) (old_of ws (ask_of (want_of code flight))) Kept start flight
-    pays_in p all done (Container start) (flights.TheVariants.Container flight) at some =
+    pays_in p all done (Container start) (flights.Container flight) at some =
         paid code ws p (ask_of (want code flight)) s.state.dead s.state.states flight (container_stands code c all done start flight at)
         (container_leaves code ws some flight) (old_of ws (ask_of (want code flight))) (container_finds code ws flight)
     pays_in p all done start flight at some = absurd at
 
     decides_in : (p answer : ℕ) (all : List SetAct) (done : List (Act T)) (start : Start T) (flight : Flight T) → FlightAt c code.size all done start flight
         → is_question (want_of code flight) ≡ true → PaysIn code p None answer Kept start flight
-    decides_in p answer all done (Container start) (flights.TheVariants.Container flight) at due =
+    decides_in p answer all done (Container start) (flights.Container flight) at due =
         let asks = container_asks code flight (counter_of ws) answer due in
         paid code ws p None s.state.dead s.state.states flight (container_stands code c all done start flight at) asks.0 answer asks.1
     decides_in p answer all done start flight at due = absurd at
@@ -198,7 +197,7 @@ module _ {T : Type 0} (code : Coding T) (c : ℕ) where
     -- a call that may lock is under way by its span
     locks_in_span : (all : List SetAct) (done : List (Act T)) (start : Start T) (flight : Flight T) → FlightAt c code.size all done start flight
         → locks_of (Some flight) ≡ true → may_lock start ≡ true
-    locks_in_span all done (Container start) (flights.TheVariants.Container flight) at e = container_may code c all done start flight at e
+    locks_in_span all done (Container start) (flights.Container flight) at e = container_may code c all done start flight at e
     locks_in_span all done start flight at e = absurd at
 
     spans_there : (q : ℕ) (o : Option (Party T)) → party_of q t.world.latest ≡ o → locks_of (flight_of (doing_of o)) ≡ true
@@ -238,7 +237,7 @@ module _ {T : Type 0} (code : Coding T) (c : ℕ) where
 -- ---- any run
 
 module _ {T : Type 0} where
-  pub opens_so : (t : Trace T) → t.world.kind ≡ kinds.TheVariants.Container → IsReachedOpen t
+  pub opens_so : (t : Trace T) → t.world.kind ≡ kinds.Container → IsReachedOpen t
       → Sound t.world.coding t.world.capacity (opening t.world.coding t.world.kind t.world.capacity t.world.parties)
   opens_so t is r =
       let w = t.world in
@@ -246,14 +245,14 @@ module _ {T : Type 0} where
       subst (λ kind. Sound w.coding w.capacity (opening w.coding kind w.capacity w.parties))
       (sym is) (opening_sound shown (terms w.coding w.capacity) w.coding w.capacity w.parties r.coded may.0 may.1)
 
-  pub opens_bounded : (t : Trace T) → t.world.kind ≡ kinds.TheVariants.Container
+  pub opens_bounded : (t : Trace T) → t.world.kind ≡ kinds.Container
       → Bounded (opening t.world.coding t.world.kind t.world.capacity t.world.parties)
   opens_bounded t is =
       let w = t.world in
       subst (λ kind. Bounded (opening w.coding kind w.capacity w.parties)) (sym is)
-      (opening_bounded (opening w.coding kinds.TheVariants.Container w.capacity w.parties) refl refl (omega arith))
+      (opening_bounded (opening w.coding kinds.Container w.capacity w.parties) refl refl (omega arith))
 
-  pub reached_bounded : (t : Trace T) → t.world.kind ≡ kinds.TheVariants.Container → IsReachedOpen t → LocksApart t.events → Bounded t
+  pub reached_bounded : (t : Trace T) → t.world.kind ≡ kinds.Container → IsReachedOpen t → LocksApart t.events → Bounded t
   reached_bounded t is r apart =
       let code = t.world.coding in
       let c = t.world.capacity in

@@ -18,16 +18,22 @@ use Rattle.steps.specs.declared.ask.After.TheVariants.{GoOn, Done}
 use Rattle.steps.specs.declared.indices.enums.ReleaseMode.{ReleaseMode}
 use Rattle.steps.specs.declared.indices.enums.ReleaseMode.TheVariants.{Default, LockIfLastIndex}
 use Rattle.steps.specs.declared.indices.enums.ReleaseState.{ReleaseState}
-use Rattle.steps.specs.declared.indices.enums.ReleaseState as states
+use Rattle.steps.specs.declared.indices.enums.ReleaseState.TheVariants as states
 use Rattle.steps.specs.declared.indices.robust.acquire.Acquire.{Acquire}
-use Rattle.steps.specs.declared.indices.robust.acquire.AcquireStage as acquires
-use Rattle.steps.specs.declared.indices.robust.parts.Count as counts
-use Rattle.steps.specs.declared.indices.robust.parts.Counted as ends
-use Rattle.steps.specs.declared.indices.robust.parts.Lock as locks
-use Rattle.steps.specs.declared.indices.robust.parts.Raise as raises
+use Rattle.steps.specs.declared.indices.robust.acquire.AcquireStage.{AcquireStage}
+use Rattle.steps.specs.declared.indices.robust.acquire.AcquireStage.TheVariants as acquires
+use Rattle.steps.specs.declared.indices.robust.parts.Count.{Count}
+use Rattle.steps.specs.declared.indices.robust.parts.Count.TheVariants as counts
+use Rattle.steps.specs.declared.indices.robust.parts.Counted.{Counted}
+use Rattle.steps.specs.declared.indices.robust.parts.Counted.TheVariants as ends
+use Rattle.steps.specs.declared.indices.robust.parts.Lock.{Lock}
+use Rattle.steps.specs.declared.indices.robust.parts.Lock.TheVariants as locks
+use Rattle.steps.specs.declared.indices.robust.parts.Raise.{Raise}
+use Rattle.steps.specs.declared.indices.robust.parts.Raise.TheVariants as raises
 use Rattle.steps.specs.declared.indices.robust.release.GiveBack.{GiveBack}
 use Rattle.steps.specs.declared.indices.robust.release.Release.{Release}
-use Rattle.steps.specs.declared.indices.robust.release.ReleaseStage as releases
+use Rattle.steps.specs.declared.indices.robust.release.ReleaseStage.{ReleaseStage}
+use Rattle.steps.specs.declared.indices.robust.release.ReleaseStage.TheVariants as releases
 use Rattle.model.specs.Families.Indices.Robust.Steps.{acquire_effects, release_effects}
 use Rattle.laws_robust.proofs.Counter.{tested, raise_then, count_then, count_old, lock_then, lock_old}
 use Rattle.laws_robust.proofs.Counter.{acquire_then, acquire_old, release_then, release_old}
@@ -50,7 +56,7 @@ moved_most n new = go (new == n)
 -- ---- a raise
 
 -- it goes on where the counter has stayed, and ends with at most one more
-abbrev pub RaiseMoves : ℕ → ℕ → After raises.Raise ReleaseState → Type 0
+abbrev pub RaiseMoves : ℕ → ℕ → After Raise ReleaseState → Type 0
 RaiseMoves n new (GoOn raise) = new ≡ n
 RaiseMoves n new (Done state) = new ≤ n + 1
 
@@ -62,11 +68,11 @@ raise_sees_moves n new same = go (n == locked) refl (n == greatest) refl
     go false t true u = rw (t, u) (omega arith)
     go false t false u = rw (t, u) same
 
-pub raise_moves : (raise : raises.Raise) (n new : ℕ) → new ≡ raise_then raise n → RaiseMoves n new (raise_after raise n)
-raise_moves raises.TheVariants.LoadsCounter n new is = raise_sees_moves n new is
-raise_moves (raises.TheVariants.ExchangesCounter k) n new is = go (n == k) refl
+pub raise_moves : (raise : Raise) (n new : ℕ) → new ≡ raise_then raise n → RaiseMoves n new (raise_after raise n)
+raise_moves raises.LoadsCounter n new is = raise_sees_moves n new is
+raise_moves (raises.ExchangesCounter k) n new is = go (n == k) refl
   where
-    go : (t : Bool) → (n == k) ≡ t → RaiseMoves n new (raise_after (raises.TheVariants.ExchangesCounter k) n)
+    go : (t : Bool) → (n == k) ≡ t → RaiseMoves n new (raise_after (raises.ExchangesCounter k) n)
     go true t =
         let same = tested n k t in
         let next : new ≡ one_more k = rw t at is in
@@ -76,10 +82,10 @@ raise_moves (raises.TheVariants.ExchangesCounter k) n new is = go (n == k) refl
 -- ---- a count
 
 -- it ends with the counter that it has left, or at the greatest
-abbrev pub CountMoves : ℕ → ℕ → After counts.Count ends.Counted → Type 0
+abbrev pub CountMoves : ℕ → ℕ → After Count Counted → Type 0
 CountMoves n new (GoOn count) = new ≡ n
-CountMoves n new (Done ends.TheVariants.Locked) = new ≡ n
-CountMoves n new (Done (ends.TheVariants.Filled filled counter)) =
+CountMoves n new (Done ends.Locked) = new ≡ n
+CountMoves n new (Done (ends.Filled filled counter)) =
     ((new ≡ n) × (counter ≡ greatest)) ⊎ ((new ≤ n + 1) × (new ≡ counter))
 
 count_comes_moves : (c n new counter index filled : ℕ) → new ≡ n → CountMoves n new (count_comes_to c counter index filled)
@@ -90,18 +96,18 @@ count_comes_moves c n new counter index filled same = go (nat_lt index c) refl (
     go false t true u = rw (t, u) (inl (same, tested counter greatest u))
     go false t false u = rw (t, u) same
 
-pub count_moves : (c : ℕ) (count : counts.Count) (n new cell : ℕ) → new ≡ count_then count n
+pub count_moves : (c : ℕ) (count : Count) (n new cell : ℕ) → new ≡ count_then count n
     → CountMoves n new (count_after c count (count_old count n cell))
-count_moves c counts.TheVariants.LoadsCounter n new cell is = go (n == locked) refl
+count_moves c counts.LoadsCounter n new cell is = go (n == locked) refl
   where
-    go : (t : Bool) → (n == locked) ≡ t → CountMoves n new (count_after c counts.TheVariants.LoadsCounter n)
+    go : (t : Bool) → (n == locked) ≡ t → CountMoves n new (count_after c counts.LoadsCounter n)
     go true t = rw t is
     go false t = rw t (count_comes_moves c n new n 0 0 is)
-count_moves c (counts.TheVariants.LoadsCell counter index filled) n new cell is =
+count_moves c (counts.LoadsCell counter index filled) n new cell is =
     count_comes_moves c n new counter (index + 1) (if cell == empty then filled else one_more filled) is
-count_moves c (counts.TheVariants.ExchangesCounter k filled) n new cell is = go (n == k) refl
+count_moves c (counts.ExchangesCounter k filled) n new cell is = go (n == k) refl
   where
-    go : (t : Bool) → (n == k) ≡ t → CountMoves n new (count_after c (counts.TheVariants.ExchangesCounter k filled) n)
+    go : (t : Bool) → (n == k) ≡ t → CountMoves n new (count_after c (counts.ExchangesCounter k filled) n)
     go true t =
         let same = tested n k t in
         let next : new ≡ one_more k = rw t at is in
@@ -110,33 +116,33 @@ count_moves c (counts.TheVariants.ExchangesCounter k filled) n new cell is = go 
     go false t = let same : new ≡ n = rw t at is in rw t same
 
 -- a call that counts and does no more has two, until it ends
-pub count_ends : (n new : ℕ) (filled counter : ℕ) → CountMoves n new (Done (ends.TheVariants.Filled filled counter)) → new ≤ n + 1
+pub count_ends : (n new : ℕ) (filled counter : ℕ) → CountMoves n new (Done (ends.Filled filled counter)) → new ≤ n + 1
 count_ends n new filled counter (inl h) = let same = h.0 in omega arith
 count_ends n new filled counter (inr h) = h.0
 
 -- ---- a lock
 
 -- its next count raises the counter; and it counts again where the counter is another than the one that it has left
-abbrev pub lock_credit : locks.Lock → ℕ
-lock_credit (locks.TheVariants.Counts count) = 1
-lock_credit (locks.TheVariants.ExchangesCounter counter) = 0
+abbrev pub lock_credit : Lock → ℕ
+lock_credit (locks.Counts count) = 1
+lock_credit (locks.ExchangesCounter counter) = 0
 
-abbrev pub lock_late : ℕ → locks.Lock → ℕ
-lock_late n (locks.TheVariants.Counts count) = 0
-lock_late n (locks.TheVariants.ExchangesCounter counter) = if n == counter then 0 else 1
+abbrev pub lock_late : ℕ → Lock → ℕ
+lock_late n (locks.Counts count) = 0
+lock_late n (locks.ExchangesCounter counter) = if n == counter then 0 else 1
 
-pub lock_late_most : (n : ℕ) (lock : locks.Lock) → lock_late n lock ≤ 1
-lock_late_most n (locks.TheVariants.Counts count) = omega arith
-lock_late_most n (locks.TheVariants.ExchangesCounter counter) = moved_most counter n
+pub lock_late_most : (n : ℕ) (lock : Lock) → lock_late n lock ≤ 1
+lock_late_most n (locks.Counts count) = omega arith
+lock_late_most n (locks.ExchangesCounter counter) = moved_most counter n
 
-abbrev pub LockPays : ℕ → ℕ → locks.Lock → After locks.Lock ReleaseState → Type 0
+abbrev pub LockPays : ℕ → ℕ → Lock → After Lock ReleaseState → Type 0
 LockPays n new lock (GoOn next) = new + (lock_credit next + lock_late new next) ≤ n + (lock_credit lock + lock_late n lock)
 LockPays n new lock (Done state) = new ≤ n + (lock_credit lock + lock_late n lock)
 
-module _ (n new : ℕ) (count : counts.Count) where
-  counted_filled : (filled counter : ℕ) → CountMoves n new (Done (ends.TheVariants.Filled filled counter))
+module _ (n new : ℕ) (count : Count) where
+  counted_filled : (filled counter : ℕ) → CountMoves n new (Done (ends.Filled filled counter))
       → (z : Bool) → (filled == 0) ≡ z → (g : Bool) → (counter == greatest) ≡ g
-      → LockPays n new (locks.TheVariants.Counts count) (lock_counted (Done (ends.TheVariants.Filled filled counter)))
+      → LockPays n new (locks.Counts count) (lock_counted (Done (ends.Filled filled counter)))
   counted_filled filled counter m true z true g = let low = count_ends n new filled counter m in rw (z, g) (omega arith)
   counted_filled filled counter m false z g e = let low = count_ends n new filled counter m in rw z (omega arith)
   counted_filled filled counter (inl h) true z false g =
@@ -148,33 +154,33 @@ module _ (n new : ℕ) (count : counts.Count) where
       let low = h.0 in
       rw (z, g, same) (omega arith)
 
-  counted_pays : (a : After counts.Count ends.Counted) → CountMoves n new a → LockPays n new (locks.TheVariants.Counts count) (lock_counted a)
+  counted_pays : (a : After Count Counted) → CountMoves n new a → LockPays n new (locks.Counts count) (lock_counted a)
   counted_pays (GoOn next) m = omega arith
-  counted_pays (Done ends.TheVariants.Locked) m = omega arith
-  counted_pays (Done (ends.TheVariants.Filled filled counter)) m = counted_filled filled counter m (filled == 0) refl (counter == greatest) refl
+  counted_pays (Done ends.Locked) m = omega arith
+  counted_pays (Done (ends.Filled filled counter)) m = counted_filled filled counter m (filled == 0) refl (counter == greatest) refl
 
 -- unless it locks
-pub lock_pays : (c : ℕ) (lock : locks.Lock) (n new cell : ℕ) → new ≡ lock_then lock n → new ≢ locked
+pub lock_pays : (c : ℕ) (lock : Lock) (n new cell : ℕ) → new ≡ lock_then lock n → new ≢ locked
     → LockPays n new lock (lock_after c lock (lock_old lock n cell))
-lock_pays c (locks.TheVariants.Counts count) n new cell is open_then =
+lock_pays c (locks.Counts count) n new cell is open_then =
     counted_pays n new count (count_after c count (count_old count n cell)) (count_moves c count n new cell is)
-lock_pays c (locks.TheVariants.ExchangesCounter k) n new cell is open_then = go (n == k) refl
+lock_pays c (locks.ExchangesCounter k) n new cell is open_then = go (n == k) refl
   where
     go : (t : Bool) → (n == k) ≡ t
-        → LockPays n new (locks.TheVariants.ExchangesCounter k) (lock_after c (locks.TheVariants.ExchangesCounter k) n)
+        → LockPays n new (locks.ExchangesCounter k) (lock_after c (locks.ExchangesCounter k) n)
     go true t = let shut : new ≡ locked = rw t at is in absurd (open_then shut)
     go false t =
         let same : new ≡ n = rw t at is in
-        let again : lock_late n (locks.TheVariants.ExchangesCounter k) ≡ 1 = rw t refl in
+        let again : lock_late n (locks.ExchangesCounter k) ≡ 1 = rw t refl in
         rw t (omega arith)
 
 -- ---- an acquire
 
-abbrev pub acquire_credit : acquires.AcquireStage → ℕ
-acquire_credit acquires.TheVariants.LoadsCounter = 0
-acquire_credit (acquires.TheVariants.FillsCell counter index) = 0
-acquire_credit (acquires.TheVariants.ChecksCounter counter) = 0
-acquire_credit (acquires.TheVariants.Raises index raise) = 2
+abbrev pub acquire_credit : AcquireStage → ℕ
+acquire_credit acquires.LoadsCounter = 0
+acquire_credit (acquires.FillsCell counter index) = 0
+acquire_credit (acquires.ChecksCounter counter) = 0
+acquire_credit (acquires.Raises index raise) = 2
 
 abbrev pub acquire_left : After Acquire Acquired → ℕ
 acquire_left (GoOn run) = acquire_credit run.stage
@@ -196,28 +202,28 @@ module _ (call : Acquire) (n new : ℕ) where
       go false t true u = rw (t, u) (omega arith)
       go false t false u = rw (t, u) (tries_none n 0)
 
-  raised_pays : (index : ℕ) (raise : raises.Raise) (a : After raises.Raise ReleaseState) → RaiseMoves n new a
+  raised_pays : (index : ℕ) (raise : Raise) (a : After Raise ReleaseState) → RaiseMoves n new a
       → new + acquire_left (acquire_raised call index a) + moved n new ≤ n + 2
   raised_pays index raise (GoOn next) m = let none = moved_none n new m in omega arith
-  raised_pays index raise (Done states.TheVariants.Locked) m = let most = moved_most n new in omega arith
-  raised_pays index raise (Done states.TheVariants.Unlocked) m = let most = moved_most n new in omega arith
+  raised_pays index raise (Done states.Locked) m = let most = moved_most n new in omega arith
+  raised_pays index raise (Done states.Unlocked) m = let most = moved_most n new in omega arith
 
   module _ (T : Type 0) (p owner : ℕ) (cell : ℕ) where
-    abbrev AcquirePays : acquires.AcquireStage → Type 0
+    abbrev AcquirePays : AcquireStage → Type 0
     AcquirePays stage =
         new + acquire_left (acquire_takes call stage (acquire_old stage n cell)) + moved n new
         ≤ n + acquire_credit stage + 3 * changes {T = T} (acquire_effects p owner stage (acquire_old stage n cell))
 
-    pub acquire_pays : (stage : acquires.AcquireStage) → new ≡ acquire_then stage n → AcquirePays stage
-    acquire_pays acquires.TheVariants.LoadsCounter is = let none = moved_none n new is in let left = sees_none in omega arith
-    acquire_pays (acquires.TheVariants.FillsCell counter index) is = go (cell == empty) refl
+    pub acquire_pays : (stage : AcquireStage) → new ≡ acquire_then stage n → AcquirePays stage
+    acquire_pays acquires.LoadsCounter is = let none = moved_none n new is in let left = sees_none in omega arith
+    acquire_pays (acquires.FillsCell counter index) is = go (cell == empty) refl
       where
-        go : (t : Bool) → (cell == empty) ≡ t → AcquirePays (acquires.TheVariants.FillsCell counter index)
+        go : (t : Bool) → (cell == empty) ≡ t → AcquirePays (acquires.FillsCell counter index)
         go true t = let none = moved_none n new is in rw t (omega arith)
         go false t = let none = moved_none n new is in let left = tries_none counter (index + 1) in rw t (omega arith)
-    acquire_pays (acquires.TheVariants.ChecksCounter k) is = go (n == k) refl
+    acquire_pays (acquires.ChecksCounter k) is = go (n == k) refl
       where
-        go : (t : Bool) → (n == k) ≡ t → AcquirePays (acquires.TheVariants.ChecksCounter k)
+        go : (t : Bool) → (n == k) ≡ t → AcquirePays (acquires.ChecksCounter k)
         go true t =
             let found = tested n k t in
             let here : new ≡ k = rw t at is in
@@ -229,7 +235,7 @@ module _ (call : Acquire) (n new : ℕ) where
             let none = moved_none n new same in
             let left = sees_none in
             rw t (omega arith)
-    acquire_pays (acquires.TheVariants.Raises index raise) is =
+    acquire_pays (acquires.Raises index raise) is =
         let pays = raised_pays index raise (raise_after raise n) (raise_moves raise n new is) in omega arith
 
 -- ---- a release
@@ -247,15 +253,15 @@ abbrev pub locks_in : ReleaseMode → Bool
 locks_in Default = false
 locks_in LockIfLastIndex = true
 
-abbrev pub release_credit : ReleaseMode → releases.ReleaseStage → ℕ
-release_credit mode releases.TheVariants.EmptiesCell = 0
-release_credit mode (releases.TheVariants.Raises raise) = for_mode mode
-release_credit mode (releases.TheVariants.Locks lock) = lock_credit lock
+abbrev pub release_credit : ReleaseMode → ReleaseStage → ℕ
+release_credit mode releases.EmptiesCell = 0
+release_credit mode (releases.Raises raise) = for_mode mode
+release_credit mode (releases.Locks lock) = lock_credit lock
 
-abbrev pub release_late : ℕ → releases.ReleaseStage → ℕ
-release_late n releases.TheVariants.EmptiesCell = 0
-release_late n (releases.TheVariants.Raises raise) = 0
-release_late n (releases.TheVariants.Locks lock) = lock_late n lock
+abbrev pub release_late : ℕ → ReleaseStage → ℕ
+release_late n releases.EmptiesCell = 0
+release_late n (releases.Raises raise) = 0
+release_late n (releases.Locks lock) = lock_late n lock
 
 -- what is left of it, which a lock that is late has too
 abbrev pub release_left : ReleaseMode → ℕ → After Release Released → ℕ
@@ -276,46 +282,46 @@ counts_most true n new = omega arith
 counts_most false n new = moved_most n new
 
 -- it stands where only a call in the mode that locks does
-abbrev pub StandsIn : ReleaseMode → releases.ReleaseStage → Type 0
-StandsIn mode (releases.TheVariants.Locks lock) = mode ≡ LockIfLastIndex
+abbrev pub StandsIn : ReleaseMode → ReleaseStage → Type 0
+StandsIn mode (releases.Locks lock) = mode ≡ LockIfLastIndex
 StandsIn mode stage = Unit {0}
 
 module _ (call : Release) (n new : ℕ) where
   abbrev ReleaseLeaves : ReleaseMode → ℕ → After Release Released → Type 0
   ReleaseLeaves mode credit a = new + release_left mode new a + counts_move (locks_in mode) n new ≤ n + credit
 
-  release_raises : (mode : ReleaseMode) (a : After raises.Raise ReleaseState) → RaiseMoves n new a
+  release_raises : (mode : ReleaseMode) (a : After Raise ReleaseState) → RaiseMoves n new a
       → ReleaseLeaves mode (for_mode mode) (release_raised call mode a)
   release_raises Default (GoOn next) m = let none = moved_none n new m in omega arith
   release_raises LockIfLastIndex (GoOn next) m = omega arith
   release_raises Default (Done state) m = let most = moved_most n new in omega arith
   release_raises LockIfLastIndex (Done state) m = omega arith
 
-  release_locks : (lock : locks.Lock) (a : After locks.Lock ReleaseState) → LockPays n new lock a
+  release_locks : (lock : Lock) (a : After Lock ReleaseState) → LockPays n new lock a
       → ReleaseLeaves LockIfLastIndex (lock_credit lock + lock_late n lock) (release_locked call a)
   release_locks lock (GoOn next) m = omega arith
   release_locks lock (Done state) m = omega arith
 
   module _ (T : Type 0) (p : ℕ) (given : GiveBack) (cell : ℕ) where
-    abbrev ReleasePays : releases.ReleaseStage → Type 0
+    abbrev ReleasePays : ReleaseStage → Type 0
     ReleasePays stage =
         new + release_left given.mode new (release_takes call stage given (release_old stage n cell))
         + counts_move (locks_in given.mode) n new
         ≤ n + (release_credit given.mode stage + release_late n stage)
         + 3 * changes {T = T} (release_effects p given stage (release_old stage n cell))
 
-    pub release_pays : (stage : releases.ReleaseStage) → StandsIn given.mode stage → new ≡ release_then stage n → new ≢ locked → ReleasePays stage
-    release_pays releases.TheVariants.EmptiesCell stands is open_then = go (cell == given.owner) refl
+    pub release_pays : (stage : ReleaseStage) → StandsIn given.mode stage → new ≡ release_then stage n → new ≢ locked → ReleasePays stage
+    release_pays releases.EmptiesCell stands is open_then = go (cell == given.owner) refl
       where
-        go : (t : Bool) → (cell == given.owner) ≡ t → ReleasePays releases.TheVariants.EmptiesCell
+        go : (t : Bool) → (cell == given.owner) ≡ t → ReleasePays releases.EmptiesCell
         go true t =
             let none = counts_none (locks_in given.mode) n new is in
             let most = for_mode_most given.mode in
             rw t (omega arith)
         go false t = let none = counts_none (locks_in given.mode) n new is in rw t (omega arith)
-    release_pays (releases.TheVariants.Raises raise) stands is open_then =
+    release_pays (releases.Raises raise) stands is open_then =
         let leaves = release_raises given.mode (raise_after raise n) (raise_moves raise n new is) in omega arith
-    release_pays (releases.TheVariants.Locks lock) stands is open_then =
+    release_pays (releases.Locks lock) stands is open_then =
         let leaves =
         release_locks lock (lock_after call.capacity lock (lock_old lock n cell)) (lock_pays call.capacity lock n new cell is open_then) in
         let mode = stands in

@@ -12,21 +12,24 @@ use Rattle.steps.specs.declared.ask.After.TheVariants.{GoOn, Done}
 use Rattle.steps.specs.declared.indices.enums.ReleaseMode.{ReleaseMode}
 use Rattle.steps.specs.declared.indices.enums.ReleaseMode.TheVariants.{Default, LockIfLastIndex}
 use Rattle.steps.specs.declared.indices.enums.ReleaseState.{ReleaseState}
-use Rattle.steps.specs.declared.indices.enums.ReleaseState as states
+use Rattle.steps.specs.declared.indices.enums.ReleaseState.TheVariants as states
 use Rattle.steps.specs.declared.indices.robust.acquire.Acquire as acquiring
 use Rattle.steps.specs.declared.indices.robust.find.Find as finding
 use Rattle.steps.specs.declared.indices.robust.looks.BorrowedIndices as counting
 use Rattle.steps.specs.declared.indices.robust.parts.Count as counts
-use Rattle.steps.specs.declared.indices.robust.parts.Counted as ends
+use Rattle.steps.specs.declared.indices.robust.parts.Counted.{Counted}
+use Rattle.steps.specs.declared.indices.robust.parts.Counted.TheVariants as ends
 use Rattle.steps.specs.declared.indices.robust.parts.Lock as locks
 use Rattle.steps.specs.declared.indices.robust.parts.Raise as raises
 use Rattle.steps.specs.declared.indices.robust.recover.Recover as recovering
-use Rattle.steps.specs.declared.indices.robust.recover.RecoverStage as recovers
+use Rattle.steps.specs.declared.indices.robust.recover.RecoverStage.{RecoverStage}
+use Rattle.steps.specs.declared.indices.robust.recover.RecoverStage.TheVariants as recovers
 use Rattle.steps.specs.declared.indices.robust.release.GiveBack.{GiveBack}
 use Rattle.steps.specs.declared.indices.robust.release.Release as releasing
-use Rattle.steps.specs.declared.indices.robust.release.ReleaseStage as releases
+use Rattle.steps.specs.declared.indices.robust.release.ReleaseStage.{ReleaseStage}
+use Rattle.steps.specs.declared.indices.robust.release.ReleaseStage.TheVariants as releases
 use Rattle.model.specs.declared.event.Answer.{Answer}
-use Rattle.model.specs.declared.event.Answer as answers
+use Rattle.model.specs.declared.event.Answer.TheVariants as answers
 use Rattle.model.specs.declared.families.indices.robust.calls.RobustFlight.{RobustFlight}
 use Rattle.model.specs.declared.families.indices.robust.calls.RobustFlight.TheVariants.{Acquire, Release, Find, Recover, BorrowedIndices, IsLocked}
 use Rattle.model.specs.Families.Indices.Robust.Calls.{after, acquire_answer, release_answer}
@@ -57,21 +60,21 @@ late_in_most LockIfLastIndex late = omega arith
 
 -- ---- a recovery
 
-abbrev pub recover_credit : ReleaseMode → recovers.RecoverStage → ℕ
-recover_credit mode (recovers.TheVariants.Raises index raise) = for_mode mode
-recover_credit mode (recovers.TheVariants.Locks index lock) = lock_credit lock
+abbrev pub recover_credit : ReleaseMode → RecoverStage → ℕ
+recover_credit mode (recovers.Raises index raise) = for_mode mode
+recover_credit mode (recovers.Locks index lock) = lock_credit lock
 recover_credit mode stage = 0
 
-abbrev pub recover_late : ℕ → recovers.RecoverStage → ℕ
-recover_late n (recovers.TheVariants.Locks index lock) = lock_late n lock
+abbrev pub recover_late : ℕ → RecoverStage → ℕ
+recover_late n (recovers.Locks index lock) = lock_late n lock
 recover_late n stage = 0
 
 abbrev pub recover_left : ReleaseMode → ℕ → After recovering.Recover ReleaseState → ℕ
 recover_left mode new (GoOn run) = recover_credit mode run.stage + recover_late new run.stage
 recover_left mode new (Done state) = 0
 
-abbrev pub RecoverStands : ReleaseMode → recovers.RecoverStage → Type 0
-RecoverStands mode (recovers.TheVariants.Locks index lock) = mode ≡ LockIfLastIndex
+abbrev pub RecoverStands : ReleaseMode → RecoverStage → Type 0
+RecoverStands mode (recovers.Locks index lock) = mode ≡ LockIfLastIndex
 RecoverStands mode stage = Unit {0}
 
 module _ (call : recovering.Recover) (n new : ℕ) where
@@ -89,11 +92,11 @@ module _ (call : recovering.Recover) (n new : ℕ) where
       → RecoverLeaves mode (for_mode mode) (recover_raised call index mode a)
   recover_raises Default index (GoOn next) m = let none = moved_none n new m in omega arith
   recover_raises LockIfLastIndex index (GoOn next) m = omega arith
-  recover_raises Default index (Done states.TheVariants.Locked) m = let most = moved_most n new in omega arith
-  recover_raises LockIfLastIndex index (Done states.TheVariants.Locked) m = omega arith
-  recover_raises Default index (Done states.TheVariants.Unlocked) m =
+  recover_raises Default index (Done states.Locked) m = let most = moved_most n new in omega arith
+  recover_raises LockIfLastIndex index (Done states.Locked) m = omega arith
+  recover_raises Default index (Done states.Unlocked) m =
       let most = moved_most n new in let none = comes_none Default (index + 1) in omega arith
-  recover_raises LockIfLastIndex index (Done states.TheVariants.Unlocked) m = omega arith
+  recover_raises LockIfLastIndex index (Done states.Unlocked) m = omega arith
 
   recover_locks : (index : ℕ) (lock : locks.Lock) (a : After locks.Lock ReleaseState) → LockPays n new lock a
       → RecoverLeaves LockIfLastIndex (lock_credit lock + lock_late n lock) (recover_locked call index a)
@@ -101,42 +104,42 @@ module _ (call : recovering.Recover) (n new : ℕ) where
   recover_locks index lock (Done state) m = let none = comes_none LockIfLastIndex (index + 1) in omega arith
 
   module _ (T : Type 0) (p : ℕ) (mode : ReleaseMode) (cell : ℕ) where
-    abbrev RecoverPays : recovers.RecoverStage → Type 0
+    abbrev RecoverPays : RecoverStage → Type 0
     RecoverPays stage =
         new + recover_left mode new (recover_takes call stage mode (recover_old stage n cell)) + counts_move (locks_in mode) n new
         ≤ n + (recover_credit mode stage + recover_late n stage) + 3 * changes {T = T} (recover_effects p stage (recover_old stage n cell))
 
-    pub recover_pays : (stage : recovers.RecoverStage) → RecoverStands mode stage → new ≡ recover_then stage n → new ≢ locked → RecoverPays stage
-    recover_pays recovers.TheVariants.LoadsCounter stands is open_then = go (n == locked) refl
+    pub recover_pays : (stage : RecoverStage) → RecoverStands mode stage → new ≡ recover_then stage n → new ≢ locked → RecoverPays stage
+    recover_pays recovers.LoadsCounter stands is open_then = go (n == locked) refl
       where
-        go : (t : Bool) → (n == locked) ≡ t → RecoverPays recovers.TheVariants.LoadsCounter
+        go : (t : Bool) → (n == locked) ≡ t → RecoverPays recovers.LoadsCounter
         go true t = let still = counts_none (locks_in mode) n new is in rw t (omega arith)
         go false t = let still = counts_none (locks_in mode) n new is in let none = comes_none mode 0 in rw t (omega arith)
-    recover_pays (recovers.TheVariants.LoadsCell index) stands is open_then = go (cell == empty) refl
+    recover_pays (recovers.LoadsCell index) stands is open_then = go (cell == empty) refl
       where
-        go : (t : Bool) → (cell == empty) ≡ t → RecoverPays (recovers.TheVariants.LoadsCell index)
+        go : (t : Bool) → (cell == empty) ≡ t → RecoverPays (recovers.LoadsCell index)
         go true t = let still = counts_none (locks_in mode) n new is in let none = comes_none mode (index + 1) in rw t (omega arith)
         go false t = let still = counts_none (locks_in mode) n new is in rw t (omega arith)
-    recover_pays (recovers.TheVariants.Asks index owner) stands is open_then = go (cell == 0) refl
+    recover_pays (recovers.Asks index owner) stands is open_then = go (cell == 0) refl
       where
-        go : (t : Bool) → (cell == 0) ≡ t → RecoverPays (recovers.TheVariants.Asks index owner)
+        go : (t : Bool) → (cell == 0) ≡ t → RecoverPays (recovers.Asks index owner)
         go true t = let still = counts_none (locks_in mode) n new is in let none = comes_none mode (index + 1) in rw t (omega arith)
         go false t = let still = counts_none (locks_in mode) n new is in rw t (omega arith)
-    recover_pays (recovers.TheVariants.EmptiesCell index owner) stands is open_then = go (cell == owner) refl
+    recover_pays (recovers.EmptiesCell index owner) stands is open_then = go (cell == owner) refl
       where
-        go : (t : Bool) → (cell == owner) ≡ t → RecoverPays (recovers.TheVariants.EmptiesCell index owner)
+        go : (t : Bool) → (cell == owner) ≡ t → RecoverPays (recovers.EmptiesCell index owner)
         go true t =
             let still = counts_none (locks_in mode) n new is in
             let most = for_mode_most mode in
             rw t (omega arith)
         go false t = let still = counts_none (locks_in mode) n new is in let none = comes_none mode (index + 1) in rw t (omega arith)
-    recover_pays (recovers.TheVariants.Raises index raise) stands is open_then =
+    recover_pays (recovers.Raises index raise) stands is open_then =
         let leaves = recover_raises mode index (raise_after raise n) (raise_moves raise n new is) in omega arith
-    recover_pays (recovers.TheVariants.Locks index lock) stands is open_then =
+    recover_pays (recovers.Locks index lock) stands is open_then =
         let leaves =
         recover_locks index lock (lock_after call.capacity lock (lock_old lock n cell)) (lock_pays call.capacity lock n new cell is open_then) in
         rw stands (omega arith)
-    recover_pays recovers.TheVariants.LoadsCounterAgain stands is open_then =
+    recover_pays recovers.LoadsCounterAgain stands is open_then =
         let still = counts_none (locks_in mode) n new is in omega arith
 
 -- ---- any call
@@ -166,23 +169,23 @@ RobustStands flight = Unit {0}
 
 module _ (n : ℕ) where
   -- a lock alone is late
-  pub release_late_in : (mode : ReleaseMode) (stage : releases.ReleaseStage) → StandsIn mode stage
+  pub release_late_in : (mode : ReleaseMode) (stage : ReleaseStage) → StandsIn mode stage
       → release_late n stage ≤ late_in mode (release_late n stage)
   release_late_in LockIfLastIndex stage stands = omega arith
-  release_late_in Default releases.TheVariants.EmptiesCell stands = omega arith
-  release_late_in Default (releases.TheVariants.Raises raise) stands = omega arith
-  release_late_in Default (releases.TheVariants.Locks lock) stands = absurd (cc)
+  release_late_in Default releases.EmptiesCell stands = omega arith
+  release_late_in Default (releases.Raises raise) stands = omega arith
+  release_late_in Default (releases.Locks lock) stands = absurd (cc)
 
-  pub recover_late_in : (mode : ReleaseMode) (stage : recovers.RecoverStage) → RecoverStands mode stage
+  pub recover_late_in : (mode : ReleaseMode) (stage : RecoverStage) → RecoverStands mode stage
       → recover_late n stage ≤ late_in mode (recover_late n stage)
   recover_late_in LockIfLastIndex stage stands = omega arith
-  recover_late_in Default recovers.TheVariants.LoadsCounter stands = omega arith
-  recover_late_in Default (recovers.TheVariants.LoadsCell index) stands = omega arith
-  recover_late_in Default (recovers.TheVariants.Asks index owner) stands = omega arith
-  recover_late_in Default (recovers.TheVariants.EmptiesCell index owner) stands = omega arith
-  recover_late_in Default (recovers.TheVariants.Raises index raise) stands = omega arith
-  recover_late_in Default (recovers.TheVariants.Locks index lock) stands = absurd (cc)
-  recover_late_in Default recovers.TheVariants.LoadsCounterAgain stands = omega arith
+  recover_late_in Default recovers.LoadsCounter stands = omega arith
+  recover_late_in Default (recovers.LoadsCell index) stands = omega arith
+  recover_late_in Default (recovers.Asks index owner) stands = omega arith
+  recover_late_in Default (recovers.EmptiesCell index owner) stands = omega arith
+  recover_late_in Default (recovers.Raises index raise) stands = omega arith
+  recover_late_in Default (recovers.Locks index lock) stands = absurd (cc)
+  recover_late_in Default recovers.LoadsCounterAgain stands = omega arith
 
 module _ {T : Type 0} where
   abbrev pub robust_left : ℕ → After RobustFlight (Answer T) → ℕ
@@ -215,7 +218,7 @@ module _ (T : Type 0) where
   release_same new given room (Done answer) = (omega arith, tt)
 
   abbrev recover_as : ReleaseMode → Unit {0} → After recovering.Recover ReleaseState → After RobustFlight (Answer T)
-  recover_as given room a = as_call Recover answers.TheVariants.State (went_on as_it_is given room a)
+  recover_as given room a = as_call Recover answers.State (went_on as_it_is given room a)
 
   recover_same : (new : ℕ) (given : ReleaseMode) (room : Unit {0}) (a : After recovering.Recover ReleaseState)
       → (robust_left new (recover_as given room a) ≤ recover_left given new a) × SameMode (locks_in given) (recover_as given room a)
@@ -223,7 +226,7 @@ module _ (T : Type 0) where
   recover_same new given room (Done state) = (omega arith, tt)
 
   abbrev find_as : ℕ → Unit {0} → After finding.Find ℕ → After RobustFlight (Answer T)
-  find_as given room a = as_call Find answers.TheVariants.Number (went_on as_it_is given room a)
+  find_as given room a = as_call Find answers.Number (went_on as_it_is given room a)
 
   find_same : (new given : ℕ) (room : Unit {0}) (a : After finding.Find ℕ)
       → (robust_left new (find_as given room a) ≡ 0) × SameMode false (find_as given room a)
@@ -231,20 +234,20 @@ module _ (T : Type 0) where
   find_same new given room (Done number) = (refl, tt)
 
   abbrev borrowed_as : Unit {0} → Unit {0} → After counting.BorrowedIndices ℕ → After RobustFlight (Answer T)
-  borrowed_as given room a = as_call BorrowedIndices answers.TheVariants.Number (went_on as_it_is given room a)
+  borrowed_as given room a = as_call BorrowedIndices answers.Number (went_on as_it_is given room a)
 
-  borrowed_mode : (given room : Unit {0}) (call : counting.BorrowedIndices) (a : After counts.Count ends.Counted)
+  borrowed_mode : (given room : Unit {0}) (call : counting.BorrowedIndices) (a : After counts.Count Counted)
       → SameMode false (borrowed_as given room (borrowed_counted call a))
   borrowed_mode given room call (GoOn count) = refl
-  borrowed_mode given room call (Done ends.TheVariants.Locked) = tt
-  borrowed_mode given room call (Done (ends.TheVariants.Filled filled counter)) = tt
+  borrowed_mode given room call (Done ends.Locked) = tt
+  borrowed_mode given room call (Done (ends.Filled filled counter)) = tt
 
-  borrowed_same : (n new : ℕ) (given room : Unit {0}) (call : counting.BorrowedIndices) (a : After counts.Count ends.Counted)
+  borrowed_same : (n new : ℕ) (given room : Unit {0}) (call : counting.BorrowedIndices) (a : After counts.Count Counted)
       → CountMoves n new a
       → new + robust_left new (borrowed_as given room (borrowed_counted call a)) + counts_move false n new ≤ n + 2
   borrowed_same n new given room call (GoOn count) m = let none = moved_none n new m in omega arith
-  borrowed_same n new given room call (Done ends.TheVariants.Locked) m = let none = moved_none n new m in omega arith
-  borrowed_same n new given room call (Done (ends.TheVariants.Filled filled counter)) m =
+  borrowed_same n new given room call (Done ends.Locked) m = let none = moved_none n new m in omega arith
+  borrowed_same n new given room call (Done (ends.Filled filled counter)) m =
       let most = moved_most n new in let low = count_ends n new filled counter m in omega arith
 
   -- ---- its step

@@ -10,17 +10,16 @@ use Rattle.model.specs.declared.event.Answer.{Answer}
 use Rattle.model.specs.declared.event.Start.{Start}
 use Rattle.model.specs.declared.event.Start.TheVariants.{Robust}
 use Rattle.model.specs.declared.families.Flight.{Flight}
-use Rattle.model.specs.declared.families.Flight as flights
+use Rattle.model.specs.declared.families.Flight.TheVariants as flights
 use Rattle.model.specs.declared.families.Registry.{Registry}
-use Rattle.model.specs.declared.families.Registry as registries
+use Rattle.model.specs.declared.families.Registry.TheVariants as registries
 use Rattle.model.specs.declared.families.indices.robust.RobustStart.{RobustStart}
-use Rattle.model.specs.declared.families.indices.robust.RobustStart as starts
+use Rattle.model.specs.declared.families.indices.robust.RobustStart.TheVariants as starts
 use Rattle.model.specs.declared.families.indices.robust.calls.RobustFlight.{RobustFlight}
 use Rattle.model.specs.declared.party.Doing.{Doing}
 use Rattle.model.specs.declared.party.Doing.TheVariants.{Going, Over}
 use Rattle.model.specs.declared.party.Party.{Party}
-use Rattle.model.specs.declared.turn.Kind.{Kind}
-use Rattle.model.specs.declared.turn.Kind as kinds
+use Rattle.model.specs.declared.turn.Kind.TheVariants as kinds
 use Rattle.model.specs.Coding.{Coding}
 use Rattle.model.specs.Families.{first_of, want_of, ask_of, is_question, beside_of, step_of}
 use Rattle.model.specs.Families.Indices.Reading.{is_locked}
@@ -57,7 +56,7 @@ module _ {T : Type 0} where
   -- ---- a step, as one of any family
 
   abbrev any_call : After RobustFlight (Answer T) → After (Flight T) (Answer T)
-  any_call a = as_call flights.TheVariants.Robust (λ answer. answer) a
+  any_call a = as_call flights.Robust (λ answer. answer) a
 
   same_left : (new : ℕ) (a : After RobustFlight (Answer T)) → left new (any_call a) ≡ robust_left new a
   same_left new (GoOn flight) = refl
@@ -68,13 +67,13 @@ module _ {T : Type 0} where
   same_locks may (Done answer) h = tt
 
   abbrev set_step : ℕ → RobustFlight → ℕ → List ℕ → Step (Flight T) (Registry T) T
-  set_step p flight answer dead = as_step flights.TheVariants.Robust registries.TheVariants.Owners (set.step p flight answer dead)
+  set_step p flight answer dead = as_step flights.Robust registries.Owners (set.step p flight answer dead)
 
 module _ (T : Type 0) where
   module _ (words : List ℕ) (p : ℕ) (ask : Option Ask) (dead : List ℕ) (flight : RobustFlight) (stands : RobustStands flight)
       (leaves : counter_of (words_after words ask) ≡ robust_then flight (counter_of words)) where
     abbrev Paid : ℕ → Type 0
-    Paid answer = PaysBy {T = T} words (flights.TheVariants.Robust flight) ask (set_step p flight answer dead)
+    Paid answer = PaysBy {T = T} words (flights.Robust flight) ask (set_step p flight answer dead)
 
     paid_there : (cell : ℕ) → Paid (robust_old flight (counter_of words) cell)
     paid_there cell =
@@ -95,23 +94,23 @@ module _ {T : Type 0} where
   -- ---- a begin
 
   -- a call as it begins
-  begins_so : (n c p : ℕ) (start : RobustStart) → BeginPays {T = T} n p (Robust start) (flights.TheVariants.Robust (first c start))
-  begins_so n c p (starts.TheVariants.Acquire owner) = record { pays = omega arith; mode = λ e. absurd (cc) }
-  begins_so n c p (starts.TheVariants.Release index owner Default) = record { pays = omega arith; mode = λ e. absurd (cc) }
-  begins_so n c p (starts.TheVariants.Release index owner LockIfLastIndex) = record { pays = omega arith; mode = λ e. refl }
-  begins_so n c p (starts.TheVariants.Find owner) = record { pays = omega arith; mode = λ e. absurd (cc) }
-  begins_so n c p (starts.TheVariants.Recover Default) = record { pays = omega arith; mode = λ e. absurd (cc) }
-  begins_so n c p (starts.TheVariants.Recover LockIfLastIndex) = record { pays = omega arith; mode = λ e. refl }
-  begins_so n c p starts.TheVariants.BorrowedIndices = record { pays = omega arith; mode = λ e. absurd (cc) }
-  begins_so n c p starts.TheVariants.IsLocked = record { pays = omega arith; mode = λ e. absurd (cc) }
+  begins_so : (n c p : ℕ) (start : RobustStart) → BeginPays {T = T} n p (Robust start) (flights.Robust (first c start))
+  begins_so n c p (starts.Acquire owner) = record { pays = omega arith; mode = λ e. absurd (cc) }
+  begins_so n c p (starts.Release index owner Default) = record { pays = omega arith; mode = λ e. absurd (cc) }
+  begins_so n c p (starts.Release index owner LockIfLastIndex) = record { pays = omega arith; mode = λ e. refl }
+  begins_so n c p (starts.Find owner) = record { pays = omega arith; mode = λ e. absurd (cc) }
+  begins_so n c p (starts.Recover Default) = record { pays = omega arith; mode = λ e. absurd (cc) }
+  begins_so n c p (starts.Recover LockIfLastIndex) = record { pays = omega arith; mode = λ e. refl }
+  begins_so n c p starts.BorrowedIndices = record { pays = omega arith; mode = λ e. absurd (cc) }
+  begins_so n c p starts.IsLocked = record { pays = omega arith; mode = λ e. absurd (cc) }
 
   begins_by : (n c p : ℕ) (start : RobustStart) (flight : Flight T) (b : Bool)
-      → option_map flights.TheVariants.Robust (if b then Some (first c start) else None) ≡ Some flight → BeginPays n p (Robust start) flight
+      → option_map flights.Robust (if b then Some (first c start) else None) ≡ Some flight → BeginPays n p (Robust start) flight
   begins_by n c p start flight true e =
-      subst (BeginPays n p (Robust start)) (some_same (flights.TheVariants.Robust (first c start)) flight e) (begins_so n c p start)
+      subst (BeginPays n p (Robust start)) (some_same (flights.Robust (first c start)) flight e) (begins_so n c p start)
   begins_by n c p start flight false e = absurd (cc)
 
-  begins_any : (n c p : ℕ) (start : Start T) (kept : Registry T) (flight : Flight T) → first_of kinds.TheVariants.Robust c start kept ≡ Some flight
+  begins_any : (n c p : ℕ) (start : Start T) (kept : Registry T) (flight : Flight T) → first_of kinds.Robust c start kept ≡ Some flight
       → BeginPays n p start flight
   begins_any n c p (Robust start) kept flight e = begins_by n c p start flight (names_owner start) e
   begins_any n c p start kept flight e = absurd (cc)
@@ -128,20 +127,20 @@ module _ {T : Type 0} (code : Coding T) (c : ℕ) where
     PaysIn p ask answer kept start flight =
         PaysBy ws flight ask (step_of t.world.coding ws (beside_of ws kept t.world.latest p) p start flight answer kept)
 
-    owners : t.world.kept ≡ registries.TheVariants.Owners s.state.dead
+    owners : t.world.kept ≡ registries.Owners s.state.dead
     owners = s.fit.kept
 
     pays_in : (p : ℕ) (all : List SetAct) (start : Start T) (flight : Flight T) → FlightAt c all start flight → 0 < length ws
         → PaysIn p (ask_of (want_of t.world.coding flight)) (old_of ws (ask_of (want_of t.world.coding flight)))
-        (registries.TheVariants.Owners s.state.dead) start flight
-    pays_in p all (Robust start) (flights.TheVariants.Robust flight) at some =
+        (registries.Owners s.state.dead) start flight
+    pays_in p all (Robust start) (flights.Robust flight) at some =
         paid T ws p (ask_of (want flight)) s.state.dead flight (robust_stands c all start flight at) (robust_leaves ws some flight)
         (old_of ws (ask_of (want flight))) (robust_finds ws flight)
     pays_in p all start flight at some = absurd at
 
     decides_in : (p answer : ℕ) (all : List SetAct) (start : Start T) (flight : Flight T) → FlightAt c all start flight
-        → is_question (want_of t.world.coding flight) ≡ true → PaysIn p None answer (registries.TheVariants.Owners s.state.dead) start flight
-    decides_in p answer all (Robust start) (flights.TheVariants.Robust flight) at due =
+        → is_question (want_of t.world.coding flight) ≡ true → PaysIn p None answer (registries.Owners s.state.dead) start flight
+    decides_in p answer all (Robust start) (flights.Robust flight) at due =
         let asks = robust_asks flight (counter_of ws) answer due in
         paid T ws p None s.state.dead flight (robust_stands c all start flight at) asks.0 answer asks.1
     decides_in p answer all start flight at due = absurd at
@@ -149,7 +148,7 @@ module _ {T : Type 0} (code : Coding T) (c : ℕ) where
     -- a call that may lock is under way by its span
     locks_in_span : (all : List SetAct) (start : Start T) (flight : Flight T) → FlightAt c all start flight
         → locks_of (Some flight) ≡ true → may_lock start ≡ true
-    locks_in_span all (Robust start) (flights.TheVariants.Robust flight) at e = robust_may T c all start flight at e
+    locks_in_span all (Robust start) (flights.Robust flight) at e = robust_may T c all start flight at e
     locks_in_span all start flight at e = absurd at
 
     spans_there : (q : ℕ) (o : Option (Party T)) → party_of q t.world.latest ≡ o → locks_of (flight_of (doing_of o)) ≡ true
@@ -186,7 +185,7 @@ module _ {T : Type 0} (code : Coding T) (c : ℕ) where
 -- ---- any run
 
 module _ {T : Type 0} where
-  opens_so : (t : Trace T) → t.world.kind ≡ kinds.TheVariants.Robust → IsReachedOpen t
+  opens_so : (t : Trace T) → t.world.kind ≡ kinds.Robust → IsReachedOpen t
       → frame.Sound (family_by Word t.world.coding t.world.capacity) (opening t.world.coding t.world.kind t.world.capacity t.world.parties)
   opens_so t is r =
       let w = t.world in
@@ -194,13 +193,13 @@ module _ {T : Type 0} where
       subst (λ kind. frame.Sound (family_by Word w.coding w.capacity) (opening w.coding kind w.capacity w.parties))
       (sym is) (opening_sound Word w.coding w.capacity w.parties may.0 may.1)
 
-  opens_bounded : (t : Trace T) → t.world.kind ≡ kinds.TheVariants.Robust → Bounded (opening t.world.coding t.world.kind t.world.capacity t.world.parties)
+  opens_bounded : (t : Trace T) → t.world.kind ≡ kinds.Robust → Bounded (opening t.world.coding t.world.kind t.world.capacity t.world.parties)
   opens_bounded t is =
       let w = t.world in
       subst (λ kind. Bounded (opening w.coding kind w.capacity w.parties)) (sym is)
-      (opening_bounded (opening w.coding kinds.TheVariants.Robust w.capacity w.parties) refl refl (omega arith))
+      (opening_bounded (opening w.coding kinds.Robust w.capacity w.parties) refl refl (omega arith))
 
-  pub reached_bounded : (t : Trace T) → t.world.kind ≡ kinds.TheVariants.Robust → IsReachedOpen t → LocksApart t.events → Bounded t
+  pub reached_bounded : (t : Trace T) → t.world.kind ≡ kinds.Robust → IsReachedOpen t → LocksApart t.events → Bounded t
   reached_bounded t is r apart =
       let code = t.world.coding in
       let c = t.world.capacity in

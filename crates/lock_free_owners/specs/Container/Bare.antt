@@ -1,13 +1,14 @@
 -- What is known at each stage of a call on a container that leaves what its pass knows: a look of a state that it has not.
 -- size is the number of the words of a value.
-use Rattle.std.specs.Prelude.{◌≡◌, ℕ, ◌<◌, Bool}
+use Rattle.std.specs.Prelude.{◌≡◌, ℕ, ◌+◌, ◌<◌, Bool}
 use Rattle.steps.specs.declared.container.look.Look.{Look}
 use Rattle.steps.specs.declared.container.look.LookStage as looks
 use Rattle.history.specs.declared.view.View.{View}
 
--- what is known stays, and so many operations are counted
-abbrev pub IsCounted : {T : Type 0} → View T → View T → Type 0
-IsCounted old new = new ≡ record old { asked = new.asked }
+-- what is known stays, and so many operations are counted, none of them a step of a call
+pub record IsCounted {T : Type 0} (old new : View T) : Type 0 where
+  pub known : new ≡ record old { asked = new.asked; aside = new.aside }
+  pub aside : new.asked + old.aside ≡ old.asked + new.aside
 
 -- until its end it leaves what is known
 module _ {T C M : Type 0} where

@@ -1,11 +1,11 @@
 -- What a pass of a container knew when a call ended.
-use Rattle.std.specs.Prelude.{ℕ, List, [], ◌∷◌, ◌++◌}
+use Rattle.std.specs.Prelude.{ℕ, ◌+◌, List, [], ◌∷◌, ◌++◌}
 use Rattle.model.specs.declared.event.Event.{Event}
 use Rattle.model.specs.declared.turn.Kind.TheVariants as kinds
 use Rattle.model.specs.declared.turn.Turn.{Turn}
 use Rattle.model.specs.Coding.{Coding}
 use Rattle.history.specs.declared.view.View.{View}
-use Rattle.history.specs.History.{AreFirst, IsBeginning, Knows, others_by, run_of}
+use Rattle.history.specs.History.{AreFirst, IsBeginning, Knows, others_by, run_of, steps_of_run}
 
 module _ {T : Type 0} (code : Coding T) (capacity : ℕ) where
   -- of the turns that a pass knows the first ones make a run with just these events, the last of them the end of a call
@@ -17,6 +17,7 @@ module _ {T : Type 0} (code : Coding T) (capacity : ℕ) where
           seen = before ++ last ∷ [];
           turns = turns;
           others = others_by (run_of code kinds.Container capacity turns).world v.party;
+          asked = v.aside + steps_of_run code kinds.Container capacity turns;
         })
     -- it goes on from a run that the pass knew before
     pub since : (old : View T) → Knows code kinds.Container capacity old → AreFirst old.turns v.turns

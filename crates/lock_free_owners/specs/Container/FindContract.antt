@@ -1,6 +1,7 @@
 -- What a find of a container adds to the history, and what it answers.
 use Rattle.std.specs.Prelude.{◌≡◌, ◌⊎◌, ℕ, ◌+◌, Option, Some, List, ◌∷◌, ◌++◌, [], map}
-use Rattle.steps.specs.declared.container.find.FindStage as finds
+use Rattle.steps.specs.declared.container.find.FindStage.{FindStage}
+use Rattle.steps.specs.declared.container.find.FindStage.TheVariants as finds
 use Rattle.steps.specs.declared.container.handle.ContainerHandle.{ContainerHandle}
 use Rattle.steps.specs.declared.enums.CallbackProgression.{CallbackProgression}
 use Rattle.model.specs.declared.event.Answer.{Answer}
@@ -10,8 +11,8 @@ use Rattle.model.specs.declared.event.Event.TheVariants.{Begun, Copied}
 use Rattle.model.specs.declared.event.Start.{Start}
 use Rattle.model.specs.declared.event.Start.TheVariants.{Container}
 use Rattle.model.specs.declared.families.Flight.{Flight}
-use Rattle.model.specs.declared.families.Flight as flights
-use Rattle.model.specs.declared.families.container.calls.ContainerFlight as calls
+use Rattle.model.specs.declared.families.Flight.TheVariants as flights
+use Rattle.model.specs.declared.families.container.calls.ContainerFlight.TheVariants as calls
 use Rattle.model.specs.declared.families.container.ContainerStart.TheVariants.{Find}
 use Rattle.model.specs.Coding.{Coding}
 use Rattle.model.specs.Families.Container.Promises.{IsFound}
@@ -32,12 +33,12 @@ abbrev pub copied : {T : Type 0} → ℕ → List (Visit T) → List (Event T)
 copied p visits = map (λ x. Copied p x.handle.index x.value) visits
 
 -- the index about which a find asks, and those below it
-abbrev pub below_question : finds.FindStage → ℕ
-below_question (finds.TheVariants.Asks index found) = index + 1
+abbrev pub below_question : FindStage → ℕ
+below_question (finds.Asks index found) = index + 1
 below_question stage = 0
 
 abbrev pub asked_below : {T : Type 0} → Option (Start T × Flight T) → ℕ
-asked_below (Some (start, flights.TheVariants.Container (calls.TheVariants.Find run))) = below_question run.call.stage
+asked_below (Some (start, flights.Container (calls.Find run))) = below_question run.call.stage
 asked_below going = 0
 
 module _ {T : Type 0} where

@@ -5,7 +5,8 @@ use Rattle.steps.specs.Indices.Robust.Parts.{empty, one_more}
 use Rattle.steps.specs.declared.ask.After.{After}
 use Rattle.steps.specs.declared.ask.After.TheVariants.{GoOn, Done}
 use Rattle.steps.specs.declared.container.find.Find.{Find}
-use Rattle.steps.specs.declared.container.find.FindStage as finds
+use Rattle.steps.specs.declared.container.find.FindStage.{FindStage}
+use Rattle.steps.specs.declared.container.find.FindStage.TheVariants as finds
 use Rattle.steps.specs.declared.copied.Buffer.{Buffer}
 use Rattle.model.specs.declared.turn.Kind.TheVariants as kinds
 use Rattle.model.specs.Coding.{Coding}
@@ -20,6 +21,7 @@ use Rattle.history.specs.Settled.{AtRested, EndsRested, EndsAsked}
 use Rattle.history.specs.Stages.{Calling, AtAsked, Ends}
 use Rattle.history.specs.Steps.{TakesAtMost}
 use Rattle.lock_free_owners.specs.Container.Idle.{IsIdle}
+use Rattle.lock_free_owners.specs.Container.Steps.{FewAside}
 
 -- the words of a room
 abbrev pub words_in : Buffer 128 → List ℕ
@@ -85,31 +87,31 @@ module _ {T : Type 0} (code : Coding T) (owner : ℕ) where
       → Next (λ (z : View T). z.capacity) FindAt FindDone base after (room, copies) w
 
   -- what a turn does: at a question it takes an answer, and nothing is known anew
-  abbrev pub FindTurns : finds.FindStage → View T → Find T (Buffer 128) → Buffer 128
+  abbrev pub FindTurns : FindStage → View T → Find T (Buffer 128) → Buffer 128
       → After (Find T (Buffer 128)) ℕ → Buffer 128 → View T → Type 0
-  FindTurns (finds.TheVariants.Asks index found) v call room after left w =
+  FindTurns (finds.Asks index found) v call room after left w =
       (w ≡ v) × (left ≡ room)
   FindTurns stage v call room after left w = FindGoes v call room after left w
 
 -- it is at no question
-abbrev pub IsAtWord : finds.FindStage → Type 0
-IsAtWord (finds.TheVariants.Asks index found) = ⊥
+abbrev pub IsAtWord : FindStage → Type 0
+IsAtWord (finds.Asks index found) = ⊥
 IsAtWord stage = Unit {0}
 
 -- the cell that it has come to, if any, is below the capacity
-abbrev pub IsWithin : ℕ → finds.FindStage → Type 0
-IsWithin capacity (finds.TheVariants.LoadsCell index found) = index < capacity
+abbrev pub IsWithin : ℕ → FindStage → Type 0
+IsWithin capacity (finds.LoadsCell index found) = index < capacity
 IsWithin capacity stage = Unit {0}
 
 module _ {T : Type 0} where
   -- a find that has come to the cell of this index, and found so many
   abbrev pub at_cell : ℕ → ℕ → ℕ → Find T (Buffer 128)
   at_cell capacity index found =
-      record { capacity = capacity; stage = finds.TheVariants.LoadsCell index found; of = record {} }
+      record { capacity = capacity; stage = finds.LoadsCell index found; of = record {} }
 
   -- from the cell `first` on, with an operation for each, it has come to a cell of the owner, and counts it
-  abbrev pub PassesTo : ℕ → ℕ → ℕ → finds.FindStage → View T → View T → Type 0
-  PassesTo capacity first found (finds.TheVariants.LoadsCount index count) v w =
+  abbrev pub PassesTo : ℕ → ℕ → ℕ → FindStage → View T → View T → Type 0
+  PassesTo capacity first found (finds.LoadsCount index count) v w =
       (first ≤ index) × (index < capacity) × (count ≡ one_more found) × TakesAtMost (index + 1 - first) v w
   PassesTo capacity first found stage v w = ⊥
 
@@ -120,9 +122,9 @@ module _ {T : Type 0} where
   HasPassed capacity first found (Done all) v w = (all ≡ found) × TakesAtMost (capacity - first) v w
 
   -- the same from a call's stage; a call at no cell stays as it is
-  abbrev pub PassesFrom : Find T (Buffer 128) → finds.FindStage → After (Find T (Buffer 128)) ℕ → View T → View T
+  abbrev pub PassesFrom : Find T (Buffer 128) → FindStage → After (Find T (Buffer 128)) ℕ → View T → View T
       → Type 0
-  PassesFrom call (finds.TheVariants.LoadsCell index found) after v w =
+  PassesFrom call (finds.LoadsCell index found) after v w =
       HasPassed call.capacity index found after v w
   PassesFrom call stage after v w = (after ≡ GoOn call) × (w ≡ v)
 
@@ -134,5 +136,6 @@ module _ {T : Type 0} (code : Coding T) where
     pub share : new.share ≡ old.share
     pub alone : new.other ≡ []
     pub goes : Goes old new
+    pub aside : FewAside old new
     pub knows : Knows code kinds.Container old.capacity new
     pub keeps : KeepsState old new

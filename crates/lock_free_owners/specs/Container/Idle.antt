@@ -1,23 +1,24 @@
 -- Of a pass between two of its calls: it has none under way, or its last one is a find that an answer has ended, which
 -- rests at its question.
 use Rattle.std.specs.Prelude.{◌≡◌, ℕ, Bool, true, false, Option, Some, None}
-use Rattle.steps.specs.declared.container.find.FindStage as finds
+use Rattle.steps.specs.declared.container.find.FindStage.{FindStage}
+use Rattle.steps.specs.declared.container.find.FindStage.TheVariants as finds
 use Rattle.model.specs.declared.event.Start.{Start}
 use Rattle.model.specs.declared.families.Flight.{Flight}
-use Rattle.model.specs.declared.families.Flight as flights
-use Rattle.model.specs.declared.families.container.calls.ContainerFlight as calls
+use Rattle.model.specs.declared.families.Flight.TheVariants as flights
+use Rattle.model.specs.declared.families.container.calls.ContainerFlight.TheVariants as calls
 use Rattle.history.specs.declared.view.View.{View}
 
-abbrev pub asks : finds.FindStage → Bool
-asks (finds.TheVariants.LoadsCell index found) = false
-asks (finds.TheVariants.LoadsCount index found) = false
-asks (finds.TheVariants.LoadsWord index found count at) = false
-asks (finds.TheVariants.ChecksCount index found count) = false
-asks (finds.TheVariants.Asks index found) = true
+abbrev pub asks : FindStage → Bool
+asks (finds.LoadsCell index found) = false
+asks (finds.LoadsCount index found) = false
+asks (finds.LoadsWord index found count at) = false
+asks (finds.ChecksCount index found count) = false
+asks (finds.Asks index found) = true
 
 module _ {T : Type 0} where
   abbrev pub is_at_question : Flight T → Bool
-  is_at_question (flights.TheVariants.Container (calls.TheVariants.Find run)) = asks run.call.stage
+  is_at_question (flights.Container (calls.Find run)) = asks run.call.stage
   is_at_question flight = false
 
   abbrev pub may_rest : Option ℕ → Option (Start T × Flight T) → Bool

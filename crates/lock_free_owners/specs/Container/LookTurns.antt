@@ -4,7 +4,8 @@ use Rattle.std.specs.Prelude.{◌≡◌, ℕ, Bool, true}
 use Rattle.steps.specs.declared.ask.After.{After}
 use Rattle.steps.specs.Container.State.{Numbers, Showing}
 use Rattle.steps.specs.declared.container.look.Look.{Look}
-use Rattle.steps.specs.declared.container.look.LookStage as looks
+use Rattle.steps.specs.declared.container.look.LookStage.{LookStage}
+use Rattle.steps.specs.declared.container.look.LookStage.TheVariants as looks
 use Rattle.model.specs.declared.families.container.calls.LookOf.{LookOf}
 use Rattle.model.specs.Coding.{Coding}
 use Rattle.threaded.specs.Driver.{Next}
@@ -28,8 +29,8 @@ module _ {T : Type 0} (code : Coding T) (which : LookOf) (from : View T) (shown 
       × ((IsOnHistory → ⊥) → IsCounted from w)
 
 -- another number of changes than the state has seen was found
-abbrev pub IsPast : looks.LookStage → Type 0
-IsPast looks.TheVariants.LoadsChange = ⊥
+abbrev pub IsPast : LookStage → Type 0
+IsPast looks.LoadsChange = ⊥
 IsPast stage = Unit {0}
 
 -- and from then on
@@ -48,9 +49,9 @@ module _ {T : Type 0} where
   -- it has come to an element
   abbrev pub at_count : ℕ → ℕ → Look T
   at_count capacity index =
-      record { capacity = capacity; stage = looks.TheVariants.LoadsCount index; of = record {} }
+      record { capacity = capacity; stage = looks.LoadsCount index; of = record {} }
 
   -- it copies the words of one
   abbrev pub at_word : ℕ → ℕ → ℕ → ℕ → Look T
   at_word capacity index count at =
-      record { capacity = capacity; stage = looks.TheVariants.LoadsWord index count at; of = record {} }
+      record { capacity = capacity; stage = looks.LoadsWord index count at; of = record {} }

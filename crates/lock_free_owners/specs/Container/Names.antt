@@ -17,6 +17,7 @@ use Rattle.history.specs.History.{IsHistory}
 use Rattle.history.specs.Passes as passes
 use Rattle.history.specs.ContainerLooks.{KeepsState}
 use Rattle.lock_free_owners.specs.Container.Contracts.{HasJoined}
+use Rattle.lock_free_owners.specs.Container.Steps.{FewAside}
 use Rattle.lock_free_owners.specs.declared.mpmc.container.Container.{Container}
 use Rattle.lock_free_owners.specs.declared.mpmc.container.FixedSizeContainer.{FixedSizeContainer}
 use Rattle.lock_free_owners.specs.declared.mpmc.container.Pass.{Pass}
@@ -104,6 +105,7 @@ module _ {T : Type 0} {words : Ghosts T} where
     pub container : container_of new ≡ container_of old
     pub idle : (view new).going ≡ None
     pub goes : passes.Goes (view old) (view new)
+    pub aside : FewAside (view old) (view new)
 
   -- what a join leaves of a pass, which has what both had, and keeps its own state
   pub record PassJoins (old other new : Pass T words) : Type 0 where

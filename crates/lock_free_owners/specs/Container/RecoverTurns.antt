@@ -6,7 +6,8 @@ use Rattle.steps.specs.Indices.Robust.Parts.{empty}
 use Rattle.steps.specs.declared.ask.After.{After}
 use Rattle.steps.specs.declared.container.recover.DeadOwner.{DeadOwner}
 use Rattle.steps.specs.declared.container.recover.Recover.{Recover}
-use Rattle.steps.specs.declared.container.recover.RecoverStage as recovers
+use Rattle.steps.specs.declared.container.recover.RecoverStage.{RecoverStage}
+use Rattle.steps.specs.declared.container.recover.RecoverStage.TheVariants as recovers
 use Rattle.steps.specs.declared.copied.Buffer.{Buffer}
 use Rattle.steps.specs.declared.indices.enums.ReleaseState.{ReleaseState}
 use Rattle.model.specs.declared.turn.Kind.TheVariants as kinds
@@ -77,47 +78,47 @@ module _ {T : Type 0} (code : Coding T) (given : DeadOwner) where
       → RecoverAt base w on (room, visits)
 
   -- what a turn does: at a question it takes an answer, and nothing is known anew
-  abbrev pub RecoverTurns : recovers.RecoverStage → View T → Recover T (Buffer 128) → Buffer 128
+  abbrev pub RecoverTurns : RecoverStage → View T → Recover T (Buffer 128) → Buffer 128
       → After (Recover T (Buffer 128)) ReleaseState → Buffer 128 → View T → Type 0
-  RecoverTurns (recovers.TheVariants.Asks index count) v call room after left w =
+  RecoverTurns (recovers.Asks index count) v call room after left w =
       (w ≡ v) × (left ≡ room)
   RecoverTurns stage v call room after left w = RecoverGoes v call room after left w
 
 -- it has an index to come to
-abbrev pub IsWithin : ℕ → recovers.RecoverStage → Type 0
-IsWithin capacity (recovers.TheVariants.LoadsCell index) = index < capacity
+abbrev pub IsWithin : ℕ → RecoverStage → Type 0
+IsWithin capacity (recovers.LoadsCell index) = index < capacity
 IsWithin capacity stage = Unit {0}
 
 -- where the loop over cells leads from the first one: to one of the owner, or past the last
-abbrev pub PassesTo : ℕ → ℕ → recovers.RecoverStage → Type 0
-PassesTo capacity first (recovers.TheVariants.LoadsCount index) = (first ≤ index) × (index < capacity)
-PassesTo capacity first recovers.TheVariants.LoadsCounterAgain = Unit {0}
+abbrev pub PassesTo : ℕ → ℕ → RecoverStage → Type 0
+PassesTo capacity first (recovers.LoadsCount index) = (first ≤ index) × (index < capacity)
+PassesTo capacity first recovers.LoadsCounterAgain = Unit {0}
 PassesTo capacity first stage = ⊥
 
 module _ {T : Type 0} where
   abbrev pub at_cell : ℕ → ℕ → Recover T (Buffer 128)
   at_cell capacity index =
-      record { capacity = capacity; stage = recovers.TheVariants.LoadsCell index; of = record {} }
+      record { capacity = capacity; stage = recovers.LoadsCell index; of = record {} }
 
   abbrev pub HasPassed : ℕ → ℕ → Recover T (Buffer 128) → Type 0
   HasPassed capacity first on = (on.capacity ≡ capacity) × PassesTo capacity first on.stage
 
   -- a call that has come to no cell stays
-  abbrev pub PassesFrom : Recover T (Buffer 128) → recovers.RecoverStage → Recover T (Buffer 128) → Type 0
-  PassesFrom call (recovers.TheVariants.LoadsCell index) on = HasPassed call.capacity index on
+  abbrev pub PassesFrom : Recover T (Buffer 128) → RecoverStage → Recover T (Buffer 128) → Type 0
+  PassesFrom call (recovers.LoadsCell index) on = HasPassed call.capacity index on
   PassesFrom call stage on = on ≡ call
 
 module _ {T F : Type 0} where
   -- what a step asks of the closure, which is asked about the value in the room
-  abbrev pub RecoverAsks : (F → T → Type 0) → recovers.RecoverStage → T → F → Type 0
-  RecoverAsks pre (recovers.TheVariants.Asks index count) value f = pre f value
+  abbrev pub RecoverAsks : (F → T → Type 0) → RecoverStage → T → F → Type 0
+  RecoverAsks pre (recovers.Asks index count) value f = pre f value
   RecoverAsks pre stage value f = Unit {0}
 
 module _ {T R F : Type 0} where
   -- it goes on by the closure's answer; a step leaves the closure
   abbrev pub RecoverMoves : (F → T → Bool → F → Type 0) → ℕ → Recover T R → DeadOwner
-      → recovers.RecoverStage → T → F → After (Recover T R) ReleaseState → F → Type 0
-  RecoverMoves step size call given (recovers.TheVariants.Asks index count) value f after g =
+      → RecoverStage → T → F → After (Recover T R) ReleaseState → F → Type 0
+  RecoverMoves step size call given (recovers.Asks index count) value f after g =
       (yes : Bool) × step f value yes g
       × (after ≡ recover_after size call given (if yes then 1 else 0))
   RecoverMoves step size call given stage value f after g = g ≡ f

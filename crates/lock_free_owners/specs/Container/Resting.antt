@@ -1,15 +1,16 @@
 -- A find that an answer has ended takes no step behind it: it stands at its question until the pass takes a step again. That
 -- step is a load, with which the find ends.
 use Rattle.std.specs.Prelude.{◌≡◌, ◌⊎◌, ℕ, ◌<◌, ◌≤◌, ◌+◌, None, Some, List, [], ◌∷◌, ◌++◌, sum_by}
-use Rattle.steps.specs.declared.container.find.FindStage as finds
+use Rattle.steps.specs.declared.container.find.FindStage.{FindStage}
+use Rattle.steps.specs.declared.container.find.FindStage.TheVariants as finds
 use Rattle.model.specs.declared.event.Answer.{Answer}
 use Rattle.model.specs.declared.event.Answer.TheVariants.{Number}
 use Rattle.model.specs.declared.event.Event.{Event}
 use Rattle.model.specs.declared.event.Event.TheVariants.{Finished}
 use Rattle.model.specs.declared.event.Start.{Start}
 use Rattle.model.specs.declared.families.Flight.{Flight}
-use Rattle.model.specs.declared.families.Flight as flights
-use Rattle.model.specs.declared.families.container.calls.ContainerFlight as calls
+use Rattle.model.specs.declared.families.Flight.TheVariants as flights
+use Rattle.model.specs.declared.families.container.calls.ContainerFlight.TheVariants as calls
 use Rattle.threaded.specs.Shares.{IsAll}
 use Rattle.history.specs.declared.view.View.{View}
 use Rattle.history.specs.Known.{events_by}
@@ -17,16 +18,16 @@ use Rattle.history.specs.History.{AreFirst, IsOfParties}
 
 module _ {T : Type 0} where
   -- a find stands at its question, and ends with the number of indices that it has come to
-  abbrev pub FindEndsAs : finds.FindStage → Answer T → Type 0
-  FindEndsAs (finds.TheVariants.LoadsCell index found) answer = ⊥
-  FindEndsAs (finds.TheVariants.LoadsCount index found) answer = ⊥
-  FindEndsAs (finds.TheVariants.LoadsWord index found count at) answer = ⊥
-  FindEndsAs (finds.TheVariants.ChecksCount index found count) answer = ⊥
-  FindEndsAs (finds.TheVariants.Asks index found) answer = answer ≡ Number found
+  abbrev pub FindEndsAs : FindStage → Answer T → Type 0
+  FindEndsAs (finds.LoadsCell index found) answer = ⊥
+  FindEndsAs (finds.LoadsCount index found) answer = ⊥
+  FindEndsAs (finds.LoadsWord index found count at) answer = ⊥
+  FindEndsAs (finds.ChecksCount index found count) answer = ⊥
+  FindEndsAs (finds.Asks index found) answer = answer ≡ Number found
 
   -- Of other calls nothing is said: that only a find rests is a clause of the pass's `history`.
   abbrev pub EndsAs : Flight T → Answer T → Type 0
-  EndsAs (flights.TheVariants.Container (calls.TheVariants.Find run)) answer = FindEndsAs run.call.stage answer
+  EndsAs (flights.Container (calls.Find run)) answer = FindEndsAs run.call.stage answer
   EndsAs flight answer = Unit {0}
 
   -- its call stands so
@@ -50,6 +51,8 @@ module _ {T : Type 0} where
     pub state : new.state ≡ old.state
     pub idle : new.going ≡ None
     pub asked : new.asked ≤ old.asked + 1
+    -- what was asked for since is no step of a call
+    pub aside : new.asked + old.aside ≡ old.asked + new.aside
     pub fresh : new.other ≡ []
     pub others : List (Event T)
     pub seen : new.seen

@@ -1,6 +1,6 @@
 -- How many atomic steps the calls of a container take: so many alone, so many more for each change of a word by others, and
 -- one more where the last call of the pass rested. size is the number of the words of a value.
-use Rattle.std.specs.Prelude.{ℕ, ◌+◌, ◌*◌, Option, Some, None}
+use Rattle.std.specs.Prelude.{ℕ, ◌≤◌, ◌+◌, ◌*◌, Option, Some, None}
 use Rattle.steps.specs.declared.indices.enums.ReleaseMode.{ReleaseMode}
 use Rattle.steps.specs.declared.indices.enums.ReleaseMode.TheVariants.{Default, LockIfLastIndex}
 use Rattle.history.specs.declared.view.View.{View}
@@ -13,6 +13,10 @@ one_if_some (Some x) = 1
 module _ {T : Type 0} where
   abbrev pub to_settle : View T → ℕ
   to_settle v = one_if_some v.going
+
+  -- at most one operation was no step of a call, and one more where the last call of the pass rested
+  abbrev pub FewAside : View T → View T → Type 0
+  FewAside old new = new.aside ≤ old.aside + (1 + to_settle old)
 
   abbrev pub TakesFew : ℕ → View T → View T → Type 0
   TakesFew most old = TakesAtMost (most + to_settle old) old

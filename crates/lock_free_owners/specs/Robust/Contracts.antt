@@ -1,5 +1,5 @@
 -- What the calls on robust unique index sets add to the history, and what they answer.
-use Rattle.std.specs.Prelude.{◌≡◌, ◌≢◌, ◌⊎◌, ℕ, ◌<◌, Bool, true, false, Some, None, Ok, Err, List, [], ◌∷◌, ◌++◌, sum_by, slice_index}
+use Rattle.std.specs.Prelude.{◌≡◌, ◌≢◌, ◌⊎◌, ℕ, ◌+◌, ◌<◌, Bool, true, false, Some, None, Ok, Err, List, [], ◌∷◌, ◌++◌, sum_by, slice_index}
 use Rattle.steps.specs.Indices.Robust.Acquire.{Acquired}
 use Rattle.steps.specs.Indices.Robust.Parts.{greatest}
 use Rattle.steps.specs.Indices.Robust.Release.{Released}
@@ -86,6 +86,7 @@ pub record OnlyLooked {T : Type 0} (old new : View T) : Type 0 where
   pub state : new.state ≡ old.state
   pub share : new.share ≡ old.share
   pub made : new.made ≡ old.made
+  pub aside : new.asked + old.aside ≡ old.asked + new.aside
   pub other : new.other ≡ []
   pub since : IsBeginning old.seen new.seen
   pub first : AreFirst old.turns new.turns

@@ -5,7 +5,8 @@ use Rattle.steps.specs.declared.ask.After.{After}
 use Rattle.steps.specs.declared.ask.After.TheVariants.{GoOn, Done}
 use Rattle.steps.specs.declared.enums.CallbackProgression.{CallbackProgression}
 use Rattle.steps.specs.declared.indices.robust.find.Find.{Find}
-use Rattle.steps.specs.declared.indices.robust.find.FindStage as finds
+use Rattle.steps.specs.declared.indices.robust.find.FindStage.{FindStage}
+use Rattle.steps.specs.declared.indices.robust.find.FindStage.TheVariants as finds
 use Rattle.model.specs.declared.event.Event.{Event}
 use Rattle.model.specs.declared.turn.Kind.TheVariants as kinds
 use Rattle.model.specs.Coding.{one_word}
@@ -18,9 +19,9 @@ use Rattle.history.specs.Views.{Looks}
 use Rattle.lock_free_owners.specs.Robust.Callable.{WentOn, HasFound}
 
 -- what a turn asks: that it has come to an index that there is, and that the closure may be called with it
-abbrev pub FindAsks : {F : Type 0} → (F → ℕ → Type 0) → ℕ → finds.FindStage → F → Type 0
-FindAsks pre capacity (finds.TheVariants.LoadsCell index found) f = index < capacity
-FindAsks pre capacity (finds.TheVariants.Asks index found) f = (index < capacity) × pre f index
+abbrev pub FindAsks : {F : Type 0} → (F → ℕ → Type 0) → ℕ → FindStage → F → Type 0
+FindAsks pre capacity (finds.LoadsCell index found) f = index < capacity
+FindAsks pre capacity (finds.Asks index found) f = (index < capacity) × pre f index
 
 -- fewer steps are left than so many
 abbrev pub GoesDown : ℕ → ℕ → After Find ℕ → Type 0
@@ -28,9 +29,9 @@ GoesDown capacity left (GoOn next) = find_left capacity next.stage < left
 GoesDown capacity left (Done found) = Unit {0}
 
 -- it has loaded so many cells
-abbrev pub cells_loaded : finds.FindStage → ℕ
-cells_loaded (finds.TheVariants.LoadsCell index found) = index
-cells_loaded (finds.TheVariants.Asks index found) = index + 1
+abbrev pub cells_loaded : FindStage → ℕ
+cells_loaded (finds.LoadsCell index found) = index
+cells_loaded (finds.Asks index found) = index + 1
 
 module _ {F : Type 0} (step : F → ℕ → CallbackProgression → F → Type 0) (capacity owner : ℕ) (base : View ℕ) (f : F) where
   -- the calls from f on that led to p: one at each of these n indices, all below this one
@@ -47,9 +48,9 @@ module _ {F : Type 0} (step : F → ℕ → CallbackProgression → F → Type 0
   Looked v = Looks one_word kinds.Robust capacity base v
 
   -- before its first look the view stays
-  abbrev pub SoFar : finds.FindStage → View ℕ → F → Type 0
-  SoFar (finds.TheVariants.LoadsCell index found) v p = (index < capacity) × ((v ≡ base) ⊎ Looked v) × Came index found v.seen p
-  SoFar (finds.TheVariants.Asks index found) v p =
+  abbrev pub SoFar : FindStage → View ℕ → F → Type 0
+  SoFar (finds.LoadsCell index found) v p = (index < capacity) × ((v ≡ base) ⊎ Looked v) × Came index found v.seen p
+  SoFar (finds.Asks index found) v p =
       (index < capacity) × Looked v × (filled_of index v.seen ≡ Some owner) × ((n : ℕ) × (n + 1 ≡ found) × Came index n v.seen p)
 
   pub record Searching (v : View ℕ) (c : Find) (p : F) : Type 0 where

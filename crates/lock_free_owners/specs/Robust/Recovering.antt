@@ -7,7 +7,8 @@ use Rattle.steps.specs.declared.ask.After.TheVariants.{GoOn, Done}
 use Rattle.steps.specs.declared.indices.enums.ReleaseMode.{ReleaseMode}
 use Rattle.steps.specs.declared.indices.enums.ReleaseState.{ReleaseState}
 use Rattle.steps.specs.declared.indices.robust.recover.Recover.{Recover}
-use Rattle.steps.specs.declared.indices.robust.recover.RecoverStage as recovers
+use Rattle.steps.specs.declared.indices.robust.recover.RecoverStage.{RecoverStage}
+use Rattle.steps.specs.declared.indices.robust.recover.RecoverStage.TheVariants as recovers
 use Rattle.model.specs.Families.Indices.Reading.{is_locked}
 use Rattle.history.specs.declared.view.View.{View}
 use Rattle.history.specs.Robust.{Visit, WasTold, came_to}
@@ -31,14 +32,14 @@ module _ {F S : Type 0} (step : F → ℕ → ℕ → Bool → F → Type 0) (te
     Visits visits low high p q = Calls (questions_of visits) (freed_of visits) low high p q
 
     -- at each stage: the second closure is called one step behind the first
-    abbrev pub SoFar : recovers.RecoverStage → List Visit → F → S → Type 0
-    SoFar recovers.TheVariants.LoadsCounter visits p q = (p ≡ f) × (q ≡ s)
-    SoFar (recovers.TheVariants.LoadsCell index) visits p q = Visits visits index index p q
-    SoFar (recovers.TheVariants.Asks index owner) visits p q = Visits visits index index p q
-    SoFar (recovers.TheVariants.EmptiesCell index owner) visits p q = Visits (came_to WasTold visits) (index + 1) index p q
-    SoFar (recovers.TheVariants.Raises index raise) visits p q = Visits visits (index + 1) (index + 1) p q
-    SoFar (recovers.TheVariants.Locks index lock) visits p q = Visits visits (index + 1) (index + 1) p q
-    SoFar recovers.TheVariants.LoadsCounterAgain visits p q = (low : ℕ) × Visits visits low low p q
+    abbrev pub SoFar : RecoverStage → List Visit → F → S → Type 0
+    SoFar recovers.LoadsCounter visits p q = (p ≡ f) × (q ≡ s)
+    SoFar (recovers.LoadsCell index) visits p q = Visits visits index index p q
+    SoFar (recovers.Asks index owner) visits p q = Visits visits index index p q
+    SoFar (recovers.EmptiesCell index owner) visits p q = Visits (came_to WasTold visits) (index + 1) index p q
+    SoFar (recovers.Raises index raise) visits p q = Visits visits (index + 1) (index + 1) p q
+    SoFar (recovers.Locks index lock) visits p q = Visits visits (index + 1) (index + 1) p q
+    SoFar recovers.LoadsCounterAgain visits p q = (low : ℕ) × Visits visits low low p q
 
   -- of one that began with this view and these closures
   module _ (capacity : ℕ) (mode : ReleaseMode) (base : View ℕ) (f : F) (s : S) where

@@ -9,7 +9,8 @@ use Rattle.steps.specs.declared.enums.CallbackProgression.TheVariants.{Continue,
 use Rattle.steps.specs.declared.indices.enums.ReleaseMode.{ReleaseMode}
 use Rattle.steps.specs.declared.indices.enums.ReleaseState.{ReleaseState}
 use Rattle.steps.specs.declared.indices.robust.recover.Recover.{Recover}
-use Rattle.steps.specs.declared.indices.robust.recover.RecoverStage as recovers
+use Rattle.steps.specs.declared.indices.robust.recover.RecoverStage.{RecoverStage}
+use Rattle.steps.specs.declared.indices.robust.recover.RecoverStage.TheVariants as recovers
 use Rattle.model.specs.Turns.{number_of}
 
 abbrev pub says : CallbackProgression → ℕ
@@ -17,21 +18,21 @@ says Continue = 1
 says Stop = 0
 
 -- a call that has come past its last cell takes its last step, and any other stays
-abbrev pub LooksAgain : Recover → ReleaseMode → recovers.RecoverStage
+abbrev pub LooksAgain : Recover → ReleaseMode → RecoverStage
     → After Recover ReleaseState → Type 0
-LooksAgain call mode recovers.TheVariants.LoadsCounterAgain after =
+LooksAgain call mode recovers.LoadsCounterAgain after =
     (k : ℕ) × (after ≡ recover_after call mode k)
 LooksAgain call mode stage after = after ≡ GoOn call
 
 -- an exchange that emptied its cell
-abbrev pub stage_frees : recovers.RecoverStage → Bool
-stage_frees recovers.TheVariants.LoadsCounter = false
-stage_frees (recovers.TheVariants.LoadsCell index) = false
-stage_frees (recovers.TheVariants.Asks index owner) = false
-stage_frees (recovers.TheVariants.EmptiesCell index owner) = false
-stage_frees (recovers.TheVariants.Raises index raise) = true
-stage_frees (recovers.TheVariants.Locks index lock) = false
-stage_frees recovers.TheVariants.LoadsCounterAgain = false
+abbrev pub stage_frees : RecoverStage → Bool
+stage_frees recovers.LoadsCounter = false
+stage_frees (recovers.LoadsCell index) = false
+stage_frees (recovers.Asks index owner) = false
+stage_frees (recovers.EmptiesCell index owner) = false
+stage_frees (recovers.Raises index raise) = true
+stage_frees (recovers.Locks index lock) = false
+stage_frees recovers.LoadsCounterAgain = false
 
 abbrev pub has_freed : After Recover ReleaseState → Bool
 has_freed (GoOn d) = stage_frees d.stage
@@ -40,14 +41,14 @@ has_freed (Done state) = false
 module _ {F S : Type 0} where
   -- what a step asks of the closures: of the second one it may be told after the exchange
   abbrev pub RecoverAsks : (F → ℕ → ℕ → Type 0) → (S → ℕ → ℕ → Type 0)
-      → recovers.RecoverStage → F → S → Type 0
-  RecoverAsks pre may recovers.TheVariants.LoadsCounter p s = Unit {0}
-  RecoverAsks pre may (recovers.TheVariants.LoadsCell index) p s = Unit {0}
-  RecoverAsks pre may (recovers.TheVariants.Asks index owner) p s = owner < empty → pre p owner index
-  RecoverAsks pre may (recovers.TheVariants.EmptiesCell index owner) p s = owner < empty → may s owner index
-  RecoverAsks pre may (recovers.TheVariants.Raises index raise) p s = Unit {0}
-  RecoverAsks pre may (recovers.TheVariants.Locks index lock) p s = Unit {0}
-  RecoverAsks pre may recovers.TheVariants.LoadsCounterAgain p s = Unit {0}
+      → RecoverStage → F → S → Type 0
+  RecoverAsks pre may recovers.LoadsCounter p s = Unit {0}
+  RecoverAsks pre may (recovers.LoadsCell index) p s = Unit {0}
+  RecoverAsks pre may (recovers.Asks index owner) p s = owner < empty → pre p owner index
+  RecoverAsks pre may (recovers.EmptiesCell index owner) p s = owner < empty → may s owner index
+  RecoverAsks pre may (recovers.Raises index raise) p s = Unit {0}
+  RecoverAsks pre may (recovers.Locks index lock) p s = Unit {0}
+  RecoverAsks pre may recovers.LoadsCounterAgain p s = Unit {0}
 
   -- it goes on as its table says where it has heard this, and leaves the closures
   abbrev pub GoesQuietly : Recover → ReleaseMode → ℕ → F → S → After Recover ReleaseState → F → S
@@ -57,21 +58,21 @@ module _ {F S : Type 0} where
 
   -- how the call goes on from what it has heard, and what becomes of the closures
   abbrev pub RecoverMoves : (F → ℕ → ℕ → Bool → F → Type 0) → (S → ℕ → ℕ → S → Type 0)
-      → Recover → ReleaseMode → recovers.RecoverStage → ℕ → F → S → After Recover ReleaseState
+      → Recover → ReleaseMode → RecoverStage → ℕ → F → S → After Recover ReleaseState
       → F → S → Type 0
-  RecoverMoves step tell call mode recovers.TheVariants.LoadsCounter k p s after q t =
+  RecoverMoves step tell call mode recovers.LoadsCounter k p s after q t =
       GoesQuietly call mode k p s after q t
-  RecoverMoves step tell call mode (recovers.TheVariants.LoadsCell index) k p s after q t =
+  RecoverMoves step tell call mode (recovers.LoadsCell index) k p s after q t =
       GoesQuietly call mode k p s after q t
-  RecoverMoves step tell call mode (recovers.TheVariants.Asks index owner) k p s after q t =
+  RecoverMoves step tell call mode (recovers.Asks index owner) k p s after q t =
       (owner < empty) × (t ≡ s) × ((yes : Bool) × step p owner index yes q × (k ≡ number_of yes))
       × (after ≡ recover_after call mode k)
-  RecoverMoves step tell call mode (recovers.TheVariants.EmptiesCell index owner) k p s after q t =
+  RecoverMoves step tell call mode (recovers.EmptiesCell index owner) k p s after q t =
       (owner < empty) × (q ≡ p) × (after ≡ recover_after call mode k)
       × (has_freed after ≡ true → tell s owner index t) × (has_freed after ≡ false → t ≡ s)
-  RecoverMoves step tell call mode (recovers.TheVariants.Raises index raise) k p s after q t =
+  RecoverMoves step tell call mode (recovers.Raises index raise) k p s after q t =
       GoesQuietly call mode k p s after q t
-  RecoverMoves step tell call mode (recovers.TheVariants.Locks index lock) k p s after q t =
+  RecoverMoves step tell call mode (recovers.Locks index lock) k p s after q t =
       GoesQuietly call mode k p s after q t
-  RecoverMoves step tell call mode recovers.TheVariants.LoadsCounterAgain k p s after q t =
+  RecoverMoves step tell call mode recovers.LoadsCounterAgain k p s after q t =
       GoesQuietly call mode k p s after q t

@@ -1,6 +1,6 @@
 -- What is known of whole calls on a queue.
 use Rattle.model.proofs.Readings.{Each-less}
-use Rattle.lock_free_queues.proofs.Names.{◌≡◌, ◌≤◌, inl, inr, ℕ, Bool, true, false, Some, None, List, [], ◌∷◌, ◌++◌}
+use Rattle.lock_free_queues.proofs.Names.{◌≡◌, ◌≤◌, ◌+◌, ◌⊎◌, inl, inr, ℕ, Bool, true, false, Some, None, List, [], ◌∷◌, ◌++◌}
 use Rattle.lock_free_queues.proofs.Names.{length, refl, sym, ap, subst, ◌∙◌, append_assoc, append-nil, arith, sum_by}
 use Rattle.lock_free_queues.proofs.Names.{◌<◌, flat_map, Role, Producer, Consumer, ByHolder}
 use Rattle.lock_free_queues.proofs.Names.{ByHolderOf, HasRole, marks, release_start}
@@ -322,6 +322,10 @@ module _ {T : Type 0} (code : Coding T) (base w : View T) (idle : base.going ≡
 
 -- ---- what each call leaves
 
+aside_most : {n m : ℕ} → (m ≡ n) ⊎ (m ≡ n + 1) → m ≤ n + 1
+aside_most (inl same) = omega arith
+aside_most (inr more) = omega arith
+
 module _ {T : Type 0} (code : Coding T) (kind : Kind) where
   module _ {C M E : Type 0} (call : Calling T C M E) (base w : View T) where
     later_than : (p : ℕ) (wrote last : List (Event T)) → Since p call.start wrote last base w → IsBeginning base.seen w.seen
@@ -336,6 +340,10 @@ module _ {T : Type 0} (code : Coding T) (kind : Kind) where
           all = λ whole. ends.all (subst IsAll ends.share whole);
         }
 
+    -- one operation of it is aside at most
+    pub aside_on : (e : E) (m : M) → Ends code kind call base e m w → w.aside ≤ base.aside + 1
+    aside_on e m ends = aside_most ends.aside
+
   pub looked_on : (base w : View T) → Looks code kind base.capacity base w → Goes base w
   looked_on base w looks =
       record { share = looks.share; since = looks.mine; first = looks.ran.first; all = λ whole. looks.all (subst IsAll looks.share whole) }
@@ -344,6 +352,10 @@ module _ {T : Type 0} (code : Coding T) (kind : Kind) where
     pub goes_over : Over code kind call base e m w → Goes base w
     goes_over (inl ends) = goes_on call base w e m ends
     goes_over (inr left) = looked_on base w left.looked
+
+    pub aside_over : Over code kind call base e m w → w.aside ≤ base.aside + 1
+    aside_over (inl ends) = aside_on call base w e m ends
+    aside_over (inr left) = (let once = left.asked in let all = left.looked.aside in omega arith)
 
     -- and what it has seen then is a history
     pub seen_over : Over code kind call base e m w → IsHistory code kind base.capacity w.seen

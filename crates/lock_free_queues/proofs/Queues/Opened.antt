@@ -16,9 +16,9 @@ use Rattle.std.proofs.Common.{length-append}
 use Rattle.steps.specs.Queues.Ring.{first_push, first_pop, cell_word}
 use Rattle.steps.specs.declared.ask.Want.TheVariants as wants
 use Rattle.steps.specs.declared.queues.ring.Pop as pop_calls
-use Rattle.steps.specs.declared.queues.ring.PopStage as pops
+use Rattle.steps.specs.declared.queues.ring.PopStage.TheVariants as pops
 use Rattle.steps.specs.declared.queues.ring.Push as push_calls
-use Rattle.steps.specs.declared.queues.ring.PushStage as pushes
+use Rattle.steps.specs.declared.queues.ring.PushStage.TheVariants as pushes
 use Rattle.laws_queues.proofs.Queues.Core as core
 use Rattle.laws_queues.proofs.Queues.Stages.{asked_place}
 use Rattle.history.proofs.Alone as alone
@@ -156,7 +156,7 @@ module _ {T : Type 0} (code : Coding T) (law : IsCoding code) (r : Ring) (v : Va
       now k = words_at n n 0 0 (cells k)
 
       abbrev storing : ℕ → Flight T
-      storing k = pushing r v capacity (pushes.TheVariants.StoresCell n cell k)
+      storing k = pushing r v capacity (pushes.StoresCell n cell k)
 
       abbrev name : Start T
       name = Queues (push_of it)
@@ -168,15 +168,15 @@ module _ {T : Type 0} (code : Coding T) (law : IsCoding code) (r : Ring) (v : Va
       word_low k below = (let is = place_is k below in let inside = place_low k below in omega arith)
 
       fills : (us : List (Turn T)) (xs : List (Event T)) (rest k : ℕ) → k + suc rest ≡ size → Here (now k) us xs (Some (name, storing k))
-          → Here (now size) (then_next us (suc rest)) xs (Some (name, pushing r v capacity (pushes.TheVariants.StoresWrite n)))
+          → Here (now size) (then_next us (suc rest)) xs (Some (name, pushing r v capacity (pushes.StoresWrite n)))
       fills us xs zero k sum h =
           let t = at_last k size (omega arith) in
           let same : suc k ≡ size = omega arith in
-          subst (λ m. Here (now m) (us ++ Next 0 ∷ []) xs (Some (name, pushing r v capacity (pushes.TheVariants.StoresWrite n)))) same
-          (step (now k) us xs name (storing k) (pushing r v capacity (pushes.TheVariants.StoresWrite n))
+          subst (λ m. Here (now m) (us ++ Next 0 ∷ []) xs (Some (name, pushing r v capacity (pushes.StoresWrite n)))) same
+          (step (now k) us xs name (storing k) (pushing r v capacity (pushes.StoresWrite n))
           (record { word = word_at cell k; op = Store (get_or ws k 0) }) h (word_low k (omega arith))
-          (push_wants code capacity r v (pushes.TheVariants.StoresCell n cell k))
-          (push_fresh code capacity r v (slice_index (now k) (word_at cell k)) (pushes.TheVariants.StoresCell n cell k) tt)
+          (push_wants code capacity r v (pushes.StoresCell n cell k))
+          (push_fresh code capacity r v (slice_index (now k) (word_at cell k)) (pushes.StoresCell n cell k) tt)
           (now (suc k)) (stored k (omega arith))
           (push_stores_last code capacity r v n cell k (slice_index (now k) (word_at cell k)) t))
       fills us xs (suc rest) k sum h =
@@ -185,8 +185,8 @@ module _ {T : Type 0} (code : Coding T) (law : IsCoding code) (r : Ring) (v : Va
           fills (us ++ Next 0 ∷ []) xs rest (suc k) (omega arith) (subst (λ m. Here (now (suc k)) (us ++ Next 0 ∷ []) xs (Some (name, storing m))) same
           (step (now k) us xs name (storing k) (storing (k + 1))
           (record { word = word_at cell k; op = Store (get_or ws k 0) }) h (word_low k (omega arith))
-          (push_wants code capacity r v (pushes.TheVariants.StoresCell n cell k))
-          (push_fresh code capacity r v (slice_index (now k) (word_at cell k)) (pushes.TheVariants.StoresCell n cell k) tt)
+          (push_wants code capacity r v (pushes.StoresCell n cell k))
+          (push_fresh code capacity r v (slice_index (now k) (word_at cell k)) (pushes.StoresCell n cell k) tt)
           (now (suc k)) (stored k (omega arith))
           (push_stores_cell code capacity r v n cell k (slice_index (now k) (word_at cell k)) t)))
 
@@ -205,24 +205,24 @@ module _ {T : Type 0} (code : Coding T) (law : IsCoding code) (r : Ring) (v : Va
           (λ roles p is. push_lacks code capacity r v roles p is) has h.u same_seat 0 h.between.run refl refl
           (sums (now 0) ts es h)) in
           let b =
-          step (now 0) ts1 xs name (pushing r v capacity pushes.TheVariants.LoadsWrite)
-          (pushing r v capacity (pushes.TheVariants.LoadsRead n)) (record { word = 0; op = Load }) a (omega arith)
-          (push_wants code capacity r v pushes.TheVariants.LoadsWrite)
-          (push_fresh code capacity r v n pushes.TheVariants.LoadsWrite below_end) (now 0) refl
+          step (now 0) ts1 xs name (pushing r v capacity pushes.LoadsWrite)
+          (pushing r v capacity (pushes.LoadsRead n)) (record { word = 0; op = Load }) a (omega arith)
+          (push_wants code capacity r v pushes.LoadsWrite)
+          (push_fresh code capacity r v n pushes.LoadsWrite below_end) (now 0) refl
           (push_loads_write code capacity r v n (not_last n below_end)) in
           let c =
-          step (now 0) ts2 xs name (pushing r v capacity (pushes.TheVariants.LoadsRead n)) (storing 0)
+          step (now 0) ts2 xs name (pushing r v capacity (pushes.LoadsRead n)) (storing 0)
           (record { word = 1; op = Load }) b (omega arith)
-          (push_wants code capacity r v (pushes.TheVariants.LoadsRead n))
-          (push_fresh code capacity r v n (pushes.TheVariants.LoadsRead n) tt) (now 0) refl
+          (push_wants code capacity r v (pushes.LoadsRead n))
+          (push_fresh code capacity r v n (pushes.LoadsRead n) tt) (now 0) refl
           (push_loads_read code capacity r v n none (not_full n capacity (omega arith) room)) in
           let d = fills ts3 xs (size - 1) 0 (let one = some in omega arith) c in
           let e =
           alone.ends code kind capacity (4 + size * capacity) effects owes (now size) (then_next ts3 (suc (size - 1))) xs name
-          (pushing r v capacity (pushes.TheVariants.StoresWrite n)) d
+          (pushing r v capacity (pushes.StoresWrite n)) d
           (record { word = 0; op = Store (after_position n) }) (omega arith)
-          (push_wants code capacity r v (pushes.TheVariants.StoresWrite n))
-          (push_fresh code capacity r v n (pushes.TheVariants.StoresWrite n) tt)
+          (push_wants code capacity r v (pushes.StoresWrite n))
+          (push_fresh code capacity r v n (pushes.StoresWrite n) tt)
           (words_at (n + 1) n 0 0 (cells size)) (Truth true) (wrote_by_push code capacity it)
           (ap (λ k. words_at k n 0 0 (cells size)) next_is) (push_ends code capacity r v n n)
           (push_tells code capacity r v n n) (refl, (refl, tt)) in
@@ -264,10 +264,10 @@ module _ {T : Type 0} (code : Coding T) (law : IsCoding code) (r : Ring) (v : Va
       then = words_at (n + 1) n 0 0 cells
 
       abbrev loading : ℕ → Flight T
-      loading k = popping r capacity (pops.TheVariants.LoadsCell n cell k) (room_at k)
+      loading k = popping r capacity (pops.LoadsCell n cell k) (room_at k)
 
       abbrev last_of : Flight T
-      last_of = popping r capacity (pops.TheVariants.StoresRead n) (room_at size)
+      last_of = popping r capacity (pops.StoresRead n) (room_at size)
 
       found_is : (k : ℕ) → k < size → slice_index then (word_at cell k) ≡ get_or ws k 0
       found_is k below =
@@ -284,15 +284,15 @@ module _ {T : Type 0} (code : Coding T) (law : IsCoding code) (r : Ring) (v : Va
           let t = at_last k size (omega arith) in
           let same : suc k ≡ size = omega arith in
           let below : k < size = omega arith in
-          subst (λ m. Here then (us ++ Next 0 ∷ []) xs (Some (Queues Pop, popping r capacity (pops.TheVariants.StoresRead n) (room_at m)))) same
+          subst (λ m. Here then (us ++ Next 0 ∷ []) xs (Some (Queues Pop, popping r capacity (pops.StoresRead n) (room_at m)))) same
           (subst (λ w. Here then (us ++ Next 0 ∷ []) xs
-          (Some (Queues Pop, popping r capacity (pops.TheVariants.StoresRead n) (with_word r (room_at k) k w))))
+          (Some (Queues Pop, popping r capacity (pops.StoresRead n) (with_word r (room_at k) k w))))
           (found_is k below)
           (step then us xs (Queues Pop) (loading k)
-          (popping r capacity (pops.TheVariants.StoresRead n) (with_word r (room_at k) k (slice_index then (word_at cell k))))
+          (popping r capacity (pops.StoresRead n) (with_word r (room_at k) k (slice_index then (word_at cell k))))
           (record { word = word_at cell k; op = Load }) h (then_low k below)
-          (pop_wants code capacity r (pops.TheVariants.LoadsCell n cell k) (room_at k))
-          (pop_fresh code capacity r (slice_index then (word_at cell k)) (pops.TheVariants.LoadsCell n cell k) (room_at k))
+          (pop_wants code capacity r (pops.LoadsCell n cell k) (room_at k))
+          (pop_fresh code capacity r (slice_index then (word_at cell k)) (pops.LoadsCell n cell k) (room_at k))
           then (set_same then (word_at cell k))
           (pop_loads_last code capacity r n cell k (slice_index then (word_at cell k)) (room_at k) t)))
       loads us xs (suc rest) k sum h =
@@ -300,16 +300,16 @@ module _ {T : Type 0} (code : Coding T) (law : IsCoding code) (r : Ring) (v : Va
           let same : k + 1 ≡ suc k = omega arith in
           let below : k < size = omega arith in
           loads (us ++ Next 0 ∷ []) xs rest (suc k) (omega arith)
-          (subst (λ m. Here then (us ++ Next 0 ∷ []) xs (Some (Queues Pop, popping r capacity (pops.TheVariants.LoadsCell n cell m) (room_at (suc k))))) same
+          (subst (λ m. Here then (us ++ Next 0 ∷ []) xs (Some (Queues Pop, popping r capacity (pops.LoadsCell n cell m) (room_at (suc k))))) same
           (subst (λ w. Here then (us ++ Next 0 ∷ []) xs
-          (Some (Queues Pop, popping r capacity (pops.TheVariants.LoadsCell n cell (k + 1)) (with_word r (room_at k) k w))))
+          (Some (Queues Pop, popping r capacity (pops.LoadsCell n cell (k + 1)) (with_word r (room_at k) k w))))
           (found_is k below)
           (step then us xs (Queues Pop) (loading k)
-          (popping r capacity (pops.TheVariants.LoadsCell n cell (k + 1))
+          (popping r capacity (pops.LoadsCell n cell (k + 1))
           (with_word r (room_at k) k (slice_index then (word_at cell k))))
           (record { word = word_at cell k; op = Load }) h (then_low k below)
-          (pop_wants code capacity r (pops.TheVariants.LoadsCell n cell k) (room_at k))
-          (pop_fresh code capacity r (slice_index then (word_at cell k)) (pops.TheVariants.LoadsCell n cell k) (room_at k))
+          (pop_wants code capacity r (pops.LoadsCell n cell k) (room_at k))
+          (pop_fresh code capacity r (slice_index then (word_at cell k)) (pops.LoadsCell n cell k) (room_at k))
           then (set_same then (word_at cell k))
           (pop_loads_cell code capacity r n cell k (slice_index then (word_at cell k)) (room_at k) t))))
 
@@ -327,23 +327,23 @@ module _ {T : Type 0} (code : Coding T) (law : IsCoding code) (r : Ring) (v : Va
           (λ kept. pop_named code capacity r kept) Consumer (λ o p. tt) (λ roles p is. holds_it roles.consumer p is)
           role h.u same_seat 0 h.between.run refl refl (sums then ts es h)) in
           let b =
-          step then ts1 xs (Queues Pop) (popping r capacity pops.TheVariants.LoadsRead (room_at 0))
-          (popping r capacity (pops.TheVariants.LoadsWrite n) (room_at 0)) (record { word = 1; op = Load }) a
-          (omega arith) (pop_wants code capacity r pops.TheVariants.LoadsRead (room_at 0))
-          (pop_fresh code capacity r n pops.TheVariants.LoadsRead (room_at 0)) then refl
+          step then ts1 xs (Queues Pop) (popping r capacity pops.LoadsRead (room_at 0))
+          (popping r capacity (pops.LoadsWrite n) (room_at 0)) (record { word = 1; op = Load }) a
+          (omega arith) (pop_wants code capacity r pops.LoadsRead (room_at 0))
+          (pop_fresh code capacity r n pops.LoadsRead (room_at 0)) then refl
           (pop_loads_read code capacity r n (room_at 0)) in
           let c =
-          step then ts2 xs (Queues Pop) (popping r capacity (pops.TheVariants.LoadsWrite n) (room_at 0)) (loading 0)
+          step then ts2 xs (Queues Pop) (popping r capacity (pops.LoadsWrite n) (room_at 0)) (loading 0)
           (record { word = 0; op = Load }) b (omega arith)
-          (pop_wants code capacity r (pops.TheVariants.LoadsWrite n) (room_at 0))
-          (pop_fresh code capacity r (n + 1) (pops.TheVariants.LoadsWrite n) (room_at 0)) then refl
+          (pop_wants code capacity r (pops.LoadsWrite n) (room_at 0))
+          (pop_fresh code capacity r (n + 1) (pops.LoadsWrite n) (room_at 0)) then refl
           (pop_loads_write code capacity r n (n + 1) (room_at 0) none (one_apart n)) in
           let d = loads ts3 xs (size - 1) 0 (let one = some in omega arith) c in
           let e =
           alone.ends code kind capacity (4 + size * capacity) effects owes then (then_next ts3 (suc (size - 1))) xs (Queues Pop) last_of d
           (record { word = 1; op = Store (after_position n) }) (omega arith)
-          (pop_wants code capacity r (pops.TheVariants.StoresRead n) (room_at size))
-          (pop_fresh code capacity r n (pops.TheVariants.StoresRead n) (room_at size))
+          (pop_wants code capacity r (pops.StoresRead n) (room_at size))
+          (pop_fresh code capacity r n (pops.StoresRead n) (room_at size))
           (words_at (n + 1) (n + 1) 0 0 cells) (popped_item (Some it)) (wrote_by_pop code capacity it)
           (ap (λ k. words_at (n + 1) k 0 0 cells) next_is) (pop_ends code capacity r v n n (room_at size) reads_it)
           (pop_tells code capacity r v n n (room_at size) reads_it) (refl, (refl, tt)) in

@@ -12,13 +12,15 @@ use Rattle.lock_free_queues.proofs.Names.{pushes_over, pops_over, HasRole, same_
 use Rattle.lock_free_queues.proofs.Names.{overflow_owes, beside_waits, set_same, holds_it, role_starts, sound_of}
 use Rattle.steps.specs.declared.ask.After.TheVariants.{Done}
 use Rattle.steps.specs.declared.ask.Want.TheVariants as wants
-use Rattle.steps.specs.declared.queues.overflow.PopStage as pops
-use Rattle.steps.specs.declared.queues.overflow.PushStage as pushes
+use Rattle.steps.specs.declared.queues.overflow.PopStage.{PopStage}
+use Rattle.steps.specs.declared.queues.overflow.PopStage.TheVariants as pops
+use Rattle.steps.specs.declared.queues.overflow.PushStage.{PushStage}
+use Rattle.steps.specs.declared.queues.overflow.PushStage.TheVariants as pushes
 use Rattle.steps.specs.Queues.Overflow.{cell_word, first_push, at_push, first_pop, at_pop}
 use Rattle.model.specs.declared.event.Answer.TheVariants as answers
-use Rattle.model.specs.declared.families.Flight as flights
-use Rattle.model.specs.declared.families.queues.calls.OverflowCall as overflows
-use Rattle.model.specs.declared.families.queues.calls.QueueFlight as flying
+use Rattle.model.specs.declared.families.Flight.TheVariants as flights
+use Rattle.model.specs.declared.families.queues.calls.OverflowCall.TheVariants as overflows
+use Rattle.model.specs.declared.families.queues.calls.QueueFlight.TheVariants as flying
 use Rattle.model.specs.declared.turn.Kind.TheVariants as kinds
 use Rattle.laws_queues.proofs.Queues.Core as core
 use Rattle.history.proofs.Alone as alone
@@ -53,55 +55,55 @@ module _ {T : Type 0} where
   name_in None = pop_name
   name_in (Some call) = call.0
 
-  abbrev pushing : ℕ → pushes.PushStage → Flight T
+  abbrev pushing : ℕ → PushStage → Flight T
   pushing capacity stage =
-      flights.TheVariants.Queues
-      (flying.TheVariants.Overflow
-      (overflows.TheVariants.Push (record { call = at_push (first_push capacity) stage; given = 0; room = record { 0 = 0 } })))
+      flights.Queues
+      (flying.Overflow
+      (overflows.Push (record { call = at_push (first_push capacity) stage; given = 0; room = record { 0 = 0 } })))
 
-  abbrev popping : ℕ → pops.PopStage → Flight T
+  abbrev popping : ℕ → PopStage → Flight T
   popping capacity stage =
-      flights.TheVariants.Queues
-      (flying.TheVariants.Overflow
-      (overflows.TheVariants.Pop (record { call = at_pop (first_pop capacity) stage; given = tt; room = record { 0 = 0 } })))
+      flights.Queues
+      (flying.Overflow
+      (overflows.Pop (record { call = at_pop (first_pop capacity) stage; given = tt; room = record { 0 = 0 } })))
 
   first_pushing : (capacity : ℕ) → (capacity == 0) ≡ false
-      → (pushes_over {T = T} 0).flight (first_push capacity) (record { 0 = 0 }) ≡ pushing capacity pushes.TheVariants.LoadsWrite
+      → (pushes_over {T = T} 0).flight (first_push capacity) (record { 0 = 0 }) ≡ pushing capacity pushes.LoadsWrite
   first_pushing capacity t = rw t refl
 
   first_popping : (capacity : ℕ) → (capacity == 0) ≡ false
-      → (pops_over {T = T}).flight (first_pop capacity) (record { 0 = 0 }) ≡ popping capacity pops.TheVariants.LoadsRead
+      → (pops_over {T = T}).flight (first_pop capacity) (record { 0 = 0 }) ≡ popping capacity pops.LoadsRead
   first_popping capacity t = rw t refl
 
 -- ---- steps that test a position
 
 module _ {T : Type 0} (code : Coding T) (capacity n : ℕ) where
   push_loads_write : (n == 2 ^ 64 - 1) ≡ false
-      → after_of code (pushing capacity pushes.TheVariants.LoadsWrite) n ≡ GoOn (pushing capacity (pushes.TheVariants.LoadsRead n))
+      → after_of code (pushing capacity pushes.LoadsWrite) n ≡ GoOn (pushing capacity (pushes.LoadsRead n))
   push_loads_write t = rw t refl
 
-  push_ends : (distance n n == capacity) ≡ false → after_of code (pushing capacity (pushes.TheVariants.StoresWrite n n)) n ≡ Done answers.PoppedNone
+  push_ends : (distance n n == capacity) ≡ false → after_of code (pushing capacity (pushes.StoresWrite n n)) n ≡ Done answers.PoppedNone
   push_ends t = rw t refl
 
   push_tells : (distance n n == capacity) ≡ false → (w : World T)
-      → over_effects w 0 (pushing capacity (pushes.TheVariants.StoresWrite n n)) n
+      → over_effects w 0 (pushing capacity (pushes.StoresWrite n n)) n
       ≡ Published 0 it ∷ Acted 0 push_name answers.PoppedNone ∷ []
   push_tells t w = rw t refl
 
   pop_loads_write : (found : ℕ) → (found == n) ≡ false
-      → after_of code (popping capacity (pops.TheVariants.LoadsWrite n)) found ≡ GoOn (popping capacity (pops.TheVariants.LoadsCell n))
+      → after_of code (popping capacity (pops.LoadsWrite n)) found ≡ GoOn (popping capacity (pops.LoadsCell n))
   pop_loads_write found t = rw t refl
 
-  pop_quiet : (found : ℕ) → (found == n) ≡ false → (w : World T) → over_effects w 0 (popping capacity (pops.TheVariants.LoadsWrite n)) found ≡ []
+  pop_quiet : (found : ℕ) → (found == n) ≡ false → (w : World T) → over_effects w 0 (popping capacity (pops.LoadsWrite n)) found ≡ []
   pop_quiet found t w = rw t refl
 
-  pop_ends : (n == n) ≡ true → after_of code (popping capacity (pops.TheVariants.MovesRead n)) n ≡ Done (answers.PoppedIndex 0)
+  pop_ends : (n == n) ≡ true → after_of code (popping capacity (pops.MovesRead n)) n ≡ Done (answers.PoppedIndex 0)
   pop_ends t = rw t refl
 
   -- where nobody's push waits, and the number 0 stands there
   pop_tells : (n == n) ≡ true → (w : World T) → slice_index w.words (cell_word capacity n) ≡ 0
       → beside_of w.words w.kept w.latest 0 ≡ None
-      → over_effects w 0 (popping capacity (pops.TheVariants.MovesRead n)) n
+      → over_effects w 0 (popping capacity (pops.MovesRead n)) n
       ≡ HandedOut 0 it ∷ Acted 0 pop_name (answers.PoppedIndex 0) ∷ []
   pop_tells x0 x1 x2 x3 = grind arith
 
@@ -199,23 +201,23 @@ module _ {T : Type 0} (code : Coding T) (law : IsCoding code) (capacity : ℕ) (
         (role_starts code Overflow (maker ts es) (pushes_over 0) (PushIndex 0) (first_push capacity) (record { 0 = 0 })
         refl (λ kept. refl) Producer (λ o p. tt) (λ roles p is. holds_it roles.producer p is) has h.u same_seat 0
         h.between.run refl refl (sums (at n n 0 0) ts es h)) in
-        let a : Here (at n n 0 0) ts1 xs (Some (push_name, pushing capacity pushes.TheVariants.LoadsWrite)) =
+        let a : Here (at n n 0 0) ts1 xs (Some (push_name, pushing capacity pushes.LoadsWrite)) =
         subst (λ f. Here (at n n 0 0) ts1 xs (Some (push_name, f))) (first_pushing capacity some) a₀ in
         let b =
-        step (at n n 0 0) ts1 xs push_name (pushing capacity pushes.TheVariants.LoadsWrite)
-        (pushing capacity (pushes.TheVariants.LoadsRead n)) (record { word = 0; op = Load }) a (omega arith) refl
+        step (at n n 0 0) ts1 xs push_name (pushing capacity pushes.LoadsWrite)
+        (pushing capacity (pushes.LoadsRead n)) (record { word = 0; op = Load }) a (omega arith) refl
         below_end (at n n 0 0) refl (push_loads_write code capacity n last) (λ w. refl) in
         let c =
-        step (at n n 0 0) ts2 xs push_name (pushing capacity (pushes.TheVariants.LoadsRead n))
-        (pushing capacity (pushes.TheVariants.StoresCell n n)) (record { word = 1; op = Load }) b (omega arith) refl
+        step (at n n 0 0) ts2 xs push_name (pushing capacity (pushes.LoadsRead n))
+        (pushing capacity (pushes.StoresCell n n)) (record { word = 1; op = Load }) b (omega arith) refl
         tt (at n n 0 0) refl refl (λ w. refl) in
         let d =
-        step (at n n 0 0) ts3 xs push_name (pushing capacity (pushes.TheVariants.StoresCell n n))
-        (pushing capacity (pushes.TheVariants.StoresWrite n n)) (record { word = cell; op = Store 0 }) c cell_low
+        step (at n n 0 0) ts3 xs push_name (pushing capacity (pushes.StoresCell n n))
+        (pushing capacity (pushes.StoresWrite n n)) (record { word = cell; op = Store 0 }) c cell_low
         refl tt (at n n 0 0) (zero_stays n n) refl (λ w. refl) in
         let e =
         alone.ends code kinds.Overflow capacity size over_effects (overflow_owes code capacity) (at n n 0 0) ts4 xs
-        push_name (pushing capacity (pushes.TheVariants.StoresWrite n n)) d
+        push_name (pushing capacity (pushes.StoresWrite n n)) d
         (record { word = 0; op = Store (after_position n) }) (omega arith) refl tt (at (n + 1) n 0 0)
         answers.PoppedNone (Published 0 it ∷ Acted 0 push_name answers.PoppedNone ∷ [])
         (ap (λ k. at k n 0 0) next_is) (push_ends code capacity n apart) (push_tells code capacity n apart d.u.world) (refl, (refl, tt)) in
@@ -246,8 +248,8 @@ module _ {T : Type 0} (code : Coding T) (law : IsCoding code) (capacity : ℕ) (
         (cases_eq push.0 0)
 
     wrote_then : (us : List (Turn T)) (xs : List (Event T))
-        → (h : Here then us xs (Some (pop_name, popping capacity (pops.TheVariants.MovesRead n))))
-        → over_effects h.u.world 0 (popping capacity (pops.TheVariants.MovesRead n)) n
+        → (h : Here then us xs (Some (pop_name, popping capacity (pops.MovesRead n))))
+        → over_effects h.u.world 0 (popping capacity (pops.MovesRead n)) n
         ≡ HandedOut 0 it ∷ Acted 0 pop_name (answers.PoppedIndex 0) ∷ []
     wrote_then us xs h =
         let w = h.u.world in
@@ -256,7 +258,7 @@ module _ {T : Type 0} (code : Coding T) (law : IsCoding code) (capacity : ℕ) (
         let words : slice_index w.words cell ≡ 0 =
         sym (ap (λ ws. slice_index ws cell) h.between.words ∙ get_left w.words (0 ∷ []) cell (omega arith)) ∙ zero_there (n + 1) n in
         pop_tells code capacity n (same_number n) w words
-        (none_beside us xs (popping capacity (pops.TheVariants.MovesRead n)) h (beside_of w.words w.kept w.latest 0) refl)
+        (none_beside us xs (popping capacity (pops.MovesRead n)) h (beside_of w.words w.kept w.latest 0) refl)
 
     popped : HasRole Consumer es → Here then ts es None → Here (at (n + 1) (n + 1) 0 0) (moved_turns 1 pop_name ts) (es ++ popped_once it) None
     popped role h =
@@ -273,34 +275,34 @@ module _ {T : Type 0} (code : Coding T) (law : IsCoding code) (capacity : ℕ) (
         (role_starts code Overflow (maker ts es) pops_over Pop (first_pop capacity) (record { 0 = 0 }) refl
         (λ kept. refl) Consumer (λ o p. tt) (λ roles p is. holds_it roles.consumer p is) role h.u same_seat 0
         h.between.run refl refl (sums then ts es h)) in
-        let a : Here then ts1 xs (Some (pop_name, popping capacity pops.TheVariants.LoadsRead)) =
+        let a : Here then ts1 xs (Some (pop_name, popping capacity pops.LoadsRead)) =
         subst (λ f. Here then ts1 xs (Some (pop_name, f))) (first_popping capacity some) a₀ in
         let b =
-        step then ts1 xs pop_name (popping capacity pops.TheVariants.LoadsRead)
-        (popping capacity (pops.TheVariants.LoadsWrite n)) (record { word = 1; op = Load }) a (omega arith) refl tt
+        step then ts1 xs pop_name (popping capacity pops.LoadsRead)
+        (popping capacity (pops.LoadsWrite n)) (record { word = 1; op = Load }) a (omega arith) refl tt
         then refl refl (λ w. refl) in
         let c =
-        step then ts2 xs pop_name (popping capacity (pops.TheVariants.LoadsWrite n))
-        (popping capacity (pops.TheVariants.LoadsCell n)) (record { word = 0; op = Load }) b (omega arith) refl tt
+        step then ts2 xs pop_name (popping capacity (pops.LoadsWrite n))
+        (popping capacity (pops.LoadsCell n)) (record { word = 0; op = Load }) b (omega arith) refl tt
         then refl (pop_loads_write code capacity n (n + 1) apart) (pop_quiet code capacity n (n + 1) apart) in
         let d₀ =
-        step then ts3 xs pop_name (popping capacity (pops.TheVariants.LoadsCell n))
-        (flights.TheVariants.Queues (flying.TheVariants.Overflow (overflows.TheVariants.Pop (record {
-          call = at_pop (first_pop capacity) (pops.TheVariants.MovesRead n);
+        step then ts3 xs pop_name (popping capacity (pops.LoadsCell n))
+        (flights.Queues (flying.Overflow (overflows.Pop (record {
+          call = at_pop (first_pop capacity) (pops.MovesRead n);
           given = tt;
           room = record { 0 = slice_index then cell };
         })))) (record { word = cell; op = Load }) c cell_low refl tt then (set_same then cell) refl (λ w. refl) in
-        let d : Here then ts4 xs (Some (pop_name, popping capacity (pops.TheVariants.MovesRead n))) =
+        let d : Here then ts4 xs (Some (pop_name, popping capacity (pops.MovesRead n))) =
         subst (λ u. Here then ts4 xs (Some (
           pop_name,
-          flights.TheVariants.Queues
-              (flying.TheVariants.Overflow
-              (overflows.TheVariants.Pop
-              (record { call = at_pop (first_pop capacity) (pops.TheVariants.MovesRead n); given = tt; room = record { 0 = u } }))),
+          flights.Queues
+              (flying.Overflow
+              (overflows.Pop
+              (record { call = at_pop (first_pop capacity) (pops.MovesRead n); given = tt; room = record { 0 = u } }))),
         ))) (zero_there (n + 1) n) d₀ in
         let e =
         alone.ends code kinds.Overflow capacity size over_effects (overflow_owes code capacity) then ts4 xs pop_name
-        (popping capacity (pops.TheVariants.MovesRead n)) d
+        (popping capacity (pops.MovesRead n)) d
         (record { word = 1; op = Exchange n (after_position n) }) (omega arith) refl tt (at (n + 1) (n + 1) 0 0)
         (answers.PoppedIndex 0) (HandedOut 0 it ∷ Acted 0 pop_name (answers.PoppedIndex 0) ∷ [])
         (ap (λ k. at (n + 1) k 0 0) (moved_on n (after_position n) equal ∙ next_is))

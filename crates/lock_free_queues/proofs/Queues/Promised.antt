@@ -5,7 +5,7 @@ use Rattle.lock_free_queues.proofs.Names.{append-nil, PoppedNone, Event, HandedO
 use Rattle.lock_free_queues.proofs.Names.{Pop, Coding, published, handed_out, hands_out, of_indices}
 use Rattle.lock_free_queues.proofs.Names.{of_values, View, IsHistory, history_by_over_holders, over_lists_kept}
 use Rattle.lock_free_queues.proofs.Names.{over_listed}
-use Rattle.model.specs.declared.families.queues.QueueKind as queues
+use Rattle.model.specs.declared.families.queues.QueueKind.TheVariants as queues
 use Rattle.model.specs.Linearizable.{IsLinearizable}
 use Rattle.model.specs.Linearized.{as_list, IsLinearized}
 use Rattle.model.specs.Progress.{KeepsGuarantees}
@@ -31,18 +31,18 @@ module _ {T : Type 0} (code : Coding T) where
       (run_linearizable t (kept_on kind t r.of_kind on.reached.coded on.reached.admitted on.fresh)))
 
   pub linearizable : (kind : QueueKind) (capacity : ℕ) (v : View T) → IsSeen kind capacity v.seen → IsLinearizable (as_list kind capacity) v.seen
-  linearizable queues.TheVariants.IndexQueue capacity v h =
-      subst (λ es. IsLinearizable (as_list queues.TheVariants.IndexQueue capacity) es) (sym h.is)
-      (subst (λ n. IsLinearizable (as_list queues.TheVariants.IndexQueue n) h.trace.events) h.run.sized
-      (linearized queues.TheVariants.IndexQueue capacity v.seen h))
-  linearizable queues.TheVariants.Overflow capacity v h =
-      subst (λ es. IsLinearizable (as_list queues.TheVariants.Overflow capacity) es) (sym h.is)
-      (subst (λ n. IsLinearizable (as_list queues.TheVariants.Overflow n) h.trace.events) h.run.sized
-      (linearized queues.TheVariants.Overflow capacity v.seen h))
-  linearizable queues.TheVariants.Queue capacity v h =
-      subst (λ es. IsLinearizable (as_list queues.TheVariants.Queue capacity) es) (sym h.is)
-      (subst (λ n. IsLinearizable (as_list queues.TheVariants.Queue n) h.trace.events) h.run.sized
-      (linearized queues.TheVariants.Queue capacity v.seen h))
+  linearizable queues.IndexQueue capacity v h =
+      subst (λ es. IsLinearizable (as_list queues.IndexQueue capacity) es) (sym h.is)
+      (subst (λ n. IsLinearizable (as_list queues.IndexQueue n) h.trace.events) h.run.sized
+      (linearized queues.IndexQueue capacity v.seen h))
+  linearizable queues.Overflow capacity v h =
+      subst (λ es. IsLinearizable (as_list queues.Overflow capacity) es) (sym h.is)
+      (subst (λ n. IsLinearizable (as_list queues.Overflow n) h.trace.events) h.run.sized
+      (linearized queues.Overflow capacity v.seen h))
+  linearizable queues.Queue capacity v h =
+      subst (λ es. IsLinearizable (as_list queues.Queue capacity) es) (sym h.is)
+      (subst (λ n. IsLinearizable (as_list queues.Queue n) h.trace.events) h.run.sized
+      (linearized queues.Queue capacity v.seen h))
 
   guaranteed : (kind : QueueKind) (capacity : ℕ) (v : View T) → (h : IsHistory code (machine_kind kind) capacity v.seen) → KeepsGuarantees h.trace
   guaranteed kind capacity v h =
@@ -50,28 +50,28 @@ module _ {T : Type 0} (code : Coding T) where
       (kept_on kind h.trace r.of_kind on.reached.coded on.reached.admitted on.fresh))
 
   pub guarantees : (kind : QueueKind) (capacity : ℕ) (v : View T) → (h : IsSeen kind capacity v.seen) → KeepsGuarantees h.trace
-  guarantees queues.TheVariants.IndexQueue capacity v h = guaranteed queues.TheVariants.IndexQueue capacity v h
-  guarantees queues.TheVariants.Overflow capacity v h = guaranteed queues.TheVariants.Overflow capacity v h
-  guarantees queues.TheVariants.Queue capacity v h = guaranteed queues.TheVariants.Queue capacity v h
+  guarantees queues.IndexQueue capacity v h = guaranteed queues.IndexQueue capacity v h
+  guarantees queues.Overflow capacity v h = guaranteed queues.Overflow capacity v h
+  guarantees queues.Queue capacity v h = guaranteed queues.Queue capacity v h
 
   pub sound : (kind : QueueKind) (capacity : ℕ) (v : View T) → IsBounded kind → IsSeen kind capacity v.seen → IsSound capacity v.seen
-  sound queues.TheVariants.IndexQueue capacity v b h = sound_history code of_indices capacity v.seen h
-  sound queues.TheVariants.Overflow capacity v b h = absurd b
-  sound queues.TheVariants.Queue capacity v b h = sound_history code of_values capacity v.seen h
+  sound queues.IndexQueue capacity v b h = sound_history code of_indices capacity v.seen h
+  sound queues.Overflow capacity v b h = absurd b
+  sound queues.Queue capacity v b h = sound_history code of_values capacity v.seen h
 
   pub agree : (kind : QueueKind) (capacity p q i : ℕ) (x y : Item T) (v : View T) → IsSeen kind capacity v.seen
       → IsPublished p i x v.seen → IsTaken q i y v.seen → x ≡ y
   agree kind capacity p q i x y v h a b = values_agree p q i x y v.seen (listed_always code capacity v.seen kind h v.seen [] (sym (append-nil v.seen))).book a b
 
-  pub over_sound : (capacity : ℕ) (v : View T) → IsSeen queues.TheVariants.Overflow capacity v.seen → IsOverSound capacity v.seen
+  pub over_sound : (capacity : ℕ) (v : View T) → IsSeen queues.Overflow capacity v.seen → IsOverSound capacity v.seen
   over_sound capacity v h =
       record {
         book = λ part rest is. (over_listed code capacity v.seen h part rest is).book;
         few = λ part rest is. (over_listed code capacity v.seen h part rest is).few;
         oldest = λ before after p x is. over_lists_kept code capacity v.seen h before after (HandedOut p x) is;
-        answers = answers_right code queues.TheVariants.Overflow capacity v.seen h;
-        lengths = tells_lengths code queues.TheVariants.Overflow capacity v.seen h;
-        roles = grants code queues.TheVariants.Overflow capacity v.seen h;
+        answers = answers_right code queues.Overflow capacity v.seen h;
+        lengths = tells_lengths code queues.Overflow capacity v.seen h;
+        roles = grants code queues.Overflow capacity v.seen h;
         holders = history_by_over_holders code capacity v.seen h;
       }
 

@@ -11,13 +11,15 @@ use Rattle.lock_free_queues.proofs.Names.{flight, read_in, takes_role, gives_rol
 use Rattle.lock_free_queues.proofs.Names.{release_start, holder, holds_it, queue_effects}
 use Rattle.steps.specs.Queues.Ring.{first_push, first_pop, at_push, at_pop, push_asks, cell_word}
 use Rattle.steps.specs.declared.ask.After.TheVariants.{Done}
-use Rattle.steps.specs.declared.queues.ring.PopStage as pops
-use Rattle.steps.specs.declared.queues.ring.PushStage as pushes
+use Rattle.steps.specs.declared.queues.ring.PopStage.{PopStage}
+use Rattle.steps.specs.declared.queues.ring.PopStage.TheVariants as pops
+use Rattle.steps.specs.declared.queues.ring.PushStage.{PushStage}
+use Rattle.steps.specs.declared.queues.ring.PushStage.TheVariants as pushes
 use Rattle.model.specs.declared.event.Answer.TheVariants as answers
-use Rattle.model.specs.declared.families.Flight as flights
+use Rattle.model.specs.declared.families.Flight.TheVariants as flights
 use Rattle.model.specs.declared.families.Registry.{Registry}
 use Rattle.model.specs.declared.families.queues.Roles.{Roles}
-use Rattle.model.specs.declared.families.queues.calls.RingCall as rings
+use Rattle.model.specs.declared.families.queues.calls.RingCall.TheVariants as rings
 use Rattle.laws_queues.proofs.Ring.Knows.{IsFresh}
 use Rattle.lock_free_queues.specs.Queues.Contracts.{push_of, popped_item}
 
@@ -27,15 +29,15 @@ fresh of_indices = record { 0 = 0 }
 fresh of_values = fresh_cell
 
 module _ {T : Type 0} where
-  abbrev pub pushing : (r : Ring) → Val T (kind_of r) → ℕ → pushes.PushStage → Flight T
+  abbrev pub pushing : (r : Ring) → Val T (kind_of r) → ℕ → PushStage → Flight T
   pushing r v capacity stage =
-      flights.TheVariants.Queues
-      (flight r (rings.TheVariants.Push (record { call = at_push (first_push capacity) stage; given = v; room = tt })))
+      flights.Queues
+      (flight r (rings.Push (record { call = at_push (first_push capacity) stage; given = v; room = tt })))
 
-  abbrev pub popping : (r : Ring) → ℕ → pops.PopStage → Room r → Flight T
+  abbrev pub popping : (r : Ring) → ℕ → PopStage → Room r → Flight T
   popping r capacity stage room =
-      flights.TheVariants.Queues
-      (flight {T = T} r (rings.TheVariants.Pop (record { call = at_pop (first_pop capacity) stage; given = tt; room = room })))
+      flights.Queues
+      (flight {T = T} r (rings.Pop (record { call = at_pop (first_pop capacity) stage; given = tt; room = room })))
 
 module _ {T : Type 0} (code : Coding T) (capacity : ℕ) where
   -- how many words a cell has
@@ -46,7 +48,7 @@ module _ {T : Type 0} (code : Coding T) (capacity : ℕ) where
 
   pub push_named : (r : Ring) (v : Val T (kind_of r)) (kept : Registry T)
       → first_of (machine_kind (kind_of r)) capacity (Queues (push_of (item (kind_of r) v))) kept
-      ≡ Some (pushing r v capacity pushes.TheVariants.LoadsWrite)
+      ≡ Some (pushing r v capacity pushes.LoadsWrite)
   push_named of_indices v kept = refl
   push_named of_values v kept = refl
 
@@ -54,12 +56,12 @@ module _ {T : Type 0} (code : Coding T) (capacity : ℕ) where
       → lacks_role roles p (push_of {T = T} (item (kind_of r) v)) ≡ false
   push_lacks x0 x1 x2 x3 x4 = grind (arith, holds_it)
 
-  pub push_wants : (r : Ring) (v : Val T (kind_of r)) (stage : pushes.PushStage)
+  pub push_wants : (r : Ring) (v : Val T (kind_of r)) (stage : PushStage)
       → want_of code (pushing r v capacity stage) ≡ push_asks (encoded code (kind_of r)).words_of stage v
   push_wants of_indices v stage = refl
   push_wants of_values v stage = refl
 
-  pub push_fresh : (r : Ring) (v : Val T (kind_of r)) (n : ℕ) (stage : pushes.PushStage) → IsFresh n stage → IsFreshCall n (pushing r v capacity stage)
+  pub push_fresh : (r : Ring) (v : Val T (kind_of r)) (n : ℕ) (stage : PushStage) → IsFresh n stage → IsFreshCall n (pushing r v capacity stage)
   push_fresh of_indices v n stage h = h
   push_fresh of_values v n stage h = h
 
@@ -69,28 +71,28 @@ module _ {T : Type 0} (code : Coding T) (capacity : ℕ) where
     pub quiet : queue_effects code 0 before found ≡ []
 
   pub push_loads_write : (r : Ring) (v : Val T (kind_of r)) (n : ℕ) → (n == 2 ^ 64 - 1) ≡ false
-      → GoesOn (pushing r v capacity pushes.TheVariants.LoadsWrite) (pushing r v capacity (pushes.TheVariants.LoadsRead n)) n
+      → GoesOn (pushing r v capacity pushes.LoadsWrite) (pushing r v capacity (pushes.LoadsRead n)) n
   push_loads_write of_indices v n t = record { comes = rw t refl; quiet = refl }
   push_loads_write of_values v n t = record { comes = rw t refl; quiet = refl }
 
   pub push_loads_read : (r : Ring) (v : Val T (kind_of r)) (n : ℕ) → (capacity == 0) ≡ false → (distance n n == capacity) ≡ false
-      → GoesOn (pushing r v capacity (pushes.TheVariants.LoadsRead n))
-      (pushing r v capacity (pushes.TheVariants.StoresCell n (cell_word capacity (wide r) n) 0)) n
+      → GoesOn (pushing r v capacity (pushes.LoadsRead n))
+      (pushing r v capacity (pushes.StoresCell n (cell_word capacity (wide r) n) 0)) n
   push_loads_read of_indices v n s t = record { comes = rw (s, t) refl; quiet = rw (s, t) refl }
   push_loads_read of_values v n s t = record { comes = rw (s, t) refl; quiet = rw (s, t) refl }
 
   pub push_stores_cell : (r : Ring) (v : Val T (kind_of r)) (n cell at found : ℕ) → nat_lt (at + 1) (wide r) ≡ true
-      → GoesOn (pushing r v capacity (pushes.TheVariants.StoresCell n cell at)) (pushing r v capacity (pushes.TheVariants.StoresCell n cell (at + 1))) found
+      → GoesOn (pushing r v capacity (pushes.StoresCell n cell at)) (pushing r v capacity (pushes.StoresCell n cell (at + 1))) found
   push_stores_cell of_indices v n cell at found t = record { comes = rw t refl; quiet = refl }
   push_stores_cell of_values v n cell at found t = record { comes = rw t refl; quiet = refl }
 
   pub push_stores_last : (r : Ring) (v : Val T (kind_of r)) (n cell at found : ℕ) → nat_lt (at + 1) (wide r) ≡ false
-      → GoesOn (pushing r v capacity (pushes.TheVariants.StoresCell n cell at)) (pushing r v capacity (pushes.TheVariants.StoresWrite n)) found
+      → GoesOn (pushing r v capacity (pushes.StoresCell n cell at)) (pushing r v capacity (pushes.StoresWrite n)) found
   push_stores_last of_indices v n cell at found t = record { comes = rw t refl; quiet = refl }
   push_stores_last of_values v n cell at found t = record { comes = rw t refl; quiet = refl }
 
   pub push_ends : (r : Ring) (v : Val T (kind_of r)) (n found : ℕ)
-      → after_of code (pushing r v capacity (pushes.TheVariants.StoresWrite n)) found ≡ Done (Truth true)
+      → after_of code (pushing r v capacity (pushes.StoresWrite n)) found ≡ Done (Truth true)
   push_ends of_indices v n found = refl
   push_ends of_values v n found = refl
 
@@ -102,51 +104,51 @@ module _ {T : Type 0} (code : Coding T) (capacity : ℕ) where
   events_of_push x = wrote_by_push x ++ Finished 0 (Queues (push_of x)) (Truth true) ∷ []
 
   pub push_tells : (r : Ring) (v : Val T (kind_of r)) (n found : ℕ)
-      → queue_effects code 0 (pushing r v capacity (pushes.TheVariants.StoresWrite n)) found ≡ wrote_by_push (item (kind_of r) v)
+      → queue_effects code 0 (pushing r v capacity (pushes.StoresWrite n)) found ≡ wrote_by_push (item (kind_of r) v)
   push_tells of_indices v n found = refl
   push_tells of_values v n found = refl
 
   -- ---- the pop
 
   pub pop_named : (r : Ring) (kept : Registry T)
-      → first_of (machine_kind (kind_of r)) capacity (Queues Pop) kept ≡ Some (popping r capacity pops.TheVariants.LoadsRead (fresh r))
+      → first_of (machine_kind (kind_of r)) capacity (Queues Pop) kept ≡ Some (popping r capacity pops.LoadsRead (fresh r))
   pop_named of_indices kept = refl
   pop_named of_values kept = refl
 
-  pub pop_wants : (r : Ring) (stage : pops.PopStage) (room : Room r) → want_of code (popping r capacity stage room) ≡ pop_asks stage
+  pub pop_wants : (r : Ring) (stage : PopStage) (room : Room r) → want_of code (popping r capacity stage room) ≡ pop_asks stage
   pop_wants of_indices stage room = refl
   pop_wants of_values stage room = refl
 
-  pub pop_fresh : (r : Ring) (n : ℕ) (stage : pops.PopStage) (room : Room r) → IsFreshCall {T = T} n (popping r capacity stage room)
+  pub pop_fresh : (r : Ring) (n : ℕ) (stage : PopStage) (room : Room r) → IsFreshCall {T = T} n (popping r capacity stage room)
   pop_fresh of_indices n stage room = tt
   pop_fresh of_values n stage room = tt
 
   pub pop_loads_read : (r : Ring) (n : ℕ) (room : Room r)
-      → GoesOn (popping r capacity pops.TheVariants.LoadsRead room) (popping r capacity (pops.TheVariants.LoadsWrite n) room) n
+      → GoesOn (popping r capacity pops.LoadsRead room) (popping r capacity (pops.LoadsWrite n) room) n
   pop_loads_read of_indices n room = record { comes = refl; quiet = refl }
   pop_loads_read of_values n room = record { comes = refl; quiet = refl }
 
   pub pop_loads_write : (r : Ring) (n found : ℕ) (room : Room r) → (capacity == 0) ≡ false → (found == n) ≡ false
-      → GoesOn (popping r capacity (pops.TheVariants.LoadsWrite n) room)
-      (popping r capacity (pops.TheVariants.LoadsCell n (cell_word capacity (wide r) n) 0) room) found
+      → GoesOn (popping r capacity (pops.LoadsWrite n) room)
+      (popping r capacity (pops.LoadsCell n (cell_word capacity (wide r) n) 0) room) found
   pop_loads_write of_indices n found room s t = record { comes = rw (s, t) refl; quiet = rw (s, t) refl }
   pop_loads_write of_values n found room s t = record { comes = rw (s, t) refl; quiet = rw (s, t) refl }
 
   pub pop_loads_cell : (r : Ring) (n cell at found : ℕ) (room : Room r) → nat_lt (at + 1) (wide r) ≡ true
-      → GoesOn (popping r capacity (pops.TheVariants.LoadsCell n cell at) room)
-      (popping r capacity (pops.TheVariants.LoadsCell n cell (at + 1)) (with_word r room at found)) found
+      → GoesOn (popping r capacity (pops.LoadsCell n cell at) room)
+      (popping r capacity (pops.LoadsCell n cell (at + 1)) (with_word r room at found)) found
   pop_loads_cell of_indices n cell at found room t = record { comes = rw t refl; quiet = refl }
   pop_loads_cell of_values n cell at found room t = record { comes = rw t refl; quiet = refl }
 
   pub pop_loads_last : (r : Ring) (n cell at found : ℕ) (room : Room r) → nat_lt (at + 1) (wide r) ≡ false
-      → GoesOn (popping r capacity (pops.TheVariants.LoadsCell n cell at) room)
-      (popping r capacity (pops.TheVariants.StoresRead n) (with_word r room at found)) found
+      → GoesOn (popping r capacity (pops.LoadsCell n cell at) room)
+      (popping r capacity (pops.StoresRead n) (with_word r room at found)) found
   pop_loads_last of_indices n cell at found room t = record { comes = rw t refl; quiet = refl }
   pop_loads_last of_values n cell at found room t = record { comes = rw t refl; quiet = refl }
 
   -- what it read is this value
   pub pop_ends : (r : Ring) (v : Val T (kind_of r)) (n found : ℕ) (room : Room r) → read_in code r room ≡ v
-      → after_of code (popping r capacity (pops.TheVariants.StoresRead n) room) found ≡ Done (popped_item (Some (item (kind_of r) v)))
+      → after_of code (popping r capacity (pops.StoresRead n) room) found ≡ Done (popped_item (Some (item (kind_of r) v)))
   pop_ends of_indices v n found room is = ap (λ x. Done (answers.PoppedIndex x)) is
   pop_ends of_values v n found room is = ap (λ x. Done (answers.Popped x)) is
 
@@ -157,7 +159,7 @@ module _ {T : Type 0} (code : Coding T) (capacity : ℕ) where
   events_of_pop x = wrote_by_pop x ++ Finished 0 (Queues Pop) (popped_item (Some x)) ∷ []
 
   pub pop_tells : (r : Ring) (v : Val T (kind_of r)) (n found : ℕ) (room : Room r) → read_in code r room ≡ v
-      → queue_effects code 0 (popping r capacity (pops.TheVariants.StoresRead n) room) found ≡ wrote_by_pop (item (kind_of r) v)
+      → queue_effects code 0 (popping r capacity (pops.StoresRead n) room) found ≡ wrote_by_pop (item (kind_of r) v)
   pop_tells of_indices v n found room is = ap (λ x. HandedOut 0 (Index x) ∷ Acted 0 (Queues Pop) (answers.PoppedIndex x) ∷ []) is
   pop_tells of_values v n found room is = ap (λ x. HandedOut 0 (Value x) ∷ Acted 0 (Queues Pop) (answers.Popped x) ∷ []) is
 

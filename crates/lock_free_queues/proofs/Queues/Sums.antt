@@ -1,6 +1,6 @@
 -- What each call adds to how much its pass has published and taken out itself, what that says to who has the whole, and
 -- which roles a call moves.
-use Rattle.lock_free_queues.proofs.Names.{◌≡◌, inl, inr, ℕ, ◌+◌, Bool, true, false, Some, None, List, [], ◌∷◌}
+use Rattle.lock_free_queues.proofs.Names.{◌≡◌, ◌⊎◌, inl, inr, ℕ, ◌+◌, Bool, true, false, Option, Some, None, List, [], ◌∷◌}
 use Rattle.lock_free_queues.proofs.Names.{length, refl, sym, ap, ◌∙◌, sum_by, arith, sum_by-append, Role}
 use Rattle.lock_free_queues.proofs.Names.{Producer, Consumer, Answer, Event, Begun, Published, HandedOut, Finished}
 use Rattle.lock_free_queues.proofs.Names.{Item, Start, LengthOf, publishes, hands_out, published, handed_out, View}
@@ -9,7 +9,7 @@ use Rattle.std.proofs.Common.{length-append}
 use Rattle.lock_free_queues.specs.Queues.Overflowing.{HasOverflowed}
 use Rattle.lock_free_queues.specs.Queues.Roles.{Moved, other_role}
 use Rattle.lock_free_queues.specs.Queues.Sums.{puts, gets, HasDone}
-use Rattle.lock_free_queues.specs.Queues.Contracts.{HasPushed, PushRefused, HasPopped, HasMeasured, HasAcquired, HasReleased}
+use Rattle.lock_free_queues.specs.Queues.Contracts.{HasPushed, PushRefused, WasAtEnd, HasPopped, HasMeasured, HasAcquired, HasReleased}
 
 module _ {T : Type 0} where
   -- ---- by the call
@@ -93,6 +93,30 @@ module _ {T : Type 0} where
     pub released_moves : (role : Role) → HasReleased role old new → Moved role 0 1 old.made new.made × Moved (other_role role) 0 0 old.made new.made
     released_moves Producer h = (moves h.by _ _ h.called Producer 0 1 refl refl refl refl, moves h.by _ _ h.called Consumer 0 0 refl refl refl refl)
     released_moves Consumer h = (moves h.by _ _ h.called Consumer 0 1 refl refl refl refl, moves h.by _ _ h.called Producer 0 0 refl refl refl refl)
+
+    -- a push into an overflowing queue moves none
+    none_moved : (p : ℕ) (start : Start T) (answer : Answer T) (wrote : List (Event T)) → Called p start answer wrote old new → (q : Role)
+        → takes q (Begun p start) ≡ 0 → gives q (Begun p start) ≡ 0 → sum_by (takes q) wrote ≡ 0 → sum_by (gives q) wrote ≡ 0
+        → takes q (Finished p start answer) ≡ 0 → gives q (Finished p start answer) ≡ 0 → Moved q 0 0 old.made new.made
+    none_moved p start answer wrote call q a b c d e f =
+        let t = made_more p start answer wrote old new call (takes q) a 0 e in
+        let g = made_more p start answer wrote old new call (gives q) b 0 f in
+        record { takes = omega arith; gives = omega arith }
+
+    overflowed_moves : (value : ℕ) (back : Option ℕ) → HasOverflowed value back old new → (q : Role) → Moved q 0 0 old.made new.made
+    overflowed_moves value None h Producer = none_moved h.by _ _ _ h.called Producer refl refl refl refl refl refl
+    overflowed_moves value None h Consumer = none_moved h.by _ _ _ h.called Consumer refl refl refl refl refl refl
+    overflowed_moves value (Some oldest) h Producer = none_moved h.by _ _ _ h.called Producer refl refl refl refl refl refl
+    overflowed_moves value (Some oldest) h Consumer = none_moved h.by _ _ _ h.called Consumer refl refl refl refl refl refl
+
+    pub over_push_moves : (value : ℕ) (back : Option ℕ) → HasOverflowed value back old new ⊎ (back ≡ Some value) × WasAtEnd old new
+        → (q : Role) → Moved q 0 0 old.made new.made
+    over_push_moves value back (inl h) q = overflowed_moves value back h q
+    over_push_moves value back (inr h) q =
+        (let e = h.1.made in
+        let a = ap (sum_by (takes q)) e in
+        let b = ap (sum_by (gives q)) e in
+        record { takes = omega arith; gives = omega arith })
 
   -- one call after another
   pub done_then : (a b c d : ℕ) (u v w : View T) → HasDone a b u v → HasDone c d v w → HasDone (a + c) (b + d) u w

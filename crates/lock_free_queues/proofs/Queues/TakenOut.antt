@@ -8,7 +8,7 @@ use mathlib.Core.List.{map-append}
 use Rattle.lock_free_queues.proofs.Names.{IsHistory, machine_kind, sum_by-append, one_word, Event, Published, HandedOut, Acted, Finished, events_by}
 use Rattle.lock_free_queues.proofs.Names.{View, IsBeginning, IsAll, Item, Index, Role, Queues, PushIndex, Pop, PoppedIndex}
 use Rattle.lock_free_queues.proofs.Names.{publishes, published, by_more}
-use Rattle.model.specs.declared.families.queues.QueueKind as kinds
+use Rattle.model.specs.declared.families.queues.QueueKind.TheVariants as kinds
 use Rattle.lock_free_queues.specs.Queues.Merges.{StandIn, by_pop, by_push, taken, TookOut, HasPushedAll, HasPushedUpTo}
 use Rattle.lock_free_queues.specs.Queues.Merges.{HasTaken, HasDrained}
 use Rattle.lock_free_queues.specs.Queues.Overflowing.{Goes, HasOverflowed, PushAdded, PushHandedBack, TookNone}
@@ -200,7 +200,7 @@ takes_here v =
     }
 
 pub drained : (c : ℕ) (old new more : List ℕ) (v w u : View ℕ) → new ≡ old ++ more → HasTaken more v w
-    → Goes w u → IsHistory one_word (machine_kind kinds.TheVariants.Overflow) c u.seen → HasPopped None w u → HasDrained old new v u
+    → Goes w u → IsHistory one_word (machine_kind kinds.Overflow) c u.seen → HasPopped None w u → HasDrained old new v u
 drained c old new more v w u is k goes history h =
     record {
       more = more;
@@ -208,7 +208,7 @@ drained c old new more v w u is k goes history h =
       popped = takes_nothing more v w u k goes h;
       emptied =
           λ whole none.
-          (let it = all_taken one_word kinds.TheVariants.Overflow c w u (subst IsAll (sym k.share) whole) (k.all none) goes history h in
+          (let it = all_taken one_word kinds.Overflow c w u (subst IsAll (sym k.share) whole) (k.all none) goes history h in
           it.1);
     }
 

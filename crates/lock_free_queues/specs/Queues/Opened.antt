@@ -13,6 +13,7 @@ use Rattle.model.specs.declared.turn.Turn.TheVariants.{Begin, Next}
 use Rattle.model.specs.declared.families.queues.QueueStart.TheVariants.{AcquireProducer, ReleaseProducer, AcquireConsumer, ReleaseConsumer, Pop}
 use Rattle.threaded.specs.Shares.{all_shares}
 use Rattle.history.specs.declared.view.View.{View}
+use Rattle.history.specs.History.{nexts}
 use Rattle.lock_free_queues.specs.Queues.Contracts.{push_of, popped_item}
 
 module _ {T : Type 0} where
@@ -96,7 +97,8 @@ module _ {T : Type 0} where
         made = opened answer item (position_at capacity position);
         going = None;
         state = None;
-        asked = 0;
+        asked = nexts (opened_turns size item (position_at capacity position));
+        aside = 0;
         taken = 0;
         others = 0;
       }

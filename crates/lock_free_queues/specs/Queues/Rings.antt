@@ -1,5 +1,5 @@
 -- Which queue a pass is for, and what it knows of the queue's history: of queues of any kind.
-use Rattle.std.specs.Prelude.{◌≡◌, ℕ, ◌<◌}
+use Rattle.std.specs.Prelude.{◌≡◌, ℕ, ◌+◌, ◌<◌, ◌≤◌}
 use Rattle.atomic_table.specs.Seated.{TableId}
 use Rattle.steps.specs.declared.words.Words.{Ghosts}
 use Rattle.model.specs.declared.families.queues.QueueKind.{QueueKind}
@@ -77,6 +77,8 @@ module _ {E T : Type 0} {kind : kinds.Ghosts E} {words : Ghosts T} where
   pub record IsSameQueue (old new : Held E T (RingRule E T) kind words) : Type 0 where
     pub queue : token_queue new ≡ token_queue old
     pub goes : Goes (token_view old) (token_view new)
+    -- at most one operation was no step of a call
+    pub aside : (token_view new).aside ≤ (token_view old).aside + 1
 
   -- the same of a pass and of a guard, by their seats
   abbrev pub SamePass : Pass E T kind words → Pass E T kind words → Type 0

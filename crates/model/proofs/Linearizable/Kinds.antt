@@ -2,7 +2,7 @@
 use Rattle.model.proofs.Names.{Answer, Coding, Event, IsKept, IsKeptBy, IsLinearizable, Item, Kind, List, QueueKind}
 use Rattle.model.proofs.Names.{Start, Trace, [], arith, false, moments, promise_of, refl, true, ℕ, ◌∷◌, ◌≡◌}
 use Rattle.model.specs.declared.event.Start.TheVariants as starts
-use Rattle.model.specs.declared.families.queues.QueueKind as queue_kinds
+use Rattle.model.specs.declared.families.queues.QueueKind.TheVariants as queue_kinds
 use Rattle.model.specs.declared.families.queues.QueueStart.TheVariants as queues
 use Rattle.model.specs.declared.turn.Kind.TheVariants.{IndexQueue, Overflow, Queue, Atomic}
 use Rattle.model.specs.Families.Atomic.Promises as value_promises
@@ -22,25 +22,25 @@ module _ {T : Type 0} where
 
   others_of_list : (kind : QueueKind) (capacity : ℕ) (items : List (Item T)) (start : Start T)
       → is_push_or_pop start ≡ false → (list_of kind capacity).after items start ≡ items
-  others_of_list queue_kinds.TheVariants.IndexQueue capacity items start t = bounded start t
+  others_of_list queue_kinds.IndexQueue capacity items start t = bounded start t
     where
-      bounded : (start : Start T) → is_push_or_pop start ≡ false → (list_of queue_kinds.TheVariants.IndexQueue capacity).after items start ≡ items
+      bounded : (start : Start T) → is_push_or_pop start ≡ false → (list_of queue_kinds.IndexQueue capacity).after items start ≡ items
       bounded (starts.Queues (queues.PushIndex index)) t = absurd (cc)
       bounded (starts.Queues (queues.Push value)) t = absurd (cc)
       bounded (starts.Queues queues.Pop) t = absurd (cc)
       bounded (starts.Queues other) t = refl
       bounded other t = refl
-  others_of_list queue_kinds.TheVariants.Overflow capacity items start t = overflowing start t
+  others_of_list queue_kinds.Overflow capacity items start t = overflowing start t
     where
-      overflowing : (start : Start T) → is_push_or_pop start ≡ false → (list_of queue_kinds.TheVariants.Overflow capacity).after items start ≡ items
+      overflowing : (start : Start T) → is_push_or_pop start ≡ false → (list_of queue_kinds.Overflow capacity).after items start ≡ items
       overflowing (starts.Queues (queues.PushIndex index)) t = absurd (cc)
       overflowing (starts.Queues (queues.Push value)) t = absurd (cc)
       overflowing (starts.Queues queues.Pop) t = absurd (cc)
       overflowing (starts.Queues other) t = refl
       overflowing other t = refl
-  others_of_list queue_kinds.TheVariants.Queue capacity items start t = bounded start t
+  others_of_list queue_kinds.Queue capacity items start t = bounded start t
     where
-      bounded : (start : Start T) → is_push_or_pop start ≡ false → (list_of queue_kinds.TheVariants.Queue capacity).after items start ≡ items
+      bounded : (start : Start T) → is_push_or_pop start ≡ false → (list_of queue_kinds.Queue capacity).after items start ≡ items
       bounded (starts.Queues (queues.PushIndex index)) t = absurd (cc)
       bounded (starts.Queues (queues.Push value)) t = absurd (cc)
       bounded (starts.Queues queues.Pop) t = absurd (cc)
@@ -71,9 +71,9 @@ module _ {T : Type 0} where
   -- ---- every kind
 
   by_kind : (kind : Kind) (t : Trace T) → IsKeptBy (promise_of kind) t → IsLinearized kind t
-  by_kind IndexQueue t kept = queue_linearizable queue_kinds.TheVariants.IndexQueue t kept
-  by_kind Overflow t kept = queue_linearizable queue_kinds.TheVariants.Overflow t kept
-  by_kind Queue t kept = queue_linearizable queue_kinds.TheVariants.Queue t kept
+  by_kind IndexQueue t kept = queue_linearizable queue_kinds.IndexQueue t kept
+  by_kind Overflow t kept = queue_linearizable queue_kinds.Overflow t kept
+  by_kind Queue t kept = queue_linearizable queue_kinds.Queue t kept
   by_kind Atomic t kept = value_linearizable t kept
   by_kind kind t kept = tt
 

@@ -10,7 +10,7 @@ use Rattle.steps.specs.Container.Add.{Added, first_add, at_add, inner_acquire, a
 use Rattle.steps.specs.Objects.Owners.{Owners, acquired, granted, after_acquire}
 use Rattle.steps.specs.declared.container.enums.ContainerAddFailure.{ContainerAddFailure}
 use Rattle.steps.specs.declared.container.add.Add.{Add}
-use Rattle.steps.specs.declared.container.add.AddStage as adds
+use Rattle.steps.specs.declared.container.add.AddStage.TheVariants as adds
 use Rattle.steps.specs.declared.container.add.Owned.{Owned}
 use Rattle.plain.specs.Alone.{BehavesAs}
 use Rattle.plain.specs.Robust as robust
@@ -66,11 +66,11 @@ module _ {V : Type 0} (words_of : V → List ℕ) (value_of : List ℕ → V) (s
   goes_in : (P : Added → List ℕ → Type 0) (index n at : ℕ) → at + suc n ≡ size → (ws : List ℕ)
       → element_word capacity size index 0 + size < 2 ^ 64
       → P (Ok index) (last_of index (stored ws (element_word capacity size index 0) xs at (suc n)))
-      → Ends (suc (suc (suc n))) P (at_add first (adds.TheVariants.Stores index at)) ws
+      → Ends (suc (suc (suc n))) P (at_add first (adds.Stores index at)) ws
   goes_in P index zero at end ws small h =
       let place : element_word capacity size index at ≡ word_at (element_word capacity size index 0) at = omega arith in
-      subst (λ p. From 2 P (if nat_lt (at + 1) size then GoOn (at_add first (adds.TheVariants.Stores index (at + 1))) else GoOn
-      (at_add first (adds.TheVariants.AddsCount index)))
+      subst (λ p. From 2 P (if nat_lt (at + 1) size then GoOn (at_add first (adds.Stores index (at + 1))) else GoOn
+      (at_add first (adds.AddsCount index)))
       (slice_set ws p (slice_index xs at)))
       (sym place)
       (by_test (λ a. From 2 P a (slice_set ws (word_at (element_word capacity size index 0) at) (slice_index xs at)))
@@ -81,8 +81,8 @@ module _ {V : Type 0} (words_of : V → List ℕ) (value_of : List ℕ → V) (s
       let place : element_word capacity size index at ≡ word_at (element_word capacity size index 0) at = omega arith in
       let next = slice_set ws (word_at (element_word capacity size index 0) at) (slice_index xs at) in
       subst (λ p. From (suc (suc (suc n))) P
-      (if nat_lt (at + 1) size then GoOn (at_add first (adds.TheVariants.Stores index (at + 1))) else GoOn
-      (at_add first (adds.TheVariants.AddsCount index)))
+      (if nat_lt (at + 1) size then GoOn (at_add first (adds.Stores index (at + 1))) else GoOn
+      (at_add first (adds.AddsCount index)))
       (slice_set ws p (slice_index xs at)))
       (sym place)
       (by_test (λ a. From (suc (suc (suc n))) P a next)
@@ -97,7 +97,7 @@ module _ {V : Type 0} (words_of : V → List ℕ) (value_of : List ℕ → V) (s
   puts : (P : Added → List ℕ → Type 0) (ws : List ℕ) (fits : Represents size capacity ws) (index : ℕ) (near : index < capacity)
       → P (Ok index) (after_change value_of size capacity ws fits index near wide
       (shown value_of size capacity ws fits index near wide xs given.value (sized given.value) (given_back given.value)))
-      → Ends few_steps P (at_add first (adds.TheVariants.LoadsCount index)) ws
+      → Ends few_steps P (at_add first (adds.LoadsCount index)) ws
   puts P ws fits index near h =
       let c = count_word capacity index in
       let n = slice_index ws (count_word capacity index) in
@@ -106,14 +106,14 @@ module _ {V : Type 0} (words_of : V → List ℕ) (value_of : List ℕ → V) (s
       let w = cell_within value_of size capacity ws fits index near wide in
       let a = all_small value_of size capacity ws fits index near wide in omega arith in
       let on : (hs : List ℕ) → hidden value_of size capacity ws fits index near wide ≡ hs
-      → Ends (suc (suc (suc (size - 1)))) P (at_add first (adds.TheVariants.Stores index 0)) hs =
+      → Ends (suc (suc (suc (size - 1)))) P (at_add first (adds.Stores index 0)) hs =
       λ hs e. goes_in P index (size - 1) 0 (omega arith) hs small
       (subst (λ (z : List ℕ × ℕ). P (Ok index) (last_of index (stored z.0 (element_word capacity size index 0) xs 0 z.1))) (λ i. (e i, sym count i)) h) in
       by_test (λ a. From (suc (suc (suc (suc (size - 1))))) P a ws) (is_even n) _ _
       (λ t. longer (λ c. add_want words_of size c given) (λ c old. add_after size c old) 1 (suc (suc (suc (size - 1)))) (OnEnd P)
-      (at_add first (adds.TheVariants.Stores index 0)) ws
+      (at_add first (adds.Stores index 0)) ws
       (on ws (ap (λ b. if b then ws else slice_set ws (count_word capacity index) (one_more (slice_index ws (count_word capacity index)))) t)))
-      (λ t. subst (λ vs. From (suc (suc (suc (size - 1)))) P (GoOn (at_add first (adds.TheVariants.Stores index 0))) vs)
+      (λ t. subst (λ vs. From (suc (suc (suc (size - 1)))) P (GoOn (at_add first (adds.Stores index 0))) vs)
       (sym (ap (λ b. if b then slice_set ws (count_word capacity index) (one_more (slice_index ws (count_word capacity index))) else ws) (eq-eqb n n refl)))
       (on (slice_set ws (count_word capacity index) (one_more (slice_index ws (count_word capacity index))))
       (ap (λ b. if b then ws else slice_set ws (count_word capacity index) (one_more (slice_index ws (count_word capacity index)))) t)))
@@ -177,7 +177,7 @@ module _ {V : Type 0} (words_of : V → List ℕ) (value_of : List ℕ → V) (s
         (let e = plus_sum a.0 few_steps in omega arith)
         (part_walks_low (λ c. add_want words_of size c given) (λ c old. add_after size c old)
         (λ c. acquire_want c given.owner) (λ c old. acquire_after c old)
-        (λ d. at_add first (adds.TheVariants.Acquires d.stage)) (add_acquired first) (AcquireLow capacity)
+        (λ d. at_add first (adds.Acquires d.stage)) (add_acquired first) (AcquireLow capacity)
         (acquire_goes_low capacity) (λ d. refl)
         (λ d old low. ap (λ n. add_acquired first (acquire_takes (inner_acquire n d.stage) d.stage old)) (sym low.0))
         (λ d. refl) a.0 few_steps (OnEnd (Put words)) (first_acquire capacity) words (refl, tt)

@@ -9,9 +9,10 @@ use Rattle.std.proofs.lemmas.List.FromFn.{get_or-map-range_with_len}
 use Rattle.steps.specs.Copied.{value_in}
 use Rattle.steps.specs.Indices.Robust.Parts.{cell_word, empty, one_more}
 use Rattle.steps.specs.Container.Find.{at_find, first_find, find_comes_to, find_want, find_after, find_kept}
-use Rattle.steps.specs.declared.ask.Question as questions
+use Rattle.steps.specs.declared.ask.Question.TheVariants as questions
 use Rattle.steps.specs.declared.container.find.Find.{Find}
-use Rattle.steps.specs.declared.container.find.FindStage as finds
+use Rattle.steps.specs.declared.container.find.FindStage.{FindStage}
+use Rattle.steps.specs.declared.container.find.FindStage.TheVariants as finds
 use Rattle.plain.specs.declared.drive.Stop.{Stop}
 use Rattle.plain.specs.declared.drive.Stop.TheVariants.{Asked, Ended}
 use Rattle.plain.specs.Queues.{words_from}
@@ -120,7 +121,7 @@ module _ {V R : Type 0} (value_of : List ℕ → V) (words_in : R → List ℕ) 
   abbrev A : Find V R × R → ℕ → After (Find V R × R) (ℕ × R)
   A = after_both want (find_after size) (find_kept with_word) owner
 
-  abbrev pub at : finds.FindStage → Find V R
+  abbrev pub at : FindStage → Find V R
   at stage = at_find (first_find capacity) stage
 
   abbrev number_at : ℕ → ℕ
@@ -144,8 +145,8 @@ module _ {V R : Type 0} (value_of : List ℕ → V) (words_in : R → List ℕ) 
     pub rest_is : drop (index + 1) its_cells ≡ rest
     pub low : found ≤ index
     pub near : index < capacity
-    pub asks : question ≡ questions.TheVariants.Value index tt
-    pub stands : call ≡ at (finds.TheVariants.Asks index (found + 1))
+    pub asks : question ≡ questions.Value index tt
+    pub stands : call ≡ at (finds.Asks index (found + 1))
     pub copied : Stands (contents_in value_of size capacity container words) index (value_in value_of size (words_in room))
     pub wide : size ≤ length (words_in room)
     pub same : last ≡ words
@@ -156,33 +157,33 @@ module _ {V R : Type 0} (value_of : List ℕ → V) (words_in : R → List ℕ) 
 
   -- the words of a value, then its number for itself, then the question
   reads : (P : Stop (Find V R × R) (ℕ × R) → List ℕ → Type 0) (i found : ℕ) → i < capacity → (n k : ℕ) → k + suc n ≡ size → (room : R)
-      → P (Asked (questions.TheVariants.Value i tt) (at (finds.TheVariants.Asks i found), read_in with_word room words (cell_at i) k (suc n))) words
-      → Walks W A (suc (suc (suc n))) P (at (finds.TheVariants.LoadsWord i found (number_at i) k), room) words
+      → P (Asked (questions.Value i tt) (at (finds.Asks i found), read_in with_word room words (cell_at i) k (suc n))) words
+      → Walks W A (suc (suc (suc n))) P (at (finds.LoadsWord i found (number_at i) k), room) words
   reads P i found near zero k end room h =
       let place : element_word capacity size i k ≡ word_at (cell_at i) k =
       let s = small_at value_of size capacity container words ready.holds i near ready.wide in omega arith in
       let c = count_word capacity i in
       let next = with_word room k (slice_index words (word_at (cell_at i) k)) in
       subst (λ p. Goes W A 2 P (with_room (with_word room k (slice_index words p))
-      (if nat_lt (k + 1) size then GoOn (at (finds.TheVariants.LoadsWord i found (number_at i) (k + 1))) else GoOn
-      (at (finds.TheVariants.ChecksCount i found (number_at i)))))
+      (if nat_lt (k + 1) size then GoOn (at (finds.LoadsWord i found (number_at i) (k + 1))) else GoOn
+      (at (finds.ChecksCount i found (number_at i)))))
       words)
       (sym place)
       (by_test (λ a. Goes W A 2 P (with_room next a) words) (nat_lt (k + 1) size) _ _
       (λ t. let more : k + 1 < size = grind (arith, nat_tests) in absurd (omega arith))
       (λ t. subst (λ b. Goes W A 1 P
-      (with_room next (if b then GoOn (at (finds.TheVariants.Asks i found)) else find_comes_to (first_find capacity) (i + 1) found))
+      (with_room next (if b then GoOn (at (finds.Asks i found)) else find_comes_to (first_find capacity) (i + 1) found))
       (if b then slice_set words c (number_at i) else words))
       (sym (eq-eqb (number_at i) (number_at i) refl))
-      (subst (λ ws. Walks W A 1 P (at (finds.TheVariants.Asks i found), next) ws) (sym (set-get_or words c 0)) h)))
+      (subst (λ ws. Walks W A 1 P (at (finds.Asks i found), next) ws) (sym (set-get_or words c 0)) h)))
   reads P i found near (suc n) k end room h =
       let place : element_word capacity size i k ≡ word_at (cell_at i) k =
       let s = small_at value_of size capacity container words ready.holds i near ready.wide in omega arith in
       let next = with_word room k (slice_index words (word_at (cell_at i) k)) in
       subst (λ p. Goes W A (suc (suc (suc n))) P
       (with_room (with_word room k (slice_index words p))
-      (if nat_lt (k + 1) size then GoOn (at (finds.TheVariants.LoadsWord i found (number_at i) (k + 1))) else GoOn
-      (at (finds.TheVariants.ChecksCount i found (number_at i)))))
+      (if nat_lt (k + 1) size then GoOn (at (finds.LoadsWord i found (number_at i) (k + 1))) else GoOn
+      (at (finds.ChecksCount i found (number_at i)))))
       words)
       (sym place)
       (by_test (λ a. Goes W A (suc (suc (suc n))) P (with_room next a) words) (nat_lt (k + 1) size) _ _
@@ -195,7 +196,7 @@ module _ {V R : Type 0} (value_of : List ℕ → V) (words_in : R → List ℕ) 
 
   hit : (i found : ℕ) (rest left : List ℕ) → i < capacity → found ≤ i → slice_index its_cells i ≡ owner → drop (i + 1) its_cells ≡ rest
       → left ≡ i ∷ mine owner (i + 1) rest → (room : R) → size ≤ length (words_in room)
-      → Walks W A each (StopsAt found left) (at (finds.TheVariants.LoadsCount i (one_more found)), room) words
+      → Walks W A each (StopsAt found left) (at (finds.LoadsCount i (one_more found)), room) words
   hit i found rest left near low is rest_is left_is room long =
       let odd = odd_at value_of size capacity container words ready.holds i owner near ready.lives is in
       let all : size ≡ suc (size - 1) = let s = ready.some in omega arith in
@@ -204,12 +205,12 @@ module _ {V R : Type 0} (value_of : List ℕ → V) (words_in : R → List ℕ) 
       let more : one_more found ≡ found + 1 = omega arith in
       subst (λ b. Goes W A (suc (suc (suc (size - 1)))) (StopsAt found left)
       (with_room room (if b then find_comes_to (first_find capacity) (i + 1) (one_more found) else GoOn
-      (at (finds.TheVariants.LoadsWord i (one_more found) (number_at i) 0))))
+      (at (finds.LoadsWord i (one_more found) (number_at i) 0))))
       words)
       (sym odd)
       (reads (StopsAt found left) i (one_more found) near (size - 1) 0 (omega arith) room
       (subst (λ n. StopsAt found left
-      (Asked (questions.TheVariants.Value i tt) (at (finds.TheVariants.Asks i (one_more found)), after_reading room i n))
+      (Asked (questions.Value i tt) (at (finds.Asks i (one_more found)), after_reading room i n))
       words)
       all
       (record {
@@ -220,7 +221,7 @@ module _ {V R : Type 0} (value_of : List ℕ → V) (words_in : R → List ℕ) 
         low = low;
         near = near;
         asks = refl;
-        stands = ap (λ n. at (finds.TheVariants.Asks i n)) more;
+        stands = ap (λ n. at (finds.Asks i n)) more;
         copied = stands_at value_of size capacity container words ready.holds i near odd
             ∙ ap Some (sym (value_read value_of size words_in with_word put_in room words (cell_at i) long (omega arith)));
         wide = subst (λ n. size ≤ n) (sym (long_read words_in with_word put_in words room (cell_at i) size 0)) long;
@@ -244,7 +245,7 @@ module _ {V R : Type 0} (value_of : List ℕ → V) (words_in : R → List ℕ) 
       let word = cell_is value_of size capacity container words ready.holds index near ∙ there.word_is in
       by_test (λ a. Goes W A (suc (suc (plus (length rest) each))) (StopsAt found left) (with_room room a) words) (nat_lt index capacity) _ _
       (λ _. by_eq (λ a. Goes W A (suc (plus (length rest) each)) (StopsAt found left) (with_room room a) words) (slice_index words (cell_word index)) owner _ _
-      (λ e. longer W A (suc (length rest)) each (StopsAt found left) (at (finds.TheVariants.LoadsCount index (one_more found)), room) words
+      (λ e. longer W A (suc (length rest)) each (StopsAt found left) (at (finds.LoadsCount index (one_more found)), room) words
       (hit index found rest left near low (there.word_is ∙ (sym word ∙ e)) there.rest_is (all ∙ hits owner index c rest ready.lives (sym word ∙ e)) room long))
       (λ n. finds_on rest (index + 1) found left there.rest_is (omega arith) (all ∙ misses owner index c rest (λ e. n (word ∙ e))) room long))
       (λ t. let far : capacity ≤ index = grind (arith, nat_tests) in absurd (omega arith))

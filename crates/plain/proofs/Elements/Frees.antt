@@ -5,7 +5,7 @@ use Rattle.std.proofs.Common.{get_or-set_other, get_or-take, if◌then◌else◌
 use Rattle.plain.proofs.Names.{take-set-le, change_word, count_word, is_even, ReleaseMode, ReleaseState, Unlocked}
 use Rattle.steps.specs.Indices.Robust.Parts.{cell_word, empty, locked, one_more, raise_want, raise_after, lock_want, lock_after, first_lock}
 use Rattle.steps.specs.Objects.Owners.{Owners, next_generation, given_back}
-use Rattle.steps.specs.declared.indices.robust.parts.Raise as raises
+use Rattle.steps.specs.declared.indices.robust.parts.Raise.TheVariants as raises
 use Rattle.plain.specs.Robust as robust
 use Rattle.plain.specs.Robust.{owners_in}
 use Rattle.plain.specs.Contents.{Contents, value_at, contents_in, changed, IsFilled, Represents, Holds}
@@ -25,7 +25,7 @@ use Rattle.plain.proofs.Elements.Values.{value_same, behind_contents, behind_fit
 module _ (capacity g : ℕ) (cells ws : List ℕ) (small : g < 2 ^ 64) (front : take (1 + capacity) ws ≡ g ∷ cells) where
   pub raise_over : g ≢ locked → (Q : ReleaseState → List ℕ → Type 0)
       → ((last : List ℕ) → Behind (1 + capacity) ws last → take (1 + capacity) last ≡ next_generation g ∷ cells → Q Unlocked last)
-      → Walks raise_want raise_after 2 (OnEnd Q) raises.TheVariants.LoadsCounter ws
+      → Walks raise_want raise_after 2 (OnEnd Q) raises.LoadsCounter ws
   raise_over x0 x1 x2 = grind (arith, front_walks, raise_below, any_low, cells, stays, front, raise_walks)
 
   pub lock_over : length cells ≡ capacity → capacity < 2 ^ 32 → (Q : ReleaseState → List ℕ → Type 0)

@@ -10,9 +10,11 @@ use Rattle.steps.specs.Indices.Robust.Parts.{empty, locked}
 use Rattle.steps.specs.Container.Recover.{first_recover, recover_want, recover_after, recover_kept}
 use Rattle.steps.specs.Objects.Owners.{Owners, Owned, taken, state_of, given_back}
 use Rattle.steps.specs.declared.container.recover.Recover.{Recover}
-use Rattle.steps.specs.declared.container.recover.RecoverStage as recovers
+use Rattle.steps.specs.declared.container.recover.RecoverStage.{RecoverStage}
+use Rattle.steps.specs.declared.container.recover.RecoverStage.TheVariants as recovers
 use Rattle.steps.specs.declared.container.recover.DeadOwner.{DeadOwner}
-use Rattle.plain.specs.declared.drive.Stop as stops
+use Rattle.plain.specs.declared.drive.Stop.{Stop}
+use Rattle.plain.specs.declared.drive.Stop.TheVariants as stops
 use Rattle.plain.specs.Alone.{CanStop, StopsAlike}
 use Rattle.plain.specs.Callable.{Asked, questions, agreed, asks, TakesQuestions}
 use Rattle.plain.specs.Robust.{owners_in}
@@ -53,7 +55,7 @@ module _ {V R F : Type 0} (value_of : List ℕ → V) (words_in : R → List ℕ
   abbrev Begun : Type 0
   Begun = Ready value_of size capacity container owner words
 
-  abbrev At : Begun → Contents V → ℕ → List Owned → stops.Stop (Recover V R × R) (ReleaseState × R) → List ℕ → Type 0
+  abbrev At : Begun → Contents V → ℕ → List Owned → Stop (Recover V R × R) (ReleaseState × R) → List ℕ → Type 0
   At ready s from left stop last =
       StopsAt value_of words_in with_word put_in size capacity container owner mode ready.some ready.wide ready.lives s from left stop last
 
@@ -153,9 +155,9 @@ module _ {V R F : Type 0} (value_of : List ℕ → V) (words_in : R → List ℕ
         let e = ap length at.rest_is in
         let k = cells_long value_of size capacity container last at.holds in omega arith
 
-    abbrev next_stage : recovers.RecoverStage
+    abbrev next_stage : RecoverStage
     next_stage =
-        if nat_lt (at.index + 1) capacity then recovers.TheVariants.LoadsCell (at.index + 1) else recovers.TheVariants.LoadsCounterAgain
+        if nat_lt (at.index + 1) capacity then recovers.LoadsCell (at.index + 1) else recovers.LoadsCounterAgain
 
     on_no : (q : F) → step p value false q → Recovering ready (done + 1) (record { capacity = capacity; stage = next_stage; of = record {} }) room q last
     on_no q called =
@@ -201,8 +203,8 @@ module _ {V R F : Type 0} (value_of : List ℕ → V) (words_in : R → List ℕ
         ∙ ap (filter (λ (o : Owned). o.owner == owner))
         (locked_leaves mode g gone (at.index + 1) (at.index + 1) (counter_low value_of size capacity container last at.holds) opens (sym generation_then ∙ e))
 
-    abbrev emptying : recovers.RecoverStage
-    emptying = recovers.TheVariants.EmptiesCell at.index (slice_index last (count_word capacity at.index))
+    abbrev emptying : RecoverStage
+    emptying = recovers.EmptiesCell at.index (slice_index last (count_word capacity at.index))
 
     on_yes : (q : F) → step p value true q → Recovering ready (done + 1) (record { capacity = capacity; stage = emptying; of = record {} }) room q last
     on_yes q called =
@@ -258,12 +260,12 @@ module _ {V R F : Type 0} (value_of : List ℕ → V) (words_in : R → List ℕ
     pub can_go : CanStop want (recover_after size) kept given call room₀ items
     can_go = can_stop want (recover_after size) kept given _ call room₀ items t.1.run
 
-    stops_at : (stop : stops.Stop (Recover V R) ReleaseState) (room : R) (last : List ℕ)
+    stops_at : (stop : Stop (Recover V R) ReleaseState) (room : R) (last : List ℕ)
         → StopsAlike want (recover_after size) kept given call room₀ items stop room last → Apart (At t.0 t.1.s t.1.from t.1.left) stop room last
     stops_at x0 x1 x2 x3 = grind (arith, stops_so)
 
     pub ended_so : (state : ReleaseState) (room : R) (last : List ℕ)
-        → StopsAlike want (recover_after size) kept given call room₀ items (stops.TheVariants.Ended state) room last
+        → StopsAlike want (recover_after size) kept given call room₀ items (stops.Ended state) room last
         → Gone state p last
     ended_so x0 x1 x2 x3 = grind (arith, stops_at, append-nil, questions, one_change)
 
@@ -271,7 +273,7 @@ module _ {V R F : Type 0} (value_of : List ℕ → V) (words_in : R → List ℕ
     few_rounds = grind arith
 
     module _ (question : Question (Unit {0})) (put : Recover V R) (room : R) (last : List ℕ)
-        (alike : StopsAlike want (recover_after size) kept given call room₀ items (stops.TheVariants.Asked question put) room last)
+        (alike : StopsAlike want (recover_after size) kept given call room₀ items (stops.Asked question put) room last)
         (value : V) (value_is : value ≡ value_in value_of size (words_in room)) where
       pub may_so : (pre : F → V → Type 0) → TakesQuestions (MayAsk pre old) (Says step old) all f → pre p value
       may_so x0 x1 = grind (arith, may_ask, stops_at)
@@ -288,7 +290,7 @@ module _ {V R F : Type 0} (value_of : List ℕ → V) (words_in : R → List ℕ
           → (b : After (Recover V R) ReleaseState) → b ≡ recover_after size put given answer
           → (later : R) → later ≡ kept put room answer → Further b later q
       further_so said q called answer is b goes later keeps =
-          let at = stops_at (stops.TheVariants.Asked question put) room last alike in
+          let at = stops_at (stops.Asked question put) room last alike in
           subst (λ z. Further z later q) (sym (goes ∙ ap (recover_after size put given) is))
           (subst (λ r. Further (recover_after size put given (if said then 1 else 0)) r q)
           (sym (keeps ∙ ap (λ c. kept c room answer) at.stands))

@@ -10,11 +10,12 @@ use Rattle.steps.specs.Indices.Robust.Parts.{cell_word, empty, locked, one_more,
 use Rattle.steps.specs.Container.Recover.{first_recover, goes_to, recover_comes_to, recover_raises, recover_raised}
 use Rattle.steps.specs.Container.Recover.{recover_locked, recover_sees, recover_want, recover_after, recover_kept}
 use Rattle.steps.specs.Objects.Owners.{Owned, taken, taken_from, state_of, next_generation}
-use Rattle.steps.specs.declared.ask.Question as questions
+use Rattle.steps.specs.declared.ask.Question.TheVariants as questions
 use Rattle.steps.specs.declared.container.recover.Recover.{Recover}
-use Rattle.steps.specs.declared.container.recover.RecoverStage as recovers
+use Rattle.steps.specs.declared.container.recover.RecoverStage.{RecoverStage}
+use Rattle.steps.specs.declared.container.recover.RecoverStage.TheVariants as recovers
 use Rattle.steps.specs.declared.container.recover.DeadOwner.{DeadOwner}
-use Rattle.steps.specs.declared.indices.robust.parts.Raise as raises
+use Rattle.steps.specs.declared.indices.robust.parts.Raise.TheVariants as raises
 use Rattle.plain.specs.declared.drive.Stop.{Stop}
 use Rattle.plain.specs.declared.drive.Stop.TheVariants.{Asked, Ended}
 use Rattle.plain.specs.Robust.{owner_in, owners_in}
@@ -64,7 +65,7 @@ module _ {V R : Type 0} (value_of : List ℕ → V) (words_in : R → List ℕ) 
   abbrev pub first : Recover V R
   first = first_recover capacity
 
-  abbrev pub at : recovers.RecoverStage → Recover V R
+  abbrev pub at : RecoverStage → Recover V R
   at stage = record { capacity = capacity; stage = stage; of = record {} }
 
   abbrev pub read : List ℕ → Contents V
@@ -88,7 +89,7 @@ module _ {V R : Type 0} (value_of : List ℕ → V) (words_in : R → List ℕ) 
     pub holds : Fit last
     pub is : read last ≡ s
     pub owns : slice_index (cells_of last) index ≡ owner
-    pub stands : call ≡ at (recovers.TheVariants.Asks index (slice_index last (count_word capacity index)))
+    pub stands : call ≡ at (recovers.Asks index (slice_index last (count_word capacity index)))
     pub copied : Stands s index (value_in value_of size (words_in room))
     pub roomy : size ≤ length (words_in room)
 
@@ -121,35 +122,35 @@ module _ {V R : Type 0} (value_of : List ℕ → V) (words_in : R → List ℕ) 
 
     -- the words of a value, then its number for itself, then the question
     reads : (P : Stop (Recover V R × R) (ReleaseState × R) → List ℕ → Type 0) (i : ℕ) → i < capacity → (n k : ℕ) → k + suc n ≡ size → (room : R)
-        → P (Asked (questions.TheVariants.Value i tt)
-        (at (recovers.TheVariants.Asks i (number_at i)), read_in with_word room words (cell_at i) k (suc n)))
+        → P (Asked (questions.Value i tt)
+        (at (recovers.Asks i (number_at i)), read_in with_word room words (cell_at i) k (suc n)))
         words
-        → Walks W A (suc (suc (suc n))) P (at (recovers.TheVariants.LoadsWord i (number_at i) k), room) words
+        → Walks W A (suc (suc (suc n))) P (at (recovers.LoadsWord i (number_at i) k), room) words
     reads P i near zero k end room h =
         let place : element_word capacity size i k ≡ word_at (cell_at i) k =
         let s = small_at value_of size capacity container words holds i near wide in omega arith in
         let c = count_word capacity i in
         let next = with_word room k (slice_index words (word_at (cell_at i) k)) in
         subst (λ p. Goes W A 2 P (with_room (with_word room k (slice_index words p))
-        (if nat_lt (k + 1) size then goes_to first (recovers.TheVariants.LoadsWord i (number_at i) (k + 1)) else
-        goes_to first (recovers.TheVariants.ChecksCount i (number_at i))))
+        (if nat_lt (k + 1) size then goes_to first (recovers.LoadsWord i (number_at i) (k + 1)) else
+        goes_to first (recovers.ChecksCount i (number_at i))))
         words)
         (sym place)
         (by_test (λ a. Goes W A 2 P (with_room next a) words) (nat_lt (k + 1) size) _ _
         (λ t. let more : k + 1 < size = grind (arith, nat_tests) in absurd (omega arith))
         (λ t. subst (λ b. Goes W A 1 P
-        (with_room next (if b then goes_to first (recovers.TheVariants.Asks i (number_at i)) else recover_sees first i (number_at i)))
+        (with_room next (if b then goes_to first (recovers.Asks i (number_at i)) else recover_sees first i (number_at i)))
         (if b then slice_set words c (number_at i) else words))
         (sym (eq-eqb (number_at i) (number_at i) refl))
-        (subst (λ ws. Walks W A 1 P (at (recovers.TheVariants.Asks i (number_at i)), next) ws) (sym (set-get_or words c 0)) h)))
+        (subst (λ ws. Walks W A 1 P (at (recovers.Asks i (number_at i)), next) ws) (sym (set-get_or words c 0)) h)))
     reads P i near (suc n) k end room h =
         let place : element_word capacity size i k ≡ word_at (cell_at i) k =
         let s = small_at value_of size capacity container words holds i near wide in omega arith in
         let next = with_word room k (slice_index words (word_at (cell_at i) k)) in
         subst (λ p. Goes W A (suc (suc (suc n))) P
         (with_room (with_word room k (slice_index words p))
-        (if nat_lt (k + 1) size then goes_to first (recovers.TheVariants.LoadsWord i (number_at i) (k + 1)) else
-        goes_to first (recovers.TheVariants.ChecksCount i (number_at i))))
+        (if nat_lt (k + 1) size then goes_to first (recovers.LoadsWord i (number_at i) (k + 1)) else
+        goes_to first (recovers.ChecksCount i (number_at i))))
         words)
         (sym place)
         (by_test (λ a. Goes W A (suc (suc (suc n))) P (with_room next a) words) (nat_lt (k + 1) size) _ _
@@ -160,20 +161,20 @@ module _ {V R : Type 0} (value_of : List ℕ → V) (words_in : R → List ℕ) 
       hit : (i : ℕ) (rest : List ℕ) (left : List Owned) → i < capacity → from ≤ i
           → slice_index (cells_of words) i ≡ owner → drop (i + 1) (cells_of words) ≡ rest
           → left ≡ record { owner = owner; index = i } ∷ of_owner owner (i + 1) rest → (room : R) → size ≤ length (words_in room)
-          → Walks W A each (StopsAt s from left) (at (recovers.TheVariants.LoadsCount i), room) words
+          → Walks W A each (StopsAt s from left) (at (recovers.LoadsCount i), room) words
       hit i rest left near low owns rest_is left_is room long =
           let odd = odd_at value_of size capacity container words holds i owner near lives owns in
           let all : size ≡ suc (size - 1) = omega arith in
           let small = small_at value_of size capacity container words holds i near wide in
           subst (λ b. Goes W A (suc (suc (suc (size - 1)))) (StopsAt s from left)
           (with_room room (goes_to first
-          (if b then recovers.TheVariants.EmptiesCell i (number_at i) else recovers.TheVariants.LoadsWord i (number_at i) 0)))
+          (if b then recovers.EmptiesCell i (number_at i) else recovers.LoadsWord i (number_at i) 0)))
           words)
           (sym odd)
           (reads (StopsAt s from left) i near (size - 1) 0 (omega arith) room
           (subst (λ n. StopsAt s from left
-          (Asked (questions.TheVariants.Value i tt)
-          (at (recovers.TheVariants.Asks i (number_at i)), read_in with_word room words (cell_at i) 0 n))
+          (Asked (questions.Value i tt)
+          (at (recovers.Asks i (number_at i)), read_in with_word room words (cell_at i) 0 n))
           words)
           all
           (record {
@@ -223,7 +224,7 @@ module _ {V R : Type 0} (value_of : List ℕ → V) (words_in : R → List ℕ) 
           (nat_lt index capacity) _ _
           (λ _. by_eq (λ a. Goes W A (suc (suc (suc (plus (length rest) each)))) (StopsAt s from left) (with_room room a) words)
           (slice_index words (cell_word index)) owner _ _
-          (λ e. longer W A (suc (suc (suc (length rest)))) each (StopsAt s from left) (at (recovers.TheVariants.LoadsCount index), room) words
+          (λ e. longer W A (suc (suc (suc (length rest)))) each (StopsAt s from left) (at (recovers.LoadsCount index), room) words
           (hit index rest left near low (there.word_is ∙ (sym word ∙ e)) there.rest_is (all ∙ of_hit owner index c rest lives (sym word ∙ e)) room long))
           (λ n. recovers_on rest (index + 1) left there.rest_is (all ∙ of_miss owner index c rest (λ e. n (word ∙ e))) (omega arith) room long))
           (λ t. let far : capacity ≤ index = grind (arith, nat_tests) in absurd (omega arith))
@@ -298,7 +299,7 @@ module _ {V R : Type 0} (value_of : List ℕ → V) (words_in : R → List ℕ) 
         goes_longer W A locks (fuel rest) P (with_room room (recover_comes_to first (index + 1))) last
         (then_on last behind (front_is ∙ ap (λ m. counter_then m g gone ∷ gone) (sym e)))
     on_raised LockIfLastIndex e last behind front_is =
-        part_walks W A lock_want (lock_after capacity) (λ l. (at (recovers.TheVariants.Locks index l), room))
+        part_walks W A lock_want (lock_after capacity) (λ l. (at (recovers.Locks index l), room))
         (λ a. with_room room (recover_locked first index a))
         (λ d. refl) (λ d old. refl) (λ d. refl) locks (fuel rest) P first_lock last
         (lock_over capacity (next_generation g) gone last (next_small g low) front_is gone_long holds.0.few _
@@ -309,11 +310,11 @@ module _ {V R : Type 0} (value_of : List ℕ → V) (words_in : R → List ℕ) 
     rounds = suc (suc (plus 2 (plus locks (fuel rest))))
 
     raises_on : Walks W A (plus 2 (plus locks (fuel rest))) P
-        (at (recovers.TheVariants.Raises index raises.TheVariants.LoadsCounter), room)
+        (at (recovers.Raises index raises.LoadsCounter), room)
         (bare value_of size capacity container words holds wide mode index near odd)
     raises_on =
-        part_walks W A raise_want raise_after (λ r. (at (recovers.TheVariants.Raises index r), room)) (λ a. with_room room (recover_raised first index mode a))
-        (λ d. refl) (λ d old. refl) (λ d. refl) 2 (plus locks (fuel rest)) P raises.TheVariants.LoadsCounter
+        part_walks W A raise_want raise_after (λ r. (at (recovers.Raises index r), room)) (λ a. with_room room (recover_raised first index mode a))
+        (λ d. refl) (λ d old. refl) (λ d. refl) 2 (plus locks (fuel rest)) P raises.LoadsCounter
         (bare value_of size capacity container words holds wide mode index near odd)
         (raise_over capacity g gone (bare value_of size capacity container words holds wide mode index near odd) low
         (bare_front value_of size capacity container words holds wide mode index near odd) opens _
@@ -323,7 +324,7 @@ module _ {V R : Type 0} (value_of : List ℕ → V) (words_in : R → List ℕ) 
         front_is))
 
     -- from a yes to the next question, or to the end
-    pub frees_on : Walks W A rounds P (at (recovers.TheVariants.EmptiesCell index n), room) words
+    pub frees_on : Walks W A rounds P (at (recovers.EmptiesCell index n), room) words
     frees_on =
         let word = cell_is value_of size capacity container words holds index near ∙ owns in
         let ci = cell_word index in
@@ -332,16 +333,16 @@ module _ {V R : Type 0} (value_of : List ℕ → V) (words_in : R → List ℕ) 
         get_or-set_other words ci (count_word capacity index) empty 0 (λ e. absurd (omega arith)) in
         subst (λ b. Goes W A (suc (plus 2 (plus locks (fuel rest)))) P
         (with_room room
-        (if b then (if is_even n then recover_raises first index else goes_to first (recovers.TheVariants.Hides index n))
+        (if b then (if is_even n then recover_raises first index else goes_to first (recovers.Hides index n))
         else recover_comes_to first (index + 1)))
         (if b then slice_set words ci empty else words))
         (sym (eq-eqb (slice_index words ci) owner word))
         (subst (λ b. Goes W A (suc (plus 2 (plus locks (fuel rest)))) P
-        (with_room room (if b then recover_raises first index else goes_to first (recovers.TheVariants.Hides index n)))
+        (with_room room (if b then recover_raises first index else goes_to first (recovers.Hides index n)))
         without)
         (sym odd)
         (subst (λ b. Walks W A (plus 2 (plus locks (fuel rest))) P
-        (at (recovers.TheVariants.Raises index raises.TheVariants.LoadsCounter), room)
+        (at (recovers.Raises index raises.LoadsCounter), room)
         (if b then slice_set without (count_word capacity index) (one_more n) else without))
         (sym (eq-eqb (slice_index without (count_word capacity index)) n same))
         raises_on))

@@ -10,7 +10,8 @@ use Rattle.steps.specs.Objects.Owners.{has, given_back, release_state, released,
 use Rattle.steps.specs.declared.indices.enums.RobustUniqueIndexSetReleaseError.TheVariants.{IndexIsNotOwnedByProvidedOwner}
 use Rattle.steps.specs.declared.container.enums.ContainerRemoveError.TheVariants.{ContainerHandleNotOwnedByContainer}
 use Rattle.steps.specs.declared.container.remove.Remove.{Remove}
-use Rattle.steps.specs.declared.container.remove.RemoveStage as removes
+use Rattle.steps.specs.declared.container.remove.RemoveStage.{RemoveStage}
+use Rattle.steps.specs.declared.container.remove.RemoveStage.TheVariants as removes
 use Rattle.plain.specs.Alone.{BehavesAs}
 use Rattle.plain.specs.Robust as robust
 use Rattle.plain.specs.Robust.{owners_in}
@@ -38,7 +39,7 @@ module _ {V : Type 0} (value_of : List ℕ → V) (size : ℕ) (wide : size ≤ 
   abbrev From : ℕ → (Removed → List ℕ → Type 0) → After Remove Removed → List ℕ → Type 0
   From n P a words = Goes (λ c. remove_want c given) (λ c old. remove_after c given old) n (OnEnd P) a words
 
-  abbrev call : removes.RemoveStage → Remove
+  abbrev call : RemoveStage → Remove
   call stage = record { capacity = capacity; stage = stage }
 
   abbrev pub Gone : List ℕ → Removed → List ℕ → Type 0
@@ -50,7 +51,7 @@ module _ {V : Type 0} (value_of : List ℕ → V) (size : ℕ) (wide : size ≤ 
   hides_on : (P : Removed → List ℕ → Type 0) (state : ReleaseState) (ws : List ℕ) (fits : Represents size capacity ws) (near : index < capacity) (count : ℕ)
       → slice_index ws (count_word capacity index) ≡ count
       → P (Ok state) (after_change value_of size capacity ws fits index near wide (hidden value_of size capacity ws fits index near wide))
-      → From 2 P (remove_released (call removes.TheVariants.LoadsCount) count (Done (Ok state))) ws
+      → From 2 P (remove_released (call removes.LoadsCount) count (Done (Ok state))) ws
   hides_on x0 x1 x2 x3 x4 x5 x6 x7 = grind (arith, one_more, by_test, eq-eqb)
 
   module _ (words : List ℕ) (fits : Represents size capacity words) (lives : owner < empty) where
@@ -74,7 +75,7 @@ module _ {V : Type 0} (value_of : List ℕ → V) (size : ℕ) (wide : size ≤ 
 
     abbrev Then : Released → List ℕ → Type 0
     Then e last =
-        From 2 (Gone words) (remove_released (call removes.TheVariants.LoadsCount) count (Done e)) last
+        From 2 (Gone words) (remove_released (call removes.LoadsCount) count (Done e)) last
 
     so : index < capacity → (e : Released) (last : List ℕ) → Behind (1 + capacity) words last → Gave e (take (1 + capacity) last) → Then e last
     so near (Ok state) last behind gave =
@@ -122,21 +123,21 @@ module _ {V : Type 0} (value_of : List ℕ → V) (size : ℕ) (wide : size ≤ 
         (λ t. let near : index < capacity = grind (arith, nat_tests) in
         let a = release_front capacity index owner mode lives (take (1 + capacity) words) (front_fits value_of size capacity words fits) near in
         let bound = a.1 in
-        runs remove_want remove_after given (suc (plus a.0 2)) (Gone words) (call removes.TheVariants.LoadsCount) words
+        runs remove_want remove_after given (suc (plus a.0 2)) (Gone words) (call removes.LoadsCount) words
         (let e = plus_sum a.0 2 in omega arith)
         (part_walks_low (λ c. remove_want c given) (λ c old. remove_after c given old)
         (λ c. release_want c given) (λ c old. release_after c given old)
-        (λ d. call (removes.TheVariants.Releases count d.stage)) (remove_released (call removes.TheVariants.LoadsCount) count) (ReleaseLow capacity)
+        (λ d. call (removes.Releases count d.stage)) (remove_released (call removes.LoadsCount) count) (ReleaseLow capacity)
         (release_goes_low capacity given) (λ d. refl)
         (λ d old low. ap
-        (λ n. remove_released (call removes.TheVariants.LoadsCount) count (release_takes (inner_release n d.stage) d.stage given old))
+        (λ n. remove_released (call removes.LoadsCount) count (release_takes (inner_release n d.stage) d.stage given old))
         (sym low.0))
         (λ d. refl) a.0 2 (OnEnd (Gone words)) (first_release capacity) words (refl, tt)
         (front_walks (λ c. release_want c given) (λ c old. release_after c given old) (1 + capacity) (ReleaseLow capacity)
         (release_below capacity given near) (release_goes_low capacity given) words Gave Then (so near) a.0
         (first_release capacity) words (refl, tt) (stays (1 + capacity) words) a.2)))
         (λ t. let far : capacity ≤ index = grind (arith, nat_tests) in
-        runs remove_want remove_after given 1 (Gone words) (call removes.TheVariants.Refuses) words (omega arith)
+        runs remove_want remove_after given 1 (Gone words) (call removes.Refuses) words (omega arith)
         (refused (own ∙ has_past capacity (take (1 + capacity) words) (front_fits value_of size capacity words fits) index owner far) words fits refl))
 
   pub remove_at : (number : ℕ) → number ≡ owner → number < empty → (c : Remove) → c ≡ first_remove capacity index

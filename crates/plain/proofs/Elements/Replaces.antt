@@ -8,7 +8,8 @@ use Rattle.steps.specs.Indices.Robust.Parts.{cell_word, empty, one_more}
 use Rattle.steps.specs.Container.Replace.{Replaced, first_replace, replace_want, replace_after}
 use Rattle.steps.specs.declared.container.enums.ContainerRemoveError.TheVariants.{ContainerHandleNotOwnedByContainer}
 use Rattle.steps.specs.declared.container.replace.Replace.{Replace}
-use Rattle.steps.specs.declared.container.replace.ReplaceStage as replaces
+use Rattle.steps.specs.declared.container.replace.ReplaceStage.{ReplaceStage}
+use Rattle.steps.specs.declared.container.replace.ReplaceStage.TheVariants as replaces
 use Rattle.steps.specs.declared.container.replace.Replacement.{Replacement}
 use Rattle.plain.specs.Alone.{BehavesAs}
 use Rattle.plain.specs.Contents.{Contents, changed, names, replaced, after_replace, contents_in, Represents}
@@ -29,7 +30,7 @@ module _ {V : Type 0} (words_of : V → List ℕ) (value_of : List ℕ → V) (s
   From n P a words =
       Goes (λ c. replace_want words_of size c given) (λ c old. replace_after size c given old) n (OnEnd P) a words
 
-  abbrev call : replaces.ReplaceStage → Replace V
+  abbrev call : ReplaceStage → Replace V
   call stage = record { capacity = capacity; stage = stage; of = record {} }
 
   abbrev xs : List ℕ
@@ -44,11 +45,11 @@ module _ {V : Type 0} (words_of : V → List ℕ) (value_of : List ℕ → V) (s
   goes_in : (P : Replaced → List ℕ → Type 0) (n at : ℕ) → at + suc n ≡ size → (ws : List ℕ)
       → element_word capacity size given.index 0 + size < 2 ^ 64
       → P (Ok tt) (last_of given.index (stored ws (element_word capacity size given.index 0) xs at (suc n)))
-      → Ends (suc (suc (suc n))) P (call (replaces.TheVariants.Stores at)) ws
+      → Ends (suc (suc (suc n))) P (call (replaces.Stores at)) ws
   goes_in P zero at end ws small h =
       let place : element_word capacity size given.index at ≡ word_at (element_word capacity size given.index 0) at = omega arith in
-      subst (λ p. From 2 P (if nat_lt (at + 1) size then GoOn (call (replaces.TheVariants.Stores (at + 1))) else GoOn
-      (call (replaces.TheVariants.AddsCount)))
+      subst (λ p. From 2 P (if nat_lt (at + 1) size then GoOn (call (replaces.Stores (at + 1))) else GoOn
+      (call (replaces.AddsCount)))
       (slice_set ws p (slice_index xs at)))
       (sym place)
       (by_test (λ a. From 2 P a (slice_set ws (word_at (element_word capacity size given.index 0) at) (slice_index xs at)))
@@ -59,8 +60,8 @@ module _ {V : Type 0} (words_of : V → List ℕ) (value_of : List ℕ → V) (s
       let place : element_word capacity size given.index at ≡ word_at (element_word capacity size given.index 0) at = omega arith in
       let next = slice_set ws (word_at (element_word capacity size given.index 0) at) (slice_index xs at) in
       subst (λ p. From (suc (suc (suc n))) P
-      (if nat_lt (at + 1) size then GoOn (call (replaces.TheVariants.Stores (at + 1))) else GoOn
-      (call (replaces.TheVariants.AddsCount)))
+      (if nat_lt (at + 1) size then GoOn (call (replaces.Stores (at + 1))) else GoOn
+      (call (replaces.AddsCount)))
       (slice_set ws p (slice_index xs at)))
       (sym place)
       (by_test (λ a. From (suc (suc (suc n))) P a next)
@@ -75,7 +76,7 @@ module _ {V : Type 0} (words_of : V → List ℕ) (value_of : List ℕ → V) (s
   puts : (P : Replaced → List ℕ → Type 0) (ws : List ℕ) (fits : Represents size capacity ws) (near : given.index < capacity)
       → P (Ok tt) (after_change value_of size capacity ws fits given.index near wide
       (shown value_of size capacity ws fits given.index near wide xs given.value (sized given.value) (given_back given.value)))
-      → Ends few_steps P (call (replaces.TheVariants.LoadsCount)) ws
+      → Ends few_steps P (call (replaces.LoadsCount)) ws
   puts P ws fits near h =
       let c = count_word capacity given.index in
       let n = slice_index ws (count_word capacity given.index) in
@@ -84,15 +85,15 @@ module _ {V : Type 0} (words_of : V → List ℕ) (value_of : List ℕ → V) (s
       let w = cell_within value_of size capacity ws fits given.index near wide in
       let a = all_small value_of size capacity ws fits given.index near wide in omega arith in
       let on : (hs : List ℕ) → hidden value_of size capacity ws fits given.index near wide ≡ hs
-      → Ends (suc (suc (suc (size - 1)))) P (call (replaces.TheVariants.Stores 0)) hs =
+      → Ends (suc (suc (suc (size - 1)))) P (call (replaces.Stores 0)) hs =
       λ hs e. goes_in P (size - 1) 0 (omega arith) hs small
       (subst (λ (z : List ℕ × ℕ). P (Ok tt) (last_of given.index (stored z.0 (element_word capacity size given.index 0) xs 0 z.1)))
       (λ i. (e i, sym count i)) h) in
       by_test (λ a. From (suc (suc (suc (suc (size - 1))))) P a ws) (is_even n) _ _
       (λ t. longer (λ c. replace_want words_of size c given) (λ c old. replace_after size c given old) 1 (suc (suc (suc (size - 1)))) (OnEnd P)
-      (call (replaces.TheVariants.Stores 0)) ws
+      (call (replaces.Stores 0)) ws
       (on ws (ap (λ b. if b then ws else slice_set ws (count_word capacity given.index) (one_more (slice_index ws (count_word capacity given.index)))) t)))
-      (λ t. subst (λ vs. From (suc (suc (suc (size - 1)))) P (GoOn (call (replaces.TheVariants.Stores 0))) vs)
+      (λ t. subst (λ vs. From (suc (suc (suc (size - 1)))) P (GoOn (call (replaces.Stores 0))) vs)
       (sym (ap (λ b. if b then slice_set ws (count_word capacity given.index)
       (one_more (slice_index ws (count_word capacity given.index))) else ws)
       (eq-eqb n n refl)))

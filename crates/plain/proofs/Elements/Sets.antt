@@ -9,13 +9,17 @@ use Rattle.steps.specs.Indices.Robust.Acquire.{acquire_sees, acquire_raised, acq
 use Rattle.steps.specs.Indices.Robust.Release.{Released, first_release, release_asks, release_raised, release_locked}
 use Rattle.steps.specs.Indices.Robust.Release.{release_takes, release_want, release_after}
 use Rattle.steps.specs.declared.indices.robust.parts.Raise as raises
-use Rattle.steps.specs.declared.indices.robust.parts.Count as counts
+use Rattle.steps.specs.declared.indices.robust.parts.Count.{Count}
+use Rattle.steps.specs.declared.indices.robust.parts.Count.TheVariants as counts
 use Rattle.steps.specs.declared.indices.robust.parts.Counted as ends
-use Rattle.steps.specs.declared.indices.robust.parts.Lock as locks
+use Rattle.steps.specs.declared.indices.robust.parts.Lock.{Lock}
+use Rattle.steps.specs.declared.indices.robust.parts.Lock.TheVariants as locks
 use Rattle.steps.specs.declared.indices.robust.acquire.Acquire.{Acquire}
-use Rattle.steps.specs.declared.indices.robust.acquire.AcquireStage as acquires
+use Rattle.steps.specs.declared.indices.robust.acquire.AcquireStage.{AcquireStage}
+use Rattle.steps.specs.declared.indices.robust.acquire.AcquireStage.TheVariants as acquires
 use Rattle.steps.specs.declared.indices.robust.release.Release.{Release}
-use Rattle.steps.specs.declared.indices.robust.release.ReleaseStage as releases
+use Rattle.steps.specs.declared.indices.robust.release.ReleaseStage.{ReleaseStage}
+use Rattle.steps.specs.declared.indices.robust.release.ReleaseStage.TheVariants as releases
 use Rattle.steps.specs.Objects.Owners.{acquired, after_acquire, released, after_release}
 use Rattle.plain.specs.Alone.{BehavesAs}
 use Rattle.plain.specs.Robust.{owners_in, Represents}
@@ -30,11 +34,11 @@ module _ (capacity : ℕ) where
 
   -- ---- acquire
 
-  abbrev StageLow : acquires.AcquireStage → Type 0
-  StageLow acquires.TheVariants.LoadsCounter = Unit {0}
-  StageLow (acquires.TheVariants.FillsCell counter index) = index < capacity
-  StageLow (acquires.TheVariants.ChecksCounter counter) = Unit {0}
-  StageLow (acquires.TheVariants.Raises index raise) = Unit {0}
+  abbrev StageLow : AcquireStage → Type 0
+  StageLow acquires.LoadsCounter = Unit {0}
+  StageLow (acquires.FillsCell counter index) = index < capacity
+  StageLow (acquires.ChecksCounter counter) = Unit {0}
+  StageLow (acquires.Raises index raise) = Unit {0}
 
   abbrev pub AcquireLow : Acquire → Type 0
   AcquireLow call = (call.capacity ≡ capacity) × StageLow call.stage
@@ -51,7 +55,7 @@ module _ (capacity : ℕ) where
       → (a : After raises.Raise ReleaseState) → LowThen {E = Acquired} AcquireLow (acquire_raised call index a)
   raised_low x0 x1 x2 x3 = grind arith
 
-  acquire_takes_low : (call : Acquire) (stage : acquires.AcquireStage) (old : ℕ) → call.capacity ≡ capacity
+  acquire_takes_low : (call : Acquire) (stage : AcquireStage) (old : ℕ) → call.capacity ≡ capacity
       → LowThen {E = Acquired} AcquireLow (acquire_takes call stage old)
   acquire_takes_low x0 x1 x2 x3 = grind (arith, sees_low, by_eq, empty, tries_low, raised_low)
 
@@ -59,7 +63,7 @@ module _ (capacity : ℕ) where
       → LowThen {E = Acquired} AcquireLow (acquire_after call old)
   acquire_goes_low call old low = acquire_takes_low call call.stage old low.0
 
-  stage_below : (owner : ℕ) (stage : acquires.AcquireStage) → StageLow stage
+  stage_below : (owner : ℕ) (stage : AcquireStage) → StageLow stage
       → AsksBelow (1 + capacity) (acquire_asks stage owner)
   stage_below x0 x1 x2 = grind (arith, raise_below)
 
@@ -69,42 +73,42 @@ module _ (capacity : ℕ) where
 
   -- ---- count and lock
 
-  abbrev pub CountLow : counts.Count → Type 0
-  CountLow counts.TheVariants.LoadsCounter = Unit {0}
-  CountLow (counts.TheVariants.LoadsCell counter index filled) = index < capacity
-  CountLow (counts.TheVariants.ExchangesCounter counter filled) = Unit {0}
+  abbrev pub CountLow : Count → Type 0
+  CountLow counts.LoadsCounter = Unit {0}
+  CountLow (counts.LoadsCell counter index filled) = index < capacity
+  CountLow (counts.ExchangesCounter counter filled) = Unit {0}
 
   comes_low : (counter index filled : ℕ)
       → LowThen {E = ends.Counted} CountLow (count_comes_to capacity counter index filled)
   comes_low x0 x1 x2 = grind (arith, by_test, by_eq, greatest, nat_tests)
 
-  pub count_goes_low : (count : counts.Count) (old : ℕ)
+  pub count_goes_low : (count : Count) (old : ℕ)
       → LowThen {E = ends.Counted} CountLow (count_after capacity count old)
   count_goes_low x0 x1 = grind (arith, by_eq, locked, comes_low, empty, one_more)
 
-  pub count_below : (count : counts.Count) → CountLow count → AsksBelow (1 + capacity) (count_want count)
+  pub count_below : (count : Count) → CountLow count → AsksBelow (1 + capacity) (count_want count)
   count_below x0 x1 = grind arith
 
-  abbrev pub LockLow : locks.Lock → Type 0
-  LockLow (locks.TheVariants.Counts count) = CountLow count
-  LockLow (locks.TheVariants.ExchangesCounter counter) = Unit {0}
+  abbrev pub LockLow : Lock → Type 0
+  LockLow (locks.Counts count) = CountLow count
+  LockLow (locks.ExchangesCounter counter) = Unit {0}
 
-  counted_low : (a : After counts.Count ends.Counted) → LowThen {E = ends.Counted} CountLow a
+  counted_low : (a : After Count ends.Counted) → LowThen {E = ends.Counted} CountLow a
       → LowThen {E = ReleaseState} LockLow (lock_counted a)
   counted_low x0 x1 = grind (arith, by_test, greatest)
 
-  pub lock_goes_low : (lock : locks.Lock) (old : ℕ) → LowThen {E = ReleaseState} LockLow (lock_after capacity lock old)
+  pub lock_goes_low : (lock : Lock) (old : ℕ) → LowThen {E = ReleaseState} LockLow (lock_after capacity lock old)
   lock_goes_low x0 x1 = grind (arith, counted_low, count_after, count_goes_low, by_eq)
 
-  pub lock_below : (lock : locks.Lock) → LockLow lock → AsksBelow (1 + capacity) (lock_want lock)
+  pub lock_below : (lock : Lock) → LockLow lock → AsksBelow (1 + capacity) (lock_want lock)
   lock_below x0 x1 = grind (arith, count_below)
 
   -- ---- release
 
-  abbrev GivesLow : releases.ReleaseStage → Type 0
-  GivesLow releases.TheVariants.EmptiesCell = Unit {0}
-  GivesLow (releases.TheVariants.Raises raise) = Unit {0}
-  GivesLow (releases.TheVariants.Locks lock) = LockLow lock
+  abbrev GivesLow : ReleaseStage → Type 0
+  GivesLow releases.EmptiesCell = Unit {0}
+  GivesLow (releases.Raises raise) = Unit {0}
+  GivesLow (releases.Locks lock) = LockLow lock
 
   abbrev pub ReleaseLow : Release → Type 0
   ReleaseLow call = (call.capacity ≡ capacity) × GivesLow call.stage
@@ -113,11 +117,11 @@ module _ (capacity : ℕ) where
       → (a : After raises.Raise ReleaseState) → LowThen {E = Released} ReleaseLow (release_raised call mode a)
   given_raised_low x0 x1 x2 x3 = grind arith
 
-  given_locked_low : (call : Release) → call.capacity ≡ capacity → (a : After locks.Lock ReleaseState)
+  given_locked_low : (call : Release) → call.capacity ≡ capacity → (a : After Lock ReleaseState)
       → LowThen {E = ReleaseState} LockLow a → LowThen {E = Released} ReleaseLow (release_locked call a)
   given_locked_low x0 x1 x2 x3 = grind arith
 
-  release_takes_low : (call : Release) (stage : releases.ReleaseStage) (given : GiveBack) (old : ℕ) → call.capacity ≡ capacity
+  release_takes_low : (call : Release) (stage : ReleaseStage) (given : GiveBack) (old : ℕ) → call.capacity ≡ capacity
       → LowThen {E = Released} ReleaseLow (release_takes call stage given old)
   release_takes_low x0 x1 x2 x3 x4 = grind (arith, by_eq, given_raised_low, given_locked_low, lock_goes_low)
 
@@ -125,7 +129,7 @@ module _ (capacity : ℕ) where
       → LowThen {E = Released} ReleaseLow (release_after call given old)
   release_goes_low given call old low = release_takes_low call call.stage given old low.0
 
-  gives_below : (given : GiveBack) → given.index < capacity → (stage : releases.ReleaseStage) → GivesLow stage
+  gives_below : (given : GiveBack) → given.index < capacity → (stage : ReleaseStage) → GivesLow stage
       → AsksBelow (1 + capacity) (release_asks stage given)
   gives_below x0 x1 x2 x3 = grind (arith, raise_below, lock_below)
 

@@ -9,7 +9,8 @@ use Rattle.steps.specs.Container.State.{Numbers, Showing, value_shown, counted, 
 use Rattle.steps.specs.Container.Look.{first_look, at_look, look_comes_to, look_finds, look_want, look_after, look_kept}
 use Rattle.steps.specs.Copied.{value_in}
 use Rattle.steps.specs.declared.container.look.Look.{Look}
-use Rattle.steps.specs.declared.container.look.LookStage as looks
+use Rattle.steps.specs.declared.container.look.LookStage.{LookStage}
+use Rattle.steps.specs.declared.container.look.LookStage.TheVariants as looks
 use Rattle.steps.specs.declared.container.state.Element.{Element}
 use Rattle.plain.specs.Queues.{words_from}
 use Rattle.plain.specs.Contents.{value_at, Represents}
@@ -70,7 +71,7 @@ module _ {V : Type 0} (value_of : List ℕ → V) (size : ℕ) (some : 1 ≤ siz
   abbrev A : Look V × Showing V → ℕ → After (Look V × Showing V) (Bool × Showing V)
   A = after_both want (look_after size) (look_kept value_of size) seen
 
-  abbrev at : looks.LookStage → Look V
+  abbrev at : LookStage → Look V
   at stage = record { capacity = capacity; stage = stage; of = record {} }
 
   abbrev pub count : ℕ → ℕ
@@ -145,14 +146,14 @@ module _ {V : Type 0} (value_of : List ℕ → V) (size : ℕ) (some : 1 ≤ siz
   -- the words of a value, and then its number for itself
   reads : (m i : ℕ) → i < capacity → (n k : ℕ) → k + suc n ≡ size → (room : Showing V)
       → From m (look_comes_to (first_look capacity) (i + 1)) (with_value value_of size (read_in with_word room words (cell i) k (suc n)) i (count i)) words
-      → Ends (suc (suc (plus n m))) (at (looks.TheVariants.LoadsWord i (count i) k)) room words
+      → Ends (suc (suc (plus n m))) (at (looks.LoadsWord i (count i) k)) room words
   reads m i near zero k end room h =
       let place : element_word capacity size i k ≡ word_at (cell i) k =
       let w = cell_within value_of size capacity words fits i near wide in let a = all_small value_of size capacity words fits i near wide in omega arith in
       let c = count_word capacity i in
       subst
-      (λ p. From (suc m) (if nat_lt (k + 1) size then at_look (first_look capacity) (looks.TheVariants.LoadsWord i (count i) (k + 1))
-      else at_look (first_look capacity) (looks.TheVariants.ChecksCount i (count i)))
+      (λ p. From (suc m) (if nat_lt (k + 1) size then at_look (first_look capacity) (looks.LoadsWord i (count i) (k + 1))
+      else at_look (first_look capacity) (looks.ChecksCount i (count i)))
       (with_word room k (slice_index words p)) words)
       (sym place)
       (by_test (λ a. From (suc m) a (with_word room k (slice_index words (word_at (cell i) k))) words) (nat_lt (k + 1) size) _ _
@@ -167,8 +168,8 @@ module _ {V : Type 0} (value_of : List ℕ → V) (size : ℕ) (some : 1 ≤ siz
       let place : element_word capacity size i k ≡ word_at (cell i) k =
       let w = cell_within value_of size capacity words fits i near wide in let a = all_small value_of size capacity words fits i near wide in omega arith in
       subst (λ p. From (suc (suc (plus n m)))
-      (if nat_lt (k + 1) size then at_look (first_look capacity) (looks.TheVariants.LoadsWord i (count i) (k + 1))
-      else at_look (first_look capacity) (looks.TheVariants.ChecksCount i (count i)))
+      (if nat_lt (k + 1) size then at_look (first_look capacity) (looks.LoadsWord i (count i) (k + 1))
+      else at_look (first_look capacity) (looks.ChecksCount i (count i)))
       (with_word room k (slice_index words p)) words)
       (sym place)
       (by_test (λ a. From (suc (suc (plus n m))) a (with_word room k (slice_index words (word_at (cell i) k))) words) (nat_lt (k + 1) size) _ _

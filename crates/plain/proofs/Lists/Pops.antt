@@ -8,7 +8,7 @@ use Rattle.plain.proofs.Names.{word_at, After}
 use Rattle.steps.specs.Copied.{value_in}
 use Rattle.steps.specs.Queues.Ring.{cell_word, at_pop, first_pop, pop_want, pop_after, pop_kept, pop_answer}
 use Rattle.steps.specs.declared.queues.ring.Pop.{Pop}
-use Rattle.steps.specs.declared.queues.ring.PopStage as pops
+use Rattle.steps.specs.declared.queues.ring.PopStage.TheVariants as pops
 use Rattle.plain.specs.Alone.{EndsFrom, EndsIn, BehavesAs}
 use Rattle.steps.specs.Objects.Lists.{Bounded, front, popped}
 use Rattle.plain.specs.Queues.{words_from, value_at, list_in, Represents}
@@ -31,7 +31,7 @@ module _ {V R : Type 0} (value_of : List ℕ → V) (size : ℕ) (some : 1 ≤ s
   -- the words of the cell, and then the read position
   loads : (p cell n at : ℕ) → at + suc n ≡ size → (room : R) (words : List ℕ)
       → Ends (suc (suc n)) true (read_in with_word room words cell at (suc n)) (slice_set words 1 (after_position p))
-      (at_pop (first_pop capacity) (pops.TheVariants.LoadsCell p cell at)) room words
+      (at_pop (first_pop capacity) (pops.LoadsCell p cell at)) room words
   loads p cell zero at end room words = grind (arith, by_test, read_in, slice_set, after_position, slice_index, word_at, nat_lt, nat_tests)
   loads p cell (suc n) at end room words =
       let next = with_word room at (slice_index words (word_at cell at)) in

@@ -7,7 +7,7 @@ use Rattle.plain.proofs.Names.{mul-le-mul_right, nat_tests, cases_lt, by_test, b
 use Rattle.plain.proofs.Names.{after_position, word_at, After, dite, ℕ_discrete}
 use Rattle.steps.specs.Queues.Ring.{cell_word, at_push, first_push, push_want, push_after}
 use Rattle.steps.specs.declared.queues.ring.Push.{Push}
-use Rattle.steps.specs.declared.queues.ring.PushStage as pushes
+use Rattle.steps.specs.declared.queues.ring.PushStage.TheVariants as pushes
 use Rattle.plain.specs.Alone.{EndsFrom, EndsIn, BehavesAs}
 use Rattle.steps.specs.Objects.Lists.{Bounded, takes_more, pushed}
 use Rattle.plain.specs.Queues.{words_from, value_at, list_in, Represents}
@@ -43,7 +43,7 @@ module _ {V : Type 0} (words_of : V → List ℕ) (value_of : List ℕ → V) (s
   stores : (p cell n at : ℕ) → at + suc n ≡ size → (words : List ℕ)
       → Ends (suc (suc n)) true
       (slice_set (stored words cell (words_of value) at (suc n)) 0 (after_position p))
-      (at_push (first_push capacity) (pushes.TheVariants.StoresCell p cell at)) words
+      (at_push (first_push capacity) (pushes.StoresCell p cell at)) words
   stores p cell zero at end words = grind (arith, by_test, slice_set, stored, after_position, word_at, slice_index, nat_lt, nat_tests)
   stores p cell (suc n) at end words =
       let next = slice_set words (word_at cell at) (slice_index (words_of value) at) in

@@ -11,7 +11,7 @@ use Rattle.steps.specs.Bits.Words.{element_of, has_flag, without_flag, stands}
 use Rattle.steps.specs.Bits.BitSet.{first_reset, at_reset, place_after, at_most, reset_want, reset_after}
 use Rattle.steps.specs.Objects.Places.{or_else, next_place, without, after_next}
 use Rattle.steps.specs.declared.bits.bit_set.ResetNext.{ResetNext}
-use Rattle.steps.specs.declared.bits.bit_set.ResetNextStage as resets
+use Rattle.steps.specs.declared.bits.bit_set.ResetNextStage.TheVariants as resets
 use Rattle.plain.specs.Alone.{EndsFrom, EndsIn, BehavesAs}
 use Rattle.plain.specs.Bits.{flags_in, places_in, Represents}
 use Rattle.plain.proofs.Alone.{Runs}
@@ -145,7 +145,7 @@ module _ (capacity : ℕ) (words : List ℕ) (fits : Represents capacity words) 
     pub end : Option ℕ
     pub last : List ℕ
     pub ends : EndsIn (λ c (given : Unit {0}). reset_want c) (λ c given old. reset_after c old) (λ c (room : Unit {0}) old. room) tt steps end tt last
-        (at_reset (first_reset capacity) (resets.TheVariants.LoadsElement start k)) tt words
+        (at_reset (first_reset capacity) (resets.LoadsElement start k)) tt words
     pub holds : BehavesAs (Represents capacity) (places_in capacity) next_place after_next words end last
 
   module _ (k : ℕ) (low : k < capacity) where
@@ -192,7 +192,7 @@ module _ (capacity : ℕ) (words : List ℕ) (fits : Represents capacity words) 
               (λ _. by_eq (λ a. From 1 (Some place) last a (if found == found then cleared else words)) found found _ _
               (λ _. subst (λ ws. EndsIn (λ c (given : Unit {0}). reset_want c) (λ c given old. reset_after c old)
               (λ c (room : Unit {0}) old. room) tt 1 (Some place) tt last
-              (at_reset (first_reset capacity) (resets.TheVariants.StoresPosition place)) tt ws) (sym written) (refl, refl, refl))
+              (at_reset (first_reset capacity) (resets.StoresPosition place)) tt ws) (sym written) (refl, refl, refl))
               (λ ne. absurd (ne refl)))
               (λ t. absurd (true≢false (sym is ∙ t)));
           holds = (
@@ -259,7 +259,7 @@ module _ (capacity : ℕ) (words : List ℕ) (fits : Represents capacity words) 
         last_room = tt;
         last_words = rest.last;
         ends = by_test (λ a. From rest.steps rest.end rest.last a words) (nat_lt 0 capacity) _ _
-            (λ _. subst (λ s. Ends rest.steps rest.end rest.last (at_reset (first_reset capacity) (resets.TheVariants.LoadsElement s 0))) (sym here) rest.ends)
+            (λ _. subst (λ s. Ends rest.steps rest.end rest.last (at_reset (first_reset capacity) (resets.LoadsElement s 0))) (sym here) rest.ends)
             (λ none. absurd (true≢false (sym t ∙ none)));
         holds = rest.holds;
       }

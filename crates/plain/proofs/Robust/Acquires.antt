@@ -7,9 +7,9 @@ use Rattle.plain.proofs.Names.{nat_tests, length-map, map-set, by_test, by_eq, A
 use Rattle.steps.specs.Indices.Robust.Parts.{cell_word, empty, locked, greatest}
 use Rattle.steps.specs.Indices.Robust.Acquire.{Acquired, first_acquire, at_acquire, acquire_tries, acquire_sees, acquire_want, acquire_after}
 use Rattle.steps.specs.declared.indices.enums.UniqueIndexSetAcquireFailure.TheVariants as failures
-use Rattle.steps.specs.declared.indices.robust.parts.Raise as raises
+use Rattle.steps.specs.declared.indices.robust.parts.Raise.TheVariants as raises
 use Rattle.steps.specs.declared.indices.robust.acquire.Acquire.{Acquire}
-use Rattle.steps.specs.declared.indices.robust.acquire.AcquireStage as acquires
+use Rattle.steps.specs.declared.indices.robust.acquire.AcquireStage.TheVariants as acquires
 use Rattle.plain.specs.Alone.{BehavesAs}
 use Rattle.steps.specs.Objects.Owners.{Owners, next_generation, acquired, granted, after_acquire}
 use Rattle.plain.specs.Robust.{owner_in, owners_in, Represents}
@@ -35,7 +35,7 @@ module _ (capacity owner g : ℕ) (cells : List ℕ) (small : g < 2 ^ 64) (long 
   -- the index is filled, and then the counter goes up
   raises_on : (n : ℕ) (P : Acquired → List ℕ → Type 0) (index : ℕ) (cells₂ : List ℕ) → g ≢ locked
       → P (Ok index) (next_generation g ∷ cells₂)
-      → Ends (suc (suc n)) P (at_acquire first (acquires.TheVariants.Raises index raises.TheVariants.LoadsCounter)) (g ∷ cells₂)
+      → Ends (suc (suc n)) P (at_acquire first (acquires.Raises index raises.LoadsCounter)) (g ∷ cells₂)
   raises_on x0 x1 x2 x3 x4 x5 = grind (arith, part_walks, raise_walks)
 
   tries : (P : Acquired → List ℕ → Type 0) → g ≢ locked → (rest : List ℕ) (index : ℕ) → drop index cells ≡ rest
@@ -60,7 +60,7 @@ module _ (capacity owner g : ℕ) (cells : List ℕ) (small : g < 2 ^ 64) (long 
       (λ e. let free = owner_free c (sym word ∙ e) in
       let front_is : front (c ∷ rest) ≡ 0 = ap (λ o. position_or_len is_none (o ∷ map owner_in rest)) free in
       subst (λ ws. From (suc (suc (suc (suc (length rest))))) P
-      (GoOn (at_acquire first (acquires.TheVariants.Raises index raises.TheVariants.LoadsCounter))) ws)
+      (GoOn (at_acquire first (acquires.Raises index raises.LoadsCounter))) ws)
       (sym (ap (λ b. if b then slice_set (g ∷ cells) (cell_word index) owner else g ∷ cells)
       (eq-eqb (slice_index (g ∷ cells) (cell_word index)) empty e)
       ∙ next_set g index owner cells))

@@ -9,7 +9,7 @@ use Rattle.steps.specs.declared.enums.CallbackProgression.{CallbackProgression}
 use Rattle.steps.specs.declared.enums.CallbackProgression.TheVariants.{Continue, Stop}
 use Rattle.steps.specs.declared.indices.robust.find.Find.{Find}
 use Rattle.steps.specs.Objects.Owners.{indices_of}
-use Rattle.plain.specs.declared.drive.Stop as stops
+use Rattle.plain.specs.declared.drive.Stop.TheVariants as stops
 use Rattle.plain.specs.Alone.{CanStop, StopsAlike}
 use Rattle.plain.specs.Callable.{TakesIndices, HasFound, index_in, as_answer}
 use Rattle.plain.specs.Robust.{owners_in, Represents}
@@ -80,12 +80,12 @@ module _ {F : Type 0} (step : F → ℕ → CallbackProgression → F → Type 0
   -- ---- where it stops
 
   module _ (done : ℕ) (call : Find) (now : F) (so_far : Finding done call now) (last : List ℕ) where
-    pub ended : (n : ℕ) → StopsAt capacity owner g cells long few lives done so_far.left (stops.TheVariants.Ended n) last
+    pub ended : (n : ℕ) → StopsAt capacity owner g cells long few lives done so_far.left (stops.Ended n) last
         → HasFound step all f n now × (last ≡ g ∷ cells)
     ended x0 x1 = grind (arith, found_all)
 
     module _ (question : Question (Unit {0})) (asks : Find)
-        (at : StopsAt capacity owner g cells long few lives done so_far.left (stops.TheVariants.Asked question asks) last) where
+        (at : StopsAt capacity owner g cells long few lives done so_far.left (stops.Asked question asks) last) where
       index_is : index_in question ≡ at.index
       index_is = ap index_in at.asks
 
@@ -144,26 +144,26 @@ module _ {F : Type 0} (step : F → ℕ → CallbackProgression → F → Type 0
 
   pub ended_so : (first : List ℕ) (done : ℕ) (call : Find) (now : F) (words : List ℕ) (n : ℕ) (r : Unit {0}) (last : List ℕ)
       → Searching first done call now words
-      → StopsAlike want find_after kept owner call tt words (stops.TheVariants.Ended n) r last
+      → StopsAlike want find_after kept owner call tt words (stops.Ended n) r last
       → HasFound step (indices_of (owners_in first) owner) f n now × (last ≡ first)
   ended_so [] done call now words n r last t alike = absurd t
   ended_so (g ∷ cells) done call now words n r last t alike =
       ended step f capacity owner g cells t.0 t.1 t.2 done call now t.4 last n
-      (stops_so want find_after kept owner _ call tt (g ∷ cells) t.4.run (stops.TheVariants.Ended n) r last
-      (subst (λ ws. StopsAlike want find_after kept owner call tt ws (stops.TheVariants.Ended n) r last) t.3 alike))
+      (stops_so want find_after kept owner _ call tt (g ∷ cells) t.4.run (stops.Ended n) r last
+      (subst (λ ws. StopsAlike want find_after kept owner call tt ws (stops.Ended n) r last) t.3 alike))
 
   pub may_so : (first : List ℕ) (done : ℕ) (call : Find) (now : F) (words : List ℕ) (question : Question (Unit {0}))
       (asks : Find) (r : Unit {0}) (last : List ℕ)
       → Searching first done call now words
-      → StopsAlike want find_after kept owner call tt words (stops.TheVariants.Asked question asks) r last
+      → StopsAlike want find_after kept owner call tt words (stops.Asked question asks) r last
       → (index : ℕ) → index ≡ index_in question
       → {pre : F → ℕ → Type 0} → TakesIndices pre step (indices_of (owners_in first) owner) f → pre now index
   may_so [] done call now words question asks r last t alike index is {pre} may = absurd t
   may_so (g ∷ cells) done call now words question asks r last t alike index is {pre} may =
       subst (pre now) (sym is)
       (may_visit step f capacity owner g cells t.0 t.1 t.2 done call now t.4 last question asks
-      (stops_so want find_after kept owner _ call tt (g ∷ cells) t.4.run (stops.TheVariants.Asked question asks) r last
-      (subst (λ ws. StopsAlike want find_after kept owner call tt ws (stops.TheVariants.Asked question asks) r last) t.3 alike)) may)
+      (stops_so want find_after kept owner _ call tt (g ∷ cells) t.4.run (stops.Asked question asks) r last
+      (subst (λ ws. StopsAlike want find_after kept owner call tt ws (stops.Asked question asks) r last) t.3 alike)) may)
 
   further : (g : ℕ) (cells : List ℕ) (long : length cells ≡ capacity) (few : capacity < 2 ^ 32) (lives : owner < empty) (done : ℕ)
       (a : After Find ℕ) (now : F) (words : List ℕ) → words ≡ g ∷ cells
@@ -173,13 +173,13 @@ module _ {F : Type 0} (step : F → ℕ → CallbackProgression → F → Type 0
   pub goes_further : (first : List ℕ) (done : ℕ) (call : Find) (now : F) (words : List ℕ)
       (question : Question (Unit {0})) (asks : Find) (r : Unit {0}) (last : List ℕ)
       → Searching first done call now words
-      → StopsAlike want find_after kept owner call tt words (stops.TheVariants.Asked question asks) r last
+      → StopsAlike want find_after kept owner call tt words (stops.Asked question asks) r last
       → (a : CallbackProgression) (next : F) → step now (index_in question) a next
       → Further first (done + 1) (find_after asks owner (as_answer a)) next last
   goes_further [] done call now words question asks r last t alike a next called = absurd t
   goes_further (g ∷ cells) done call now words question asks r last t alike a next called =
-      let at = stops_so want find_after kept owner _ call tt (g ∷ cells) t.4.run (stops.TheVariants.Asked question asks) r last
-      (subst (λ ws. StopsAlike want find_after kept owner call tt ws (stops.TheVariants.Asked question asks) r last) t.3 alike) in
+      let at = stops_so want find_after kept owner _ call tt (g ∷ cells) t.4.run (stops.Asked question asks) r last
+      (subst (λ ws. StopsAlike want find_after kept owner call tt ws (stops.Asked question asks) r last) t.3 alike) in
       further g cells t.0 t.1 t.2 (done + 1) (find_after asks owner (as_answer a)) next last
       (same step f capacity owner g cells t.0 t.1 t.2 done call now t.4 last question asks at)
       (onward step f capacity owner g cells t.0 t.1 t.2 done call now t.4 last question asks at a next called)
@@ -187,7 +187,7 @@ module _ {F : Type 0} (step : F → ℕ → CallbackProgression → F → Type 0
   pub further_so : (first : List ℕ) (done : ℕ) (call : Find) (now : F) (words : List ℕ)
       (question : Question (Unit {0})) (asks : Find) (r : Unit {0}) (last : List ℕ)
       → Searching first done call now words
-      → StopsAlike want find_after kept owner call tt words (stops.TheVariants.Asked question asks) r last
+      → StopsAlike want find_after kept owner call tt words (stops.Asked question asks) r last
       → (index : ℕ) → index ≡ index_in question → (a : CallbackProgression) (next : F) → step now index a next
       → (answer : ℕ) → answer ≡ as_answer a → (b : After Find ℕ) → b ≡ find_after asks owner answer
       → Further first (done + 1) b next last

@@ -4,9 +4,9 @@ use Rattle.std.proofs.Common.{◌∷◌, length, drop, map, filter, refl, sym, a
 use Rattle.plain.proofs.Names.{nat_tests, eqb_tells, by_test, by_eq, Question}
 use Rattle.steps.specs.Indices.Robust.Parts.{cell_word, empty, one_more}
 use Rattle.steps.specs.Indices.Robust.Find.{at_find, first_find, find_comes_to, find_want, find_after}
-use Rattle.steps.specs.declared.ask.Question as questions
+use Rattle.steps.specs.declared.ask.Question.TheVariants as questions
 use Rattle.steps.specs.declared.indices.robust.find.Find.{Find}
-use Rattle.steps.specs.declared.indices.robust.find.FindStage as finds
+use Rattle.steps.specs.declared.indices.robust.find.FindStage.TheVariants as finds
 use Rattle.plain.specs.declared.drive.Stop.{Stop}
 use Rattle.plain.specs.declared.drive.Stop.TheVariants.{Asked, Ended}
 use Rattle.steps.specs.Objects.Owners.{Owned, taken_from}
@@ -46,8 +46,8 @@ module _ (capacity owner g : ℕ) (cells : List ℕ) (long : length cells ≡ ca
     pub rest_is : drop (index + 1) cells ≡ rest
     pub low : count ≤ index
     pub near : index < capacity
-    pub asks : question ≡ questions.TheVariants.Index index
-    pub stands : call ≡ at_find (first_find capacity) (finds.TheVariants.Asks index (count + 1))
+    pub asks : question ≡ questions.Index index
+    pub stands : call ≡ at_find (first_find capacity) (finds.Asks index (count + 1))
     pub same : last ≡ g ∷ cells
 
   abbrev pub StopsAt : ℕ → List ℕ → Stop Find ℕ → List ℕ → Type 0
@@ -76,7 +76,7 @@ module _ (capacity owner g : ℕ) (cells : List ℕ) (long : length cells ≡ ca
         low = low;
         near = omega arith;
         asks = refl;
-        stands = ap (λ n. at_find (first_find capacity) (finds.TheVariants.Asks index n)) (let more : one_more count ≡ count + 1 = omega arith in more);
+        stands = ap (λ n. at_find (first_find capacity) (finds.Asks index n)) (let more : one_more count ≡ count + 1 = omega arith in more);
         same = refl;
       })
       (λ n. finds_on rest (index + 1) count left at.rest_is (omega arith) (all ∙ misses owner index c rest (λ e. n (word ∙ e)))))

@@ -4,7 +4,7 @@ use Rattle.std.proofs.Common.{slice_set, None, refl, sym, ap, subst, arith, eq-e
 use Rattle.plain.proofs.Names.{load}
 use Rattle.steps.specs.Indices.Robust.Parts.{empty, locked, count_want, count_after}
 use Rattle.steps.specs.Indices.Robust.Looks.{first_borrowed, borrowed_want, borrowed_after, borrowed_counted, locked_after}
-use Rattle.steps.specs.declared.indices.robust.parts.Count as counts
+use Rattle.steps.specs.declared.indices.robust.parts.Count.TheVariants as counts
 use Rattle.steps.specs.declared.indices.robust.looks.BorrowedIndices.{BorrowedIndices}
 use Rattle.steps.specs.declared.indices.robust.looks.IsLocked.{IsLocked}
 use Rattle.plain.specs.Alone.{BehavesAs}
@@ -24,7 +24,7 @@ module _ (capacity g : ℕ) (cells : List ℕ) (small : g < 2 ^ 64) (long : leng
   borrowed_walks some =
       part_walks (λ c. borrowed_want c) (λ c old. borrowed_after c old) count_want (count_after capacity)
       (λ count. record { capacity = capacity; count = count }) (borrowed_counted (first_borrowed capacity))
-      (λ d. refl) (λ d old. refl) (λ d. refl) (suc (suc (suc (length cells)))) 0 (OnEnd Counted) counts.TheVariants.LoadsCounter (g ∷ cells)
+      (λ d. refl) (λ d old. refl) (λ d. refl) (suc (suc (suc (length cells)))) 0 (OnEnd Counted) counts.LoadsCounter (g ∷ cells)
       (count_walks capacity g cells small long few _
       (λ e. (
         record { long = omega arith; some = some; few = few; small = small },

@@ -8,10 +8,11 @@ use Rattle.std.proofs.lemmas.List.{drop_more}
 use Rattle.steps.specs.Indices.Robust.Parts.{cell_word, empty, locked, greatest, one_more, raise_want, raise_after}
 use Rattle.steps.specs.Indices.Robust.Parts.{count_want, count_after, count_comes_to, lock_want}
 use Rattle.steps.specs.Indices.Robust.Parts.{lock_after, lock_counted, first_lock}
-use Rattle.steps.specs.declared.indices.robust.parts.Raise as raises
-use Rattle.steps.specs.declared.indices.robust.parts.Count as counts
-use Rattle.steps.specs.declared.indices.robust.parts.Counted as ends
-use Rattle.steps.specs.declared.indices.robust.parts.Lock as locks
+use Rattle.steps.specs.declared.indices.robust.parts.Raise.TheVariants as raises
+use Rattle.steps.specs.declared.indices.robust.parts.Count.TheVariants as counts
+use Rattle.steps.specs.declared.indices.robust.parts.Counted.{Counted}
+use Rattle.steps.specs.declared.indices.robust.parts.Counted.TheVariants as ends
+use Rattle.steps.specs.declared.indices.robust.parts.Lock.TheVariants as locks
 use Rattle.steps.specs.Objects.Owners.{next_generation, taken_from}
 use Rattle.plain.specs.Robust.{owner_in}
 use Rattle.plain.proofs.Walks.{plus, Walks, Goes, OnEnd, part_walks}
@@ -69,7 +70,7 @@ module _ (g : ℕ) (cells : List ℕ) (small : g < 2 ^ 64) where
 
   pub raise_walks : (P : ReleaseState → List ℕ → Type 0)
       → (g ≡ locked → P Locked (next_generation g ∷ cells)) → (g ≢ locked → P Unlocked (next_generation g ∷ cells))
-      → Walks raise_want raise_after 2 (OnEnd P) raises.TheVariants.LoadsCounter (g ∷ cells)
+      → Walks raise_want raise_after 2 (OnEnd P) raises.LoadsCounter (g ∷ cells)
   raise_walks x0 x1 x2 = grind (arith, by_eq, locked, next_there, greatest, exchanged, one_more, next_below)
 
 pub next_small : (g : ℕ) → g < 2 ^ 64 → next_generation g < 2 ^ 64
@@ -101,7 +102,7 @@ state_number n = if n == locked then Locked else Unlocked
 
 module _ (capacity g : ℕ) (cells : List ℕ) (small : g < 2 ^ 64) (long : length cells ≡ capacity) (few : capacity < 2 ^ 32) where
   -- the cells from here on, and then the counter
-  scans : (P : ends.Counted → List ℕ → Type 0) (total : ℕ) → P (ends.TheVariants.Filled total (next_generation g)) (next_generation g ∷ cells)
+  scans : (P : Counted → List ℕ → Type 0) (total : ℕ) → P (ends.Filled total (next_generation g)) (next_generation g ∷ cells)
       → g ≢ locked → (rest : List ℕ) (index filled : ℕ) → drop index cells ≡ rest → filled ≤ index
       → filled + length (taken_from index (map owner_in rest)) ≡ total
       → Goes count_want (count_after capacity) (suc (suc (length rest))) (OnEnd P) (count_comes_to capacity g index filled) (g ∷ cells)
@@ -112,14 +113,14 @@ module _ (capacity g : ℕ) (cells : List ℕ) (small : g < 2 ^ 64) (long : leng
       (λ t. let near : index < capacity = grind (arith, nat_tests) in absurd (omega arith))
       (λ _. by_eq (λ a. Goes count_want (count_after capacity) 2 (OnEnd P) a (g ∷ cells)) g greatest _ _
       (λ e. let same : filled ≡ total = omega arith in
-      subst (λ (z : ℕ × ℕ). P (ends.TheVariants.Filled z.0 z.1) (z.1 ∷ cells)) (λ i. (sym same i, next_there g (omega arith) i)) h)
+      subst (λ (z : ℕ × ℕ). P (ends.Filled z.0 z.1) (z.1 ∷ cells)) (λ i. (sym same i, next_there g (omega arith) i)) h)
       (λ less. subst (λ ws. Goes count_want (count_after capacity) 1 (OnEnd P)
-      (if g == g then Done (ends.TheVariants.Filled filled (one_more g)) else GoOn counts.TheVariants.LoadsCounter)
+      (if g == g then Done (ends.Filled filled (one_more g)) else GoOn counts.LoadsCounter)
       ws)
       (sym (exchanged g cells small (one_more g)))
       (by_eq (λ a. Goes count_want (count_after capacity) 1 (OnEnd P) a (one_more g ∷ cells)) g g _ _
       (λ _. let same : filled ≡ total = omega arith in
-      subst (λ (z : ℕ × ℕ). P (ends.TheVariants.Filled z.0 z.1) (z.1 ∷ cells)) (λ i. (sym same i, next_below g other less small i)) h)
+      subst (λ (z : ℕ × ℕ). P (ends.Filled z.0 z.1) (z.1 ∷ cells)) (λ i. (sym same i, next_below g other less small i)) h)
       (λ no. absurd (no refl)))))
   scans P total h other (c ∷ rest) index filled is low sum =
       let at = here cells index c rest is in
@@ -139,10 +140,10 @@ module _ (capacity g : ℕ) (cells : List ℕ) (small : g < 2 ^ 64) (long : leng
       scans P total h other rest (index + 1) (one_more filled) at.rest_is (omega arith) (omega arith)))
       (λ t. let far : capacity ≤ index = grind (arith, nat_tests) in absurd (omega arith))
 
-  pub count_walks : (P : ends.Counted → List ℕ → Type 0)
-      → (g ≡ locked → P ends.TheVariants.Locked (g ∷ cells))
-      → (g ≢ locked → P (ends.TheVariants.Filled (number cells) (next_generation g)) (next_generation g ∷ cells))
-      → Walks count_want (count_after capacity) (suc (suc (suc (length cells)))) (OnEnd P) counts.TheVariants.LoadsCounter (g ∷ cells)
+  pub count_walks : (P : Counted → List ℕ → Type 0)
+      → (g ≡ locked → P ends.Locked (g ∷ cells))
+      → (g ≢ locked → P (ends.Filled (number cells) (next_generation g)) (next_generation g ∷ cells))
+      → Walks count_want (count_after capacity) (suc (suc (suc (length cells)))) (OnEnd P) counts.LoadsCounter (g ∷ cells)
   count_walks P shut opens =
       by_eq (λ a. Goes count_want (count_after capacity) (suc (suc (length cells))) (OnEnd P) a (g ∷ cells)) g locked _ _ shut
       (λ other. scans P (number cells) (opens other) other cells 0 0 refl (omega arith) (let all : 0 + number cells ≡ number cells = omega arith in all))
@@ -159,15 +160,15 @@ module _ (capacity g : ℕ) (cells : List ℕ) (small : g < 2 ^ 64) (long : leng
       λ n e. subst (λ m. P (state_number m) (m ∷ cells)) e h in
       let as_locked : (locking g cells) ≡ locked → P Locked (locked ∷ cells) =
       λ e. subst (λ s. P s (locked ∷ cells)) (ap (λ b. if b then Locked else Unlocked) (eq-eqb locked locked refl)) (at locked e) in
-      part_walks lock_want (lock_after capacity) count_want (count_after capacity) locks.TheVariants.Counts lock_counted
-      (λ d. refl) (λ d old. refl) (λ d. refl) (suc (suc (suc (length cells)))) 1 (OnEnd P) counts.TheVariants.LoadsCounter (g ∷ cells)
+      part_walks lock_want (lock_after capacity) count_want (count_after capacity) locks.Counts lock_counted
+      (λ d. refl) (λ d old. refl) (λ d. refl) (suc (suc (suc (length cells)))) 1 (OnEnd P) counts.LoadsCounter (g ∷ cells)
       (count_walks _
       (λ e. let same = next_there g (omega arith) in
       let lock : (locking g cells) ≡ locked =
       by_test (λ n. n ≡ locked) (((number cells) == 0) && not (next_generation g == greatest)) locked (next_generation g) (λ _. refl) (λ _. same ∙ e) in
       subst (λ n. P Locked (n ∷ cells)) (sym e) (as_locked lock))
       (λ other. by_test (λ a. Goes lock_want (lock_after capacity) 1 (OnEnd P) a (next_generation g ∷ cells))
-      (((number cells) == 0) && not (next_generation g == greatest)) (GoOn (locks.TheVariants.ExchangesCounter (next_generation g))) (Done Unlocked)
+      (((number cells) == 0) && not (next_generation g == greatest)) (GoOn (locks.ExchangesCounter (next_generation g))) (Done Unlocked)
       (λ t. let lock : (locking g cells) ≡ locked = ap (λ b. if b then locked else next_generation g) t in
       let written : (if next_generation g == next_generation g then locked ∷ cells else next_generation g ∷ cells) ≡ locked ∷ cells =
       ap (λ b. if b then locked ∷ cells else next_generation g ∷ cells) (eq-eqb (next_generation g) (next_generation g) refl) in

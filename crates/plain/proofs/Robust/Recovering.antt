@@ -10,11 +10,11 @@ use Rattle.std.proofs.lemmas.List.{map-append}
 use Rattle.std.proofs.lemmas.List.Elements.{filter-append}
 use Rattle.steps.specs.Indices.Robust.Parts.{empty, locked, greatest}
 use Rattle.steps.specs.Indices.Robust.Recover.{at_recover, first_recover, recover_want, recover_after}
-use Rattle.steps.specs.declared.ask.Question as questions
+use Rattle.steps.specs.declared.ask.Question.TheVariants as questions
 use Rattle.steps.specs.declared.indices.robust.recover.Recover.{Recover}
-use Rattle.steps.specs.declared.indices.robust.recover.RecoverStage as recovers
+use Rattle.steps.specs.declared.indices.robust.recover.RecoverStage.TheVariants as recovers
 use Rattle.steps.specs.Objects.Owners.{Owners, Owned, taken_from, taken, next_generation, state_of, given_back, to_recover, recovered}
-use Rattle.plain.specs.declared.drive.Stop as stops
+use Rattle.plain.specs.declared.drive.Stop.TheVariants as stops
 use Rattle.plain.specs.Alone.{CanStop, StopsAlike}
 use Rattle.plain.specs.Callable.{index_in, Asked, asks, tells, agreed, TakesQuestions, TakesFreed, HasRecovered}
 use Rattle.plain.specs.Callable as said
@@ -134,11 +134,11 @@ module _ {F S : Type 0} (step : F → ℕ → ℕ → Bool → F → Type 0) (te
     can_go = can_stop want recover_after kept mode _ call tt words t.run
 
     pub ended_so : (state : ReleaseState) (r : Unit {0}) (last : List ℕ)
-        → StopsAlike want recover_after kept mode call tt words (stops.TheVariants.Ended state) r last → Gone state p q last
+        → StopsAlike want recover_after kept mode call tt words (stops.Ended state) r last → Gone state p q last
     ended_so x0 x1 x2 x3 = grind (arith, stops_so, append-nil)
 
     pub asks_so : (question : Question (Unit {0})) (put : Recover) (r : Unit {0}) (last : List ℕ)
-        → StopsAlike want recover_after kept mode call tt words (stops.TheVariants.Asked question put) r last
+        → StopsAlike want recover_after kept mode call tt words (stops.Asked question put) r last
         → AsksAt capacity t.g t.cells t.left question put last
     asks_so x0 x1 x2 x3 x4 = grind (arith, stops_so)
 
@@ -173,8 +173,8 @@ module _ {F S : Type 0} (step : F → ℕ → ℕ → Bool → F → Type 0) (te
     on_no : (p₂ : F) → step p at.owner at.index false p₂
         → Recovering (done + 1)
         (at_recover (first_recover capacity)
-        (if nat_lt (at.index + 1) capacity then recovers.TheVariants.LoadsCell (at.index + 1) else
-        recovers.TheVariants.LoadsCounterAgain))
+        (if nat_lt (at.index + 1) capacity then recovers.LoadsCell (at.index + 1) else
+        recovers.LoadsCounterAgain))
         p₂ q last
     on_no p₂ called =
         let size = short in
@@ -194,14 +194,14 @@ module _ {F S : Type 0} (step : F → ℕ → ℕ → Bool → F → Type 0) (te
           run =
               subst (λ ws. Halts want recover_after kept mode (λ s room vs. StopsAt capacity t.g t.cells left_then s vs)
               (at_recover (first_recover capacity)
-              (if nat_lt (at.index + 1) capacity then recovers.TheVariants.LoadsCell (at.index + 1) else
-              recovers.TheVariants.LoadsCounterAgain))
+              (if nat_lt (at.index + 1) capacity then recovers.LoadsCell (at.index + 1) else
+              recovers.LoadsCounterAgain))
               tt ws)
               (sym at.same)
               (halts want recover_after mode (suc (suc (length at.rest))) (StopsAt capacity t.g t.cells left_then)
               (at_recover (first_recover capacity)
-              (if nat_lt (at.index + 1) capacity then recovers.TheVariants.LoadsCell (at.index + 1) else
-              recovers.TheVariants.LoadsCounterAgain))
+              (if nat_lt (at.index + 1) capacity then recovers.LoadsCell (at.index + 1) else
+              recovers.LoadsCounterAgain))
               (t.g ∷ t.cells) (omega arith)
               (recovers_on capacity mode t.g t.cells long at.rest (at.index + 1) left_then at.rest_is refl));
         }
@@ -214,7 +214,7 @@ module _ {F S : Type 0} (step : F → ℕ → ℕ → Bool → F → Type 0) (te
 
     -- the question of the first that is left was answered by yes, and the other closure was told
     on_yes : (p₂ : F) (q₂ : S) → step p at.owner at.index true p₂ → tell q at.owner at.index q₂
-        → Recovering (done + 1) (at_recover (first_recover capacity) (recovers.TheVariants.EmptiesCell at.index at.owner)) p₂ q₂ last
+        → Recovering (done + 1) (at_recover (first_recover capacity) (recovers.EmptiesCell at.index at.owner)) p₂ q₂ last
     on_yes p₂ q₂ called heard =
         let size = short in
         let few = t.fits.few in
@@ -241,11 +241,11 @@ module _ {F S : Type 0} (step : F → ℕ → ℕ → Bool → F → Type 0) (te
           run =
               subst (λ ws. Halts want recover_after kept mode
               (λ s room vs. StopsAt capacity (counter_then mode t.g emptied) emptied left_then s vs)
-              (at_recover (first_recover capacity) (recovers.TheVariants.EmptiesCell at.index at.owner)) tt ws)
+              (at_recover (first_recover capacity) (recovers.EmptiesCell at.index at.owner)) tt ws)
               (sym at.same)
               (halts want recover_after mode (suc (suc (suc (rounds capacity t.g t.cells t.fits.small long t.fits.few opens at.index at.rest at.rest_is))))
               (StopsAt capacity (counter_then mode t.g emptied) emptied left_then)
-              (at_recover (first_recover capacity) (recovers.TheVariants.EmptiesCell at.index at.owner))
+              (at_recover (first_recover capacity) (recovers.EmptiesCell at.index at.owner))
               (t.g ∷ t.cells)
               (let a = plus_sum (plus (suc (suc (suc (length emptied)))) 1) (suc (suc (length at.rest))) in
               let b = plus_sum (suc (suc (suc (length emptied)))) 1 in
@@ -256,22 +256,22 @@ module _ {F S : Type 0} (step : F → ℕ → ℕ → Bool → F → Type 0) (te
     -- ---- as the question was matched
 
     abbrev is_owned : Question (Unit {0}) → Type 0
-    is_owned (questions.TheVariants.Owned owner index) = Unit {0}
-    is_owned (questions.TheVariants.Index index) = ⊥
-    is_owned (questions.TheVariants.Value index unit) = ⊥
+    is_owned (questions.Owned owner index) = Unit {0}
+    is_owned (questions.Index index) = ⊥
+    is_owned (questions.Value index unit) = ⊥
 
     abbrev owner_of : Question (Unit {0}) → ℕ
-    owner_of (questions.TheVariants.Owned owner index) = owner
-    owner_of (questions.TheVariants.Index index) = 0
-    owner_of (questions.TheVariants.Value index unit) = 0
+    owner_of (questions.Owned owner index) = owner
+    owner_of (questions.Index index) = 0
+    owner_of (questions.Value index unit) = 0
 
-    pub no_index : (index : ℕ) → question ≡ questions.TheVariants.Index index → ⊥
+    pub no_index : (index : ℕ) → question ≡ questions.Index index → ⊥
     no_index index is = subst is_owned (sym at.asks ∙ is) tt
 
-    pub no_value : (index : ℕ) (unit : Unit {0}) → question ≡ questions.TheVariants.Value index unit → ⊥
+    pub no_value : (index : ℕ) (unit : Unit {0}) → question ≡ questions.Value index unit → ⊥
     no_value index unit is = subst is_owned (sym at.asks ∙ is) tt
 
-    module _ (owner index : ℕ) (is : question ≡ questions.TheVariants.Owned owner index) where
+    module _ (owner index : ℕ) (is : question ≡ questions.Owned owner index) where
       owner_is : owner ≡ at.owner
       owner_is = ap owner_of (sym is ∙ at.asks)
 

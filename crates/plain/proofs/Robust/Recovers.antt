@@ -5,10 +5,11 @@ use Rattle.plain.proofs.Names.{nat_tests, drop-set-lt, by_test, by_eq, Question,
 use Rattle.plain.proofs.Names.{LockIfLastIndex, Default, ReleaseState}
 use Rattle.steps.specs.Indices.Robust.Parts.{cell_word, empty, locked, raise_want, raise_after, lock_want, lock_after, first_lock}
 use Rattle.steps.specs.Indices.Robust.Recover.{at_recover, first_recover, recover_comes_to, recover_raised, recover_locked, recover_want, recover_after}
-use Rattle.steps.specs.declared.ask.Question as questions
-use Rattle.steps.specs.declared.indices.robust.parts.Raise as raises
+use Rattle.steps.specs.declared.ask.Question.TheVariants as questions
+use Rattle.steps.specs.declared.indices.robust.parts.Raise.TheVariants as raises
 use Rattle.steps.specs.declared.indices.robust.recover.Recover.{Recover}
-use Rattle.steps.specs.declared.indices.robust.recover.RecoverStage as recovers
+use Rattle.steps.specs.declared.indices.robust.recover.RecoverStage.{RecoverStage}
+use Rattle.steps.specs.declared.indices.robust.recover.RecoverStage.TheVariants as recovers
 use Rattle.steps.specs.Objects.Owners.{Owned, taken_from, next_generation}
 use Rattle.plain.specs.declared.drive.Stop.{Stop}
 use Rattle.plain.specs.declared.drive.Stop.TheVariants.{Asked, Ended}
@@ -26,8 +27,8 @@ pub record AsksAt (capacity g : ℕ) (cells : List ℕ) (left : List Owned) (que
   pub rest_is : drop (index + 1) cells ≡ rest
   pub word_is : slice_index (g ∷ cells) (cell_word index) ≡ owner
   pub near : index < capacity
-  pub asks : question ≡ questions.TheVariants.Owned owner index
-  pub stands : call ≡ at_recover (first_recover capacity) (recovers.TheVariants.Asks index owner)
+  pub asks : question ≡ questions.Owned owner index
+  pub stands : call ≡ at_recover (first_recover capacity) (recovers.Asks index owner)
   pub same : last ≡ g ∷ cells
 
 abbrev pub StopsAt : ℕ → ℕ → List ℕ → List Owned → Stop Recover ReleaseState → List ℕ → Type 0
@@ -91,7 +92,7 @@ module _ (capacity g : ℕ) (cells : List ℕ) (small : g < 2 ^ 64) (long : leng
   Ends mode n counter call words =
       Walks (λ c. recover_want c) (λ c old. recover_after c mode old) n (StopsAt capacity counter emptied left_then) call words
 
-  abbrev at : recovers.RecoverStage → Recover
+  abbrev at : RecoverStage → Recover
   at stage = at_recover (first_recover capacity) stage
 
   abbrev scan : ℕ
@@ -106,33 +107,33 @@ module _ (capacity g : ℕ) (cells : List ℕ) (small : g < 2 ^ 64) (long : leng
   then_on x0 x1 = grind (arith, recovers_on, emptied_long, drop-set-lt, empty)
 
   locks_on : (counter : ℕ) → counter < 2 ^ 64
-      → Ends LockIfLastIndex rounds (locking counter emptied) (at (recovers.TheVariants.Locks index first_lock)) (counter ∷ emptied)
+      → Ends LockIfLastIndex rounds (locking counter emptied) (at (recovers.Locks index first_lock)) (counter ∷ emptied)
   locks_on counter low =
       part_walks (λ c. recover_want c) (λ c old. recover_after c LockIfLastIndex old) lock_want (lock_after capacity)
-      (λ l. at (recovers.TheVariants.Locks index l)) (recover_locked (first_recover capacity) index)
+      (λ l. at (recovers.Locks index l)) (recover_locked (first_recover capacity) index)
       (λ d. refl) (λ d old. refl) (λ d. refl) (plus (suc (suc (suc (length emptied)))) 1) scan
       (StopsAt capacity (locking counter emptied) emptied left_then) first_lock (counter ∷ emptied)
       (lock_walks capacity counter emptied low emptied_long few _ (then_on LockIfLastIndex (locking counter emptied)))
 
   raises_on : (mode : ReleaseMode)
-      → Ends mode (suc (suc rounds)) (counter_then mode g emptied) (at (recovers.TheVariants.Raises index raises.TheVariants.LoadsCounter)) (g ∷ emptied)
+      → Ends mode (suc (suc rounds)) (counter_then mode g emptied) (at (recovers.Raises index raises.LoadsCounter)) (g ∷ emptied)
   raises_on Default =
       part_walks (λ c. recover_want c) (λ c old. recover_after c Default old) raise_want raise_after
-      (λ r. at (recovers.TheVariants.Raises index r)) (recover_raised (first_recover capacity) index Default)
+      (λ r. at (recovers.Raises index r)) (recover_raised (first_recover capacity) index Default)
       (λ d. refl) (λ d old. refl) (λ d. refl) 2 rounds
-      (StopsAt capacity (next_generation g) emptied left_then) raises.TheVariants.LoadsCounter (g ∷ emptied)
+      (StopsAt capacity (next_generation g) emptied left_then) raises.LoadsCounter (g ∷ emptied)
       (raise_walks g emptied small _ (λ e. absurd (opens e))
       (λ _. goes_longer (λ c. recover_want c) (λ c old. recover_after c Default old) (plus (suc (suc (suc (length emptied)))) 1) scan
       (StopsAt capacity (next_generation g) emptied left_then) (recover_comes_to (first_recover capacity) (index + 1)) (next_generation g ∷ emptied)
       (then_on Default (next_generation g))))
   raises_on LockIfLastIndex =
       part_walks (λ c. recover_want c) (λ c old. recover_after c LockIfLastIndex old) raise_want raise_after
-      (λ r. at (recovers.TheVariants.Raises index r)) (recover_raised (first_recover capacity) index LockIfLastIndex)
+      (λ r. at (recovers.Raises index r)) (recover_raised (first_recover capacity) index LockIfLastIndex)
       (λ d. refl) (λ d old. refl) (λ d. refl) 2 rounds
-      (StopsAt capacity (locking (next_generation g) emptied) emptied left_then) raises.TheVariants.LoadsCounter (g ∷ emptied)
+      (StopsAt capacity (locking (next_generation g) emptied) emptied left_then) raises.LoadsCounter (g ∷ emptied)
       (raise_walks g emptied small _ (λ e. absurd (opens e)) (λ _. locks_on (next_generation g) (next_small g small)))
 
   -- from a yes to the next question, or to the end
   pub frees_on : (mode : ReleaseMode) (owner : ℕ) → slice_index (g ∷ cells) (cell_word index) ≡ owner
-      → Ends mode (suc (suc (suc rounds))) (counter_then mode g emptied) (at (recovers.TheVariants.EmptiesCell index owner)) (g ∷ cells)
+      → Ends mode (suc (suc (suc rounds))) (counter_then mode g emptied) (at (recovers.EmptiesCell index owner)) (g ∷ cells)
   frees_on x0 x1 x2 = grind (arith, by_eq, suc, empty, eq-eqb, next_set, raises_on)

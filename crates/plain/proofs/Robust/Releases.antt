@@ -6,9 +6,9 @@ use Rattle.plain.proofs.Names.{map-set, get_or-map, by_eq, After, GoOn, ReleaseM
 use Rattle.steps.specs.Indices.Robust.Parts.{cell_word, empty, locked, greatest, raise_want, raise_after, lock_want, lock_after, first_lock}
 use Rattle.steps.specs.Indices.Robust.Release.{Released, first_release, at_release, release_raised, release_locked, release_want, release_after}
 use Rattle.steps.specs.declared.indices.enums.RobustUniqueIndexSetReleaseError.TheVariants.{IndexIsNotOwnedByProvidedOwner}
-use Rattle.steps.specs.declared.indices.robust.parts.Raise as raises
+use Rattle.steps.specs.declared.indices.robust.parts.Raise.TheVariants as raises
 use Rattle.steps.specs.declared.indices.robust.release.Release.{Release}
-use Rattle.steps.specs.declared.indices.robust.release.ReleaseStage as releases
+use Rattle.steps.specs.declared.indices.robust.release.ReleaseStage.TheVariants as releases
 use Rattle.plain.specs.Alone.{BehavesAs}
 use Rattle.steps.specs.Objects.Owners.{Owners, next_generation, has, owns, without, given_back, release_state, released, after_release}
 use Rattle.plain.specs.Robust.{owner_in, owners_in, Represents}
@@ -71,21 +71,21 @@ module _ (capacity index owner g : ℕ) (cells : List ℕ) (small : g < 2 ^ 64) 
   answer mode = Ok (release_state mode (owners_in (counter_then mode g emptied ∷ emptied)))
 
   raises_on : (mode : ReleaseMode) (P : Released → List ℕ → Type 0) → P (answer mode) (counter_then mode g emptied ∷ emptied)
-      → Ends mode (suc (suc fuel)) P (at_release first (releases.TheVariants.Raises raises.TheVariants.LoadsCounter)) (g ∷ emptied)
+      → Ends mode (suc (suc fuel)) P (at_release first (releases.Raises raises.LoadsCounter)) (g ∷ emptied)
   raises_on Default P h =
       part_walks (λ c. release_want c (given Default)) (λ c old. release_after c (given Default) old) raise_want raise_after
-      (λ r. at_release first (releases.TheVariants.Raises r)) (release_raised first Default)
-      (λ d. refl) (λ d old. refl) (λ d. refl) 2 fuel (OnEnd P) raises.TheVariants.LoadsCounter (g ∷ emptied)
+      (λ r. at_release first (releases.Raises r)) (release_raised first Default)
+      (λ d. refl) (λ d old. refl) (λ d. refl) 2 fuel (OnEnd P) raises.LoadsCounter (g ∷ emptied)
       (raise_walks g emptied small _ (λ _. h) (λ _. h))
   raises_on LockIfLastIndex P h =
-      let locks_on : Ends LockIfLastIndex fuel P (at_release first (releases.TheVariants.Locks first_lock)) (next_generation g ∷ emptied) =
+      let locks_on : Ends LockIfLastIndex fuel P (at_release first (releases.Locks first_lock)) (next_generation g ∷ emptied) =
       part_walks (λ c. release_want c (given LockIfLastIndex)) (λ c old. release_after c (given LockIfLastIndex) old) lock_want (lock_after capacity)
-      (λ l. at_release first (releases.TheVariants.Locks l)) (release_locked first)
+      (λ l. at_release first (releases.Locks l)) (release_locked first)
       (λ d. refl) (λ d old. refl) (λ d. refl) (plus (suc (suc (suc (length emptied)))) 1) 0 (OnEnd P) first_lock (next_generation g ∷ emptied)
       (lock_walks capacity (next_generation g) emptied (next_small g small) emptied_long few _ h) in
       part_walks (λ c. release_want c (given LockIfLastIndex)) (λ c old. release_after c (given LockIfLastIndex) old) raise_want raise_after
-      (λ r. at_release first (releases.TheVariants.Raises r)) (release_raised first LockIfLastIndex)
-      (λ d. refl) (λ d old. refl) (λ d. refl) 2 fuel (OnEnd P) raises.TheVariants.LoadsCounter (g ∷ emptied)
+      (λ r. at_release first (releases.Raises r)) (release_raised first LockIfLastIndex)
+      (λ d. refl) (λ d old. refl) (λ d. refl) 2 fuel (OnEnd P) raises.LoadsCounter (g ∷ emptied)
       (raise_walks g emptied small _ (λ _. locks_on) (λ _. locks_on))
 
   -- ---- what it makes of the map
@@ -106,7 +106,7 @@ module _ (capacity index owner g : ℕ) (cells : List ℕ) (small : g < 2 ^ 64) 
       (if slice_index (g ∷ cells) (cell_word index) == owner then slice_set (g ∷ cells) (cell_word index) empty else g ∷ cells))
       (slice_index (g ∷ cells) (cell_word index)) owner _ _
       (λ e. let hit : has old index owner ≡ true = has_is ∙ eq-eqb (slice_index (g ∷ cells) (cell_word index)) owner e in
-      subst (λ ws. From mode (suc (suc fuel)) (GaveBack mode) (GoOn (at_release first (releases.TheVariants.Raises raises.TheVariants.LoadsCounter))) ws)
+      subst (λ ws. From mode (suc (suc fuel)) (GaveBack mode) (GoOn (at_release first (releases.Raises raises.LoadsCounter))) ws)
       (sym (ap (λ b. if b then slice_set (g ∷ cells) (cell_word index) empty else g ∷ cells)
       (eq-eqb (slice_index (g ∷ cells) (cell_word index)) owner e)
       ∙ next_set g index empty cells))

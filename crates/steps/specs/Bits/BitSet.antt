@@ -4,31 +4,33 @@ use Rattle.steps.specs.Queues.Ring.{after_position, load, store}
 use Rattle.steps.specs.Bits.Words.{element_of, has_flag, with_flag, without_flag}
 use Rattle.steps.specs.declared.ask.Op.TheVariants.{Exchange}
 use Rattle.steps.specs.declared.ask.Want.{Want}
-use Rattle.steps.specs.declared.ask.Want as wants
+use Rattle.steps.specs.declared.ask.Want.TheVariants as wants
 use Rattle.steps.specs.declared.ask.After.{After}
 use Rattle.steps.specs.declared.ask.After.TheVariants.{GoOn, Done}
 use Rattle.steps.specs.declared.bits.bit_set.Set.{Set}
-use Rattle.steps.specs.declared.bits.bit_set.SetStage as sets
+use Rattle.steps.specs.declared.bits.bit_set.SetStage.{SetStage}
+use Rattle.steps.specs.declared.bits.bit_set.SetStage.TheVariants as sets
 use Rattle.steps.specs.declared.bits.bit_set.ResetNext.{ResetNext}
-use Rattle.steps.specs.declared.bits.bit_set.ResetNextStage as resets
+use Rattle.steps.specs.declared.bits.bit_set.ResetNextStage.{ResetNextStage}
+use Rattle.steps.specs.declared.bits.bit_set.ResetNextStage.TheVariants as resets
 
 -- writes the word where it is still as it was found
 abbrev pub exchange : ℕ → ℕ → ℕ → Want (Unit {0})
 exchange word found new =
-    wants.TheVariants.Ask (record { word = word; op = Exchange found new })
+    wants.Ask (record { word = word; op = Exchange found new })
 
 -- ---- set
 
 abbrev pub first_set : Set
-first_set = record { stage = sets.TheVariants.LoadsElement }
+first_set = record { stage = sets.LoadsElement }
 
-abbrev pub at_set : sets.SetStage → Set
+abbrev pub at_set : SetStage → Set
 at_set stage = record { stage = stage }
 
 -- load the element; exchange it for the element with the flag
-abbrev pub set_asks : sets.SetStage → ℕ → Want (Unit {0})
-set_asks sets.TheVariants.LoadsElement place = load (element_of place)
-set_asks (sets.TheVariants.ExchangesElement found) place =
+abbrev pub set_asks : SetStage → ℕ → Want (Unit {0})
+set_asks sets.LoadsElement place = load (element_of place)
+set_asks (sets.ExchangesElement found) place =
     exchange (element_of place) found (with_flag found place)
 
 abbrev pub set_want : Set → ℕ → Want (Unit {0})
@@ -39,28 +41,28 @@ abbrev pub set_tests : ℕ → ℕ → After Set Bool
 set_tests place found =
     if has_flag found place
     then Done false
-    else GoOn (at_set (sets.TheVariants.ExchangesElement found))
+    else GoOn (at_set (sets.ExchangesElement found))
 
 -- where the element has changed, it is tested again
-abbrev pub set_takes : sets.SetStage → ℕ → ℕ → After Set Bool
-set_takes sets.TheVariants.LoadsElement place old = set_tests place old
-set_takes (sets.TheVariants.ExchangesElement found) place old =
+abbrev pub set_takes : SetStage → ℕ → ℕ → After Set Bool
+set_takes sets.LoadsElement place old = set_tests place old
+set_takes (sets.ExchangesElement found) place old =
     if old == found then Done true else set_tests place old
 
 abbrev pub set_after : Set → ℕ → ℕ → After Set Bool
 set_after call place old = set_takes call.stage place old
 
-abbrev pub set_turns_back : sets.SetStage → ℕ → Bool
-set_turns_back sets.TheVariants.LoadsElement old = false
-set_turns_back (sets.TheVariants.ExchangesElement found) old = not (old == found)
+abbrev pub set_turns_back : SetStage → ℕ → Bool
+set_turns_back sets.LoadsElement old = false
+set_turns_back (sets.ExchangesElement found) old = not (old == found)
 
 -- ---- reset_next
 
 abbrev pub first_reset : ℕ → ResetNext
 first_reset capacity =
-    record { capacity = capacity; stage = resets.TheVariants.LoadsPosition }
+    record { capacity = capacity; stage = resets.LoadsPosition }
 
-abbrev pub at_reset : ResetNext → resets.ResetNextStage → ResetNext
+abbrev pub at_reset : ResetNext → ResetNextStage → ResetNext
 at_reset call stage = record { capacity = call.capacity; stage = stage }
 
 -- the place that comes after so many places from the start: after the last one comes 0
@@ -70,14 +72,14 @@ place_after capacity start passed =
 
 -- load the reset position; load the element of each place in turn, and exchange it for the
 -- element without the flag; store the position after the place
-abbrev pub reset_asks : ℕ → resets.ResetNextStage → Want (Unit {0})
-reset_asks capacity resets.TheVariants.LoadsPosition = load 0
-reset_asks capacity (resets.TheVariants.LoadsElement start passed) =
+abbrev pub reset_asks : ℕ → ResetNextStage → Want (Unit {0})
+reset_asks capacity resets.LoadsPosition = load 0
+reset_asks capacity (resets.LoadsElement start passed) =
     load (element_of (place_after capacity start passed))
-reset_asks capacity (resets.TheVariants.ExchangesElement start passed found) =
+reset_asks capacity (resets.ExchangesElement start passed found) =
     exchange (element_of (place_after capacity start passed)) found
     (without_flag found (place_after capacity start passed))
-reset_asks capacity (resets.TheVariants.StoresPosition place) = store 0 (after_position place)
+reset_asks capacity (resets.StoresPosition place) = store 0 (after_position place)
 
 abbrev pub reset_want : ResetNext → Want (Unit {0})
 reset_want call = reset_asks call.capacity call.stage
@@ -86,38 +88,38 @@ reset_want call = reset_asks call.capacity call.stage
 abbrev pub reset_comes_to : ResetNext → ℕ → ℕ → After ResetNext (Option ℕ)
 reset_comes_to call start passed =
     if nat_lt passed call.capacity
-    then GoOn (at_reset call (resets.TheVariants.LoadsElement start passed))
+    then GoOn (at_reset call (resets.LoadsElement start passed))
     else Done None
 
 -- where the flag is clear, it goes on to the next place
 abbrev pub reset_tests : ResetNext → ℕ → ℕ → ℕ → After ResetNext (Option ℕ)
 reset_tests call start passed found =
     if has_flag found (place_after call.capacity start passed)
-    then GoOn (at_reset call (resets.TheVariants.ExchangesElement start passed found))
+    then GoOn (at_reset call (resets.ExchangesElement start passed found))
     else reset_comes_to call start (passed + 1)
 
 abbrev pub at_most : ℕ → ℕ → ℕ
 at_most capacity position = if nat_lt capacity position then capacity else position
 
 -- where the element has changed, the flag is tested again
-abbrev pub reset_takes : ResetNext → resets.ResetNextStage → ℕ → After ResetNext (Option ℕ)
-reset_takes call resets.TheVariants.LoadsPosition old =
+abbrev pub reset_takes : ResetNext → ResetNextStage → ℕ → After ResetNext (Option ℕ)
+reset_takes call resets.LoadsPosition old =
     reset_comes_to call (at_most call.capacity old) 0
-reset_takes call (resets.TheVariants.LoadsElement start passed) old =
+reset_takes call (resets.LoadsElement start passed) old =
     reset_tests call start passed old
-reset_takes call (resets.TheVariants.ExchangesElement start passed found) old =
+reset_takes call (resets.ExchangesElement start passed found) old =
     if old == found
     then GoOn
-    (at_reset call (resets.TheVariants.StoresPosition (place_after call.capacity start passed)))
+    (at_reset call (resets.StoresPosition (place_after call.capacity start passed)))
     else reset_tests call start passed old
-reset_takes call (resets.TheVariants.StoresPosition place) old = Done (Some place)
+reset_takes call (resets.StoresPosition place) old = Done (Some place)
 
 abbrev pub reset_after : ResetNext → ℕ → After ResetNext (Option ℕ)
 reset_after call old = reset_takes call call.stage old
 
-abbrev pub reset_turns_back : resets.ResetNextStage → ℕ → Bool
-reset_turns_back resets.TheVariants.LoadsPosition old = false
-reset_turns_back (resets.TheVariants.LoadsElement start passed) old = false
-reset_turns_back (resets.TheVariants.ExchangesElement start passed found) old =
+abbrev pub reset_turns_back : ResetNextStage → ℕ → Bool
+reset_turns_back resets.LoadsPosition old = false
+reset_turns_back (resets.LoadsElement start passed) old = false
+reset_turns_back (resets.ExchangesElement start passed found) old =
     not (old == found)
-reset_turns_back (resets.TheVariants.StoresPosition place) old = false
+reset_turns_back (resets.StoresPosition place) old = false

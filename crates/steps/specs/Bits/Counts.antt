@@ -2,14 +2,14 @@
 use Rattle.std.specs.Prelude.{ℕ}
 use Rattle.steps.specs.declared.ask.Op.TheVariants.{Add}
 use Rattle.steps.specs.declared.ask.Want.{Want}
-use Rattle.steps.specs.declared.ask.Want as wants
+use Rattle.steps.specs.declared.ask.Want.TheVariants as wants
 use Rattle.steps.specs.declared.ask.After.{After}
 use Rattle.steps.specs.declared.ask.After.TheVariants.{Done}
 use Rattle.steps.specs.declared.bits.counting_bit_set.Set.{Set}
 
 -- add 1 to the count of the place
 abbrev pub set_want : Set → ℕ → Want (Unit {0})
-set_want call place = wants.TheVariants.Ask (record { word = place; op = Add 1 })
+set_want call place = wants.Ask (record { word = place; op = Add 1 })
 
 abbrev pub set_after : Set → ℕ → After Set ℕ
 set_after call old = Done old

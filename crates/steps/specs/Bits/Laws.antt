@@ -7,12 +7,14 @@ use Rattle.steps.specs.Ask.{is_store}
 use Rattle.steps.specs.Laws.{no_store}
 use Rattle.steps.specs.Picks.{by_test}
 use Rattle.steps.specs.declared.ask.Op.TheVariants.{Swap}
-use Rattle.steps.specs.declared.ask.Want as wants
+use Rattle.steps.specs.declared.ask.Want.TheVariants as wants
 use Rattle.steps.specs.declared.ask.After.{After}
 use Rattle.steps.specs.declared.ask.After.TheVariants.{GoOn, Done}
-use Rattle.steps.specs.declared.bits.bit_set.SetStage as sets
+use Rattle.steps.specs.declared.bits.bit_set.SetStage.{SetStage}
+use Rattle.steps.specs.declared.bits.bit_set.SetStage.TheVariants as sets
 use Rattle.steps.specs.declared.bits.bit_set.ResetNext.{ResetNext}
-use Rattle.steps.specs.declared.bits.bit_set.ResetNextStage as resets
+use Rattle.steps.specs.declared.bits.bit_set.ResetNextStage.{ResetNextStage}
+use Rattle.steps.specs.declared.bits.bit_set.ResetNextStage.TheVariants as resets
 use Rattle.steps.specs.declared.bits.counting_bit_set.Set as counts
 use Rattle.steps.specs.declared.bits.reset_all.ResetAll.{ResetAll}
 use Rattle.steps.specs.Bits.BitSet.{set_asks, set_takes, reset_asks, reset_takes}
@@ -20,19 +22,19 @@ use Rattle.steps.specs.Bits.Counts as counting
 use Rattle.steps.specs.Bits.ResetAll.{reset_all_want, reset_all_after, reset_all_kept, reset_all_left}
 use Rattle.steps.specs.declared.copied.OneWord.{OneWord}
 
-pub set_tells : (stage : sets.SetStage) (place : ℕ) (room : Unit {0}) (m n : ℕ)
+pub set_tells : (stage : SetStage) (place : ℕ) (room : Unit {0}) (m n : ℕ)
     → IsTrue (is_store (set_asks stage place))
     → (set_takes stage place m ≡ set_takes stage place n) × (room ≡ room)
-set_tells sets.TheVariants.LoadsElement place room m n t = no_store t
-set_tells (sets.TheVariants.ExchangesElement found) place room m n t = no_store t
+set_tells sets.LoadsElement place room m n t = no_store t
+set_tells (sets.ExchangesElement found) place room m n t = no_store t
 
-pub reset_tells : (c : ResetNext) (stage : resets.ResetNextStage) (room : Unit {0}) (m n : ℕ)
+pub reset_tells : (c : ResetNext) (stage : ResetNextStage) (room : Unit {0}) (m n : ℕ)
     → IsTrue (is_store (reset_asks c.capacity stage))
     → (reset_takes c stage m ≡ reset_takes c stage n) × (room ≡ room)
-reset_tells c resets.TheVariants.LoadsPosition room m n t = no_store t
-reset_tells c (resets.TheVariants.LoadsElement start passed) room m n t = no_store t
-reset_tells c (resets.TheVariants.ExchangesElement start passed found) room m n t = no_store t
-reset_tells c (resets.TheVariants.StoresPosition place) room m n t = (refl, refl)
+reset_tells c resets.LoadsPosition room m n t = no_store t
+reset_tells c (resets.LoadsElement start passed) room m n t = no_store t
+reset_tells c (resets.ExchangesElement start passed found) room m n t = no_store t
+reset_tells c (resets.StoresPosition place) room m n t = (refl, refl)
 
 pub count_tells : (c : counts.Set) (place : ℕ) (room : Unit {0}) (m n : ℕ)
     → IsTrue (is_store (counting.set_want c place))
@@ -49,7 +51,7 @@ pub reset_all_tells : (c : ResetAll) (room : OneWord) (m n : ℕ)
 reset_all_tells c room m n =
     by_test (λ w. IsTrue (is_store w) → (reset_all_after c m ≡ reset_all_after c n)
     × (reset_all_kept room m ≡ reset_all_kept room n)) (nat_lt c.word c.end)
-    (wants.TheVariants.Ask (record { word = c.word; op = Swap 0 })) wants.TheVariants.Nothing
+    (wants.Ask (record { word = c.word; op = Swap 0 })) wants.Nothing
     (λ h t. no_store t) (λ h t. no_store t)
 
 -- one more than is left once it has gone on, nothing once it is done

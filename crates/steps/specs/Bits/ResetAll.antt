@@ -3,7 +3,7 @@ use Rattle.std.specs.Prelude.{ℕ, ◌+◌, ◌-◌, if◌then◌else◌, nat_lt
 use Rattle.steps.specs.Bits.Words.{elements}
 use Rattle.steps.specs.declared.ask.Op.TheVariants.{Swap}
 use Rattle.steps.specs.declared.ask.Want.{Want}
-use Rattle.steps.specs.declared.ask.Want as wants
+use Rattle.steps.specs.declared.ask.Want.TheVariants as wants
 use Rattle.steps.specs.declared.ask.After.{After}
 use Rattle.steps.specs.declared.ask.After.TheVariants.{GoOn, Done}
 use Rattle.steps.specs.declared.bits.reset_all.ResetAll.{ResetAll}
@@ -20,8 +20,8 @@ all_counts capacity = record { word = 0; end = capacity }
 abbrev pub reset_all_want : ResetAll → Want (Unit {0})
 reset_all_want call =
     if nat_lt call.word call.end
-    then wants.TheVariants.Ask (record { word = call.word; op = Swap 0 })
-    else wants.TheVariants.Nothing
+    then wants.Ask (record { word = call.word; op = Swap 0 })
+    else wants.Nothing
 
 abbrev pub reset_all_after : ResetAll → ℕ → After ResetAll (Unit {0})
 reset_all_after call old =

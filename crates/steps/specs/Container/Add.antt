@@ -9,54 +9,56 @@ use Rattle.steps.specs.declared.ask.Want.{Want}
 use Rattle.steps.specs.declared.ask.After.{After}
 use Rattle.steps.specs.declared.ask.After.TheVariants.{GoOn, Done}
 use Rattle.steps.specs.declared.indices.robust.acquire.Acquire.{Acquire}
-use Rattle.steps.specs.declared.indices.robust.acquire.AcquireStage as acquires
+use Rattle.steps.specs.declared.indices.robust.acquire.AcquireStage.{AcquireStage}
+use Rattle.steps.specs.declared.indices.robust.acquire.AcquireStage.TheVariants as acquires
 use Rattle.steps.specs.declared.container.enums.ContainerAddFailure.{ContainerAddFailure}
 use Rattle.steps.specs.declared.container.add.Add.{Add}
-use Rattle.steps.specs.declared.container.add.AddStage as adds
+use Rattle.steps.specs.declared.container.add.AddStage.{AddStage}
+use Rattle.steps.specs.declared.container.add.AddStage.TheVariants as adds
 use Rattle.steps.specs.declared.container.add.Owned.{Owned}
 
 abbrev pub Added : Type 0
 Added = Result ℕ ContainerAddFailure
 
 -- the acquire of the set, at this stage
-abbrev pub inner_acquire : ℕ → acquires.AcquireStage → Acquire
+abbrev pub inner_acquire : ℕ → AcquireStage → Acquire
 inner_acquire capacity stage = record { capacity = capacity; stage = stage }
 
 -- the counter has moved
-abbrev pub add_goes_back : adds.AddStage → ℕ → Bool
-add_goes_back (adds.TheVariants.Acquires stage) old = acquire_goes_back stage old
-add_goes_back (adds.TheVariants.LoadsCount index) old = false
-add_goes_back (adds.TheVariants.Hides index count) old = false
-add_goes_back (adds.TheVariants.Stores index at) old = false
-add_goes_back (adds.TheVariants.AddsCount index) old = false
-add_goes_back (adds.TheVariants.AddsChange index) old = false
+abbrev pub add_goes_back : AddStage → ℕ → Bool
+add_goes_back (adds.Acquires stage) old = acquire_goes_back stage old
+add_goes_back (adds.LoadsCount index) old = false
+add_goes_back (adds.Hides index count) old = false
+add_goes_back (adds.Stores index at) old = false
+add_goes_back (adds.AddsCount index) old = false
+add_goes_back (adds.AddsChange index) old = false
 
 module _ {T : Type 0} where
-  abbrev pub at_add : Add T → adds.AddStage → Add T
+  abbrev pub at_add : Add T → AddStage → Add T
   at_add call stage = record call { stage = stage }
 
   abbrev pub first_add : ℕ → Add T
   first_add capacity =
       record {
         capacity = capacity;
-        stage = adds.TheVariants.Acquires acquires.TheVariants.LoadsCounter;
+        stage = adds.Acquires acquires.LoadsCounter;
         of = record {};
       }
 
   -- acquire; load the number of the element; hide what stands there; store
   -- the words; add 1 to the number; add 1 to the changes
-  abbrev pub add_asks : (T → List ℕ) → ℕ → ℕ → adds.AddStage → Owned T → Want (Unit {0})
-  add_asks words_of size capacity (adds.TheVariants.Acquires stage) given =
+  abbrev pub add_asks : (T → List ℕ) → ℕ → ℕ → AddStage → Owned T → Want (Unit {0})
+  add_asks words_of size capacity (adds.Acquires stage) given =
       acquire_asks stage given.owner
-  add_asks words_of size capacity (adds.TheVariants.LoadsCount index) given =
+  add_asks words_of size capacity (adds.LoadsCount index) given =
       load (count_word capacity index)
-  add_asks words_of size capacity (adds.TheVariants.Hides index count) given =
+  add_asks words_of size capacity (adds.Hides index count) given =
       hide capacity index count
-  add_asks words_of size capacity (adds.TheVariants.Stores index at) given =
+  add_asks words_of size capacity (adds.Stores index at) given =
       store (element_word capacity size index at) (slice_index (words_of given.value) at)
-  add_asks words_of size capacity (adds.TheVariants.AddsCount index) given =
+  add_asks words_of size capacity (adds.AddsCount index) given =
       add_one (count_word capacity index)
-  add_asks words_of size capacity (adds.TheVariants.AddsChange index) given =
+  add_asks words_of size capacity (adds.AddsChange index) given =
       add_one (change_word capacity)
 
   abbrev pub add_want : (T → List ℕ) → ℕ → Add T → Owned T → Want (Unit {0})
@@ -65,26 +67,26 @@ module _ {T : Type 0} where
   -- once it has an index it goes on to the element
   abbrev pub add_acquired : Add T → After Acquire Acquired → After (Add T) Added
   add_acquired call (GoOn acquire) =
-      GoOn (at_add call (adds.TheVariants.Acquires acquire.stage))
-  add_acquired call (Done (Ok index)) = GoOn (at_add call (adds.TheVariants.LoadsCount index))
+      GoOn (at_add call (adds.Acquires acquire.stage))
+  add_acquired call (Done (Ok index)) = GoOn (at_add call (adds.LoadsCount index))
   add_acquired call (Done (Err failure)) = Done (Err (add_failure failure))
 
-  abbrev pub add_takes : ℕ → Add T → adds.AddStage → ℕ → After (Add T) Added
-  add_takes size call (adds.TheVariants.Acquires stage) old =
+  abbrev pub add_takes : ℕ → Add T → AddStage → ℕ → After (Add T) Added
+  add_takes size call (adds.Acquires stage) old =
       add_acquired call (acquire_takes (inner_acquire call.capacity stage) stage old)
-  add_takes size call (adds.TheVariants.LoadsCount index) old =
+  add_takes size call (adds.LoadsCount index) old =
       if is_even old
-      then GoOn (at_add call (adds.TheVariants.Stores index 0))
-      else GoOn (at_add call (adds.TheVariants.Hides index old))
-  add_takes size call (adds.TheVariants.Hides index count) old =
-      GoOn (at_add call (adds.TheVariants.Stores index 0))
-  add_takes size call (adds.TheVariants.Stores index at) old =
+      then GoOn (at_add call (adds.Stores index 0))
+      else GoOn (at_add call (adds.Hides index old))
+  add_takes size call (adds.Hides index count) old =
+      GoOn (at_add call (adds.Stores index 0))
+  add_takes size call (adds.Stores index at) old =
       if nat_lt (at + 1) size
-      then GoOn (at_add call (adds.TheVariants.Stores index (at + 1)))
-      else GoOn (at_add call (adds.TheVariants.AddsCount index))
-  add_takes size call (adds.TheVariants.AddsCount index) old =
-      GoOn (at_add call (adds.TheVariants.AddsChange index))
-  add_takes size call (adds.TheVariants.AddsChange index) old = Done (Ok index)
+      then GoOn (at_add call (adds.Stores index (at + 1)))
+      else GoOn (at_add call (adds.AddsCount index))
+  add_takes size call (adds.AddsCount index) old =
+      GoOn (at_add call (adds.AddsChange index))
+  add_takes size call (adds.AddsChange index) old = Done (Ok index)
 
   abbrev pub add_after : ℕ → Add T → ℕ → After (Add T) Added
   add_after size call old = add_takes size call call.stage old

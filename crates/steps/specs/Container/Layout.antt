@@ -3,7 +3,7 @@ use Rattle.std.specs.Prelude.{ℕ, ◌+◌, ◌*◌, ◌%◌, ◌==◌, Bool}
 use Rattle.steps.specs.Indices.Robust.Parts.{exchange, one_more}
 use Rattle.steps.specs.declared.ask.Op.TheVariants.{Add}
 use Rattle.steps.specs.declared.ask.Want.{Want}
-use Rattle.steps.specs.declared.ask.Want as wants
+use Rattle.steps.specs.declared.ask.Want.TheVariants as wants
 
 -- behind the words of the set: how often an element has changed
 abbrev pub change_word : ℕ → ℕ
@@ -26,7 +26,7 @@ abbrev pub is_even : ℕ → Bool
 is_even count = count % 2 == 0
 
 abbrev pub add_one : ℕ → Want (Unit {0})
-add_one word = wants.TheVariants.Ask (record { word = word; op = Add 1 })
+add_one word = wants.Ask (record { word = word; op = Add 1 })
 
 -- the element goes: its odd number is exchanged for the next, which is even
 abbrev pub hide : ℕ → ℕ → ℕ → Want (Unit {0})

@@ -8,31 +8,32 @@ use Rattle.steps.specs.declared.ask.Want.{Want}
 use Rattle.steps.specs.declared.ask.After.{After}
 use Rattle.steps.specs.declared.ask.After.TheVariants.{GoOn, Done}
 use Rattle.steps.specs.declared.container.look.Look.{Look}
-use Rattle.steps.specs.declared.container.look.LookStage as looks
+use Rattle.steps.specs.declared.container.look.LookStage.{LookStage}
+use Rattle.steps.specs.declared.container.look.LookStage.TheVariants as looks
 
 -- load the number of changes; for each index load the number of its element, load its words,
 -- exchange the number for itself
-abbrev pub look_asks : ℕ → ℕ → looks.LookStage → Want (Unit {0})
-look_asks size capacity looks.TheVariants.LoadsChange = load (change_word capacity)
-look_asks size capacity (looks.TheVariants.LoadsCount index) = load (count_word capacity index)
-look_asks size capacity (looks.TheVariants.LoadsWord index count at) =
+abbrev pub look_asks : ℕ → ℕ → LookStage → Want (Unit {0})
+look_asks size capacity looks.LoadsChange = load (change_word capacity)
+look_asks size capacity (looks.LoadsCount index) = load (count_word capacity index)
+look_asks size capacity (looks.LoadsWord index count at) =
     load (element_word capacity size index at)
-look_asks size capacity (looks.TheVariants.ChecksCount index count) = check capacity index count
+look_asks size capacity (looks.ChecksCount index count) = check capacity index count
 
 -- the element has changed while it was copied
-abbrev pub look_goes_back : looks.LookStage → ℕ → Bool
-look_goes_back looks.TheVariants.LoadsChange old = false
-look_goes_back (looks.TheVariants.LoadsCount index) old = false
-look_goes_back (looks.TheVariants.LoadsWord index count at) old = false
-look_goes_back (looks.TheVariants.ChecksCount index count) old = not (old == count)
+abbrev pub look_goes_back : LookStage → ℕ → Bool
+look_goes_back looks.LoadsChange old = false
+look_goes_back (looks.LoadsCount index) old = false
+look_goes_back (looks.LoadsWord index count at) old = false
+look_goes_back (looks.ChecksCount index count) old = not (old == count)
 
 module _ {T : Type 0} where
-  abbrev pub at_look : Look T → looks.LookStage → After (Look T) Bool
+  abbrev pub at_look : Look T → LookStage → After (Look T) Bool
   at_look call stage = GoOn (record call { stage = stage })
 
   abbrev pub first_look : ℕ → Look T
   first_look capacity =
-      record { capacity = capacity; stage = looks.TheVariants.LoadsChange; of = record {} }
+      record { capacity = capacity; stage = looks.LoadsChange; of = record {} }
 
   abbrev pub look_want : ℕ → Look T → Want (Unit {0})
   look_want size call = look_asks size call.capacity call.stage
@@ -41,7 +42,7 @@ module _ {T : Type 0} where
   abbrev pub look_comes_to : Look T → ℕ → After (Look T) Bool
   look_comes_to call index =
       if nat_lt index call.capacity
-      then at_look call (looks.TheVariants.LoadsCount index)
+      then at_look call (looks.LoadsCount index)
       else Done true
 
   -- another number was found: where it is odd the words are read
@@ -49,32 +50,32 @@ module _ {T : Type 0} where
   look_finds call index count =
       if is_even count
       then look_comes_to call (index + 1)
-      else at_look call (looks.TheVariants.LoadsWord index count 0)
+      else at_look call (looks.LoadsWord index count 0)
 
   -- only an element with another number than the state has seen is copied
-  abbrev pub look_takes : ℕ → Look T → looks.LookStage → Numbers → ℕ → After (Look T) Bool
-  look_takes size call looks.TheVariants.LoadsChange seen old =
+  abbrev pub look_takes : ℕ → Look T → LookStage → Numbers → ℕ → After (Look T) Bool
+  look_takes size call looks.LoadsChange seen old =
       if old == seen.change then Done false else look_comes_to call 0
-  look_takes size call (looks.TheVariants.LoadsCount index) seen old =
+  look_takes size call (looks.LoadsCount index) seen old =
       if old == slice_index_or seen.counts index 0
       then look_comes_to call (index + 1)
       else look_finds call index old
-  look_takes size call (looks.TheVariants.LoadsWord index count at) seen old =
+  look_takes size call (looks.LoadsWord index count at) seen old =
       if nat_lt (at + 1) size
-      then at_look call (looks.TheVariants.LoadsWord index count (at + 1))
-      else at_look call (looks.TheVariants.ChecksCount index count)
-  look_takes size call (looks.TheVariants.ChecksCount index count) seen old =
+      then at_look call (looks.LoadsWord index count (at + 1))
+      else at_look call (looks.ChecksCount index count)
+  look_takes size call (looks.ChecksCount index count) seen old =
       if old == count then look_comes_to call (index + 1) else look_finds call index old
 
   abbrev pub look_after : ℕ → Look T → Numbers → ℕ → After (Look T) Bool
   look_after size call seen old = look_takes size call call.stage seen old
 
   -- a number is kept as it was found, a value once its copy is whole
-  abbrev pub look_keeps : (List ℕ → T) → ℕ → looks.LookStage → Showing T → ℕ → Showing T
-  look_keeps value_of size looks.TheVariants.LoadsChange s old = with_change s old
-  look_keeps value_of size (looks.TheVariants.LoadsCount index) s old = with_count s index old
-  look_keeps value_of size (looks.TheVariants.LoadsWord index count at) s old = with_word s at old
-  look_keeps value_of size (looks.TheVariants.ChecksCount index count) s old =
+  abbrev pub look_keeps : (List ℕ → T) → ℕ → LookStage → Showing T → ℕ → Showing T
+  look_keeps value_of size looks.LoadsChange s old = with_change s old
+  look_keeps value_of size (looks.LoadsCount index) s old = with_count s index old
+  look_keeps value_of size (looks.LoadsWord index count at) s old = with_word s at old
+  look_keeps value_of size (looks.ChecksCount index count) s old =
       if old == count then with_value value_of size s index count else with_count s index old
 
   abbrev pub look_kept : (List ℕ → T) → ℕ → Look T → Showing T → ℕ → Showing T

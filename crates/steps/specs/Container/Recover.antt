@@ -5,83 +5,85 @@ use Rattle.steps.specs.Queues.Ring.{load}
 use Rattle.steps.specs.Indices.Robust.Parts.{cell_word, empty, locked, exchange, raise_want, raise_after}
 use Rattle.steps.specs.Indices.Robust.Parts.{raise_goes_back, first_lock, lock_want, lock_after, lock_goes_back}
 use Rattle.steps.specs.Container.Layout.{change_word, count_word, element_word, is_even, add_one, hide, check}
-use Rattle.steps.specs.declared.ask.Question as questions
+use Rattle.steps.specs.declared.ask.Question.TheVariants as questions
 use Rattle.steps.specs.declared.ask.Want.{Want}
-use Rattle.steps.specs.declared.ask.Want as wants
+use Rattle.steps.specs.declared.ask.Want.TheVariants as wants
 use Rattle.steps.specs.declared.ask.After.{After}
 use Rattle.steps.specs.declared.ask.After.TheVariants.{GoOn, Done}
 use Rattle.steps.specs.declared.indices.enums.ReleaseMode.{ReleaseMode}
 use Rattle.steps.specs.declared.indices.enums.ReleaseMode.TheVariants.{LockIfLastIndex, Default}
 use Rattle.steps.specs.declared.indices.enums.ReleaseState.{ReleaseState}
 use Rattle.steps.specs.declared.indices.enums.ReleaseState.TheVariants.{Locked, Unlocked}
-use Rattle.steps.specs.declared.indices.robust.parts.Raise as raises
+use Rattle.steps.specs.declared.indices.robust.parts.Raise.{Raise}
+use Rattle.steps.specs.declared.indices.robust.parts.Raise.TheVariants as raises
 use Rattle.steps.specs.declared.indices.robust.parts.Lock as locks
 use Rattle.steps.specs.declared.container.recover.Recover.{Recover}
-use Rattle.steps.specs.declared.container.recover.RecoverStage as recovers
+use Rattle.steps.specs.declared.container.recover.RecoverStage.{RecoverStage}
+use Rattle.steps.specs.declared.container.recover.RecoverStage.TheVariants as recovers
 use Rattle.steps.specs.declared.container.recover.DeadOwner.{DeadOwner}
 
 -- load the counter; for each index load the cell, load the number of the element, load its words,
 -- exchange the number for itself, ask, exchange the cell from the owner to empty, hide what stands
 -- there, raise, lock; load the counter; add 1 to the changes
-abbrev pub recover_asks : ℕ → ℕ → recovers.RecoverStage → ℕ → Want (Unit {0})
-recover_asks size capacity recovers.TheVariants.LoadsCounter owner = load 0
-recover_asks size capacity (recovers.TheVariants.LoadsCell index) owner = load (cell_word index)
-recover_asks size capacity (recovers.TheVariants.LoadsCount index) owner =
+abbrev pub recover_asks : ℕ → ℕ → RecoverStage → ℕ → Want (Unit {0})
+recover_asks size capacity recovers.LoadsCounter owner = load 0
+recover_asks size capacity (recovers.LoadsCell index) owner = load (cell_word index)
+recover_asks size capacity (recovers.LoadsCount index) owner =
     load (count_word capacity index)
-recover_asks size capacity (recovers.TheVariants.LoadsWord index count at) owner =
+recover_asks size capacity (recovers.LoadsWord index count at) owner =
     load (element_word capacity size index at)
-recover_asks size capacity (recovers.TheVariants.ChecksCount index count) owner =
+recover_asks size capacity (recovers.ChecksCount index count) owner =
     check capacity index count
-recover_asks size capacity (recovers.TheVariants.Asks index count) owner =
-    wants.TheVariants.Question (questions.TheVariants.Value index tt)
-recover_asks size capacity (recovers.TheVariants.EmptiesCell index count) owner =
+recover_asks size capacity (recovers.Asks index count) owner =
+    wants.Question (questions.Value index tt)
+recover_asks size capacity (recovers.EmptiesCell index count) owner =
     exchange (cell_word index) owner empty
-recover_asks size capacity (recovers.TheVariants.Hides index count) owner =
+recover_asks size capacity (recovers.Hides index count) owner =
     hide capacity index count
-recover_asks size capacity (recovers.TheVariants.Raises index raise) owner = raise_want raise
-recover_asks size capacity (recovers.TheVariants.Locks index lock) owner = lock_want lock
-recover_asks size capacity recovers.TheVariants.LoadsCounterAgain owner = load 0
-recover_asks size capacity (recovers.TheVariants.AddsChange state) owner =
+recover_asks size capacity (recovers.Raises index raise) owner = raise_want raise
+recover_asks size capacity (recovers.Locks index lock) owner = lock_want lock
+recover_asks size capacity recovers.LoadsCounterAgain owner = load 0
+recover_asks size capacity (recovers.AddsChange state) owner =
     add_one (change_word capacity)
 
 -- each word of the element goes to its place in the room
-abbrev pub recover_keeps : {R : Type 0} → (R → ℕ → ℕ → R) → recovers.RecoverStage → R → ℕ → R
-recover_keeps with_word recovers.TheVariants.LoadsCounter room old = room
-recover_keeps with_word (recovers.TheVariants.LoadsCell index) room old = room
-recover_keeps with_word (recovers.TheVariants.LoadsCount index) room old = room
-recover_keeps with_word (recovers.TheVariants.LoadsWord index count at) room old =
+abbrev pub recover_keeps : {R : Type 0} → (R → ℕ → ℕ → R) → RecoverStage → R → ℕ → R
+recover_keeps with_word recovers.LoadsCounter room old = room
+recover_keeps with_word (recovers.LoadsCell index) room old = room
+recover_keeps with_word (recovers.LoadsCount index) room old = room
+recover_keeps with_word (recovers.LoadsWord index count at) room old =
     with_word room at old
-recover_keeps with_word (recovers.TheVariants.ChecksCount index count) room old = room
-recover_keeps with_word (recovers.TheVariants.Asks index count) room old = room
-recover_keeps with_word (recovers.TheVariants.EmptiesCell index count) room old = room
-recover_keeps with_word (recovers.TheVariants.Hides index count) room old = room
-recover_keeps with_word (recovers.TheVariants.Raises index raise) room old = room
-recover_keeps with_word (recovers.TheVariants.Locks index lock) room old = room
-recover_keeps with_word recovers.TheVariants.LoadsCounterAgain room old = room
-recover_keeps with_word (recovers.TheVariants.AddsChange state) room old = room
+recover_keeps with_word (recovers.ChecksCount index count) room old = room
+recover_keeps with_word (recovers.Asks index count) room old = room
+recover_keeps with_word (recovers.EmptiesCell index count) room old = room
+recover_keeps with_word (recovers.Hides index count) room old = room
+recover_keeps with_word (recovers.Raises index raise) room old = room
+recover_keeps with_word (recovers.Locks index lock) room old = room
+recover_keeps with_word recovers.LoadsCounterAgain room old = room
+recover_keeps with_word (recovers.AddsChange state) room old = room
 
 -- the element has changed while it was copied, or the counter has moved
-abbrev pub recover_goes_back : recovers.RecoverStage → ℕ → Bool
-recover_goes_back recovers.TheVariants.LoadsCounter old = false
-recover_goes_back (recovers.TheVariants.LoadsCell index) old = false
-recover_goes_back (recovers.TheVariants.LoadsCount index) old = false
-recover_goes_back (recovers.TheVariants.LoadsWord index count at) old = false
-recover_goes_back (recovers.TheVariants.ChecksCount index count) old = not (old == count)
-recover_goes_back (recovers.TheVariants.Asks index count) old = false
-recover_goes_back (recovers.TheVariants.EmptiesCell index count) old = false
-recover_goes_back (recovers.TheVariants.Hides index count) old = false
-recover_goes_back (recovers.TheVariants.Raises index raise) old = raise_goes_back raise old
-recover_goes_back (recovers.TheVariants.Locks index lock) old = lock_goes_back lock old
-recover_goes_back recovers.TheVariants.LoadsCounterAgain old = false
-recover_goes_back (recovers.TheVariants.AddsChange state) old = false
+abbrev pub recover_goes_back : RecoverStage → ℕ → Bool
+recover_goes_back recovers.LoadsCounter old = false
+recover_goes_back (recovers.LoadsCell index) old = false
+recover_goes_back (recovers.LoadsCount index) old = false
+recover_goes_back (recovers.LoadsWord index count at) old = false
+recover_goes_back (recovers.ChecksCount index count) old = not (old == count)
+recover_goes_back (recovers.Asks index count) old = false
+recover_goes_back (recovers.EmptiesCell index count) old = false
+recover_goes_back (recovers.Hides index count) old = false
+recover_goes_back (recovers.Raises index raise) old = raise_goes_back raise old
+recover_goes_back (recovers.Locks index lock) old = lock_goes_back lock old
+recover_goes_back recovers.LoadsCounterAgain old = false
+recover_goes_back (recovers.AddsChange state) old = false
 
 module _ {T R : Type 0} where
-  abbrev pub goes_to : Recover T R → recovers.RecoverStage → After (Recover T R) ReleaseState
+  abbrev pub goes_to : Recover T R → RecoverStage → After (Recover T R) ReleaseState
   goes_to call stage = GoOn (record call { stage = stage })
 
   abbrev pub first_recover : ℕ → Recover T R
   first_recover capacity =
-      record { capacity = capacity; stage = recovers.TheVariants.LoadsCounter; of = record {} }
+      record { capacity = capacity; stage = recovers.LoadsCounter; of = record {} }
 
   abbrev pub recover_want : ℕ → Recover T R → DeadOwner → Want (Unit {0})
   recover_want size call given = recover_asks size call.capacity call.stage given.owner
@@ -91,78 +93,78 @@ module _ {T R : Type 0} where
   recover_comes_to call index =
       goes_to call
       (if nat_lt index call.capacity
-      then recovers.TheVariants.LoadsCell index
-      else recovers.TheVariants.LoadsCounterAgain)
+      then recovers.LoadsCell index
+      else recovers.LoadsCounterAgain)
 
   -- an element is copied; where there is none the index is freed without a question
   abbrev pub recover_sees : Recover T R → ℕ → ℕ → After (Recover T R) ReleaseState
   recover_sees call index count =
       goes_to call
       (if is_even count
-      then recovers.TheVariants.EmptiesCell index count
-      else recovers.TheVariants.LoadsWord index count 0)
+      then recovers.EmptiesCell index count
+      else recovers.LoadsWord index count 0)
 
   -- the change is counted whatever it answers
   abbrev pub recover_ends : Recover T R → ReleaseState → After (Recover T R) ReleaseState
-  recover_ends call state = goes_to call (recovers.TheVariants.AddsChange state)
+  recover_ends call state = goes_to call (recovers.AddsChange state)
 
   -- a locked set ends it; it locks in the mode for that alone
-  abbrev pub recover_raised : Recover T R → ℕ → ReleaseMode → After raises.Raise ReleaseState
+  abbrev pub recover_raised : Recover T R → ℕ → ReleaseMode → After Raise ReleaseState
       → After (Recover T R) ReleaseState
   recover_raised call index mode (GoOn raise) =
-      goes_to call (recovers.TheVariants.Raises index raise)
+      goes_to call (recovers.Raises index raise)
   recover_raised call index mode (Done Locked) = recover_ends call Locked
   recover_raised call index LockIfLastIndex (Done Unlocked) =
-      goes_to call (recovers.TheVariants.Locks index first_lock)
+      goes_to call (recovers.Locks index first_lock)
   recover_raised call index Default (Done Unlocked) = recover_comes_to call (index + 1)
 
   -- it goes on, whatever its lock answers
   abbrev pub recover_locked : Recover T R → ℕ → After locks.Lock ReleaseState
       → After (Recover T R) ReleaseState
-  recover_locked call index (GoOn lock) = goes_to call (recovers.TheVariants.Locks index lock)
+  recover_locked call index (GoOn lock) = goes_to call (recovers.Locks index lock)
   recover_locked call index (Done state) = recover_comes_to call (index + 1)
 
   abbrev pub recover_raises : Recover T R → ℕ → After (Recover T R) ReleaseState
   recover_raises call index =
-      goes_to call (recovers.TheVariants.Raises index raises.TheVariants.LoadsCounter)
+      goes_to call (recovers.Raises index raises.LoadsCounter)
 
-  abbrev pub recover_takes : ℕ → Recover T R → recovers.RecoverStage → DeadOwner → ℕ
+  abbrev pub recover_takes : ℕ → Recover T R → RecoverStage → DeadOwner → ℕ
       → After (Recover T R) ReleaseState
-  recover_takes size call recovers.TheVariants.LoadsCounter given old =
+  recover_takes size call recovers.LoadsCounter given old =
       if old == locked then recover_ends call Locked else recover_comes_to call 0
-  recover_takes size call (recovers.TheVariants.LoadsCell index) given old =
+  recover_takes size call (recovers.LoadsCell index) given old =
       if old == given.owner
-      then goes_to call (recovers.TheVariants.LoadsCount index)
+      then goes_to call (recovers.LoadsCount index)
       else recover_comes_to call (index + 1)
-  recover_takes size call (recovers.TheVariants.LoadsCount index) given old =
+  recover_takes size call (recovers.LoadsCount index) given old =
       recover_sees call index old
-  recover_takes size call (recovers.TheVariants.LoadsWord index count at) given old =
+  recover_takes size call (recovers.LoadsWord index count at) given old =
       if nat_lt (at + 1) size
-      then goes_to call (recovers.TheVariants.LoadsWord index count (at + 1))
-      else goes_to call (recovers.TheVariants.ChecksCount index count)
-  recover_takes size call (recovers.TheVariants.ChecksCount index count) given old =
+      then goes_to call (recovers.LoadsWord index count (at + 1))
+      else goes_to call (recovers.ChecksCount index count)
+  recover_takes size call (recovers.ChecksCount index count) given old =
       if old == count
-      then goes_to call (recovers.TheVariants.Asks index count)
+      then goes_to call (recovers.Asks index count)
       else recover_sees call index old
-  recover_takes size call (recovers.TheVariants.Asks index count) given old =
+  recover_takes size call (recovers.Asks index count) given old =
       if old == 0
       then recover_comes_to call (index + 1)
-      else goes_to call (recovers.TheVariants.EmptiesCell index count)
-  recover_takes size call (recovers.TheVariants.EmptiesCell index count) given old =
+      else goes_to call (recovers.EmptiesCell index count)
+  recover_takes size call (recovers.EmptiesCell index count) given old =
       if old == given.owner
       then (if is_even count
       then recover_raises call index
-      else goes_to call (recovers.TheVariants.Hides index count))
+      else goes_to call (recovers.Hides index count))
       else recover_comes_to call (index + 1)
-  recover_takes size call (recovers.TheVariants.Hides index count) given old =
+  recover_takes size call (recovers.Hides index count) given old =
       recover_raises call index
-  recover_takes size call (recovers.TheVariants.Raises index raise) given old =
+  recover_takes size call (recovers.Raises index raise) given old =
       recover_raised call index given.mode (raise_after raise old)
-  recover_takes size call (recovers.TheVariants.Locks index lock) given old =
+  recover_takes size call (recovers.Locks index lock) given old =
       recover_locked call index (lock_after call.capacity lock old)
-  recover_takes size call recovers.TheVariants.LoadsCounterAgain given old =
+  recover_takes size call recovers.LoadsCounterAgain given old =
       recover_ends call (if old == locked then Locked else Unlocked)
-  recover_takes size call (recovers.TheVariants.AddsChange state) given old = Done state
+  recover_takes size call (recovers.AddsChange state) given old = Done state
 
   abbrev pub recover_after : ℕ → Recover T R → DeadOwner → ℕ → After (Recover T R) ReleaseState
   recover_after size call given old = recover_takes size call call.stage given old

@@ -4,7 +4,7 @@ use Rattle.steps.specs.Queues.Ring.{load, store}
 use Rattle.steps.specs.Indices.Head.{next_word, flag_word, flag, has_flag, proposed, aba, borrowed, locked, says_locked, head_word}
 use Rattle.steps.specs.declared.ask.Op.TheVariants.{Sub, And, Or, Exchange}
 use Rattle.steps.specs.declared.ask.Want.{Want}
-use Rattle.steps.specs.declared.ask.Want as wants
+use Rattle.steps.specs.declared.ask.Want.TheVariants as wants
 use Rattle.steps.specs.declared.ask.After.{After}
 use Rattle.steps.specs.declared.ask.After.TheVariants.{GoOn, Done}
 use Rattle.steps.specs.declared.indices.enums.ReleaseState.{ReleaseState}
@@ -12,14 +12,16 @@ use Rattle.steps.specs.declared.indices.enums.ReleaseState.TheVariants.{Locked, 
 use Rattle.steps.specs.declared.indices.enums.UniqueIndexSetAcquireFailure.{UniqueIndexSetAcquireFailure}
 use Rattle.steps.specs.declared.indices.enums.UniqueIndexSetAcquireFailure.TheVariants as failures
 use Rattle.steps.specs.declared.indices.unique.Acquire.{Acquire}
-use Rattle.steps.specs.declared.indices.unique.AcquireStage as acquires
+use Rattle.steps.specs.declared.indices.unique.AcquireStage.{AcquireStage}
+use Rattle.steps.specs.declared.indices.unique.AcquireStage.TheVariants as acquires
 use Rattle.steps.specs.declared.indices.unique.Release.{Release}
-use Rattle.steps.specs.declared.indices.unique.ReleaseStage as releases
+use Rattle.steps.specs.declared.indices.unique.ReleaseStage.{ReleaseStage}
+use Rattle.steps.specs.declared.indices.unique.ReleaseStage.TheVariants as releases
 use Rattle.steps.specs.declared.indices.looks.BorrowedIndices.{BorrowedIndices}
 use Rattle.steps.specs.declared.indices.looks.IsLocked.{IsLocked}
 
 abbrev pub exchange_head : ℕ → ℕ → Want (Unit {0})
-exchange_head from to = wants.TheVariants.Ask (record { word = 0; op = Exchange from to })
+exchange_head from to = wants.Ask (record { word = 0; op = Exchange from to })
 
 -- ---- acquire
 
@@ -28,9 +30,9 @@ Acquired = Result ℕ UniqueIndexSetAcquireFailure
 
 abbrev pub first_acquire : ℕ → Acquire
 first_acquire capacity =
-    record { capacity = capacity; stage = acquires.TheVariants.LoadsHead }
+    record { capacity = capacity; stage = acquires.LoadsHead }
 
-abbrev pub at_acquire : Acquire → acquires.AcquireStage → Acquire
+abbrev pub at_acquire : Acquire → AcquireStage → Acquire
 at_acquire call stage = record call { stage = stage }
 
 -- one index more is borrowed, and the next one is proposed
@@ -45,16 +47,16 @@ head_taken head next =
 
 abbrev pub claim : ℕ → ℕ → Want (Unit {0})
 claim capacity index =
-    wants.TheVariants.Ask (record { word = flag_word capacity index; op = Or (flag index) })
+    wants.Ask (record { word = flag_word capacity index; op = Or (flag index) })
 
 -- load the head; load the next index of the proposed one; exchange the head; claim
-abbrev pub acquire_asks : ℕ → acquires.AcquireStage → Want (Unit {0})
-acquire_asks capacity acquires.TheVariants.LoadsHead = load 0
-acquire_asks capacity (acquires.TheVariants.LoadsNext head) = load (next_word (proposed head))
-acquire_asks capacity (acquires.TheVariants.ExchangesHead head next) =
+abbrev pub acquire_asks : ℕ → AcquireStage → Want (Unit {0})
+acquire_asks capacity acquires.LoadsHead = load 0
+acquire_asks capacity (acquires.LoadsNext head) = load (next_word (proposed head))
+acquire_asks capacity (acquires.ExchangesHead head next) =
     exchange_head head (head_taken head next)
-acquire_asks capacity (acquires.TheVariants.Claims index) = claim capacity index
-acquire_asks capacity (acquires.TheVariants.Scans index) = claim capacity index
+acquire_asks capacity (acquires.Claims index) = claim capacity index
+acquire_asks capacity (acquires.Scans index) = claim capacity index
 
 abbrev pub acquire_want : Acquire → Want (Unit {0})
 acquire_want call = acquire_asks call.capacity call.stage
@@ -67,46 +69,46 @@ acquire_sees call head =
     else if borrowed head == call.capacity
     then Done (Err failures.OutOfIndices)
     else if nat_lt (proposed head) call.capacity
-    then GoOn (at_acquire call (acquires.TheVariants.LoadsNext head))
-    else GoOn (at_acquire call (acquires.TheVariants.ExchangesHead head (proposed head)))
+    then GoOn (at_acquire call (acquires.LoadsNext head))
+    else GoOn (at_acquire call (acquires.ExchangesHead head (proposed head)))
 
 -- the proposed index is claimed first, else the flags are tried from 0 on, again and again
-abbrev pub first_claim : ℕ → ℕ → acquires.AcquireStage
+abbrev pub first_claim : ℕ → ℕ → AcquireStage
 first_claim capacity head =
     if nat_lt (proposed head) capacity
-    then acquires.TheVariants.Claims (proposed head)
-    else acquires.TheVariants.Scans 0
+    then acquires.Claims (proposed head)
+    else acquires.Scans 0
 
 abbrev pub scanned_next : ℕ → ℕ → ℕ
 scanned_next capacity index = if nat_lt (index + 1) capacity then index + 1 else 0
 
-abbrev pub acquire_takes : Acquire → acquires.AcquireStage → ℕ → After Acquire Acquired
-acquire_takes call acquires.TheVariants.LoadsHead old = acquire_sees call old
-acquire_takes call (acquires.TheVariants.LoadsNext head) old =
-    GoOn (at_acquire call (acquires.TheVariants.ExchangesHead head (old % 2 ^ 24)))
-acquire_takes call (acquires.TheVariants.ExchangesHead head next) old =
+abbrev pub acquire_takes : Acquire → AcquireStage → ℕ → After Acquire Acquired
+acquire_takes call acquires.LoadsHead old = acquire_sees call old
+acquire_takes call (acquires.LoadsNext head) old =
+    GoOn (at_acquire call (acquires.ExchangesHead head (old % 2 ^ 24)))
+acquire_takes call (acquires.ExchangesHead head next) old =
     if old == head
     then GoOn (at_acquire call (first_claim call.capacity head))
     else acquire_sees call old
-acquire_takes call (acquires.TheVariants.Claims index) old =
+acquire_takes call (acquires.Claims index) old =
     if has_flag old index
-    then GoOn (at_acquire call (acquires.TheVariants.Scans 0))
+    then GoOn (at_acquire call (acquires.Scans 0))
     else Done (Ok index)
-acquire_takes call (acquires.TheVariants.Scans index) old =
+acquire_takes call (acquires.Scans index) old =
     if has_flag old index
-    then GoOn (at_acquire call (acquires.TheVariants.Scans (scanned_next call.capacity index)))
+    then GoOn (at_acquire call (acquires.Scans (scanned_next call.capacity index)))
     else Done (Ok index)
 
 abbrev pub acquire_after : Acquire → ℕ → After Acquire Acquired
 acquire_after call old = acquire_takes call call.stage old
 
 -- the head has moved, or each flag was found claimed
-abbrev pub acquire_goes_back : ℕ → acquires.AcquireStage → ℕ → Bool
-acquire_goes_back capacity acquires.TheVariants.LoadsHead old = false
-acquire_goes_back capacity (acquires.TheVariants.LoadsNext head) old = false
-acquire_goes_back capacity (acquires.TheVariants.ExchangesHead head next) old = not (old == head)
-acquire_goes_back capacity (acquires.TheVariants.Claims index) old = false
-acquire_goes_back capacity (acquires.TheVariants.Scans index) old =
+abbrev pub acquire_goes_back : ℕ → AcquireStage → ℕ → Bool
+acquire_goes_back capacity acquires.LoadsHead old = false
+acquire_goes_back capacity (acquires.LoadsNext head) old = false
+acquire_goes_back capacity (acquires.ExchangesHead head next) old = not (old == head)
+acquire_goes_back capacity (acquires.Claims index) old = false
+acquire_goes_back capacity (acquires.Scans index) old =
     has_flag old index && not (nat_lt (index + 1) capacity)
 
 -- ---- release
@@ -136,17 +138,17 @@ head_released lock head index =
 
 -- clear the flag; load the head; store what it proposes as the next
 -- index of this one; exchange the head; subtract 1 from the head
-abbrev pub release_asks : Bool → ℕ → ℕ → releases.ReleaseStage → Want (Unit {0})
-release_asks lock capacity index releases.TheVariants.ClearsFlag =
-    wants.TheVariants.Ask
+abbrev pub release_asks : Bool → ℕ → ℕ → ReleaseStage → Want (Unit {0})
+release_asks lock capacity index releases.ClearsFlag =
+    wants.Ask
     (record { word = flag_word capacity index; op = And (2 ^ 64 - 1 - flag index) })
-release_asks lock capacity index releases.TheVariants.LoadsHead = load 0
-release_asks lock capacity index (releases.TheVariants.StoresNext head) =
+release_asks lock capacity index releases.LoadsHead = load 0
+release_asks lock capacity index (releases.StoresNext head) =
     store (next_word index) (proposed head)
-release_asks lock capacity index (releases.TheVariants.ExchangesHead head) =
+release_asks lock capacity index (releases.ExchangesHead head) =
     exchange_head head (head_released lock head index)
-release_asks lock capacity index releases.TheVariants.Subtracts =
-    wants.TheVariants.Ask (record { word = 0; op = Sub 1 })
+release_asks lock capacity index releases.Subtracts =
+    wants.Ask (record { word = 0; op = Sub 1 })
 
 abbrev pub state_after : Bool → ℕ → ReleaseState
 state_after lock head = if locks lock head then Locked else Unlocked
@@ -156,11 +158,11 @@ module _ {M : Type 0} where
   first_release capacity =
       record {
         capacity = capacity;
-        stage = releases.TheVariants.ClearsFlag;
+        stage = releases.ClearsFlag;
         of = record {};
       }
 
-  abbrev pub at_release : Release M → releases.ReleaseStage → Release M
+  abbrev pub at_release : Release M → ReleaseStage → Release M
   at_release call stage = record call { stage = stage }
 
   abbrev pub release_want : Bool → Release M → ℕ → Want (Unit {0})
@@ -168,40 +170,40 @@ module _ {M : Type 0} where
 
   -- where the head has moved, a release that may lock goes on from the
   -- head found, and any other one only subtracts
-  abbrev pub release_takes : Bool → Release M → releases.ReleaseStage → ℕ
+  abbrev pub release_takes : Bool → Release M → ReleaseStage → ℕ
       → After (Release M) ReleaseState
-  release_takes lock call releases.TheVariants.ClearsFlag old =
-      GoOn (at_release call releases.TheVariants.LoadsHead)
-  release_takes lock call releases.TheVariants.LoadsHead old =
-      GoOn (at_release call (releases.TheVariants.StoresNext old))
-  release_takes lock call (releases.TheVariants.StoresNext head) old =
-      GoOn (at_release call (releases.TheVariants.ExchangesHead head))
-  release_takes lock call (releases.TheVariants.ExchangesHead head) old =
+  release_takes lock call releases.ClearsFlag old =
+      GoOn (at_release call releases.LoadsHead)
+  release_takes lock call releases.LoadsHead old =
+      GoOn (at_release call (releases.StoresNext old))
+  release_takes lock call (releases.StoresNext head) old =
+      GoOn (at_release call (releases.ExchangesHead head))
+  release_takes lock call (releases.ExchangesHead head) old =
       if old == head
       then Done (state_after lock head)
       else if lock
-      then GoOn (at_release call (releases.TheVariants.StoresNext old))
-      else GoOn (at_release call releases.TheVariants.Subtracts)
-  release_takes lock call releases.TheVariants.Subtracts old = Done Unlocked
+      then GoOn (at_release call (releases.StoresNext old))
+      else GoOn (at_release call releases.Subtracts)
+  release_takes lock call releases.Subtracts old = Done Unlocked
 
   abbrev pub release_after : Bool → Release M → ℕ → After (Release M) ReleaseState
   release_after lock call old = release_takes lock call call.stage old
 
 -- the head has moved
-abbrev pub release_goes_back : Bool → releases.ReleaseStage → ℕ → Bool
-release_goes_back lock releases.TheVariants.ClearsFlag old = false
-release_goes_back lock releases.TheVariants.LoadsHead old = false
-release_goes_back lock (releases.TheVariants.StoresNext head) old = false
-release_goes_back lock (releases.TheVariants.ExchangesHead head) old = lock && not (old == head)
-release_goes_back lock releases.TheVariants.Subtracts old = false
+abbrev pub release_goes_back : Bool → ReleaseStage → ℕ → Bool
+release_goes_back lock releases.ClearsFlag old = false
+release_goes_back lock releases.LoadsHead old = false
+release_goes_back lock (releases.StoresNext head) old = false
+release_goes_back lock (releases.ExchangesHead head) old = lock && not (old == head)
+release_goes_back lock releases.Subtracts old = false
 
 -- where it does not lock, it goes down at each step
-abbrev pub release_left : releases.ReleaseStage → ℕ
-release_left releases.TheVariants.ClearsFlag = 4
-release_left releases.TheVariants.LoadsHead = 3
-release_left (releases.TheVariants.StoresNext head) = 2
-release_left (releases.TheVariants.ExchangesHead head) = 1
-release_left releases.TheVariants.Subtracts = 0
+abbrev pub release_left : ReleaseStage → ℕ
+release_left releases.ClearsFlag = 4
+release_left releases.LoadsHead = 3
+release_left (releases.StoresNext head) = 2
+release_left (releases.ExchangesHead head) = 1
+release_left releases.Subtracts = 0
 
 -- ---- the number of borrowed indices, and the lock
 

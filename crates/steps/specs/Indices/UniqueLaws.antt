@@ -9,9 +9,11 @@ use Rattle.steps.specs.declared.ask.After.{After}
 use Rattle.steps.specs.declared.ask.After.TheVariants.{GoOn, Done}
 use Rattle.steps.specs.declared.indices.enums.ReleaseState.{ReleaseState}
 use Rattle.steps.specs.declared.indices.unique.Acquire.{Acquire}
-use Rattle.steps.specs.declared.indices.unique.AcquireStage as acquires
+use Rattle.steps.specs.declared.indices.unique.AcquireStage.{AcquireStage}
+use Rattle.steps.specs.declared.indices.unique.AcquireStage.TheVariants as acquires
 use Rattle.steps.specs.declared.indices.unique.Release.{Release}
-use Rattle.steps.specs.declared.indices.unique.ReleaseStage as releases
+use Rattle.steps.specs.declared.indices.unique.ReleaseStage.{ReleaseStage}
+use Rattle.steps.specs.declared.indices.unique.ReleaseStage.TheVariants as releases
 use Rattle.steps.specs.declared.indices.looks.BorrowedIndices.{BorrowedIndices}
 use Rattle.steps.specs.declared.indices.looks.IsLocked.{IsLocked}
 use Rattle.steps.specs.Indices.Unique.{acquire_asks, acquire_takes, at_release, release_asks, release_takes}
@@ -20,38 +22,38 @@ use Rattle.steps.specs.Indices.Unique.{release_after, release_left, state_after,
 no_store : {A : Type 0} → IsTrue false → A
 no_store t = absurd (true≢false (sym t))
 
-pub acquire_tells : (c : Acquire) (stage : acquires.AcquireStage) (room : Unit {0}) (m n : ℕ)
+pub acquire_tells : (c : Acquire) (stage : AcquireStage) (room : Unit {0}) (m n : ℕ)
     → IsTrue (is_store (acquire_asks c.capacity stage))
     → (acquire_takes c stage m ≡ acquire_takes c stage n) × (room ≡ room)
-acquire_tells c acquires.TheVariants.LoadsHead room m n t = no_store t
-acquire_tells c (acquires.TheVariants.LoadsNext head) room m n t = no_store t
-acquire_tells c (acquires.TheVariants.ExchangesHead head next) room m n t = no_store t
-acquire_tells c (acquires.TheVariants.Claims index) room m n t = no_store t
-acquire_tells c (acquires.TheVariants.Scans index) room m n t = no_store t
+acquire_tells c acquires.LoadsHead room m n t = no_store t
+acquire_tells c (acquires.LoadsNext head) room m n t = no_store t
+acquire_tells c (acquires.ExchangesHead head next) room m n t = no_store t
+acquire_tells c (acquires.Claims index) room m n t = no_store t
+acquire_tells c (acquires.Scans index) room m n t = no_store t
 
 module _ {M : Type 0} where
-  pub release_tells : (lock : Bool) (c : Release M) (stage : releases.ReleaseStage) (index : ℕ)
+  pub release_tells : (lock : Bool) (c : Release M) (stage : ReleaseStage) (index : ℕ)
       (room : Unit {0}) (m n : ℕ) → IsTrue (is_store (release_asks lock c.capacity index stage))
       → (release_takes lock c stage m ≡ release_takes lock c stage n) × (room ≡ room)
-  release_tells lock c releases.TheVariants.ClearsFlag index room m n t = no_store t
-  release_tells lock c releases.TheVariants.LoadsHead index room m n t = no_store t
-  release_tells lock c (releases.TheVariants.StoresNext head) index room m n t = (refl, refl)
-  release_tells lock c (releases.TheVariants.ExchangesHead head) index room m n t = no_store t
-  release_tells lock c releases.TheVariants.Subtracts index room m n t = no_store t
+  release_tells lock c releases.ClearsFlag index room m n t = no_store t
+  release_tells lock c releases.LoadsHead index room m n t = no_store t
+  release_tells lock c (releases.StoresNext head) index room m n t = (refl, refl)
+  release_tells lock c (releases.ExchangesHead head) index room m n t = no_store t
+  release_tells lock c releases.Subtracts index room m n t = no_store t
 
   abbrev release_then : After (Release M) ReleaseState → ℕ
   release_then (GoOn d) = release_left d.stage + 1
   release_then (Done e) = 0
 
-  release_stage_fewer : (c : Release M) (stage : releases.ReleaseStage) (k : ℕ)
+  release_stage_fewer : (c : Release M) (stage : ReleaseStage) (k : ℕ)
       → release_then (release_takes false c stage k) ≤ release_left stage
-  release_stage_fewer c releases.TheVariants.ClearsFlag k = omega arith
-  release_stage_fewer c releases.TheVariants.LoadsHead k = omega arith
-  release_stage_fewer c (releases.TheVariants.StoresNext head) k = omega arith
-  release_stage_fewer c (releases.TheVariants.ExchangesHead head) k =
+  release_stage_fewer c releases.ClearsFlag k = omega arith
+  release_stage_fewer c releases.LoadsHead k = omega arith
+  release_stage_fewer c (releases.StoresNext head) k = omega arith
+  release_stage_fewer c (releases.ExchangesHead head) k =
       by_eq (λ a. release_then a ≤ 1) k head (Done (state_after false head))
-      (GoOn (at_release c releases.TheVariants.Subtracts)) (λ e. omega arith) (λ e. omega arith)
-  release_stage_fewer c releases.TheVariants.Subtracts k = omega arith
+      (GoOn (at_release c releases.Subtracts)) (λ e. omega arith) (λ e. omega arith)
+  release_stage_fewer c releases.Subtracts k = omega arith
 
   pub release_fewer : (c d : Release M) (k : ℕ) → release_after false c k ≡ GoOn d
       → release_left d.stage < release_left c.stage

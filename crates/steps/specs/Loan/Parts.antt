@@ -2,17 +2,17 @@
 use Rattle.std.specs.Prelude.{ℕ}
 use Rattle.steps.specs.Queues.Ring.{word_at}
 use Rattle.steps.specs.declared.ask.Want.{Want}
-use Rattle.steps.specs.declared.ask.Want as wants
+use Rattle.steps.specs.declared.ask.Want.TheVariants as wants
 use Rattle.steps.specs.declared.ask.After.{After}
 use Rattle.steps.specs.declared.ask.After.TheVariants.{GoOn, Done}
 use Rattle.steps.specs.declared.loan.parts.Part.{Part}
 
 -- the same operation, on a word of the part that begins at this one
 abbrev pub shifted : ℕ → Want (Unit {0}) → Want (Unit {0})
-shifted base (wants.TheVariants.Ask ask) =
-    wants.TheVariants.Ask (record ask { word = word_at base ask.word })
-shifted base (wants.TheVariants.Question question) = wants.TheVariants.Question question
-shifted base wants.TheVariants.Nothing = wants.TheVariants.Nothing
+shifted base (wants.Ask ask) =
+    wants.Ask (record ask { word = word_at base ask.word })
+shifted base (wants.Question question) = wants.Question question
+shifted base wants.Nothing = wants.Nothing
 
 module _ {C E : Type 0} where
   -- it goes on and ends as the call itself

@@ -20,9 +20,10 @@ use Rattle.steps.specs.declared.loan.reclaim.Reclaim.{Reclaim}
 use Rattle.steps.specs.declared.loan.reclaim.ReclaimStage.{ReclaimStage}
 use Rattle.steps.specs.declared.loan.reclaim.ReclaimStage.TheVariants.{Drains, Empties, Releases}
 use Rattle.steps.specs.declared.queues.overflow.Pop as overflow_pops
-use Rattle.steps.specs.declared.queues.overflow.PopStage as overflow_stages
+use Rattle.steps.specs.declared.queues.overflow.PopStage.{PopStage}
+use Rattle.steps.specs.declared.queues.overflow.PopStage.TheVariants as overflow_stages
 use Rattle.steps.specs.declared.queues.ring.Pop.{Pop}
-use Rattle.steps.specs.declared.queues.ring.PopStage as ring_stages
+use Rattle.steps.specs.declared.queues.ring.PopStage.TheVariants as ring_stages
 
 abbrev pub first_reclaim : ℕ → ℕ → Reclaim
 first_reclaim slots queue =
@@ -32,7 +33,7 @@ abbrev pub at_reclaim : Reclaim → ReclaimStage → After Reclaim ℕ
 at_reclaim call stage = GoOn (record call { stage = stage })
 
 -- the pop of the submission queue, at this stage
-abbrev pub inner_overflow_pop : ℕ → overflow_stages.PopStage → overflow_pops.Pop
+abbrev pub inner_overflow_pop : ℕ → PopStage → overflow_pops.Pop
 inner_overflow_pop queue stage = record { capacity = queue; stage = stage }
 
 -- pop the submission queue; pop the completion queue; release
@@ -49,8 +50,8 @@ reclaim_want call = reclaim_asks call.slots call.queue call.stage
 -- each pop that answers an index is followed by another one
 abbrev pub reclaim_drained : Reclaim → After overflow_pops.Pop Bool → After Reclaim ℕ
 reclaim_drained call (GoOn pop) = at_reclaim call (Drains pop.stage)
-reclaim_drained call (Done true) = at_reclaim call (Drains overflow_stages.TheVariants.LoadsRead)
-reclaim_drained call (Done false) = at_reclaim call (Empties ring_stages.TheVariants.LoadsRead)
+reclaim_drained call (Done true) = at_reclaim call (Drains overflow_stages.LoadsRead)
+reclaim_drained call (Done false) = at_reclaim call (Empties ring_stages.LoadsRead)
 
 -- the next index that is sent is released, or where there is none it is done
 abbrev pub reclaim_releases : Reclaim → ℕ → Option ℕ → After Reclaim ℕ
@@ -64,7 +65,7 @@ reclaim_comes_to call places number from =
 abbrev pub reclaim_emptied : Reclaim → List Place → After (Pop ℕ OneWord) Bool → After Reclaim ℕ
 reclaim_emptied call places (GoOn pop) = at_reclaim call (Empties pop.stage)
 reclaim_emptied call places (Done true) =
-    at_reclaim call (Empties ring_stages.TheVariants.LoadsRead)
+    at_reclaim call (Empties ring_stages.LoadsRead)
 reclaim_emptied call places (Done false) = reclaim_comes_to call places 0 0
 
 abbrev pub reclaim_released : Reclaim → List Place → ℕ → ℕ

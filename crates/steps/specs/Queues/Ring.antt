@@ -3,13 +3,15 @@
 use Rattle.std.specs.Prelude.{ℕ, ◌+◌, ◌-◌, ◌*◌, ◌%◌, ◌^◌, ◌==◌, ◌||◌, Bool, true, false, Option, Some, None, List, if◌then◌else◌, nat_lt, slice_index}
 use Rattle.steps.specs.declared.ask.Op.TheVariants.{Load, Store}
 use Rattle.steps.specs.declared.ask.Want.{Want}
-use Rattle.steps.specs.declared.ask.Want as wants
+use Rattle.steps.specs.declared.ask.Want.TheVariants as wants
 use Rattle.steps.specs.declared.ask.After.{After}
 use Rattle.steps.specs.declared.ask.After.TheVariants.{GoOn, Done}
 use Rattle.steps.specs.declared.queues.ring.Push.{Push}
-use Rattle.steps.specs.declared.queues.ring.PushStage as pushes
+use Rattle.steps.specs.declared.queues.ring.PushStage.{PushStage}
+use Rattle.steps.specs.declared.queues.ring.PushStage.TheVariants as pushes
 use Rattle.steps.specs.declared.queues.ring.Pop.{Pop}
-use Rattle.steps.specs.declared.queues.ring.PopStage as pops
+use Rattle.steps.specs.declared.queues.ring.PopStage.{PopStage}
+use Rattle.steps.specs.declared.queues.ring.PopStage.TheVariants as pops
 
 -- positions wrap
 abbrev pub after_position : ℕ → ℕ
@@ -28,95 +30,95 @@ abbrev pub word_at : ℕ → ℕ → ℕ
 word_at cell at = (cell + at) % 2 ^ 64
 
 abbrev pub load : ℕ → Want (Unit {0})
-load word = wants.TheVariants.Ask (record { word = word; op = Load })
+load word = wants.Ask (record { word = word; op = Load })
 
 abbrev pub store : ℕ → ℕ → Want (Unit {0})
-store word new = wants.TheVariants.Ask (record { word = word; op = Store new })
+store word new = wants.Ask (record { word = word; op = Store new })
 
 module _ {V : Type 0} where
-  abbrev pub at_push : Push V → pushes.PushStage → Push V
+  abbrev pub at_push : Push V → PushStage → Push V
   at_push call stage = record call { stage = stage }
 
   abbrev pub first_push : ℕ → Push V
   first_push capacity =
-      record { capacity = capacity; stage = pushes.TheVariants.LoadsWrite; of = record {} }
+      record { capacity = capacity; stage = pushes.LoadsWrite; of = record {} }
 
   -- load write; load read; store the cell, word by word; store write + 1
-  abbrev pub push_asks : (V → List ℕ) → pushes.PushStage → V → Want (Unit {0})
-  push_asks words_of pushes.TheVariants.LoadsWrite value = load 0
-  push_asks words_of (pushes.TheVariants.LoadsRead write) value = load 1
-  push_asks words_of (pushes.TheVariants.StoresCell write cell at) value =
+  abbrev pub push_asks : (V → List ℕ) → PushStage → V → Want (Unit {0})
+  push_asks words_of pushes.LoadsWrite value = load 0
+  push_asks words_of (pushes.LoadsRead write) value = load 1
+  push_asks words_of (pushes.StoresCell write cell at) value =
       store (word_at cell at) (slice_index (words_of value) at)
-  push_asks words_of (pushes.TheVariants.StoresWrite write) value = store 0 (after_position write)
+  push_asks words_of (pushes.StoresWrite write) value = store 0 (after_position write)
 
   abbrev pub push_want : (V → List ℕ) → Push V → V → Want (Unit {0})
   push_want words_of call value = push_asks words_of call.stage value
 
-  abbrev pub push_takes : ℕ → Push V → pushes.PushStage → ℕ → After (Push V) Bool
-  push_takes size call pushes.TheVariants.LoadsWrite old =
+  abbrev pub push_takes : ℕ → Push V → PushStage → ℕ → After (Push V) Bool
+  push_takes size call pushes.LoadsWrite old =
       if old == 2 ^ 64 - 1
       then Done false
-      else GoOn (at_push call (pushes.TheVariants.LoadsRead old))
-  push_takes size call (pushes.TheVariants.LoadsRead write) old =
+      else GoOn (at_push call (pushes.LoadsRead old))
+  push_takes size call (pushes.LoadsRead write) old =
       if call.capacity == 0 || distance write old == call.capacity
       then Done false
       else GoOn
-      (at_push call (pushes.TheVariants.StoresCell write (cell_word call.capacity size write) 0))
-  push_takes size call (pushes.TheVariants.StoresCell write cell at) old =
+      (at_push call (pushes.StoresCell write (cell_word call.capacity size write) 0))
+  push_takes size call (pushes.StoresCell write cell at) old =
       if nat_lt (at + 1) size
-      then GoOn (at_push call (pushes.TheVariants.StoresCell write cell (at + 1)))
-      else GoOn (at_push call (pushes.TheVariants.StoresWrite write))
-  push_takes size call (pushes.TheVariants.StoresWrite write) old = Done true
+      then GoOn (at_push call (pushes.StoresCell write cell (at + 1)))
+      else GoOn (at_push call (pushes.StoresWrite write))
+  push_takes size call (pushes.StoresWrite write) old = Done true
 
   abbrev pub push_after : ℕ → Push V → ℕ → After (Push V) Bool
   push_after size call old = push_takes size call call.stage old
 
 -- it goes down at each step
-abbrev pub push_left : ℕ → pushes.PushStage → ℕ
-push_left size pushes.TheVariants.LoadsWrite = size + 3
-push_left size (pushes.TheVariants.LoadsRead write) = size + 2
-push_left size (pushes.TheVariants.StoresCell write cell at) = size - at + 1
-push_left size (pushes.TheVariants.StoresWrite write) = 0
+abbrev pub push_left : ℕ → PushStage → ℕ
+push_left size pushes.LoadsWrite = size + 3
+push_left size (pushes.LoadsRead write) = size + 2
+push_left size (pushes.StoresCell write cell at) = size - at + 1
+push_left size (pushes.StoresWrite write) = 0
 
 -- load read; load write; load the cell, word by word; store read + 1
-abbrev pub pop_asks : pops.PopStage → Want (Unit {0})
-pop_asks pops.TheVariants.LoadsRead = load 1
-pop_asks (pops.TheVariants.LoadsWrite read) = load 0
-pop_asks (pops.TheVariants.LoadsCell read cell at) = load (word_at cell at)
-pop_asks (pops.TheVariants.StoresRead read) = store 1 (after_position read)
+abbrev pub pop_asks : PopStage → Want (Unit {0})
+pop_asks pops.LoadsRead = load 1
+pop_asks (pops.LoadsWrite read) = load 0
+pop_asks (pops.LoadsCell read cell at) = load (word_at cell at)
+pop_asks (pops.StoresRead read) = store 1 (after_position read)
 
 module _ {R : Type 0} where
   -- each word of the cell goes to its place in the room
-  abbrev pub pop_keeps : (R → ℕ → ℕ → R) → R → pops.PopStage → ℕ → R
-  pop_keeps with_word room pops.TheVariants.LoadsRead old = room
-  pop_keeps with_word room (pops.TheVariants.LoadsWrite read) old = room
-  pop_keeps with_word room (pops.TheVariants.LoadsCell read cell at) old = with_word room at old
-  pop_keeps with_word room (pops.TheVariants.StoresRead read) old = room
+  abbrev pub pop_keeps : (R → ℕ → ℕ → R) → R → PopStage → ℕ → R
+  pop_keeps with_word room pops.LoadsRead old = room
+  pop_keeps with_word room (pops.LoadsWrite read) old = room
+  pop_keeps with_word room (pops.LoadsCell read cell at) old = with_word room at old
+  pop_keeps with_word room (pops.StoresRead read) old = room
 
 module _ {V R : Type 0} where
-  abbrev pub at_pop : Pop V R → pops.PopStage → Pop V R
+  abbrev pub at_pop : Pop V R → PopStage → Pop V R
   at_pop call stage = record call { stage = stage }
 
   abbrev pub first_pop : ℕ → Pop V R
   first_pop capacity =
-      record { capacity = capacity; stage = pops.TheVariants.LoadsRead; of = record {} }
+      record { capacity = capacity; stage = pops.LoadsRead; of = record {} }
 
   abbrev pub pop_want : Pop V R → Want (Unit {0})
   pop_want call = pop_asks call.stage
 
-  abbrev pub pop_takes : ℕ → Pop V R → pops.PopStage → ℕ → After (Pop V R) Bool
-  pop_takes size call pops.TheVariants.LoadsRead old =
-      GoOn (at_pop call (pops.TheVariants.LoadsWrite old))
-  pop_takes size call (pops.TheVariants.LoadsWrite read) old =
+  abbrev pub pop_takes : ℕ → Pop V R → PopStage → ℕ → After (Pop V R) Bool
+  pop_takes size call pops.LoadsRead old =
+      GoOn (at_pop call (pops.LoadsWrite old))
+  pop_takes size call (pops.LoadsWrite read) old =
       if call.capacity == 0 || old == read
       then Done false
       else GoOn
-      (at_pop call (pops.TheVariants.LoadsCell read (cell_word call.capacity size read) 0))
-  pop_takes size call (pops.TheVariants.LoadsCell read cell at) old =
+      (at_pop call (pops.LoadsCell read (cell_word call.capacity size read) 0))
+  pop_takes size call (pops.LoadsCell read cell at) old =
       if nat_lt (at + 1) size
-      then GoOn (at_pop call (pops.TheVariants.LoadsCell read cell (at + 1)))
-      else GoOn (at_pop call (pops.TheVariants.StoresRead read))
-  pop_takes size call (pops.TheVariants.StoresRead read) old = Done true
+      then GoOn (at_pop call (pops.LoadsCell read cell (at + 1)))
+      else GoOn (at_pop call (pops.StoresRead read))
+  pop_takes size call (pops.StoresRead read) old = Done true
 
   abbrev pub pop_after : ℕ → Pop V R → ℕ → After (Pop V R) Bool
   pop_after size call old = pop_takes size call call.stage old
@@ -125,11 +127,11 @@ module _ {V R : Type 0} where
   pop_kept with_word call room old = pop_keeps with_word room call.stage old
 
 -- it goes down at each step
-abbrev pub pop_left : ℕ → pops.PopStage → ℕ
-pop_left size pops.TheVariants.LoadsRead = size + 3
-pop_left size (pops.TheVariants.LoadsWrite read) = size + 2
-pop_left size (pops.TheVariants.LoadsCell read cell at) = size - at + 1
-pop_left size (pops.TheVariants.StoresRead read) = 0
+abbrev pub pop_left : ℕ → PopStage → ℕ
+pop_left size pops.LoadsRead = size + 3
+pop_left size (pops.LoadsWrite read) = size + 2
+pop_left size (pops.LoadsCell read cell at) = size - at + 1
+pop_left size (pops.StoresRead read) = 0
 
 -- the value that was read, where there was one
 abbrev pub pop_answer : {V : Type 0} → V → Bool → Option V

@@ -2,7 +2,7 @@
 use Rattle.std.specs.Prelude.{ℕ, Bool, ◌==◌}
 use Rattle.steps.specs.declared.ask.Op.TheVariants.{Store, Exchange}
 use Rattle.steps.specs.declared.ask.Want.{Want}
-use Rattle.steps.specs.declared.ask.Want as wants
+use Rattle.steps.specs.declared.ask.Want.TheVariants as wants
 use Rattle.steps.specs.declared.ask.After.{After}
 use Rattle.steps.specs.declared.ask.After.TheVariants.{Done}
 use Rattle.steps.specs.declared.queues.roles.AcquireRole.{AcquireRole}
@@ -10,13 +10,13 @@ use Rattle.steps.specs.declared.queues.roles.ReleaseRole.{ReleaseRole}
 
 -- a role word is 1 where the role is free, 0 where it is taken
 abbrev pub acquire_want : AcquireRole → Want (Unit {0})
-acquire_want call = wants.TheVariants.Ask (record { word = call.word; op = Exchange 1 0 })
+acquire_want call = wants.Ask (record { word = call.word; op = Exchange 1 0 })
 
 abbrev pub acquire_after : AcquireRole → ℕ → After AcquireRole Bool
 acquire_after call old = Done (old == 1)
 
 abbrev pub release_want : ReleaseRole → Want (Unit {0})
-release_want call = wants.TheVariants.Ask (record { word = call.word; op = Store 1 })
+release_want call = wants.Ask (record { word = call.word; op = Store 1 })
 
 abbrev pub release_after : ReleaseRole → ℕ → After ReleaseRole (Unit {0})
 release_after call old = Done tt

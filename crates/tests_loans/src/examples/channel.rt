@@ -3,9 +3,9 @@
 use std::sync::Wait;
 use std::test::Fail;
 use std::thread;
-use uses_loans::channel::Channel;
-use uses_loans::receiver::Receiver;
-use uses_loans::sender::Sender;
+use zero_copy_loans::channel::Channel;
+use zero_copy_loans::receiver::Receiver;
+use zero_copy_loans::sender::Sender;
 
 /// Sends ten values, each of which is full of its number. Returns how many it sent.
 fn send(rt: &impl Wait, sender: &mut Sender<'_, Vec<u8>>) -> u8 {

@@ -4,7 +4,7 @@ use std::alloc::Global;
 use std::sync::Wait;
 use std::test::Fail;
 use std::thread;
-use uses_loans::pool::{Lender, Pool};
+use zero_copy_loans::pool::{Lender, Pool};
 
 /// Takes a buffer, fills it, and puts it back. Returns whether it did.
 fn fill(rt: &impl Wait, alloc: Global, lender: &mut Lender<'_, Vec<u8>>, byte: u8) -> bool {

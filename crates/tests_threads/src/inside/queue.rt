@@ -82,20 +82,10 @@ impl<'a> GoesOn for PushesBeside<'a> {
     }
 }
 
-/// The end that is pushed at, by a handle that is split off.
-fn producer<'a>(handle: &mut Handle<'a, Slow>) -> Option<Producer<'a, Slow>> {
-    handle.split()?.acquire_producer().ok()
-}
-
-/// The end that is popped at.
-fn consumer<'a>(handle: &mut Handle<'a, Slow>) -> Option<Consumer<'a, Slow>> {
-    handle.split()?.acquire_consumer().ok()
-}
-
 /// Whether one goes on while another is inside a push. None where the roles are not to be had.
 fn beside_push<R: Wait + Threads + Clock + Sync>(rt: &R, handle: Handle<'_, Slow>) -> Option<bool> {
     let mut handle = handle;
-    let (producer, consumer) = producer(&mut handle).zip(consumer(&mut handle))?;
+    let (producer, consumer) = handle.split()?.ends()?;
     let pops = PopsBeside { consumer, handle };
     Some(goes_on_beside(rt, Pushes { producer }, pops))
 }
@@ -103,7 +93,7 @@ fn beside_push<R: Wait + Threads + Clock + Sync>(rt: &R, handle: Handle<'_, Slow
 /// The same of a pop.
 fn beside_pop<R: Wait + Threads + Clock + Sync>(rt: &R, handle: Handle<'_, Slow>) -> Option<bool> {
     let mut handle = handle;
-    let (mut producer, consumer) = producer(&mut handle).zip(consumer(&mut handle))?;
+    let (mut producer, consumer) = handle.split()?.ends()?;
     let is_pushed = producer.push(&Slow::of(SLOW_TO_READ));
     let pushes = PushesBeside { producer, handle };
     Some(is_pushed & goes_on_beside(rt, Pops { consumer }, pushes))

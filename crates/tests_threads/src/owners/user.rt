@@ -1,6 +1,4 @@
 //! An owner who takes indices of a set and gives them back.
-ghost use Rattle.lock_free.specs.RobustUniqueIndexSet.{IsPassOf};
-
 use crate::deaths::{MOST, Mortal};
 use crate::hall::{Hall, Visit, Visitor};
 use crate::holders::Holders;
@@ -8,9 +6,7 @@ use crate::last::{Beside, Holds};
 use crate::owned::OwnedUser;
 use crate::rests::Rests;
 use crate::tasks::{EVERY, User};
-use lock_free::mpmc::robust_unique_index_set::{
-    CallbackProgression, OwnerId, Pass, RobustUniqueIndexSet,
-};
+use lock_free::mpmc::robust_unique_index_set::{CallbackProgression, Handle, OwnerId};
 use lock_free::mpmc::unique_index_set_enums::{
     ReleaseMode, ReleaseState, UniqueIndexSetAcquireFailure,
 };
@@ -18,62 +14,41 @@ use std::sync::Wait;
 
 /// An owner who uses a set.
 pub struct OwnerUser<'a> {
-    set: &'a RobustUniqueIndexSet,
-    holders: &'a Holders,
+    pub set: Handle<'a>,
+    pub holders: &'a Holders,
     pub owner: OwnerId,
-    pass: Pass,
-    ghost of: { IsPassOf set.now pass },
 }
 
 impl<'a> Drop for OwnerUser<'a> {
     fn drop(self) {
         let Self {
-            set: _,
+            set: _set,
             holders: _,
             owner: _,
-            pass: _pass,
         } = self;
     }
 }
 
 impl<'a> OwnerUser<'a> {
-    pub fn new(
-        set: &'a RobustUniqueIndexSet,
-        holders: &'a Holders,
-        owner: OwnerId,
-        pass: Pass,
-    ) -> OwnerUser<'a>
-        requires { IsPassOf set.now pass }
-    {
-        OwnerUser {
-            set,
-            holders,
-            owner,
-            pass,
-        }
-    }
-
     fn acquire(&mut self, rt: &impl Wait) -> Option<usize> {
-        self.set.acquire(rt, self.owner, &mut self.pass).ok()
+        self.set.acquire(rt, self.owner).ok()
     }
 
     /// Gives an index back: what is told of the lock. None where it could not be given back.
     fn release(&mut self, rt: &impl Wait, index: usize, mode: ReleaseMode) -> Option<ReleaseState> {
         if index < self.set.capacity() {
-            self.set
-                .release(rt, index, self.owner, mode, &mut self.pass)
-                .ok()
+            self.set.release(rt, index, self.owner, mode).ok()
         } else {
             None
         }
     }
 
     pub fn borrowed(&mut self, rt: &impl Wait) -> usize {
-        self.set.borrowed_indices(rt, &mut self.pass)
+        self.set.borrowed_indices(rt)
     }
 
     pub fn is_locked(&mut self) -> bool {
-        self.set.is_locked(&mut self.pass)
+        self.set.is_locked()
     }
 
     /// Takes an index, which its owner keeps. Whether nobody else had it; None where there was none.
@@ -94,11 +69,7 @@ impl<'a> OwnerUser<'a> {
 
     /// How many indices an owner has.
     pub fn finds(&mut self, owner: OwnerId) -> usize {
-        self.set.find(
-            owner,
-            &mut |_| CallbackProgression::Continue,
-            &mut self.pass,
-        )
+        self.set.find(owner, &mut |_| CallbackProgression::Continue)
     }
 
     /// Recovers an owner, of whose indices each is left before it is free, and rests inside the call after each one of so
@@ -130,7 +101,6 @@ impl<'a> OwnerUser<'a> {
                 next = index.wrapping_add(1);
                 number = number.wrapping_add(1);
             },
-            &mut self.pass,
         );
         if well && had && state == ReleaseState::Unlocked {
             Some(number)
@@ -143,12 +113,11 @@ impl<'a> OwnerUser<'a> {
 impl<'a> User for OwnerUser<'a> {
     fn another(&mut self, number: u64) -> Option<OwnerUser<'a>> {
         let owner = OwnerId::new(number).ok()?;
-        let pass = self.pass.split()?;
+        let set = self.set.split()?;
         Some(OwnerUser {
-            set: self.set,
+            set,
             holders: self.holders,
             owner,
-            pass,
         })
     }
 
@@ -162,7 +131,7 @@ impl<'a> User for OwnerUser<'a> {
 
 impl<'a> Visitor for OwnerUser<'a> {
     fn visit(&mut self, rt: &impl Wait, hall: &Hall) -> Visit {
-        let index = match self.set.acquire(rt, self.owner, &mut self.pass) {
+        let index = match self.set.acquire(rt, self.owner) {
             Ok(index) => index,
             Err(UniqueIndexSetAcquireFailure::OutOfIndices) => return Visit::Full,
             Err(UniqueIndexSetAcquireFailure::IsLocked) => return Visit::Closed,
@@ -203,7 +172,7 @@ impl<'a> Beside for OwnerUser<'a> {
     }
 
     fn gets_in(&mut self, rt: &impl Wait) -> Option<bool> {
-        match self.set.acquire(rt, self.owner, &mut self.pass) {
+        match self.set.acquire(rt, self.owner) {
             Ok(_) => Some(true),
             Err(UniqueIndexSetAcquireFailure::IsLocked) => Some(false),
             Err(UniqueIndexSetAcquireFailure::OutOfIndices) => None,

@@ -5,9 +5,9 @@ use super::passing::{Ends, LOOKS, Reader, WAITING, Writer, pause, word_of};
 use lock_free::mpmc::container::OwnerId;
 use std::alloc::{AllocError, Global};
 use std::sync::Wait;
-use uses_bus::bus::Sizes;
-use uses_bus::publisher::{Loan, Publisher};
-use uses_bus::subscriber::{Sample, Subscriber};
+use zero_copy_bus::bus::Sizes;
+use zero_copy_bus::publisher::{Loan, Publisher};
+use zero_copy_bus::subscriber::{Sample, Subscriber};
 
 /// The sizes of a bus of so many subscribers. A queue is as long as the slots are many, so that no record is lost.
 pub fn sizes_of(subscribers: usize) -> Sizes {

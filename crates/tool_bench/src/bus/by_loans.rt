@@ -3,9 +3,9 @@
 use super::passing::{Ends, LOOKS, Reader, Writer, pause, word_of};
 use std::alloc::Global;
 use std::sync::Wait;
-use uses_loans::channel::Channel;
-use uses_loans::receiver::{Receiver, Sample};
-use uses_loans::sender::{Loan, Sender};
+use zero_copy_loans::channel::Channel;
+use zero_copy_loans::receiver::{Receiver, Sample};
+use zero_copy_loans::sender::{Loan, Sender};
 
 /// Who writes records into places that it loans, and sends them.
 #[derive(Drop)]

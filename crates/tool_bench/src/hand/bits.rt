@@ -1,4 +1,4 @@
-//! The bit set and the counts by hand.
+//! The bit set by hand.
 ghost use Rattle.std.specs.Prelude.{◌≡◌, ◌+◌, ◌*◌, ◌<◌, ◌≤◌};
 
 use super::Words;
@@ -104,76 +104,5 @@ impl Bits {
             }
         }
         None
-    }
-
-    /// How many places stood, and their sum.
-    #[inline(never)]
-    pub fn reset_all(&mut self) -> u64 {
-        let mut sum = 0u64;
-        for element in 0..self.elements {
-            let mut flags = self.words.swap(1 + element as usize, 0);
-            if flags != 0 {
-                for bit in 0..64u64 {
-                    if flags & 1 != 0 {
-                        sum = sum.wrapping_add(element as u64 * 64 + bit + 1);
-                    }
-                    flags = flags / 2;
-                    if flags == 0 {
-                        break;
-                    }
-                }
-            }
-        }
-        sum
-    }
-}
-
-/// Counts, each of one place.
-#[derive(Drop)]
-pub struct Counts {
-    words: Words,
-    capacity: u32,
-    ghost some: { 0 < capacity },
-    ghost sized: { words.size ≡ capacity },
-}
-
-impl Counts {
-    /// One in which no place counts.
-    pub fn new(alloc: Global, capacity: u32) -> Result<Counts, AllocError> {
-        if capacity == 0 {
-            return Err(AllocError);
-        }
-        let numbers = Vec::from_elem(alloc, 0u64, capacity as usize)?;
-        let words = Words::new(alloc, numbers.as_slice())?;
-        Ok(Counts { words, capacity })
-    }
-
-    pub fn another(&mut self) -> Option<Counts> {
-        let words = self.words.another()?;
-        Some(Counts {
-            words,
-            capacity: self.capacity,
-        })
-    }
-
-    #[inline(never)]
-    pub fn set(&mut self, place: u32) -> u64 {
-        if place < self.capacity {
-            self.words.add(place as usize, 1)
-        } else {
-            0
-        }
-    }
-
-    #[inline(never)]
-    pub fn reset_all(&mut self) -> u64 {
-        let mut sum = 0u64;
-        for place in 0..self.capacity {
-            let count = self.words.swap(place as usize, 0);
-            if count > 0 {
-                sum = sum.wrapping_add((place as u64).wrapping_add(count));
-            }
-        }
-        sum
     }
 }

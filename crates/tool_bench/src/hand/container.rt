@@ -45,33 +45,6 @@ impl Values {
         Some(index)
     }
 
-    #[inline(never)]
-    pub fn remove<R: Wait>(&mut self, rt: &R, index: u32, owner: u64) -> bool {
-        if index >= self.owners.capacity {
-            return false;
-        }
-        let cells = self.owners.capacity as usize;
-        let number = 2 + cells + index as usize;
-        let found = self.owners.words.load(number);
-        if !self.owners.release(rt, index, owner) {
-            return false;
-        }
-        let words = &mut self.owners.words;
-        if found % 2 == 1 {
-            words.exchange(number, found, found.wrapping_add(1));
-        }
-        words.add(1 + cells, 1);
-        true
-    }
-
-    /// Adds a value and removes it.
-    pub fn turns<R: Wait>(&mut self, rt: &R, value: u64, owner: u64) -> u64 {
-        match self.add(rt, value, owner) {
-            Some(index) => self.remove(rt, index, owner) as u64,
-            None => 2,
-        }
-    }
-
     /// A copy of the value at this index, and its number.
     #[inline(always)]
     fn copied(&mut self, index: u32) -> Option<(u64, u64)>
@@ -138,13 +111,5 @@ impl Values {
         let changes = 1 + self.owners.capacity as usize;
         self.owners.words.add(changes, 1);
         is_open
-    }
-
-    pub fn another(&mut self) -> Option<Values> {
-        let words = self.owners.words.another()?;
-        let capacity = self.owners.capacity;
-        Some(Values {
-            owners: Owners { words, capacity },
-        })
     }
 }

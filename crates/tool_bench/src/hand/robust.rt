@@ -81,10 +81,7 @@ impl Owners {
         unreachable!()
     }
 
-    pub fn release<R: Wait>(&mut self, rt: &R, index: u32, owner: u64) -> bool
-        ensures capacity { self.new.capacity ≡ self.old.capacity }
-        ensures size { self.new.words.size ≡ self.old.words.size }
-    {
+    pub fn release<R: Wait>(&mut self, rt: &R, index: u32, owner: u64) -> bool {
         if index >= self.capacity {
             return false;
         }

@@ -1,5 +1,5 @@
 use Rattle.std.proofs.Common.{◌≡◌}
-use Rattle.uses_bus.specs.Ends.{next_of}
+use Rattle.zero_copy_bus.specs.Ends.{next_of}
 use Rattle.uses_news.proofs.loan_one.Given as given
 
 abbrev pub invariant-loop : given.invariant-loop

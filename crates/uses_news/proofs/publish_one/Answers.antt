@@ -1,6 +1,6 @@
 use Rattle.std.proofs.Common.{◌≡◌, ap, sym, ◌∙◌, arith, rules, replicate}
 use Rattle.std.proofs.lemmas.Grind.{common_steps}
-use Rattle.uses_bus.specs.Ends.{next_of}
+use Rattle.zero_copy_bus.specs.Ends.{next_of}
 use Rattle.uses_news.specs.Marks.{mark}
 use Rattle.uses_news.proofs.publish_one.Goals as goal
 

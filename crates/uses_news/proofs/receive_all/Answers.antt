@@ -1,5 +1,5 @@
 use Rattle.std.proofs.Common.{[], refl, subst, sym}
-use Rattle.uses_bus.specs.Ends.{expected_at}
+use Rattle.zero_copy_bus.specs.Ends.{expected_at}
 use Rattle.uses_news.specs.Marks.{HasRead}
 use Rattle.uses_news.proofs.Steps.{news, reads_none, reads_then}
 use Rattle.uses_news.proofs.receive_all.Goals as goal

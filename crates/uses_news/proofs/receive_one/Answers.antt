@@ -1,6 +1,6 @@
 use Rattle.std.proofs.Common.{[], ◌∷◌, subst, sym}
-use Rattle.uses_bus.specs.Ends.{expected_at, number_of}
-use Rattle.uses_bus.specs.Sequences.{Rises}
+use Rattle.zero_copy_bus.specs.Ends.{expected_at, number_of}
+use Rattle.zero_copy_bus.specs.Sequences.{Rises}
 use Rattle.uses_news.proofs.Steps.{reads_none, reads_one}
 use Rattle.uses_news.proofs.receive_one.Goals as goal
 

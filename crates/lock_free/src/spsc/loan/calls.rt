@@ -18,7 +18,7 @@ ghost use Rattle.lock_free_queues.specs.Queues.Contracts.{PopDone, PopEmpty};
 ghost use Rattle.lock_free.specs.declared.spsc.loan.places.Place.TheVariants.{Free, Loaned, Sent};
 ghost use Rattle.lock_free.specs.Loan.Places.{is_out, is_sent, place_at, returned, reclaimed, IsBookOf};
 ghost use Rattle.lock_free.specs.Loan.Sender.{places_of, pass_view, share_of, submission_view, completion_view};
-ghost use Rattle.lock_free.specs.Loan.Sender.{submission_of, completion_of, KeepsQueues, set_of_sender, IsSame};
+ghost use Rattle.lock_free.specs.Loan.Sender.{submission_of, completion_of, KeepsQueues, set_of_sender, IsAsideOnce, IsSame};
 ghost use Rattle.lock_free.specs.Loan.Sender.{IsSenderOf, IsLoaned};
 ghost use Rattle.lock_free.specs.Loan.Contracts.{InTurn, HasFreed, HasEmptied, all_sent, sent_back};
 
@@ -125,6 +125,7 @@ impl<'a> LoanSender<'a> {
         ensures goes { Goes (pass_view self.old) (pass_view self.new) }
         ensures queues { KeepsQueues self.old self.new }
         ensures same { IsSame self.old self.new }
+        ensures aside { IsAsideOnce self.old self.new }
         ensures share { share_of self.new ≡ share_of self.old }
         ensures steps { TakesAlone (4 + (set_of_sender self.old).capacity) (max 2 (set_of_sender self.old).capacity)
             (pass_view self.old) (pass_view self.new) }
@@ -152,6 +153,7 @@ impl<'a> LoanSender<'a> {
         ensures goes { Goes (pass_view self.old) (pass_view self.new) }
         ensures queues { KeepsQueues self.old self.new }
         ensures same { IsSame self.old self.new }
+        ensures aside { IsAsideOnce self.old self.new }
         ensures share { share_of self.new ≡ share_of self.old }
         ensures steps { TakesAtMost 5 (pass_view self.old) (pass_view self.new) }
     {
@@ -190,6 +192,7 @@ impl<'a> LoanSender<'a> {
         ensures freed { InTurn HasFreed (sent_back value (places_of self.old)) (pass_view self.old) (pass_view self.new) }
         ensures queues { KeepsQueues self.old self.new }
         ensures same { IsSame self.old self.new }
+        ensures aside { IsAsideOnce self.old self.new }
         ensures share { share_of self.new ≡ share_of self.old }
         ensures steps { TakesAtMost 5 (pass_view self.old) (pass_view self.new) }
     {
@@ -221,6 +224,7 @@ impl<'a> LoanSender<'a> {
             (submission_view self.old) (submission_view self.new)) }
         ensures completion { completion_view self.new ≡ completion_view self.old }
         ensures same { IsSame self.old self.new }
+        ensures aside { IsAsideOnce self.old self.new }
         ensures share { share_of self.new ≡ share_of self.old }
         ensures steps { TakesAtMost 5 (pass_view self.old) (pass_view self.new) }
         ensures queue_steps { TakesAtMost 6 (submission_view self.old) (submission_view self.new) }
@@ -247,6 +251,7 @@ impl<'a> LoanSender<'a> {
             (submission_view self.old) (submission_view self.new)) }
         ensures completion { completion_view self.new ≡ completion_view self.old }
         ensures same { IsSame self.old self.new }
+        ensures aside { IsAsideOnce self.old self.new }
         ensures steps { TakesAtMost 6 (submission_view self.old) (submission_view self.new) }
     {
         let answer = self.submission.push(number);
@@ -270,6 +275,7 @@ impl<'a> LoanSender<'a> {
             (PopEmpty (completion_view self.old) (completion_view self.new)) }
         ensures submission { submission_view self.new ≡ submission_view self.old }
         ensures same { IsSame self.old self.new }
+        ensures aside { IsAsideOnce self.old self.new }
         ensures share { share_of self.new ≡ share_of self.old }
         ensures steps { TakesAtMost 5 (pass_view self.old) (pass_view self.new) }
         ensures queue_steps { TakesAtMost 4 (completion_view self.old) (completion_view self.new) }

@@ -8,7 +8,9 @@ use lib.ListN.{get_elem?}
 use Rattle.steps.specs.declared.ask.Op.TheVariants as ops
 use Rattle.model.specs.declared.turn.Kind.TheVariants as kinds
 use Rattle.threaded.specs.Driver.{Next, Told}
+use Rattle.history.specs.History.{HaveAsked, steps_of_run}
 use Rattle.history.specs.Known.{Known, HasSeen}
+use Rattle.history.proofs.Asked.{have_more}
 use Rattle.history.proofs.Known.{within}
 use Rattle.history.proofs.PassLooks.{reseat}
 use Rattle.atomic_table.proofs.Lists.{at_set, set_else, set_here}
@@ -19,9 +21,9 @@ use Rattle.lock_free_owners.specs.Container.Bare.{IsCounted, Still}
 pub unchanged : (count found : ℕ) → written (ops.Exchange count count) found ≡ found
 unchanged x0 x1 = grind (arith, by_eq)
 
--- the view of a seat that has asked for one operation more
+-- the view of a seat that has asked for one operation more, which is no step of a call
 abbrev pub one_more : {T : Type 0} → View T → View T
-one_more v = record v { asked = v.asked + 1 }
+one_more v = record v { asked = v.asked + 1; aside = v.aside + 1 }
 
 module _ {T : Type 0} (views : List (View T)) (events : List (Event T)) (id : ℕ) (v : View T) (at : get_elem? views id ≡ some v)
     (k : Known views events) where
@@ -63,6 +65,15 @@ module _ {T : Type 0} (views : List (View T)) (events : List (Event T)) (id : �
             spent = spent_on;
           }
 
+no_more : (n : ℕ) → n + 0 ≡ n
+no_more n = omega arith
+
+asked_on : {T : Type 0} (views : List (View T)) (steps id : ℕ) (v : View T) → get_elem? views id ≡ some v → HaveAsked views steps
+    → HaveAsked (set views id (one_more v)) steps
+asked_on views steps id v at h =
+    subst (λ n. HaveAsked (set views id (one_more v)) n) (no_more steps)
+    (have_more views id v (one_more v) steps 0 at h (omega arith) (λ none. (let same = h.spent id v at none in omega arith)))
+
 module _ {T : Type 0} (code : Coding T) (key slots id : ℕ) (v : View T) where
   pub leaves : (word : ℕ) (f : ℕ → ℕ) → ((k : ℕ) → f k ≡ k) → (Says : View T → ℕ → View T → Type 0) → ((k : ℕ) → Says v k (one_more v))
       → Allows (IsMachine code kinds.Container key) slots id (v, []) word f (λ found new. moves (λ (z : View T). z.asked) Says (v, []) found new)
@@ -89,13 +100,22 @@ module _ {T : Type 0} (code : Coding T) (key slots id : ℕ) (v : View T) where
               made = fits.made;
             })
             (known_on s.views r.trace.events id v at r.known)
-            (record { mine = (r.one.knew id v at).mine; theirs = (r.one.knew id v at).theirs }),
+            (record { mine = (r.one.knew id v at).mine; theirs = (r.one.knew id v at).theirs })
+            (asked_on s.views (steps_of_run code kinds.Container key r.one.turns) id v at r.asked),
         (says _, refl, refl),
       )
 
 -- what was counted before is counted still
 pub counted_on : {T : Type 0} (base v : View T) → IsCounted base v → IsCounted base (one_more v)
-counted_on {T} base v same = ap (λ (z : View T). record z { asked = v.asked + 1 }) same
+counted_on {T} base v same =
+    record {
+      known = ap (λ (z : View T). record z { asked = v.asked + 1; aside = v.aside + 1 }) same.known;
+      aside = (let is = same.aside in omega arith);
+    }
+
+-- the view itself, once one operation more is counted
+pub counted_one : {T : Type 0} (v : View T) → IsCounted v (one_more v)
+counted_one v = record { known = refl; aside = omega arith }
 
 -- a call whose view stays until its end
 module _ {T C E M : Type 0} (stands : View T → C → Type 0) (ends : View T → E → M → View T → Type 0) (v : View T) where

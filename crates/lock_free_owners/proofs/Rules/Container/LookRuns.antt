@@ -10,7 +10,7 @@ use Rattle.steps.specs.declared.container.look.LookStage as looks
 use Rattle.threaded.specs.Driver.{Told}
 use Rattle.model.specs.declared.turn.Kind.TheVariants as kinds
 use Rattle.lock_free_owners.specs.Container.Bare.{Still, LookStage, LookStands, LookEnds}
-use Rattle.lock_free_owners.proofs.Rules.Container.Bare.{Stays, one_more, counted_on, still_tells, leaves, unchanged}
+use Rattle.lock_free_owners.proofs.Rules.Container.Bare.{Stays, one_more, counted_on, counted_one, still_tells, leaves, unchanged}
 use Rattle.lock_free_owners.proofs.Rules.Container.Places.{change_fits, count_fits, element_fits}
 
 module _ {T : Type 0} (code : Coding T) (value_of : List ℕ → T) (size : ℕ) (some_words : 1 ≤ size) (seen : Numbers) (v : View T) (c : Look T)
@@ -43,7 +43,7 @@ module _ {T : Type 0} (code : Coding T) (value_of : List ℕ → T) (size : ℕ)
     change_fits c.capacity size words full,
     leaves code cap slots id v (change_word c.capacity) (λ x. x) (λ k. refl) Says
         (λ k. says k (subst Here (is k)
-        (by_eq Here k seen.change (Done false) (look_comes_to c 0) (λ e n. refl) (λ ne. comes 0)))),
+        (by_eq Here k seen.change (Done false) (look_comes_to c 0) (λ e n. counted_one v) (λ ne. comes 0)))),
   )
   stage_owes (looks.TheVariants.LoadsCount index) is at = (
     count_fits c.capacity size words full index (let l = at in omega arith),
@@ -58,8 +58,8 @@ module _ {T : Type 0} (code : Coding T) (value_of : List ℕ → T) (size : ℕ)
         (λ k. says k (subst Here (is k)
         (by_test Here (nat_lt (place + 1) size) (at_look c (looks.TheVariants.LoadsWord index count (place + 1)))
         (at_look c (looks.TheVariants.ChecksCount index count))
-        (λ t n. (refl, (same, (at.0, (let l : place + 1 < size = grind (arith, nat_tests) in l)))))
-        (λ t n. (refl, (same, at.0)))))),
+        (λ t n. (counted_one v, (same, (at.0, (let l : place + 1 < size = grind (arith, nat_tests) in l)))))
+        (λ t n. (counted_one v, (same, at.0)))))),
   )
   stage_owes (looks.TheVariants.ChecksCount index count) is at = (
     count_fits c.capacity size words full index (let l = at in omega arith),

@@ -9,9 +9,11 @@ use Rattle.lock_free_owners.proofs.Names.{recover_ends, recover_raises, recover_
 use Rattle.lock_free_owners.proofs.Names.{told, freed, hides, came_locked, seen_under, IsToFree, IsFreed, by_bool}
 use Rattle.steps.specs.declared.indices.enums.ReleaseState.TheVariants.{Locked}
 use Rattle.steps.specs.declared.indices.robust.parts.Raise as raises
-use Rattle.steps.specs.declared.indices.robust.parts.Lock as locks
+use Rattle.steps.specs.declared.indices.robust.parts.Lock.{Lock}
+use Rattle.steps.specs.declared.indices.robust.parts.Lock.TheVariants as locks
 use Rattle.steps.specs.declared.container.recover.Recover.{Recover}
-use Rattle.steps.specs.declared.container.recover.RecoverStage as recovers
+use Rattle.steps.specs.declared.container.recover.RecoverStage.{RecoverStage}
+use Rattle.steps.specs.declared.container.recover.RecoverStage.TheVariants as recovers
 use Rattle.steps.specs.Container.Recover.{recover_comes_to, recover_raised}
 use Rattle.steps.specs.Container.Recover.{recover_locked, recover_takes}
 use Rattle.history.specs.ContainerRecovery.{RecoverIn, Came, HasFreed}
@@ -87,51 +89,51 @@ module _ {T F : Type 0} (step : F → T → Bool → F → Type 0) (cap : ℕ) (
       }
 
   -- where the call stands, with these visits, and with this value in its room
-  abbrev pub SoFar : recovers.RecoverStage → Visits → T → F → Type 0
-  SoFar recovers.TheVariants.LoadsCounter visits value p = (p ≡ f) × (visits ≡ [])
-  SoFar (recovers.TheVariants.LoadsCell index) visits value p = Asked index visits p
-  SoFar (recovers.TheVariants.LoadsCount index) visits value p = Asked index visits p
-  SoFar (recovers.TheVariants.LoadsWord index count at) visits value p = Asked index visits p
-  SoFar (recovers.TheVariants.ChecksCount index count) visits value p = Asked index visits p
-  SoFar (recovers.TheVariants.Asks index count) visits value p =
+  abbrev pub SoFar : RecoverStage → Visits → T → F → Type 0
+  SoFar recovers.LoadsCounter visits value p = (p ≡ f) × (visits ≡ [])
+  SoFar (recovers.LoadsCell index) visits value p = Asked index visits p
+  SoFar (recovers.LoadsCount index) visits value p = Asked index visits p
+  SoFar (recovers.LoadsWord index count at) visits value p = Asked index visits p
+  SoFar (recovers.ChecksCount index count) visits value p = Asked index visits p
+  SoFar (recovers.Asks index count) visits value p =
       (before : Visits) × (visits ≡ (index, came.HasAsked value) ∷ before) × Asked index before p
-  SoFar (recovers.TheVariants.EmptiesCell index count) visits value p =
+  SoFar (recovers.EmptiesCell index count) visits value p =
       (now : Came T) × (before : Visits) × (visits ≡ (index, now) ∷ before) × IsToFree count now
       × Asked (index + 1) ((index, told now) ∷ before) p
-  SoFar (recovers.TheVariants.Hides index count) visits value p =
+  SoFar (recovers.Hides index count) visits value p =
       (gone : T) × (before : Visits) × (visits ≡ (index, HasFreed (Some gone) false false) ∷ before) × Asked (index + 1) visits p
-  SoFar (recovers.TheVariants.Raises index raise) visits value p = IsFreed index visits × Asked (index + 1) visits p
-  SoFar (recovers.TheVariants.Locks index lock) visits value p = IsFreed index visits × Asked (index + 1) visits p
-  SoFar recovers.TheVariants.LoadsCounterAgain visits value p = Asked cap visits p
-  SoFar (recovers.TheVariants.AddsChange state) visits value p = Asked cap visits p
+  SoFar (recovers.Raises index raise) visits value p = IsFreed index visits × Asked (index + 1) visits p
+  SoFar (recovers.Locks index lock) visits value p = IsFreed index visits × Asked (index + 1) visits p
+  SoFar recovers.LoadsCounterAgain visits value p = Asked cap visits p
+  SoFar (recovers.AddsChange state) visits value p = Asked cap visits p
 
   -- where it asks the container was not locked when it began
-  abbrev pub Knows : recovers.RecoverStage → Type 0
-  Knows (recovers.TheVariants.Asks index count) = shut ≡ false
+  abbrev pub Knows : RecoverStage → Type 0
+  Knows (recovers.Asks index count) = shut ≡ false
   Knows stage = Unit {0}
 
   -- the closure may be asked about the value
-  pub may_ask : {pre : F → T → Type 0} (size : ℕ) → (shut ≡ false → TakesValues pre step cap f) → (stage : recovers.RecoverStage)
+  pub may_ask : {pre : F → T → Type 0} (size : ℕ) → (shut ≡ false → TakesValues pre step cap f) → (stage : RecoverStage)
       → RecoverIn size cap given.mode stage → Knows stage
       → (visits : Visits) (value : T) (p : F) → SoFar stage visits value p → RecoverAsks pre stage value p
-  may_ask size takes recovers.TheVariants.LoadsCounter at free visits value p so = tt
-  may_ask size takes (recovers.TheVariants.LoadsCell index) at free visits value p so = tt
-  may_ask size takes (recovers.TheVariants.LoadsCount index) at free visits value p so = tt
-  may_ask size takes (recovers.TheVariants.LoadsWord index count place) at free visits value p so = tt
-  may_ask size takes (recovers.TheVariants.ChecksCount index count) at free visits value p so = tt
-  may_ask size takes (recovers.TheVariants.Asks index count) at free visits value p so =
+  may_ask size takes recovers.LoadsCounter at free visits value p so = tt
+  may_ask size takes (recovers.LoadsCell index) at free visits value p so = tt
+  may_ask size takes (recovers.LoadsCount index) at free visits value p so = tt
+  may_ask size takes (recovers.LoadsWord index count place) at free visits value p so = tt
+  may_ask size takes (recovers.ChecksCount index count) at free visits value p so = tt
+  may_ask size takes (recovers.Asks index count) at free visits value p so =
       let h = so.2 in
       (takes free).at (questions_of so.0) p index value h.questions h.ascend h.below at.0 (let l = h.few in let within = at.0 in omega arith)
-  may_ask size takes (recovers.TheVariants.EmptiesCell index count) at free visits value p so = tt
-  may_ask size takes (recovers.TheVariants.Hides index count) at free visits value p so = tt
-  may_ask size takes (recovers.TheVariants.Raises index raise) at free visits value p so = tt
-  may_ask size takes (recovers.TheVariants.Locks index lock) at free visits value p so = tt
-  may_ask size takes recovers.TheVariants.LoadsCounterAgain at free visits value p so = tt
-  may_ask size takes (recovers.TheVariants.AddsChange state) at free visits value p so = tt
+  may_ask size takes (recovers.EmptiesCell index count) at free visits value p so = tt
+  may_ask size takes (recovers.Hides index count) at free visits value p so = tt
+  may_ask size takes (recovers.Raises index raise) at free visits value p so = tt
+  may_ask size takes (recovers.Locks index lock) at free visits value p so = tt
+  may_ask size takes recovers.LoadsCounterAgain at free visits value p so = tt
+  may_ask size takes (recovers.AddsChange state) at free visits value p so = tt
 
   -- a step at a word
-  abbrev pub IsQuiet : recovers.RecoverStage → Type 0
-  IsQuiet (recovers.TheVariants.Asks index count) = ⊥
+  abbrev pub IsQuiet : RecoverStage → Type 0
+  IsQuiet (recovers.Asks index count) = ⊥
   IsQuiet stage = Unit {0}
 
   module _ {R : Type 0} where
@@ -145,8 +147,8 @@ module _ {T F : Type 0} (step : F → T → Bool → F → Type 0) (cap : ℕ) (
 
       comes : (index : ℕ) (visits : Visits) (value : T) (p : F) → index ≤ cap → Asked index visits p → Onward (recover_comes_to c index) visits value p
       comes index visits value p within h =
-          by_test (λ stage. Onward (goes_to c stage) visits value p) (nat_lt index c.capacity) (recovers.TheVariants.LoadsCell index)
-          recovers.TheVariants.LoadsCounterAgain
+          by_test (λ stage. Onward (goes_to c stage) visits value p) (nat_lt index c.capacity) (recovers.LoadsCell index)
+          recovers.LoadsCounterAgain
           (λ t. h)
           (λ t. widen index cap visits p within h)
 
@@ -154,69 +156,69 @@ module _ {T F : Type 0} (step : F → T → Bool → F → Type 0) (cap : ℕ) (
           → Onward (recover_sees c index count) (seen_under index count visits) value p
       sees_count index count visits value p h =
           by_bool (is_even count)
-          (λ e. so_then value p (recover_sees c index count) (goes_to c (recovers.TheVariants.EmptiesCell index count)) (seen_under index count visits)
+          (λ e. so_then value p (recover_sees c index count) (goes_to c (recovers.EmptiesCell index count)) (seen_under index count visits)
           ((index, HasFound None) ∷ visits) (rw e refl) (rw e refl) (HasFound None, visits, refl, e, comes_none index visits p h))
-          (λ e. so_then value p (recover_sees c index count) (goes_to c (recovers.TheVariants.LoadsWord index count 0)) (seen_under index count visits) visits
+          (λ e. so_then value p (recover_sees c index count) (goes_to c (recovers.LoadsWord index count 0)) (seen_under index count visits) visits
           (rw e refl) (rw e refl) h)
 
       raised : (index : ℕ) (by : ReleaseMode) (visits : Visits) (value : T) (p : F) (a : After raises.Raise ReleaseState) → index < cap → IsFreed index visits
           → Asked (index + 1) visits p → Onward (recover_raised c index by a) visits value p
       raised x0 x1 x2 x3 x4 x5 x6 x7 x8 = grind (arith, widen, comes)
 
-      locking : (index : ℕ) (visits : Visits) (value : T) (p : F) (a : After locks.Lock ReleaseState) → index < cap → IsFreed index visits
+      locking : (index : ℕ) (visits : Visits) (value : T) (p : F) (a : After Lock ReleaseState) → index < cap → IsFreed index visits
           → Asked (index + 1) visits p → Onward (recover_locked c index a) visits value p
       locking x0 x1 x2 x3 x4 x5 x6 x7 = grind (arith, comes)
 
       -- it has freed the index: where its number was odd, a value stood there
       freed_on : (index count : ℕ) (now : Came T) (before : Visits) (value : T) (p : F) → IsToFree count now → Asked (index + 1) ((index, told now) ∷ before) p
-          → Onward (if is_even count then recover_raises c index else goes_to c (recovers.TheVariants.Hides index count)) ((index, freed now) ∷ before) value p
+          → Onward (if is_even count then recover_raises c index else goes_to c (recovers.Hides index count)) ((index, freed now) ∷ before) value p
       freed_on x0 x1 x2 x3 x4 x5 x6 x7 = grind (arith, so_then, is_even, recover_raises, goes_to, further)
 
       module _ (value_of : R → T) (with_word : R → ℕ → ℕ → R) where
-        abbrev pub StepsOnward : recovers.RecoverStage → Visits → R → ℕ → F → Type 0
+        abbrev pub StepsOnward : RecoverStage → Visits → R → ℕ → F → Type 0
         StepsOnward stage visits room k p =
             Onward (recover_takes size c stage given k) (visits_after given.owner stage k (value_of room) visits)
             (value_of (recover_keeps with_word stage room k)) p
 
-        pub quietly : (stage : recovers.RecoverStage) → IsQuiet stage → RecoverIn size cap given.mode stage → (visits : Visits) (room : R) (p : F) (k : ℕ)
+        pub quietly : (stage : RecoverStage) → IsQuiet stage → RecoverIn size cap given.mode stage → (visits : Visits) (room : R) (p : F) (k : ℕ)
             → SoFar stage visits (value_of room) p → StepsOnward stage visits room k p
-        quietly recovers.TheVariants.LoadsCounter still at visits room p k so =
+        quietly recovers.LoadsCounter still at visits room p k so =
             by_eq (λ z. Onward z visits (value_of room) p) k locked (recover_ends c Locked) (recover_comes_to c 0)
             (λ e. begun cap)
             (λ ne. comes 0 visits (value_of room) p (omega arith) (begun 0))
           where
             begun : (low : ℕ) → Asked low visits p
             begun low = subst (λ vs. Asked low vs p) (sym so.1) (none low p so.0)
-        quietly (recovers.TheVariants.LoadsCell index) still at visits room p k so =
-            by_eq (λ z. Onward z visits (value_of room) p) k given.owner (goes_to c (recovers.TheVariants.LoadsCount index)) (recover_comes_to c (index + 1))
+        quietly (recovers.LoadsCell index) still at visits room p k so =
+            by_eq (λ z. Onward z visits (value_of room) p) k given.owner (goes_to c (recovers.LoadsCount index)) (recover_comes_to c (index + 1))
             (λ e. so)
             (λ ne. comes (index + 1) visits (value_of room) p (omega arith) (widen index (index + 1) visits p (omega arith) so))
-        quietly (recovers.TheVariants.LoadsCount index) still at visits room p k so = sees_count index k visits (value_of room) p so
-        quietly (recovers.TheVariants.LoadsWord index count place) still at visits room p k so =
+        quietly (recovers.LoadsCount index) still at visits room p k so = sees_count index k visits (value_of room) p so
+        quietly (recovers.LoadsWord index count place) still at visits room p k so =
             by_test (λ z. Onward z visits (value_of (with_word room place k)) p) (nat_lt (place + 1) size)
-            (goes_to c (recovers.TheVariants.LoadsWord index count (place + 1))) (goes_to c (recovers.TheVariants.ChecksCount index count)) (λ t. so) (λ t. so)
-        quietly (recovers.TheVariants.ChecksCount index count) still at visits room p k so =
+            (goes_to c (recovers.LoadsWord index count (place + 1))) (goes_to c (recovers.ChecksCount index count)) (λ t. so) (λ t. so)
+        quietly (recovers.ChecksCount index count) still at visits room p k so =
             by_bool (k == count)
-            (λ e. so_then (value_of room) p (recover_takes size c (recovers.TheVariants.ChecksCount index count) given k)
-            (goes_to c (recovers.TheVariants.Asks index count))
-            (visits_after given.owner (recovers.TheVariants.ChecksCount index count) k (value_of room) visits) ((index, came.HasAsked (value_of room)) ∷ visits)
+            (λ e. so_then (value_of room) p (recover_takes size c (recovers.ChecksCount index count) given k)
+            (goes_to c (recovers.Asks index count))
+            (visits_after given.owner (recovers.ChecksCount index count) k (value_of room) visits) ((index, came.HasAsked (value_of room)) ∷ visits)
             (rw e refl) (rw e refl) (visits, refl, so))
-            (λ e. so_then (value_of room) p (recover_takes size c (recovers.TheVariants.ChecksCount index count) given k) (recover_sees c index k)
-            (visits_after given.owner (recovers.TheVariants.ChecksCount index count) k (value_of room) visits) (seen_under index k visits)
+            (λ e. so_then (value_of room) p (recover_takes size c (recovers.ChecksCount index count) given k) (recover_sees c index k)
+            (visits_after given.owner (recovers.ChecksCount index count) k (value_of room) visits) (seen_under index k visits)
             (rw e refl) (rw e refl) (sees_count index k visits (value_of room) p so))
-        quietly (recovers.TheVariants.Asks index count) still at visits room p k so = absurd still
-        quietly (recovers.TheVariants.EmptiesCell index count) still at visits room p k so =
+        quietly (recovers.Asks index count) still at visits room p k so = absurd still
+        quietly (recovers.EmptiesCell index count) still at visits room p k so =
             let now = so.0 in
             let before = so.1 in
             by_bool (k == given.owner)
-            (λ e. so_then (value_of room) p (recover_takes size c (recovers.TheVariants.EmptiesCell index count) given k)
-            (if is_even count then recover_raises c index else goes_to c (recovers.TheVariants.Hides index count))
-            (visits_after given.owner (recovers.TheVariants.EmptiesCell index count) k (value_of room) visits) ((index, freed now) ∷ before)
+            (λ e. so_then (value_of room) p (recover_takes size c (recovers.EmptiesCell index count) given k)
+            (if is_even count then recover_raises c index else goes_to c (recovers.Hides index count))
+            (visits_after given.owner (recovers.EmptiesCell index count) k (value_of room) visits) ((index, freed now) ∷ before)
             (rw e refl) (rw e (ap (with_last freed) so.2)) (freed_on index count now before (value_of room) p so.3 so.4))
-            (λ e. so_then (value_of room) p (recover_takes size c (recovers.TheVariants.EmptiesCell index count) given k) (recover_comes_to c (index + 1))
-            (visits_after given.owner (recovers.TheVariants.EmptiesCell index count) k (value_of room) visits) ((index, told now) ∷ before)
+            (λ e. so_then (value_of room) p (recover_takes size c (recovers.EmptiesCell index count) given k) (recover_comes_to c (index + 1))
+            (visits_after given.owner (recovers.EmptiesCell index count) k (value_of room) visits) ((index, told now) ∷ before)
             (rw e refl) (rw e (ap (with_last told) so.2)) (comes (index + 1) ((index, told now) ∷ before) (value_of room) p (omega arith) so.4))
-        quietly (recovers.TheVariants.Hides index count) still at visits room p k so =
+        quietly (recovers.Hides index count) still at visits room p k so =
             let gone = so.0 in
             let before = so.1 in
             let first : Came T = HasFreed (Some gone) false false in
@@ -226,36 +228,36 @@ module _ {T F : Type 0} (step : F → T → Bool → F → Type 0) (cap : ℕ) (
               (Some gone, (k == count), before, refl, λ e. absurd (cc)),
               further index first next before p refl ((λ e. absurd (cc)), (λ e. absurd (cc))) (subst (λ vs. Asked (index + 1) vs p) so.2 so.3),
             )
-        quietly (recovers.TheVariants.Raises index raise) still at visits room p k so =
+        quietly (recovers.Raises index raise) still at visits room p k so =
             raised index given.mode visits (value_of room) p (raise_after raise k) at so.0 so.1
-        quietly (recovers.TheVariants.Locks index (locks.TheVariants.Counts count)) still at visits room p k so =
-            locking index visits (value_of room) p (lock_after c.capacity (locks.TheVariants.Counts count) k) at.1 so.0 so.1
-        quietly (recovers.TheVariants.Locks index (locks.TheVariants.ExchangesCounter counter)) still at visits room p k so =
+        quietly (recovers.Locks index (locks.Counts count)) still at visits room p k so =
+            locking index visits (value_of room) p (lock_after c.capacity (locks.Counts count) k) at.1 so.0 so.1
+        quietly (recovers.Locks index (locks.ExchangesCounter counter)) still at visits room p k so =
             let found = so.0.0 in
             let hid = so.0.1 in
             let before = so.0.2 in
             let next : Came T = HasFreed found hid true in
             by_bool (k == counter)
-            (λ e. so_then (value_of room) p (recover_takes size c (recovers.TheVariants.Locks index (locks.TheVariants.ExchangesCounter counter)) given k)
+            (λ e. so_then (value_of room) p (recover_takes size c (recovers.Locks index (locks.ExchangesCounter counter)) given k)
             (recover_comes_to c (index + 1))
             (visits_after given.owner
-            (recovers.TheVariants.Locks index (locks.TheVariants.ExchangesCounter counter)) k (value_of room)
+            (recovers.Locks index (locks.ExchangesCounter counter)) k (value_of room)
             visits)
             ((index, next) ∷ before)
             (rw e refl) (rw e (ap (with_last came_locked) so.0.3))
             (comes (index + 1) ((index, next) ∷ before) (value_of room) p (omega arith)
             (further index (HasFreed found hid false) next before p refl (so.0.4, (λ t. at.0)) (subst (λ vs. Asked (index + 1) vs p) so.0.3 so.1))))
-            (λ e. so_then (value_of room) p (recover_takes size c (recovers.TheVariants.Locks index (locks.TheVariants.ExchangesCounter counter)) given k)
+            (λ e. so_then (value_of room) p (recover_takes size c (recovers.Locks index (locks.ExchangesCounter counter)) given k)
             (recover_locked c index (GoOn first_lock))
-            (visits_after given.owner (recovers.TheVariants.Locks index (locks.TheVariants.ExchangesCounter counter)) k (value_of room) visits) visits
+            (visits_after given.owner (recovers.Locks index (locks.ExchangesCounter counter)) k (value_of room) visits) visits
             (rw e refl) (rw e refl) so)
-        quietly recovers.TheVariants.LoadsCounterAgain still at visits room p k so = so
-        quietly (recovers.TheVariants.AddsChange state) still at visits room p k so = so
+        quietly recovers.LoadsCounterAgain still at visits room p k so = so
+        quietly (recovers.AddsChange state) still at visits room p k so = so
 
       -- an answer
       pub answered : (index count : ℕ) (visits : Visits) (value : T) (answer : Bool) (p q : F) → shut ≡ false → (index < cap) × (is_even count ≡ false)
-          → step p value answer q → SoFar (recovers.TheVariants.Asks index count) visits value p
-          → Onward (recover_takes size c (recovers.TheVariants.Asks index count) given (if answer then 1 else 0)) visits value q
+          → step p value answer q → SoFar (recovers.Asks index count) visits value p
+          → Onward (recover_takes size c (recovers.Asks index count) given (if answer then 1 else 0)) visits value q
       answered index count visits value true p q free at hit so =
           (came.HasAsked value, so.0, so.1, at.1, more index value true (HasFound (Some value)) so.0 p q refl tt free at.0 hit so.2)
       answered index count visits value false p q free at hit so =

@@ -10,9 +10,11 @@ use Rattle.lock_free_owners.proofs.Names.{HasLocked, Visit, visit, came_to, HasC
 use Rattle.lock_free_owners.proofs.Names.{came_last}
 use Rattle.steps.specs.declared.indices.enums.ReleaseState.TheVariants.{Locked}
 use Rattle.steps.specs.declared.indices.robust.parts.Raise as raises
-use Rattle.steps.specs.declared.indices.robust.parts.Lock as locks
+use Rattle.steps.specs.declared.indices.robust.parts.Lock.{Lock}
+use Rattle.steps.specs.declared.indices.robust.parts.Lock.TheVariants as locks
 use Rattle.steps.specs.declared.indices.robust.recover.Recover.{Recover}
-use Rattle.steps.specs.declared.indices.robust.recover.RecoverStage as recovers
+use Rattle.steps.specs.declared.indices.robust.recover.RecoverStage.{RecoverStage}
+use Rattle.steps.specs.declared.indices.robust.recover.RecoverStage.TheVariants as recovers
 use Rattle.steps.specs.Indices.Robust.Recover.{recover_comes_to, recover_raised, recover_locked, recover_takes}
 use Rattle.history.specs.Robust.{Came, HasFreed}
 use Rattle.history.specs.Robust.{VisitsAt, visits_after}
@@ -23,12 +25,12 @@ use Rattle.lock_free_owners.specs.Robust.Stages.{RecoverAsks, RecoverMoves, Goes
 use Rattle.lock_free_owners.specs.Robust.Recovering as recovering
 
 -- what is known of the lock and of the index where a closure may be called
-abbrev pub IsOpenAt : ℕ → Bool → recovers.RecoverStage → Type 0
-IsOpenAt cap shut (recovers.TheVariants.Asks index owner) = (shut ≡ false) × (index < cap)
-IsOpenAt cap shut (recovers.TheVariants.EmptiesCell index owner) = (shut ≡ false) × (index < cap)
+abbrev pub IsOpenAt : ℕ → Bool → RecoverStage → Type 0
+IsOpenAt cap shut (recovers.Asks index owner) = (shut ≡ false) × (index < cap)
+IsOpenAt cap shut (recovers.EmptiesCell index owner) = (shut ≡ false) × (index < cap)
 IsOpenAt cap shut stage = Unit {0}
 
-abbrev pub Knows : ℕ → ReleaseMode → Bool → recovers.RecoverStage → List Visit → Type 0
+abbrev pub Knows : ℕ → ReleaseMode → Bool → RecoverStage → List Visit → Type 0
 Knows cap mode shut stage visits = IsOpenAt cap shut stage × VisitsAt cap mode stage visits
 
 abbrev owned : ℕ → ℕ → Owned
@@ -67,7 +69,7 @@ module _ {F S : Type 0} (step : F → ℕ → ℕ → Bool → F → Type 0) (te
   abbrev Visits : List Visit → ℕ → ℕ → F → S → Type 0
   Visits = recovering.Visits step tell cap f s
 
-  abbrev pub SoFar : recovers.RecoverStage → List Visit → F → S → Type 0
+  abbrev pub SoFar : RecoverStage → List Visit → F → S → Type 0
   SoFar = recovering.SoFar step tell cap f s
 
   -- at the end
@@ -143,19 +145,19 @@ module _ {F S : Type 0} (step : F → ℕ → ℕ → Bool → F → Type 0) (te
       → Visits visits (index + 1) (index + 1) p q → Onward (recover_raised c index mode a) visits p q
   raised x0 x1 x2 x3 x4 x5 x6 x7 = grind (arith, comes)
 
-  locking : (c : Recover) (index : ℕ) (visits : List Visit) (p : F) (q : S) (a : After locks.Lock ReleaseState)
+  locking : (c : Recover) (index : ℕ) (visits : List Visit) (p : F) (q : S) (a : After Lock ReleaseState)
       → Visits visits (index + 1) (index + 1) p q → Onward (recover_locked c index a) visits p q
   locking x0 x1 x2 x3 x4 x5 x6 = grind (arith, comes)
 
   module _ (c : Recover) (mode : ReleaseMode) (visits : List Visit) where
-    quietly : (stage : recovers.RecoverStage) (k : ℕ) → c.stage ≡ stage → (p p' : F) (q q' : S) (a : After Recover ReleaseState)
+    quietly : (stage : RecoverStage) (k : ℕ) → c.stage ≡ stage → (p p' : F) (q q' : S) (a : After Recover ReleaseState)
         → Onward (recover_takes c stage mode k) (visits_taken stage visits k) p q → GoesQuietly c mode k p q a p' q'
         → Onward a (visits_taken stage visits k) p' q'
     quietly x0 x1 x2 x3 x4 x5 x6 x7 x8 x9 = grind (arith, visits_taken, recover_takes)
 
     answered : (index owner : ℕ) (answer : Bool) (p p' : F) (q : S) → owner < empty → index < cap → step p owner index answer p'
         → Visits visits index index p q
-        → Onward (recover_takes c (recovers.TheVariants.Asks index owner) mode (number_of answer)) (visits ++ visit index owner HasAsked ∷ []) p' q
+        → Onward (recover_takes c (recovers.Asks index owner) mode (number_of answer)) (visits ++ visit index owner HasAsked ∷ []) p' q
     answered index owner true p p' q named within hit h =
         let told = visit index owner WasTold in
         let now : visits ++ told ∷ [] ≡ came_to WasTold (visits ++ visit index owner HasAsked ∷ []) = sym (came_last visits index owner HasAsked WasTold) in
@@ -170,11 +172,11 @@ module _ {F S : Type 0} (step : F → ℕ → ℕ → Bool → F → Type 0) (te
         (asks_more (questions_of visits) (freed_of visits) index owner false p p' q named within hit h)))
 
     emptied : (index owner k : ℕ) (p : F) (q q' : S) → owner < empty → index < cap → HasCome mode index HasAsked owner visits
-        → SoFar (recovers.TheVariants.EmptiesCell index owner) visits p q
-        → (has_freed (recover_takes c (recovers.TheVariants.EmptiesCell index owner) mode k) ≡ true → tell q owner index q')
-        → (has_freed (recover_takes c (recovers.TheVariants.EmptiesCell index owner) mode k) ≡ false → q' ≡ q)
-        → Onward (recover_takes c (recovers.TheVariants.EmptiesCell index owner) mode k)
-        (visits_taken (recovers.TheVariants.EmptiesCell index owner) visits k) p q'
+        → SoFar (recovers.EmptiesCell index owner) visits p q
+        → (has_freed (recover_takes c (recovers.EmptiesCell index owner) mode k) ≡ true → tell q owner index q')
+        → (has_freed (recover_takes c (recovers.EmptiesCell index owner) mode k) ≡ false → q' ≡ q)
+        → Onward (recover_takes c (recovers.EmptiesCell index owner) mode k)
+        (visits_taken (recovers.EmptiesCell index owner) visits k) p q'
     emptied index owner k p q q' named within at h = go (k == owner) refl
       where
         fails : Onward (recover_comes_to c (index + 1)) (came_to WasTold visits) p q
@@ -189,57 +191,57 @@ module _ {F S : Type 0} (step : F → ℕ → ℕ → Bool → F → Type 0) (te
             (tells_more _ _ index owner p q q' named within hit h)
 
         no_cell : has_freed (recover_comes_to c (index + 1)) ≡ false
-        no_cell = by_test (λ stage. has_freed (GoOn (at_recover c stage)) ≡ false) (nat_lt (index + 1) c.capacity) (recovers.TheVariants.LoadsCell (index + 1))
-            recovers.TheVariants.LoadsCounterAgain (λ t. refl) (λ t. refl)
+        no_cell = by_test (λ stage. has_freed (GoOn (at_recover c stage)) ≡ false) (nat_lt (index + 1) c.capacity) (recovers.LoadsCell (index + 1))
+            recovers.LoadsCounterAgain (λ t. refl) (λ t. refl)
 
         go : (b : Bool) → (k == owner) ≡ b
-            → (has_freed (recover_takes c (recovers.TheVariants.EmptiesCell index owner) mode k) ≡ true → tell q owner index q')
-            → (has_freed (recover_takes c (recovers.TheVariants.EmptiesCell index owner) mode k) ≡ false → q' ≡ q)
-            → Onward (recover_takes c (recovers.TheVariants.EmptiesCell index owner) mode k)
-            (visits_taken (recovers.TheVariants.EmptiesCell index owner) visits k) p q'
+            → (has_freed (recover_takes c (recovers.EmptiesCell index owner) mode k) ≡ true → tell q owner index q')
+            → (has_freed (recover_takes c (recovers.EmptiesCell index owner) mode k) ≡ false → q' ≡ q)
+            → Onward (recover_takes c (recovers.EmptiesCell index owner) mode k)
+            (visits_taken (recovers.EmptiesCell index owner) visits k) p q'
         go true e = rw e (λ hit miss. frees (hit refl))
         go false e = rw e (λ hit miss. subst (Onward (recover_comes_to c (index + 1)) (came_to WasTold visits) p) (sym (miss no_cell)) fails)
 
-    shuts : (index k : ℕ) (lock : locks.Lock) (p : F) (q : S) → VisitsAt cap mode (recovers.TheVariants.Locks index lock) visits
+    shuts : (index k : ℕ) (lock : Lock) (p : F) (q : S) → VisitsAt cap mode (recovers.Locks index lock) visits
         → Visits visits (index + 1) (index + 1) p q → Visits (visits_locked lock visits k) (index + 1) (index + 1) p q
-    shuts index k (locks.TheVariants.Counts count) p q at h = h
-    shuts index k (locks.TheVariants.ExchangesCounter counter) p q at h =
+    shuts index k (locks.Counts count) p q at h = h
+    shuts index k (locks.ExchangesCounter counter) p q at h =
         by_test (λ vs. Visits vs (index + 1) (index + 1) p q) (k == counter) (came_to HasLocked visits) visits
         (λ t. as_lists _ _ _ _ (index + 1) (index + 1) p q
         (ap questions_of at.1.is ∙ (questions_last at.1.before (visit index at.0 HasFreed) ∙ sym (questions_to at.1 HasLocked)))
         (ap freed_of at.1.is ∙ (freed_last at.1.before (visit index at.0 HasFreed) ∙ sym (freed_to at.1 HasLocked))) h)
         (λ t. h)
 
-    by_stage : (stage : recovers.RecoverStage) (k : ℕ) → c.stage ≡ stage → Knows cap mode shut stage visits → (p p' : F) (q q' : S)
+    by_stage : (stage : RecoverStage) (k : ℕ) → c.stage ≡ stage → Knows cap mode shut stage visits → (p p' : F) (q q' : S)
         (a : After Recover ReleaseState) → SoFar stage visits p q → RecoverMoves step tell c mode stage k p q a p' q'
         → Onward a (visits_taken stage visits k) p' q'
-    by_stage recovers.TheVariants.LoadsCounter k is at p p' q q' a so m =
-        quietly recovers.TheVariants.LoadsCounter k is p p' q q' a
+    by_stage recovers.LoadsCounter k is at p p' q q' a so m =
+        quietly recovers.LoadsCounter k is p p' q q' a
         (by_eq (λ z. Onward z visits p q) k locked (Done Locked) (recover_comes_to c 0) (λ e. (0, 0, at_none visits p q at.1 so))
         (λ ne. comes c 0 visits p q (at_none visits p q at.1 so))) m
-    by_stage (recovers.TheVariants.LoadsCell index) k is at p p' q q' a so m =
-        quietly (recovers.TheVariants.LoadsCell index) k is p p' q q' a
-        (by_eq (λ z. Onward z visits p q) k empty (recover_comes_to c (index + 1)) (GoOn (at_recover c (recovers.TheVariants.Asks index k)))
+    by_stage (recovers.LoadsCell index) k is at p p' q q' a so m =
+        quietly (recovers.LoadsCell index) k is p p' q q' a
+        (by_eq (λ z. Onward z visits p q) k empty (recover_comes_to c (index + 1)) (GoOn (at_recover c (recovers.Asks index k)))
         (λ e. comes c (index + 1) visits p q (wide visits index index (index + 1) (index + 1) p q (omega arith) (omega arith) so)) (λ ne. so)) m
-    by_stage (recovers.TheVariants.Asks index owner) k is at p p' q q' a so m =
+    by_stage (recovers.Asks index owner) k is at p p' q q' a so m =
         let more : List Visit = visits ++ visit index owner HasAsked ∷ [] in
         subst (Onward a more p') (sym m.1)
         (subst (λ z. Onward z more p' q)
         (ap (λ z. recover_takes c z mode (number_of m.2.0)) (sym is) ∙ (ap (recover_takes c c.stage mode) (sym m.2.2) ∙ sym m.3))
         (answered index owner m.2.0 p p' q m.0 at.0.1 m.2.1 so))
-    by_stage (recovers.TheVariants.EmptiesCell index owner) k is at p p' q q' a so m =
-        let goes : a ≡ recover_takes c (recovers.TheVariants.EmptiesCell index owner) mode k = m.2 ∙ ap (λ z. recover_takes c z mode k) is in
-        let then : List Visit = visits_taken (recovers.TheVariants.EmptiesCell index owner) visits k in
+    by_stage (recovers.EmptiesCell index owner) k is at p p' q q' a so m =
+        let goes : a ≡ recover_takes c (recovers.EmptiesCell index owner) mode k = m.2 ∙ ap (λ z. recover_takes c z mode k) is in
+        let then : List Visit = visits_taken (recovers.EmptiesCell index owner) visits k in
         subst (λ z. Onward a then z q') (sym m.1)
         (subst (λ z. Onward z then p q') (sym goes)
         (emptied index owner k p q q' m.0 at.0.1 at.1 so (λ e. m.3 (ap has_freed goes ∙ e)) (λ e. m.4 (ap has_freed goes ∙ e))))
-    by_stage (recovers.TheVariants.Raises index raise) k is at p p' q q' a so m =
-        quietly (recovers.TheVariants.Raises index raise) k is p p' q q' a (raised c index mode visits p q (raise_after raise k) so) m
-    by_stage (recovers.TheVariants.Locks index lock) k is at p p' q q' a so m =
-        quietly (recovers.TheVariants.Locks index lock) k is p p' q q' a
+    by_stage (recovers.Raises index raise) k is at p p' q q' a so m =
+        quietly (recovers.Raises index raise) k is p p' q q' a (raised c index mode visits p q (raise_after raise k) so) m
+    by_stage (recovers.Locks index lock) k is at p p' q q' a so m =
+        quietly (recovers.Locks index lock) k is p p' q q' a
         (locking c index (visits_locked lock visits k) p q (lock_after c.capacity lock k) (shuts index k lock p q at.1 so)) m
-    by_stage recovers.TheVariants.LoadsCounterAgain k is at p p' q q' a so m =
-        quietly recovers.TheVariants.LoadsCounterAgain k is p p' q q' a (so.0, so.0, so.1) m
+    by_stage recovers.LoadsCounterAgain k is at p p' q q' a so m =
+        quietly recovers.LoadsCounterAgain k is p p' q q' a (so.0, so.0, so.1) m
 
     pub onward : (k : ℕ) → Knows cap mode shut c.stage visits → (p p' : F) (q q' : S) (a : After Recover ReleaseState) → SoFar c.stage visits p q
         → RecoverMoves step tell c mode c.stage k p q a p' q' → Onward a (visits_after c visits k) p' q'
@@ -247,20 +249,20 @@ module _ {F S : Type 0} (step : F → ℕ → ℕ → Bool → F → Type 0) (te
 
   -- what may be asked at each stage
   pub may_ask : {pre : F → ℕ → ℕ → Type 0} {may : S → ℕ → ℕ → Type 0} (mode : ReleaseMode) → (shut ≡ false → TakesQuestions pre step cap f)
-      → (shut ≡ false → TakesFreed step may tell cap f s) → (stage : recovers.RecoverStage) (visits : List Visit) → Knows cap mode shut stage visits
+      → (shut ≡ false → TakesFreed step may tell cap f s) → (stage : RecoverStage) (visits : List Visit) → Knows cap mode shut stage visits
       → (p : F) (q : S) → SoFar stage visits p q → RecoverAsks pre may stage p q
-  may_ask mode takes frees recovers.TheVariants.LoadsCounter visits at p q so = tt
-  may_ask mode takes frees (recovers.TheVariants.LoadsCell index) visits at p q so = tt
-  may_ask mode takes frees (recovers.TheVariants.Asks index owner) visits at p q so =
+  may_ask mode takes frees recovers.LoadsCounter visits at p q so = tt
+  may_ask mode takes frees (recovers.LoadsCell index) visits at p q so = tt
+  may_ask mode takes frees (recovers.Asks index owner) visits at p q so =
       λ named. (takes at.0.0).at (questions_of visits) p (owned owner index) so.questions so.asked_ascend so.asked_below (named, at.0.1)
-  may_ask mode takes frees (recovers.TheVariants.EmptiesCell index owner) visits at p q so =
+  may_ask mode takes frees (recovers.EmptiesCell index owner) visits at p q so =
       let said_yes : WasAgreed (questions_of (came_to WasTold visits)) (owned owner index) =
       subst (λ xs. WasAgreed xs (owned owner index)) (sym (questions_to at.1 WasTold)) (Contains-push (questions_of at.1.before) (said owner index true)) in
       λ named. (frees at.0.0).at (questions_of (came_to WasTold visits)) p (freed_of (came_to WasTold visits)) q (owned owner index) so.questions
       so.asked_ascend said_yes so.calls so.told_ascend so.told_below (named, at.0.1)
-  may_ask mode takes frees (recovers.TheVariants.Raises index raise) visits at p q so = tt
-  may_ask mode takes frees (recovers.TheVariants.Locks index lock) visits at p q so = tt
-  may_ask mode takes frees recovers.TheVariants.LoadsCounterAgain visits at p q so = tt
+  may_ask mode takes frees (recovers.Raises index raise) visits at p q so = tt
+  may_ask mode takes frees (recovers.Locks index lock) visits at p q so = tt
+  may_ask mode takes frees recovers.LoadsCounterAgain visits at p q so = tt
 
   -- ---- the first steps, which leave the closures, and may leave the call
 
@@ -269,7 +271,7 @@ module _ {F S : Type 0} (step : F → ℕ → ℕ → Bool → F → Type 0) (te
   stays call visits p q after is so = subst (λ a. Onward a visits p q) (sym is) so
 
   pub looks_on : (call : Recover) (mode : ReleaseMode) (visits : List Visit) (p : F) (q : S) (after : After Recover ReleaseState)
-      (stage : recovers.RecoverStage) → call.stage ≡ stage → LooksAgain call mode stage after → SoFar call.stage visits p q → Onward after visits p q
+      (stage : RecoverStage) → call.stage ≡ stage → LooksAgain call mode stage after → SoFar call.stage visits p q → Onward after visits p q
   looks_on x0 x1 x2 x3 x4 x5 x6 x7 x8 x9 = grind (arith, stays, recover_takes)
 
   -- each of them has a right owner

@@ -19,7 +19,7 @@ ghost use Rattle.lock_free_owners.specs.Container.Callable.{Visit, TakesVisits, 
 ghost use Rattle.lock_free_owners.specs.Container.FindContract.{HasSearched, IsSearched};
 ghost use Rattle.lock_free_owners.specs.Container.FindTurns.{FindAt, FindMay, FindTells, FindGoes, FindTurns, IsAtWord};
 ghost use Rattle.lock_free_owners.specs.Container.FindTurns.{at_cell, FindPasses, HasPassed, IsWithin, PassesFrom};
-ghost use Rattle.lock_free_owners.specs.Container.Steps.{FindTakes};
+ghost use Rattle.lock_free_owners.specs.Container.Steps.{FewAside, FindTakes};
 ghost use Rattle.lock_free_owners.specs.Container.Turns.{IsBoard};
 ghost use Rattle.lock_free_owners.specs.Container.Visits.{IsNamed, FindAsks, FindMoves};
 ghost use Rattle.lock_free_owners.specs.Container.Names.{view, code_of, container_of, capacity_of, IsPassOf, IsHandleFor};
@@ -272,6 +272,7 @@ impl<T: Words> Container<T> {
             (IsHandleFor self.now owner) visit.old }
         ensures container { container_of pass.new ≡ container_of pass.old }
         ensures goes { Goes (view pass.old) (view pass.new) }
+        ensures aside { FewAside (view pass.old) (view pass.new) }
         ensures keeps { KeepsState (view pass.old) (view pass.new) }
         ensures found { (visits : List (Visit T)) × (bound : ℕ)
             × HasSearched (capacity_of self.now) owner result bound visits

@@ -20,7 +20,7 @@ ghost use Rattle.lock_free_owners.specs.Robust.Finding.{FindAsks, GoesDown, Sear
 ghost use Rattle.lock_free_owners.specs.Robust.Stages.{says};
 ghost use Rattle.lock_free_owners.specs.Robust.Contracts.{HasSearched};
 ghost use Rattle.lock_free_owners.specs.Robust.Turns.{IsBoard};
-ghost use Rattle.lock_free_owners.specs.RobustUniqueIndexSet.{view, capacity_of, IsPassOf, SamePass};
+ghost use Rattle.lock_free_owners.specs.RobustUniqueIndexSet.{view, capacity_of, IsPassOf, LeavesPass};
 
 use super::rule::Seat;
 use super::{CallbackProgression, OwnerId, Pass, RobustUniqueIndexSet};
@@ -197,7 +197,7 @@ impl RobustUniqueIndexSet {
         requires pass { IsPassOf self.now pass.old }
         requires indices { TakesPlaces F.pre (λ p x q. F.step p x Continue q)
             (capacity_of self.now) visit.old }
-        ensures same { SamePass pass.old pass.new }
+        ensures same { LeavesPass (capacity_of self.now + 1) pass.old pass.new }
         ensures found { HasSearched (λ p x a q. F.step p x a q) (capacity_of self.now) owner
             visit.old result visit.new (view pass.old) (view pass.new) }
         ensures steps { TakesAtMost (capacity_of self.now + 1) (view pass.old) (view pass.new) }

@@ -1,5 +1,5 @@
 //! How a role is taken and given back.
-ghost use Rattle.std.specs.Prelude.{◌≡◌, true, false, IfOk, IfErr};
+ghost use Rattle.std.specs.Prelude.{◌≡◌, true, false, IfOk, IfErr, IfSome};
 ghost use Rattle.steps.specs.declared.queues.roles.Role.TheVariants as roles;
 ghost use Rattle.model.specs.Families.Queues.Reading.{published};
 ghost use Rattle.history.specs.Steps.{TakesAtMost};
@@ -7,6 +7,7 @@ ghost use Rattle.lock_free_queues.specs.Queues.Kinds.{NoneTaken};
 ghost use Rattle.lock_free_queues.specs.Queues.Rings.{view, producer_view, consumer_view, IsPassOf};
 ghost use Rattle.lock_free_queues.specs.Queues.Rings.{SamePass, ToProducer, ToConsumer, FromProducer, FromConsumer};
 ghost use Rattle.lock_free_queues.specs.Queues.Contracts.{HasAcquired, HasReleased};
+ghost use Rattle.lock_free_queues.specs.Queues.Ends.{AreEnds};
 
 use super::drives::{Popping, Pushing};
 use super::rule::Kind;
@@ -50,6 +51,27 @@ impl<E: Kind, T: Words> Ring<E, T> {
         } else {
             Err(Pass { token })
         }
+    }
+
+    /// Splits the pass, takes the producer's role with one part and the consumer's with the other, and returns both
+    /// guards. At most 3 atomic steps.
+    ///
+    /// None, of which no clause says when: where no further pass can be counted, or another has one of the roles. The pass
+    /// is gone then, and nobody has the whole share again. A producer's role that it took is given back, by one step more.
+    /// This project's own.
+    pub fn ends(&self, pass: Pass<E, T>) -> Option<(Producer<'_, E, T>, Consumer<'_, E, T>)>
+        requires { IsPassOf self.now pass }
+        ensures { IfSome result (λ r. AreEnds pass r.0 r.1) }
+    {
+        let mut left = pass;
+        let right = left.split()?;
+        let Ok(producer) = self.acquire_producer(left) else {
+            return None;
+        };
+        let Ok(consumer) = self.acquire_consumer(right) else {
+            return None;
+        };
+        Some((producer, consumer))
     }
 }
 

@@ -1,5 +1,5 @@
 //! The calls of those that have a role. Without capacity no step is taken, and nothing changes.
-ghost use Rattle.std.specs.Prelude.{◌≡◌, ◌<◌, Some, None, IfSome, IfNone};
+ghost use Rattle.std.specs.Prelude.{◌≡◌, ◌+◌, ◌<◌, ◌≤◌, Some, None, IfSome, IfNone};
 ghost use Rattle.model.specs.declared.event.Item.TheVariants.{Index};
 ghost use Rattle.history.specs.Steps.{TakesAtMost, TakesAlone};
 ghost use Rattle.lock_free_queues.specs.Queues.Overflowing.{producer_queue, producer_view, consumer_queue, consumer_view};
@@ -15,6 +15,7 @@ impl<'a> Producer<'a> {
     /// most 6 atomic steps. After `Producer::push` of the Rust crate.
     pub fn push(&mut self, value: u64) -> Option<u64>
         ensures same { SameProducerByCapacity self.old self.new }
+        ensures aside { (producer_view self.new).aside ≤ (producer_view self.old).aside + 1 }
         ensures added { IfNone result (PushAdded value (producer_view self.old) (producer_view self.new)) }
         ensures handed_back { IfSome result (λ back. PushHandedBack (producer_queue self.old).capacity value back
             (producer_view self.old) (producer_view self.new)) }
@@ -34,6 +35,7 @@ impl<'a> Consumer<'a> {
     /// more for each change of a word of the queue by others during the call. After `Consumer::pop` of the Rust crate.
     pub fn pop(&mut self, rt: &impl Wait) -> Option<u64>
         ensures same { SameConsumerByCapacity self.old self.new }
+        ensures aside { (consumer_view self.new).aside ≤ (consumer_view self.old).aside + 1 }
         ensures popped { IfSome result (λ x. PopOldest (Index x) (consumer_view self.old) (consumer_view self.new)) }
         ensures empty { 0 < (consumer_queue self.old).capacity
             → IfNone result (PopFoundNone (consumer_view self.old) (consumer_view self.new)) }

@@ -8,11 +8,11 @@ use Rattle.steps.specs.Atomic.{first_store, store_want, store_after, first_load,
 use Rattle.steps.specs.Queues.Roles.{acquire_want, acquire_after, release_want, release_after}
 use Rattle.steps.specs.Routine.{went_on}
 use Rattle.model.specs.declared.event.Answer.{Answer}
-use Rattle.model.specs.declared.event.Answer as answers
+use Rattle.model.specs.declared.event.Answer.TheVariants as answers
 use Rattle.model.specs.declared.families.Flight.{Flight}
-use Rattle.model.specs.declared.families.Flight as flights
+use Rattle.model.specs.declared.families.Flight.TheVariants as flights
 use Rattle.model.specs.declared.families.atomic.AtomicStart.{AtomicStart}
-use Rattle.model.specs.declared.families.atomic.AtomicStart as starts
+use Rattle.model.specs.declared.families.atomic.AtomicStart.TheVariants as starts
 use Rattle.model.specs.declared.families.atomic.calls.AtomicFlight.{AtomicFlight}
 use Rattle.model.specs.declared.families.atomic.calls.AtomicFlight.TheVariants.{Acquire, Release, Store, Load}
 use Rattle.model.specs.Coding.{Coding}
@@ -35,13 +35,13 @@ fresh = record { words = replicate 128 0 }
 
 module _ {T : Type 0} where
   abbrev pub first : AtomicStart T → AtomicFlight T
-  first starts.TheVariants.AcquireProducer =
+  first starts.AcquireProducer =
       Acquire (record { call = record { word = producer_word }; given = tt; room = tt })
-  first starts.TheVariants.ReleaseProducer =
+  first starts.ReleaseProducer =
       Release (record { call = record { word = producer_word }; given = tt; room = tt })
-  first (starts.TheVariants.Store value) =
+  first (starts.Store value) =
       Store (record { call = first_store; given = value; room = tt })
-  first starts.TheVariants.Load = Load (record { call = first_load; given = tt; room = fresh })
+  first starts.Load = Load (record { call = first_load; given = tt; room = fresh })
 
   -- ---- the calls under way
 
@@ -62,16 +62,16 @@ module _ {T : Type 0} where
   -- how it goes on from the old value of its word
   abbrev pub after : Coding T → AtomicFlight T → ℕ → After (AtomicFlight T) (Answer T)
   after code (Acquire run) old =
-      as_call Acquire answers.TheVariants.Truth
+      as_call Acquire answers.Truth
       (went_on as_it_is run.given run.room (acquire_after run.call old))
   after code (Release run) old =
-      as_call Release (λ _. answers.TheVariants.Done)
+      as_call Release (λ _. answers.Done)
       (went_on as_it_is run.given run.room (release_after run.call old))
   after code (Store run) old =
-      as_call Store answers.TheVariants.Truth
+      as_call Store answers.Truth
       (went_on as_it_is run.given run.room (store_after code.size run.call old))
   after code (Load run) old =
-      as_call Load answers.TheVariants.Loaded
+      as_call Load answers.Loaded
       (went_on (λ end given room. read_in code room) run.given
       (load_kept kept_at run.call run.room old) (load_after code.size run.call old))
 
@@ -81,7 +81,7 @@ module _ {T : Type 0} where
       record {
         want = want code flight;
         after = λ old.
-            as_call flights.TheVariants.Atomic (λ answer. answer) (after code flight old);
+            as_call flights.Atomic (λ answer. answer) (after code flight old);
         rows = λ kept said. [];
         most = 1;
       }

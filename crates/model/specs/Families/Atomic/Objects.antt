@@ -2,7 +2,7 @@
 use Rattle.model.specs.declared.event.Start.{Start}
 use Rattle.model.specs.declared.event.Start.TheVariants.{Atomic}
 use Rattle.model.specs.declared.event.Answer.{Answer}
-use Rattle.model.specs.declared.event.Answer as answers
+use Rattle.model.specs.declared.event.Answer.TheVariants as answers
 use Rattle.model.specs.declared.families.atomic.AtomicStart.TheVariants.{Store, Load}
 use Rattle.model.specs.Objects.{Object}
 use Rattle.std.specs.Prelude.{true}
@@ -13,9 +13,9 @@ module _ {T : Type 0} where
   value_after value other = value
 
   abbrev pub value_answer : T → Start T → Answer T
-  value_answer value (Atomic (Store new)) = answers.TheVariants.Truth true
-  value_answer value (Atomic Load) = answers.TheVariants.Loaded value
-  value_answer value other = answers.TheVariants.Done
+  value_answer value (Atomic (Store new)) = answers.Truth true
+  value_answer value (Atomic Load) = answers.Loaded value
+  value_answer value other = answers.Done
 
   -- store replaces the value and answers true, load answers it
   abbrev pub one_value : T → Object T T

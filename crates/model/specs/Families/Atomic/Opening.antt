@@ -1,14 +1,14 @@
 -- The words of the single value at its opening, and who may begin which call.
 use Rattle.std.specs.Prelude.{ℕ, ◌*◌, Bool, true, false, not, Option, Some, None, option_map, List, [], ◌∷◌, replicate, if◌then◌else◌}
 use Rattle.model.specs.declared.families.Flight.{Flight}
-use Rattle.model.specs.declared.families.Flight as flights
+use Rattle.model.specs.declared.families.Flight.TheVariants as flights
 use Rattle.model.specs.declared.families.Registry.{Registry}
-use Rattle.model.specs.declared.families.Registry as registries
+use Rattle.model.specs.declared.families.Registry.TheVariants as registries
 use Rattle.model.specs.declared.families.atomic.AtomicStart.{AtomicStart}
 use Rattle.model.specs.declared.families.atomic.AtomicStart.TheVariants.{AcquireProducer, ReleaseProducer, Store, Load}
 use Rattle.model.specs.declared.families.atomic.calls.AtomicFlight.{AtomicFlight}
 use Rattle.model.specs.declared.turn.Kind.{Kind}
-use Rattle.model.specs.declared.turn.Kind as kinds
+use Rattle.model.specs.declared.turn.Kind.TheVariants as kinds
 use Rattle.model.specs.declared.turn.Refusal.{Refusal}
 use Rattle.model.specs.declared.turn.Refusal.TheVariants.{WrongCall, NoRole}
 use Rattle.model.specs.Families.Atomic.Calls.{first}
@@ -27,12 +27,12 @@ opening =
       least = 1;
       greatest = 1;
       words = λ size capacity. opening_words size;
-      kept = λ capacity. registries.TheVariants.Atomic None;
+      kept = λ capacity. registries.Atomic None;
     }
 
 -- whether a machine of a kind has the single value
 abbrev pub is_value : Kind → Bool
-is_value kinds.TheVariants.Atomic = true
+is_value kinds.Atomic = true
 is_value kind = false
 
 module _ {T : Type 0} where
@@ -52,12 +52,12 @@ module _ {T : Type 0} where
   call_rows producer p start = (lacks_role producer p start, NoRole) ∷ []
 
   abbrev pub kept_rows : AtomicStart T → Registry T → ℕ → List (Bool × Refusal)
-  kept_rows start (registries.TheVariants.Atomic producer) p = call_rows producer p start
+  kept_rows start (registries.Atomic producer) p = call_rows producer p start
   kept_rows start kept p = (true, WrongCall) ∷ []
 
   abbrev pub begin : Kind → AtomicStart T → Beginning (Flight T) (Registry T)
   begin kind start =
       record {
-        call = λ kept. option_map flights.TheVariants.Atomic (call_of kind start);
+        call = λ kept. option_map flights.Atomic (call_of kind start);
         rows = kept_rows start;
       }

@@ -5,7 +5,7 @@ use Rattle.model.specs.declared.event.Answer.TheVariants.{Done, Truth}
 use Rattle.model.specs.declared.event.Event.{Event}
 use Rattle.model.specs.declared.event.Event.TheVariants.{Finished}
 use Rattle.model.specs.declared.families.Registry.{Registry}
-use Rattle.model.specs.declared.families.Registry as registries
+use Rattle.model.specs.declared.families.Registry.TheVariants as registries
 use Rattle.model.specs.declared.families.atomic.AtomicStart.TheVariants.{AcquireProducer, ReleaseProducer}
 use Rattle.model.specs.Families.Atomic.Reading.{holder_of}
 
@@ -20,5 +20,5 @@ module _ {T : Type 0} where
 
   -- the machine grants a store and a giving back to the party that holds the role by the events
   abbrev pub KeepsHolder : Registry T → List (Event T) → Type 0
-  KeepsHolder (registries.TheVariants.Atomic producer) events = producer ≡ holder_of events
+  KeepsHolder (registries.Atomic producer) events = producer ≡ holder_of events
   KeepsHolder kept events = ⊥

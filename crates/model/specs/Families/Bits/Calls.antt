@@ -8,11 +8,11 @@ use Rattle.steps.specs.Bits.Counts as counts
 use Rattle.steps.specs.Bits.ResetAll.{all_bits, all_counts, reset_all_want, reset_all_after, reset_all_kept}
 use Rattle.steps.specs.Routine.{went_on}
 use Rattle.model.specs.declared.event.Answer.{Answer}
-use Rattle.model.specs.declared.event.Answer as answers
+use Rattle.model.specs.declared.event.Answer.TheVariants as answers
 use Rattle.model.specs.declared.families.Flight.{Flight}
-use Rattle.model.specs.declared.families.Flight as flights
+use Rattle.model.specs.declared.families.Flight.TheVariants as flights
 use Rattle.model.specs.declared.families.bits.BitsStart.{BitsStart}
-use Rattle.model.specs.declared.families.bits.BitsStart as starts
+use Rattle.model.specs.declared.families.bits.BitsStart.TheVariants as starts
 use Rattle.model.specs.declared.families.bits.calls.BitsFlight.{BitsFlight}
 use Rattle.model.specs.declared.families.bits.calls.BitsFlight.TheVariants.{Set, ResetNext, ResetAll, Count, TakeAll}
 use Rattle.model.specs.declared.turn.Kind.{Kind}
@@ -27,15 +27,15 @@ add_one = record {}
 
 -- the call that begins, or None where the kind has no such call
 abbrev pub first : Kind → ℕ → BitsStart → Option BitsFlight
-first Bits capacity (starts.TheVariants.Set bit) =
+first Bits capacity (starts.Set bit) =
     Some (Set (record { call = first_set; given = bit; room = tt }))
-first Bits capacity starts.TheVariants.ResetNext =
+first Bits capacity starts.ResetNext =
     Some (ResetNext (record { call = first_reset capacity; given = tt; room = tt }))
-first Bits capacity starts.TheVariants.ResetAll =
+first Bits capacity starts.ResetAll =
     Some (ResetAll (record { call = all_bits capacity; given = tt; room = fresh }))
-first Counts capacity (starts.TheVariants.Set place) =
+first Counts capacity (starts.Set place) =
     Some (Count (record { call = add_one; given = place; room = tt }))
-first Counts capacity starts.TheVariants.ResetAll =
+first Counts capacity starts.ResetAll =
     Some (TakeAll (record { call = all_counts capacity; given = tt; room = fresh }))
 first kind capacity start = None
 
@@ -64,25 +64,25 @@ most_effects flight = 1
 
 module _ {T : Type 0} where
   abbrev pub reset_answer : Option ℕ → Answer T
-  reset_answer None = answers.TheVariants.ResetNone
-  reset_answer (Some bit) = answers.TheVariants.Reset bit
+  reset_answer None = answers.ResetNone
+  reset_answer (Some bit) = answers.Reset bit
 
   -- how it goes on from the old value of its word
   abbrev pub after : BitsFlight → ℕ → After BitsFlight (Answer T)
   after (Set run) old =
-      as_call Set answers.TheVariants.Truth
+      as_call Set answers.Truth
       (went_on as_it_is run.given run.room (set_after run.call run.given old))
   after (ResetNext run) old =
       as_call ResetNext reset_answer
       (went_on as_it_is run.given run.room (reset_after run.call old))
   after (ResetAll run) old =
-      as_call ResetAll (λ _. answers.TheVariants.Done)
+      as_call ResetAll (λ _. answers.Done)
       (went_on as_it_is run.given (reset_all_kept run.room old) (reset_all_after run.call old))
   after (Count run) old =
-      as_call Count answers.TheVariants.Number
+      as_call Count answers.Number
       (went_on as_it_is run.given run.room (counts.set_after run.call old))
   after (TakeAll run) old =
-      as_call TakeAll (λ _. answers.TheVariants.Done)
+      as_call TakeAll (λ _. answers.Done)
       (went_on as_it_is run.given (reset_all_kept run.room old) (reset_all_after run.call old))
 
   -- the family's call under way, as one of a machine
@@ -90,7 +90,7 @@ module _ {T : Type 0} where
   going flight =
       record {
         want = want flight;
-        after = λ old. as_call flights.TheVariants.Bits (λ answer. answer) (after flight old);
+        after = λ old. as_call flights.Bits (λ answer. answer) (after flight old);
         rows = λ kept said. [];
         most = most_effects flight;
       }

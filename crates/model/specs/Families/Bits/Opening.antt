@@ -2,9 +2,9 @@
 use Rattle.std.specs.Prelude.{ℕ, ◌+◌, ◌-◌, ◌^◌, Bool, true, false, option_map, List, [], ◌∷◌, replicate, nat_le}
 use Rattle.steps.specs.Bits.Words.{elements}
 use Rattle.model.specs.declared.families.Flight.{Flight}
-use Rattle.model.specs.declared.families.Flight as flights
+use Rattle.model.specs.declared.families.Flight.TheVariants as flights
 use Rattle.model.specs.declared.families.Registry.{Registry}
-use Rattle.model.specs.declared.families.Registry as registries
+use Rattle.model.specs.declared.families.Registry.TheVariants as registries
 use Rattle.model.specs.declared.families.bits.BitsStart.{BitsStart}
 use Rattle.model.specs.declared.families.bits.BitsStart.TheVariants.{Set, ResetNext, ResetAll}
 use Rattle.model.specs.declared.turn.Kind.{Kind}
@@ -28,7 +28,7 @@ opening_with words =
       least = 0;
       greatest = 2 ^ 32 - 1;
       words = λ size capacity. words capacity;
-      kept = λ capacity. registries.TheVariants.Nothing;
+      kept = λ capacity. registries.Nothing;
     }
 
 abbrev pub bits_opening : Opening
@@ -48,12 +48,12 @@ abbrev pub call_rows : ℕ → BitsStart → List (Bool × Refusal)
 call_rows capacity start = (is_past capacity start, BadIndex) ∷ []
 
 abbrev pub kept_rows : {T : Type 0} → ℕ → BitsStart → Registry T → ℕ → List (Bool × Refusal)
-kept_rows capacity start registries.TheVariants.Nothing p = call_rows capacity start
+kept_rows capacity start registries.Nothing p = call_rows capacity start
 kept_rows capacity start kept p = (true, WrongCall) ∷ []
 
 abbrev pub begin : {T : Type 0} → Kind → ℕ → BitsStart → Beginning (Flight T) (Registry T)
 begin kind capacity start =
     record {
-      call = λ kept. option_map flights.TheVariants.Bits (first kind capacity start);
+      call = λ kept. option_map flights.Bits (first kind capacity start);
       rows = kept_rows capacity start;
     }

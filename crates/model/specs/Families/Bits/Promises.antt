@@ -6,7 +6,7 @@ use Rattle.steps.specs.Bits.Words.{stands}
 use Rattle.model.specs.declared.event.Answer.{Answer}
 use Rattle.model.specs.declared.event.Answer.TheVariants.{Done, Truth, Number, ResetNone, Reset}
 use Rattle.model.specs.declared.event.Event.{Event}
-use Rattle.model.specs.declared.event.Event as events
+use Rattle.model.specs.declared.event.Event.TheVariants as events
 use Rattle.model.specs.declared.event.Event.TheVariants.{Cleared, Counted, TakenOut, Finished}
 use Rattle.model.specs.declared.event.Start.{Start}
 use Rattle.model.specs.declared.event.Start.TheVariants.{Bits}
@@ -73,7 +73,7 @@ module _ {T : Type 0} where
   MayClear bit start wrote = ⊥
 
   abbrev pub bits_stand : Event T → Span T → Type 0
-  bits_stand (events.TheVariants.Set p bit) (Open start wrote) = MaySet bit start wrote
+  bits_stand (events.Set p bit) (Open start wrote) = MaySet bit start wrote
   bits_stand (Cleared p bit) (Open start wrote) = MayClear bit start wrote
   bits_stand e span = ⊥
 

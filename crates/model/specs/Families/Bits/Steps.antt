@@ -2,10 +2,12 @@
 use Rattle.std.specs.Prelude.{ℕ, ◌==◌, List, [], ◌∷◌, map, if◌then◌else◌}
 use Rattle.steps.specs.Bits.BitSet.{place_after}
 use Rattle.steps.specs.Bits.Places.{places_in}
-use Rattle.steps.specs.declared.bits.bit_set.SetStage as sets
-use Rattle.steps.specs.declared.bits.bit_set.ResetNextStage as resets
+use Rattle.steps.specs.declared.bits.bit_set.SetStage.{SetStage}
+use Rattle.steps.specs.declared.bits.bit_set.SetStage.TheVariants as sets
+use Rattle.steps.specs.declared.bits.bit_set.ResetNextStage.{ResetNextStage}
+use Rattle.steps.specs.declared.bits.bit_set.ResetNextStage.TheVariants as resets
 use Rattle.model.specs.declared.event.Event.{Event}
-use Rattle.model.specs.declared.event.Event as events
+use Rattle.model.specs.declared.event.Event.TheVariants as events
 use Rattle.model.specs.declared.families.bits.calls.BitsFlight.{BitsFlight}
 use Rattle.model.specs.declared.families.bits.calls.BitsFlight.TheVariants.{Set, ResetNext, ResetAll, Count, TakeAll}
 use Rattle.model.specs.Families.Bits.Calls.{after, goes_back}
@@ -13,33 +15,33 @@ use Rattle.model.specs.Step.{Step}
 
 module _ {T : Type 0} where
   -- an exchange that found the element as it was sets the bit
-  abbrev pub set_events : ℕ → ℕ → sets.SetStage → ℕ → List (Event T)
-  set_events p bit sets.TheVariants.LoadsElement old = []
-  set_events p bit (sets.TheVariants.ExchangesElement found) old =
-      if old == found then events.TheVariants.Set p bit ∷ [] else []
+  abbrev pub set_events : ℕ → ℕ → SetStage → ℕ → List (Event T)
+  set_events p bit sets.LoadsElement old = []
+  set_events p bit (sets.ExchangesElement found) old =
+      if old == found then events.Set p bit ∷ [] else []
 
   -- or clears it
-  abbrev pub reset_events : ℕ → ℕ → resets.ResetNextStage → ℕ → List (Event T)
-  reset_events p capacity (resets.TheVariants.ExchangesElement start passed found) old =
+  abbrev pub reset_events : ℕ → ℕ → ResetNextStage → ℕ → List (Event T)
+  reset_events p capacity (resets.ExchangesElement start passed found) old =
       if old == found
-      then events.TheVariants.Cleared p (place_after capacity start passed) ∷ []
+      then events.Cleared p (place_after capacity start passed) ∷ []
       else []
   reset_events p capacity stage old = []
 
   -- a swap of the element in this word clears each bit that stood in it, ascending
   abbrev pub clear_events : ℕ → ℕ → ℕ → List (Event T)
-  clear_events p word old = map (λ bit. events.TheVariants.Cleared p bit) (places_in word old)
+  clear_events p word old = map (λ bit. events.Cleared p bit) (places_in word old)
 
   -- a swap of a count above 0 takes it out
   abbrev pub take_events : ℕ → ℕ → ℕ → List (Event T)
-  take_events p place old = if old == 0 then [] else events.TheVariants.TakenOut p place old ∷ []
+  take_events p place old = if old == 0 then [] else events.TakenOut p place old ∷ []
 
   -- what the step writes that is handed this old value of its word
   abbrev pub effects_of : ℕ → BitsFlight → ℕ → List (Event T)
   effects_of p (Set run) old = set_events p run.given run.call.stage old
   effects_of p (ResetNext run) old = reset_events p run.call.capacity run.call.stage old
   effects_of p (ResetAll run) old = clear_events p run.call.word old
-  effects_of p (Count run) old = events.TheVariants.Counted p run.given ∷ []
+  effects_of p (Count run) old = events.Counted p run.given ∷ []
   effects_of p (TakeAll run) old = take_events p run.call.word old
 
   -- ---- all that a step comes to

@@ -17,19 +17,19 @@ use Rattle.steps.specs.Indices.Robust.Looks.{first_borrowed, borrowed_want, borr
 use Rattle.steps.specs.Queues.Ring.{load}
 use Rattle.steps.specs.Routine.{went_on}
 use Rattle.model.specs.declared.event.Answer.{Answer}
-use Rattle.model.specs.declared.event.Answer as answers
+use Rattle.model.specs.declared.event.Answer.TheVariants as answers
 use Rattle.model.specs.declared.families.Flight.{Flight}
-use Rattle.model.specs.declared.families.Flight as flights
+use Rattle.model.specs.declared.families.Flight.TheVariants as flights
 use Rattle.model.specs.declared.families.Registry.{Registry}
-use Rattle.model.specs.declared.families.Registry as registries
+use Rattle.model.specs.declared.families.Registry.TheVariants as registries
 use Rattle.model.specs.declared.families.container.ContainerStart.{ContainerStart}
-use Rattle.model.specs.declared.families.container.ContainerStart as starts
+use Rattle.model.specs.declared.families.container.ContainerStart.TheVariants as starts
 use Rattle.model.specs.declared.families.container.calls.ContainerFlight.{ContainerFlight}
 use Rattle.model.specs.declared.families.container.calls.ContainerFlight.TheVariants.{Add, Remove, Replace, Find, Recover, Look, Count, IsLocked}
 use Rattle.model.specs.declared.families.container.calls.CountOf.{CountOf}
-use Rattle.model.specs.declared.families.container.calls.CountOf as counts
+use Rattle.model.specs.declared.families.container.calls.CountOf.TheVariants as counts
 use Rattle.model.specs.declared.families.container.calls.LookOf.{LookOf}
-use Rattle.model.specs.declared.families.container.calls.LookOf as kinds
+use Rattle.model.specs.declared.families.container.calls.LookOf.TheVariants as kinds
 use Rattle.model.specs.declared.turn.Refusal.{Refusal}
 use Rattle.model.specs.declared.turn.Refusal.TheVariants.{OwnerIsDead}
 use Rattle.model.specs.Coding.{Coding}
@@ -100,17 +100,17 @@ module _ {T : Type 0} where
   locked_of = IsLocked (record { call = record {}; given = tt; room = tt })
 
   abbrev pub first : ℕ → ContainerStart T → ContainerFlight T
-  first capacity (starts.TheVariants.Add value owner) = add_of capacity value owner
-  first capacity (starts.TheVariants.Remove index owner mode) = remove_of capacity index owner mode
-  first capacity (starts.TheVariants.Replace index value owner) =
+  first capacity (starts.Add value owner) = add_of capacity value owner
+  first capacity (starts.Remove index owner mode) = remove_of capacity index owner mode
+  first capacity (starts.Replace index value owner) =
       replace_of capacity index value owner
-  first capacity (starts.TheVariants.Find owner) = find_of capacity owner
-  first capacity (starts.TheVariants.Recover owner mode) = recover_of capacity owner mode
-  first capacity starts.TheVariants.GetState = look_of kinds.TheVariants.GetState capacity
-  first capacity starts.TheVariants.UpdateState = look_of kinds.TheVariants.UpdateState capacity
-  first capacity starts.TheVariants.Len = count_of counts.TheVariants.Len capacity
-  first capacity starts.TheVariants.IsEmpty = count_of counts.TheVariants.IsEmpty capacity
-  first capacity starts.TheVariants.IsLocked = locked_of
+  first capacity (starts.Find owner) = find_of capacity owner
+  first capacity (starts.Recover owner mode) = recover_of capacity owner mode
+  first capacity starts.GetState = look_of kinds.GetState capacity
+  first capacity starts.UpdateState = look_of kinds.UpdateState capacity
+  first capacity starts.Len = count_of counts.Len capacity
+  first capacity starts.IsEmpty = count_of counts.IsEmpty capacity
+  first capacity starts.IsLocked = locked_of
 
   -- ---- the calls under way
 
@@ -139,26 +139,26 @@ module _ {T : Type 0} where
   -- ---- answers
 
   abbrev pub added : Added → Answer T
-  added (Ok index) = answers.TheVariants.Index index
-  added (Err failure) = answers.TheVariants.NoPlace failure
+  added (Ok index) = answers.Index index
+  added (Err failure) = answers.NoPlace failure
 
   abbrev pub removed : Removed → Answer T
-  removed (Ok state) = answers.TheVariants.State state
-  removed (Err failure) = answers.TheVariants.NotRemoved failure
+  removed (Ok state) = answers.State state
+  removed (Err failure) = answers.NotRemoved failure
 
   abbrev pub replaced : Replaced → Answer T
-  replaced (Ok nothing) = answers.TheVariants.Done
-  replaced (Err failure) = answers.TheVariants.NotRemoved failure
+  replaced (Ok nothing) = answers.Done
+  replaced (Err failure) = answers.NotRemoved failure
 
   abbrev pub counted : CountOf → ℕ → Answer T
-  counted counts.TheVariants.Len number = answers.TheVariants.Number number
-  counted counts.TheVariants.IsEmpty number = answers.TheVariants.Truth (number == 0)
+  counted counts.Len number = answers.Number number
+  counted counts.IsEmpty number = answers.Truth (number == 0)
 
   -- of a look that leaves this state
   abbrev pub looked : LookOf → ContainerState T → Bool → Answer T
-  looked kinds.TheVariants.GetState state changed =
-      answers.TheVariants.Number (shown_number state.shown.elements)
-  looked kinds.TheVariants.UpdateState state changed = answers.TheVariants.Truth changed
+  looked kinds.GetState state changed =
+      answers.Number (shown_number state.shown.elements)
+  looked kinds.UpdateState state changed = answers.Truth changed
 
   -- ---- how a call goes on from the old value of its word
 
@@ -198,11 +198,11 @@ module _ {T : Type 0} where
       as_call Replace replaced
       (went_on as_it_is run.given run.room (replace_after code.size run.call run.given old))
   after code state (Find run) old =
-      as_call Find answers.TheVariants.Number
+      as_call Find answers.Number
       (went_on as_it_is run.given (find_kept kept_at run.call run.room old)
       (find_after code.size run.call run.given old))
   after code state (Recover run) old =
-      as_call Recover answers.TheVariants.State
+      as_call Recover answers.State
       (went_on as_it_is run.given (recover_kept kept_at run.call run.room old)
       (recover_after code.size run.call run.given old))
   after code state (Look which call) old = look_goes code which call state old
@@ -210,7 +210,7 @@ module _ {T : Type 0} where
       as_call (λ r. Count which r) (counted which)
       (went_on as_it_is run.given run.room (borrowed_after run.call old))
   after code state (IsLocked run) old =
-      as_call IsLocked answers.TheVariants.Truth
+      as_call IsLocked answers.Truth
       (went_on as_it_is run.given run.room (locked_after run.call old))
 
   -- ---- what a look leaves
@@ -252,7 +252,7 @@ module _ {T : Type 0} where
   going_rows dead flight = (acts_for_dead dead flight, OwnerIsDead) ∷ []
 
   abbrev pub kept_going_rows : ContainerFlight T → Registry T → Option Bool → List (Bool × Refusal)
-  kept_going_rows flight (registries.TheVariants.Container dead states) said = going_rows dead flight
+  kept_going_rows flight (registries.Container dead states) said = going_rows dead flight
   kept_going_rows flight kept said = []
 
   -- the family's call under way, as one of a machine: of a party that has no state
@@ -261,14 +261,14 @@ module _ {T : Type 0} where
       record {
         want = want code flight;
         after = λ old.
-            as_call flights.TheVariants.Container (λ answer. answer) (after code None flight old);
+            as_call flights.Container (λ answer. answer) (after code None flight old);
         rows = kept_going_rows flight;
         most = 2;
       }
 
   -- and of one that has what is kept
   abbrev pub goes : Coding T → ℕ → ContainerFlight T → ℕ → Registry T → After (Flight T) (Answer T)
-  goes code p flight old (registries.TheVariants.Container dead states) =
-      as_call flights.TheVariants.Container (λ answer. answer)
+  goes code p flight old (registries.Container dead states) =
+      as_call flights.Container (λ answer. answer)
       (after code (state_of p states) flight old)
   goes code p flight old kept = (going code flight).after old

@@ -11,7 +11,7 @@ use Rattle.model.specs.declared.event.Start.TheVariants.{Container}
 use Rattle.model.specs.declared.families.Flight.{Flight}
 use Rattle.model.specs.declared.families.Flight.TheVariants as flights
 use Rattle.model.specs.declared.families.Registry.{Registry}
-use Rattle.model.specs.declared.families.Registry as registries
+use Rattle.model.specs.declared.families.Registry.TheVariants as registries
 use Rattle.model.specs.declared.families.container.ContainerStart.{ContainerStart}
 use Rattle.model.specs.declared.families.container.ContainerStart.TheVariants.{GetState, UpdateState}
 use Rattle.model.specs.declared.families.container.calls.ContainerFlight.TheVariants as calls
@@ -26,7 +26,7 @@ use Rattle.model.specs.World.{World, Trace, flight_in}
 module _ {T : Type 0} where
   -- the party's state
   abbrev pub state_in : Registry T → ℕ → Option (ContainerState T)
-  state_in (registries.TheVariants.Container dead all) p = states.state_of p all
+  state_in (registries.Container dead all) p = states.state_of p all
   state_in kept p = None
 
   -- what it shows at an index

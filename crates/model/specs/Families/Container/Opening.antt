@@ -3,14 +3,14 @@ use Rattle.std.specs.Prelude.{ℕ, ◌+◌, ◌*◌, ◌-◌, ◌^◌, ◌&&◌,
 use Rattle.std.specs.Prelude.{option_map, List, [], ◌∷◌, ◌++◌, replicate, if◌then◌else◌}
 use Rattle.steps.specs.declared.container.state.ContainerState.{ContainerState}
 use Rattle.model.specs.declared.families.Flight.{Flight}
-use Rattle.model.specs.declared.families.Flight as flights
+use Rattle.model.specs.declared.families.Flight.TheVariants as flights
 use Rattle.model.specs.declared.families.Registry.{Registry}
-use Rattle.model.specs.declared.families.Registry as registries
+use Rattle.model.specs.declared.families.Registry.TheVariants as registries
 use Rattle.model.specs.declared.families.container.ContainerStart.{ContainerStart}
 use Rattle.model.specs.declared.families.container.ContainerStart.TheVariants.{Add, Remove, Replace, Find, Recover, GetState, UpdateState}
 use Rattle.model.specs.declared.families.container.calls.ContainerFlight.{ContainerFlight}
 use Rattle.model.specs.declared.turn.Kind.{Kind}
-use Rattle.model.specs.declared.turn.Kind as kinds
+use Rattle.model.specs.declared.turn.Kind.TheVariants as kinds
 use Rattle.model.specs.declared.turn.Refusal.{Refusal}
 use Rattle.model.specs.declared.turn.Refusal.TheVariants.{WrongCall, OwnerIsDead, OwnerLives}
 use Rattle.model.specs.Coding.{Coding}
@@ -34,14 +34,14 @@ opening =
       least = 1;
       greatest = 2 ^ 32 - 1;
       words = opening_words;
-      kept = λ capacity. registries.TheVariants.Container [] [];
+      kept = λ capacity. registries.Container [] [];
     }
 
 -- ---- a call begins
 
 -- whether a machine of a kind is a container
 abbrev pub is_container : Kind → Bool
-is_container kinds.TheVariants.Container = true
+is_container kinds.Container = true
 is_container kind = false
 
 module _ {T : Type 0} where
@@ -69,13 +69,13 @@ module _ {T : Type 0} where
   call_rows dead start = []
 
   abbrev pub kept_rows : ContainerStart T → Registry T → ℕ → List (Bool × Refusal)
-  kept_rows start (registries.TheVariants.Container dead states) p = call_rows dead start
+  kept_rows start (registries.Container dead states) p = call_rows dead start
   kept_rows start kept p = (true, WrongCall) ∷ []
 
   abbrev pub begin : Kind → ℕ → ContainerStart T → Beginning (Flight T) (Registry T)
   begin kind capacity start =
       record {
-        call = λ kept. option_map flights.TheVariants.Container (call_of kind capacity start);
+        call = λ kept. option_map flights.Container (call_of kind capacity start);
         rows = kept_rows start;
       }
 
@@ -90,6 +90,6 @@ module _ {T : Type 0} where
   states_at_begin code capacity start p states = states
 
   abbrev pub keeps : Coding T → ℕ → ContainerStart T → ℕ → Registry T → Registry T
-  keeps code capacity start p (registries.TheVariants.Container dead states) =
-      registries.TheVariants.Container dead (states_at_begin code capacity start p states)
+  keeps code capacity start p (registries.Container dead states) =
+      registries.Container dead (states_at_begin code capacity start p states)
   keeps code capacity start p kept = kept

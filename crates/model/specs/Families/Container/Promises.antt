@@ -14,7 +14,7 @@ use Rattle.model.specs.declared.event.Event.TheVariants.{FreedOf, Asked, Told, P
 use Rattle.model.specs.declared.event.Start.{Start}
 use Rattle.model.specs.declared.event.Start.TheVariants.{Container}
 use Rattle.model.specs.declared.families.Registry.{Registry}
-use Rattle.model.specs.declared.families.Registry as registries
+use Rattle.model.specs.declared.families.Registry.TheVariants as registries
 use Rattle.model.specs.declared.families.container.ContainerStart.{ContainerStart}
 use Rattle.model.specs.declared.families.container.ContainerStart.TheVariants.{Add, Remove, Replace, Find, Recover, Len, IsEmpty, IsLocked}
 use Rattle.model.specs.declared.party.Party.{Party}
@@ -206,7 +206,7 @@ module _ {T : Type 0} where
 
   -- the machine refuses as dead whoever has died by the events
   abbrev pub KeepsDead : Registry T → List (Event T) → Type 0
-  KeepsDead (registries.TheVariants.Container dead states) events =
+  KeepsDead (registries.Container dead states) events =
       (owner : ℕ) → has_died owner dead ≡ is_dead owner events
   KeepsDead kept events = ⊥
 

@@ -1,8 +1,10 @@
 -- What a find and a recovery ask about, and what becomes of the answer.
 use Rattle.std.specs.Prelude.{◌≡◌, ◌≢◌, ℕ, Bool, true, false, Option, Some, None, List, [], ◌∷◌, ◌++◌}
 use Rattle.std.specs.List.{AllByRecursion}
-use Rattle.steps.specs.declared.container.find.FindStage as find_stages
-use Rattle.steps.specs.declared.container.recover.RecoverStage as recover_stages
+use Rattle.steps.specs.declared.container.find.FindStage.{FindStage}
+use Rattle.steps.specs.declared.container.find.FindStage.TheVariants as find_stages
+use Rattle.steps.specs.declared.container.recover.RecoverStage.{RecoverStage}
+use Rattle.steps.specs.declared.container.recover.RecoverStage.TheVariants as recover_stages
 use Rattle.steps.specs.declared.indices.enums.ReleaseMode.{ReleaseMode}
 use Rattle.model.specs.declared.event.Answer.TheVariants.{Number}
 use Rattle.model.specs.declared.event.Event.{Event}
@@ -27,12 +29,12 @@ module _ {T : Type 0} where
   -- ---- the question that is put
 
   -- the index and the value that a call asks about
-  abbrev pub find_question : Coding T → find_stages.FindStage → T → Option (ℕ × T)
-  find_question code (find_stages.TheVariants.Asks index found) value = Some (index, value)
+  abbrev pub find_question : Coding T → FindStage → T → Option (ℕ × T)
+  find_question code (find_stages.Asks index found) value = Some (index, value)
   find_question code stage value = None
 
-  abbrev pub recover_question : Coding T → recover_stages.RecoverStage → T → Option (ℕ × T)
-  recover_question code (recover_stages.TheVariants.Asks index count) value = Some (index, value)
+  abbrev pub recover_question : Coding T → RecoverStage → T → Option (ℕ × T)
+  recover_question code (recover_stages.Asks index count) value = Some (index, value)
   recover_question code stage value = None
 
   abbrev pub question_in : Coding T → Option (Flight T) → Option (ℕ × T)

@@ -1,13 +1,19 @@
 -- What a step of a call of the container writes down.
 use Rattle.std.specs.Prelude.{ℕ, ◌==◌, Option, Some, None, List, [], ◌∷◌, ◌++◌, if◌then◌else◌}
-use Rattle.steps.specs.declared.container.add.AddStage as adds
+use Rattle.steps.specs.declared.container.add.AddStage.{AddStage}
+use Rattle.steps.specs.declared.container.add.AddStage.TheVariants as adds
 use Rattle.steps.specs.declared.container.add.Owned.{Owned}
-use Rattle.steps.specs.declared.container.find.FindStage as finds
-use Rattle.steps.specs.declared.container.look.LookStage as looks
+use Rattle.steps.specs.declared.container.find.FindStage.{FindStage}
+use Rattle.steps.specs.declared.container.find.FindStage.TheVariants as finds
+use Rattle.steps.specs.declared.container.look.LookStage.{LookStage}
+use Rattle.steps.specs.declared.container.look.LookStage.TheVariants as looks
 use Rattle.steps.specs.declared.container.recover.DeadOwner.{DeadOwner}
-use Rattle.steps.specs.declared.container.recover.RecoverStage as recovers
-use Rattle.steps.specs.declared.container.remove.RemoveStage as removes
-use Rattle.steps.specs.declared.container.replace.ReplaceStage as replaces
+use Rattle.steps.specs.declared.container.recover.RecoverStage.{RecoverStage}
+use Rattle.steps.specs.declared.container.recover.RecoverStage.TheVariants as recovers
+use Rattle.steps.specs.declared.container.remove.RemoveStage.{RemoveStage}
+use Rattle.steps.specs.declared.container.remove.RemoveStage.TheVariants as removes
+use Rattle.steps.specs.declared.container.replace.ReplaceStage.{ReplaceStage}
+use Rattle.steps.specs.declared.container.replace.ReplaceStage.TheVariants as replaces
 use Rattle.steps.specs.declared.container.replace.Replacement.{Replacement}
 use Rattle.steps.specs.declared.container.state.ContainerState.{ContainerState}
 use Rattle.steps.specs.declared.indices.robust.release.GiveBack.{GiveBack}
@@ -41,78 +47,78 @@ module _ {T : Type 0} where
   abbrev pub shown : ℕ → ℕ → ℕ → List (Event T)
   shown p index old = if is_even old then Shown p index ∷ [] else []
 
-  abbrev pub add_effects : ℕ → Owned T → adds.AddStage → ℕ → List (Event T)
-  add_effects p given (adds.TheVariants.Acquires stage) old =
+  abbrev pub add_effects : ℕ → Owned T → AddStage → ℕ → List (Event T)
+  add_effects p given (adds.Acquires stage) old =
       robust.acquire_effects p given.owner stage old
-  add_effects p given (adds.TheVariants.LoadsCount index) old = []
-  add_effects p given (adds.TheVariants.Hides index count) old = hidden p index count old
-  add_effects p given (adds.TheVariants.Stores index at) old = []
-  add_effects p given (adds.TheVariants.AddsCount index) old = placed p index given.value old
-  add_effects p given (adds.TheVariants.AddsChange index) old = []
+  add_effects p given (adds.LoadsCount index) old = []
+  add_effects p given (adds.Hides index count) old = hidden p index count old
+  add_effects p given (adds.Stores index at) old = []
+  add_effects p given (adds.AddsCount index) old = placed p index given.value old
+  add_effects p given (adds.AddsChange index) old = []
 
-  abbrev pub remove_effects : ℕ → GiveBack → removes.RemoveStage → ℕ → List (Event T)
-  remove_effects p given removes.TheVariants.Refuses old = []
-  remove_effects p given removes.TheVariants.LoadsCount old = []
-  remove_effects p given (removes.TheVariants.Releases count stage) old =
+  abbrev pub remove_effects : ℕ → GiveBack → RemoveStage → ℕ → List (Event T)
+  remove_effects p given removes.Refuses old = []
+  remove_effects p given removes.LoadsCount old = []
+  remove_effects p given (removes.Releases count stage) old =
       robust.release_effects p given stage old
-  remove_effects p given (removes.TheVariants.Hides count state) old =
+  remove_effects p given (removes.Hides count state) old =
       hidden p given.index count old
-  remove_effects p given (removes.TheVariants.AddsChange state) old = []
+  remove_effects p given (removes.AddsChange state) old = []
 
-  abbrev pub replace_effects : ℕ → Replacement T → replaces.ReplaceStage → ℕ → List (Event T)
-  replace_effects p given replaces.TheVariants.Refuses old = []
-  replace_effects p given replaces.TheVariants.LoadsCell old = []
-  replace_effects p given replaces.TheVariants.LoadsCount old = []
-  replace_effects p given (replaces.TheVariants.Hides count) old = hidden p given.index count old
-  replace_effects p given (replaces.TheVariants.Stores at) old = []
-  replace_effects p given replaces.TheVariants.AddsCount old = placed p given.index given.value old
-  replace_effects p given replaces.TheVariants.AddsChange old = []
+  abbrev pub replace_effects : ℕ → Replacement T → ReplaceStage → ℕ → List (Event T)
+  replace_effects p given replaces.Refuses old = []
+  replace_effects p given replaces.LoadsCell old = []
+  replace_effects p given replaces.LoadsCount old = []
+  replace_effects p given (replaces.Hides count) old = hidden p given.index count old
+  replace_effects p given (replaces.Stores at) old = []
+  replace_effects p given replaces.AddsCount old = placed p given.index given.value old
+  replace_effects p given replaces.AddsChange old = []
 
   -- the value is that of the room
-  abbrev pub find_effects : ℕ → T → finds.FindStage → ℕ → List (Event T)
-  find_effects p value (finds.TheVariants.LoadsCell index found) old = []
-  find_effects p value (finds.TheVariants.LoadsCount index found) old = []
-  find_effects p value (finds.TheVariants.LoadsWord index found count at) old = []
-  find_effects p value (finds.TheVariants.ChecksCount index found count) old =
+  abbrev pub find_effects : ℕ → T → FindStage → ℕ → List (Event T)
+  find_effects p value (finds.LoadsCell index found) old = []
+  find_effects p value (finds.LoadsCount index found) old = []
+  find_effects p value (finds.LoadsWord index found count at) old = []
+  find_effects p value (finds.ChecksCount index found count) old =
       copied p index count value old
-  find_effects p value (finds.TheVariants.Asks index found) old = []
+  find_effects p value (finds.Asks index found) old = []
 
   -- what a recovery finds at the number of an element: the copy, whole, or that nothing stands there
   abbrev pub checked : ℕ → ℕ → ℕ → T → ℕ → List (Event T)
   checked p index count value old =
       if old == count then Copied p index value ∷ [] else shown p index old
 
-  abbrev pub recover_effects : ℕ → DeadOwner → T → recovers.RecoverStage → ℕ → List (Event T)
-  recover_effects p given value recovers.TheVariants.LoadsCounter old = []
-  recover_effects p given value (recovers.TheVariants.LoadsCell index) old = []
-  recover_effects p given value (recovers.TheVariants.LoadsCount index) old = shown p index old
-  recover_effects p given value (recovers.TheVariants.LoadsWord index count at) old = []
-  recover_effects p given value (recovers.TheVariants.ChecksCount index count) old =
+  abbrev pub recover_effects : ℕ → DeadOwner → T → RecoverStage → ℕ → List (Event T)
+  recover_effects p given value recovers.LoadsCounter old = []
+  recover_effects p given value (recovers.LoadsCell index) old = []
+  recover_effects p given value (recovers.LoadsCount index) old = shown p index old
+  recover_effects p given value (recovers.LoadsWord index count at) old = []
+  recover_effects p given value (recovers.ChecksCount index count) old =
       checked p index count value old
-  recover_effects p given value (recovers.TheVariants.Asks index count) old =
+  recover_effects p given value (recovers.Asks index count) old =
       if old == 0 then [] else Told p index given.owner ∷ []
-  recover_effects p given value (recovers.TheVariants.EmptiesCell index count) old =
+  recover_effects p given value (recovers.EmptiesCell index count) old =
       robust.freed p index given.owner old
-  recover_effects p given value (recovers.TheVariants.Hides index count) old =
+  recover_effects p given value (recovers.Hides index count) old =
       hidden p index count old
-  recover_effects p given value (recovers.TheVariants.Raises index raise) old = []
-  recover_effects p given value (recovers.TheVariants.Locks index lock) old =
+  recover_effects p given value (recovers.Raises index raise) old = []
+  recover_effects p given value (recovers.Locks index lock) old =
       robust.locked_by p lock old
-  recover_effects p given value recovers.TheVariants.LoadsCounterAgain old = []
-  recover_effects p given value (recovers.TheVariants.AddsChange state) old = []
+  recover_effects p given value recovers.LoadsCounterAgain old = []
+  recover_effects p given value (recovers.AddsChange state) old = []
 
-  abbrev pub look_effects : ℕ → T → looks.LookStage → ℕ → List (Event T)
-  look_effects p value looks.TheVariants.LoadsChange old = []
-  look_effects p value (looks.TheVariants.LoadsCount index) old = []
-  look_effects p value (looks.TheVariants.LoadsWord index count at) old = []
-  look_effects p value (looks.TheVariants.ChecksCount index count) old =
+  abbrev pub look_effects : ℕ → T → LookStage → ℕ → List (Event T)
+  look_effects p value looks.LoadsChange old = []
+  look_effects p value (looks.LoadsCount index) old = []
+  look_effects p value (looks.LoadsWord index count at) old = []
+  look_effects p value (looks.ChecksCount index count) old =
       copied p index count value old
 
   -- the value whose words the state's look has read
   abbrev pub copy_in : Coding T → ContainerState T → T
   copy_in code state = value_in code.value_of code.size state.shown.copy
 
-  abbrev pub look_effects_of : Coding T → ℕ → looks.LookStage → ℕ → Option (ContainerState T)
+  abbrev pub look_effects_of : Coding T → ℕ → LookStage → ℕ → Option (ContainerState T)
       → List (Event T)
   look_effects_of code p stage old None = []
   look_effects_of code p stage old (Some state) = look_effects p (copy_in code state) stage old
@@ -130,8 +136,8 @@ module _ {T : Type 0} where
   effects code p state flight old = []
 
   -- the question of a recovery, which its copy puts
-  abbrev pub question_of : ℕ → DeadOwner → recovers.RecoverStage → ℕ → List (Event T)
-  question_of p given (recovers.TheVariants.ChecksCount index count) old =
+  abbrev pub question_of : ℕ → DeadOwner → RecoverStage → ℕ → List (Event T)
+  question_of p given (recovers.ChecksCount index count) old =
       if old == count then Asked p index given.owner ∷ [] else []
   question_of p given stage old = []
 

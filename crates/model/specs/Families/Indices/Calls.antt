@@ -10,11 +10,11 @@ use Rattle.steps.specs.Indices.Unique.{locked_after}
 use Rattle.steps.specs.Queues.Ring.{load}
 use Rattle.steps.specs.Routine.{went_on}
 use Rattle.model.specs.declared.event.Answer.{Answer}
-use Rattle.model.specs.declared.event.Answer as answers
+use Rattle.model.specs.declared.event.Answer.TheVariants as answers
 use Rattle.model.specs.declared.families.Flight.{Flight}
-use Rattle.model.specs.declared.families.Flight as flights
+use Rattle.model.specs.declared.families.Flight.TheVariants as flights
 use Rattle.model.specs.declared.families.indices.IndexStart.{IndexStart}
-use Rattle.model.specs.declared.families.indices.IndexStart as starts
+use Rattle.model.specs.declared.families.indices.IndexStart.TheVariants as starts
 use Rattle.model.specs.declared.families.indices.calls.IndexFlight.{IndexFlight}
 use Rattle.model.specs.declared.families.indices.calls.IndexFlight.TheVariants.{Acquire, ReleaseDefault, ReleaseLock, BorrowedIndices, IsLocked}
 use Rattle.model.specs.Families.Queues.Calls.{as_it_is}
@@ -40,10 +40,10 @@ abbrev pub locked_of : IndexFlight
 locked_of = IsLocked (record { call = record {}; given = tt; room = tt })
 
 abbrev pub first : ℕ → IndexStart → IndexFlight
-first capacity starts.TheVariants.Acquire = acquire_of capacity
-first capacity (starts.TheVariants.Release index mode) = release_of capacity index mode
-first capacity starts.TheVariants.BorrowedIndices = borrowed_of
-first capacity starts.TheVariants.IsLocked = locked_of
+first capacity starts.Acquire = acquire_of capacity
+first capacity (starts.Release index mode) = release_of capacity index mode
+first capacity starts.BorrowedIndices = borrowed_of
+first capacity starts.IsLocked = locked_of
 
 -- ---- the calls under way
 
@@ -65,8 +65,8 @@ goes_back (IsLocked run) old = false
 
 module _ {T : Type 0} where
   abbrev pub acquire_answer : Acquired → Answer T
-  acquire_answer (Ok index) = answers.TheVariants.Index index
-  acquire_answer (Err failure) = answers.TheVariants.NoIndex failure
+  acquire_answer (Ok index) = answers.Index index
+  acquire_answer (Err failure) = answers.NoIndex failure
 
   -- how it goes on from the old value of its word
   abbrev pub after : IndexFlight → ℕ → After IndexFlight (Answer T)
@@ -74,16 +74,16 @@ module _ {T : Type 0} where
       as_call Acquire acquire_answer
       (went_on as_it_is run.given run.room (acquire_after run.call old))
   after (ReleaseDefault run) old =
-      as_call ReleaseDefault answers.TheVariants.State
+      as_call ReleaseDefault answers.State
       (went_on as_it_is run.given run.room (release_after false run.call old))
   after (ReleaseLock run) old =
-      as_call ReleaseLock answers.TheVariants.State
+      as_call ReleaseLock answers.State
       (went_on as_it_is run.given run.room (release_after true run.call old))
   after (BorrowedIndices run) old =
-      as_call BorrowedIndices answers.TheVariants.Number
+      as_call BorrowedIndices answers.Number
       (went_on as_it_is run.given run.room (borrowed_after run.call old))
   after (IsLocked run) old =
-      as_call IsLocked answers.TheVariants.Truth
+      as_call IsLocked answers.Truth
       (went_on as_it_is run.given run.room (locked_after run.call old))
 
   -- the family's call under way, as one of a machine
@@ -91,7 +91,7 @@ module _ {T : Type 0} where
   going flight =
       record {
         want = want flight;
-        after = λ old. as_call flights.TheVariants.Indices (λ answer. answer) (after flight old);
+        after = λ old. as_call flights.Indices (λ answer. answer) (after flight old);
         rows = λ kept said. [];
         most = 1;
       }

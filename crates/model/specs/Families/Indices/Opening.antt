@@ -3,14 +3,14 @@ use Rattle.std.specs.Prelude.{ℕ, ◌+◌, ◌-◌, ◌/◌, ◌^◌, Bool, tru
 use Rattle.std.specs.Prelude.{◌∷◌, ◌++◌, replicate, nat_le, if◌then◌else◌, slice_index_or}
 use Rattle.std.specs.List.{range_with_len}
 use Rattle.model.specs.declared.families.Flight.{Flight}
-use Rattle.model.specs.declared.families.Flight as flights
+use Rattle.model.specs.declared.families.Flight.TheVariants as flights
 use Rattle.model.specs.declared.families.Registry.{Registry}
-use Rattle.model.specs.declared.families.Registry as registries
+use Rattle.model.specs.declared.families.Registry.TheVariants as registries
 use Rattle.model.specs.declared.families.indices.IndexStart.{IndexStart}
 use Rattle.model.specs.declared.families.indices.IndexStart.TheVariants.{Acquire, Release, BorrowedIndices, IsLocked}
 use Rattle.model.specs.declared.families.indices.calls.IndexFlight.{IndexFlight}
 use Rattle.model.specs.declared.turn.Kind.{Kind}
-use Rattle.model.specs.declared.turn.Kind as kinds
+use Rattle.model.specs.declared.turn.Kind.TheVariants as kinds
 use Rattle.model.specs.declared.turn.Refusal.{Refusal}
 use Rattle.model.specs.declared.turn.Refusal.TheVariants.{WrongCall, NotHeld, BadIndex}
 use Rattle.model.specs.Families.Indices.Calls.{first}
@@ -35,12 +35,12 @@ opening =
       least = 1;
       greatest = 2 ^ 24 - 2;
       words = λ size capacity. opening_words capacity;
-      kept = λ capacity. registries.TheVariants.Indices (replicate capacity None);
+      kept = λ capacity. registries.Indices (replicate capacity None);
     }
 
 -- whether a machine of a kind has the set
 abbrev pub is_set : Kind → Bool
-is_set kinds.TheVariants.Indices = true
+is_set kinds.Indices = true
 is_set kind = false
 
 -- the call that begins on a machine of this kind
@@ -59,7 +59,7 @@ call_rows capacity holders p BorrowedIndices = []
 call_rows capacity holders p IsLocked = []
 
 abbrev pub kept_rows : {T : Type 0} → ℕ → IndexStart → Registry T → ℕ → List (Bool × Refusal)
-kept_rows capacity start (registries.TheVariants.Indices holders) p =
+kept_rows capacity start (registries.Indices holders) p =
     call_rows capacity holders p start
 kept_rows capacity start kept p = (true, WrongCall) ∷ []
 
@@ -67,6 +67,6 @@ module _ {T : Type 0} where
   abbrev pub begin : Kind → ℕ → IndexStart → Beginning (Flight T) (Registry T)
   begin kind capacity start =
       record {
-        call = λ kept. option_map flights.TheVariants.Indices (call_of kind capacity start);
+        call = λ kept. option_map flights.Indices (call_of kind capacity start);
         rows = kept_rows capacity start;
       }

@@ -12,7 +12,7 @@ use Rattle.model.specs.declared.event.Event.TheVariants.{Claimed, Freed, Locked,
 use Rattle.model.specs.declared.event.Start.{Start}
 use Rattle.model.specs.declared.event.Start.TheVariants.{Indices}
 use Rattle.model.specs.declared.families.Registry.{Registry}
-use Rattle.model.specs.declared.families.Registry as registries
+use Rattle.model.specs.declared.families.Registry.TheVariants as registries
 use Rattle.model.specs.declared.families.indices.IndexStart.TheVariants.{Acquire, Release, BorrowedIndices, IsLocked}
 use Rattle.model.specs.declared.party.Party.{Party}
 use Rattle.model.specs.Families.Indices.Bounds.{most_steps}
@@ -69,7 +69,7 @@ module _ {T : Type 0} where
 
   -- the machine lets that party give an index back which holds it by the events
   abbrev pub KeepsHolders : Registry T → List (Event T) → Type 0
-  KeepsHolders (registries.TheVariants.Indices holders) events =
+  KeepsHolders (registries.Indices holders) events =
       (index : ℕ) → slice_index_or holders index None ≡ holder_of index events
   KeepsHolders kept events = ⊥
 

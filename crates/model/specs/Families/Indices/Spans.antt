@@ -1,7 +1,7 @@
 -- What a call of the unique index set writes between its begin and its end.
 use Rattle.std.specs.Prelude.{◌≡◌, ℕ, ◌+◌, Option, Some, None, List, [], ◌∷◌, ◌++◌, fold}
 use Rattle.steps.specs.declared.indices.enums.ReleaseMode.TheVariants.{LockIfLastIndex}
-use Rattle.steps.specs.declared.indices.enums.ReleaseState as states
+use Rattle.steps.specs.declared.indices.enums.ReleaseState.TheVariants as states
 use Rattle.model.specs.declared.event.Answer.{Answer}
 use Rattle.model.specs.declared.event.Answer.TheVariants.{Index, NoIndex, State, Number, Truth}
 use Rattle.model.specs.declared.event.Event.{Event}
@@ -43,8 +43,8 @@ module _ {T : Type 0} where
   abbrev pub done_by : IndexStart → Answer T → Option SetActs
   done_by Acquire (Index index) = Some (claimed index)
   done_by Acquire (NoIndex failure) = Some nothing
-  done_by (Release index mode) (State states.TheVariants.Unlocked) = Some (freed index)
-  done_by (Release index LockIfLastIndex) (State states.TheVariants.Locked) =
+  done_by (Release index mode) (State states.Unlocked) = Some (freed index)
+  done_by (Release index LockIfLastIndex) (State states.Locked) =
       Some (freed_and_locked index)
   done_by BorrowedIndices (Number number) = Some nothing
   done_by IsLocked (Truth locked) = Some nothing

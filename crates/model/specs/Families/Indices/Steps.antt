@@ -6,7 +6,7 @@ use Rattle.steps.specs.declared.indices.unique.ReleaseStage.TheVariants.{ClearsF
 use Rattle.model.specs.declared.event.Answer.{Answer}
 use Rattle.model.specs.declared.event.Answer.TheVariants.{Index, State}
 use Rattle.model.specs.declared.event.Event.{Event}
-use Rattle.model.specs.declared.event.Event as events
+use Rattle.model.specs.declared.event.Event.TheVariants as events
 use Rattle.model.specs.declared.event.Event.TheVariants.{Claimed, Freed}
 use Rattle.model.specs.declared.families.indices.calls.IndexFlight.{IndexFlight}
 use Rattle.model.specs.declared.families.indices.calls.IndexFlight.TheVariants.{ReleaseDefault, ReleaseLock}
@@ -27,7 +27,7 @@ module _ {T : Type 0} where
   -- an acquire claims by its last step, and a release that answers so locks by its last
   abbrev pub ended : ℕ → Option (Answer T) → List (Event T)
   ended p (Some (Index index)) = Claimed p index ∷ []
-  ended p (Some (State Locked)) = events.TheVariants.Locked p ∷ []
+  ended p (Some (State Locked)) = events.Locked p ∷ []
   ended p outcome = []
 
   abbrev pub effects : ℕ → Option ℕ → Option (Answer T) → List (Event T)

@@ -14,14 +14,14 @@ use Rattle.steps.specs.Queues.Overflow as overflow
 use Rattle.steps.specs.Queues.Ring.{first_push, push_want, push_after}
 use Rattle.steps.specs.Routine.{went_on}
 use Rattle.model.specs.declared.event.Answer.{Answer}
-use Rattle.model.specs.declared.event.Answer as answers
+use Rattle.model.specs.declared.event.Answer.TheVariants as answers
 use Rattle.model.specs.declared.families.Flight.{Flight}
-use Rattle.model.specs.declared.families.Flight as flights
+use Rattle.model.specs.declared.families.Flight.TheVariants as flights
 use Rattle.model.specs.declared.families.Registry.{Registry}
-use Rattle.model.specs.declared.families.Registry as registries
+use Rattle.model.specs.declared.families.Registry.TheVariants as registries
 use Rattle.model.specs.declared.families.loan.Book.{Book}
 use Rattle.model.specs.declared.families.loan.LoanStart.{LoanStart}
-use Rattle.model.specs.declared.families.loan.LoanStart as starts
+use Rattle.model.specs.declared.families.loan.LoanStart.TheVariants as starts
 use Rattle.model.specs.declared.families.loan.calls.LoanFlight.{LoanFlight}
 use Rattle.model.specs.declared.families.loan.calls.LoanFlight.TheVariants.{Loan, Send, GiveUp, TakeBack, Receive, GiveBack, Reclaim}
 use Rattle.model.specs.declared.turn.Refusal.{Refusal}
@@ -71,14 +71,14 @@ abbrev pub reclaim_of : ℕ → ℕ → LoanFlight
 reclaim_of slots queue = Reclaim (first_reclaim slots queue)
 
 abbrev pub first : ℕ → Book → LoanStart → LoanFlight
-first slots book starts.TheVariants.Loan = loan_of slots
-first slots book (starts.TheVariants.Send index) = send_of slots book.queue index
-first slots book (starts.TheVariants.GiveUp index) = give_up_of slots index
-first slots book starts.TheVariants.TakeBack = take_back_of slots book.queue
-first slots book starts.TheVariants.Receive = receive_of slots book.queue book.receiver
-first slots book (starts.TheVariants.GiveBack index) =
+first slots book starts.Loan = loan_of slots
+first slots book (starts.Send index) = send_of slots book.queue index
+first slots book (starts.GiveUp index) = give_up_of slots index
+first slots book starts.TakeBack = take_back_of slots book.queue
+first slots book starts.Receive = receive_of slots book.queue book.receiver
+first slots book (starts.GiveBack index) =
     give_back_of slots book.queue book.receiver index
-first slots book starts.TheVariants.Reclaim = reclaim_of slots book.queue
+first slots book starts.Reclaim = reclaim_of slots book.queue
 
 -- ---- the calls under way
 
@@ -109,7 +109,7 @@ module _ {T : Type 0} where
   -- a reclaim goes on by the sender's table
   abbrev pub reclaim_goes : List Place → reclaims.Reclaim → ℕ → After LoanFlight (Answer T)
   reclaim_goes places call old =
-      as_call Reclaim answers.TheVariants.Number (reclaim_after call places old)
+      as_call Reclaim answers.Number (reclaim_after call places old)
 
   -- how a call goes on from the old value of its word, where this is the sender's table
   abbrev pub after : List Place → LoanFlight → ℕ → After LoanFlight (Answer T)
@@ -119,7 +119,7 @@ module _ {T : Type 0} where
   after places (Send run) old =
       as_call Send popped (went_on as_it_is run.given run.room (send_after run.call run.given old))
   after places (GiveUp run) old =
-      as_call GiveUp (λ _. answers.TheVariants.Done)
+      as_call GiveUp (λ _. answers.Done)
       (went_on as_it_is run.given run.room (release_after false run.call old))
   after places (TakeBack run) old =
       as_call TakeBack popped
@@ -130,7 +130,7 @@ module _ {T : Type 0} where
       (overflow.pop_kept run.call.call run.room old)
       (part_after run.call.base (overflow.pop_after run.call.call old)))
   after places (GiveBack p run) old =
-      as_call (λ r. GiveBack p r) answers.TheVariants.Truth
+      as_call (λ r. GiveBack p r) answers.Truth
       (went_on as_it_is run.given run.room
       (part_after run.call.base (push_after 1 run.call.call old)))
   after places (Reclaim call) old = reclaim_goes places call old
@@ -153,7 +153,7 @@ book_rows flight book = (has_died (party_of flight) book.dead, OwnerIsDead) ∷ 
 
 module _ {T : Type 0} where
   abbrev pub going_rows : LoanFlight → Registry T → Option Bool → List (Bool × Refusal)
-  going_rows flight (registries.TheVariants.Loan book) said = book_rows flight book
+  going_rows flight (registries.Loan book) said = book_rows flight book
   going_rows flight kept said = []
 
   -- the family's call under way, as one of a machine: where no table is kept
@@ -161,13 +161,13 @@ module _ {T : Type 0} where
   going flight =
       record {
         want = want flight;
-        after = λ old. as_call flights.TheVariants.Loan (λ answer. answer) (after [] flight old);
+        after = λ old. as_call flights.Loan (λ answer. answer) (after [] flight old);
         rows = going_rows flight;
         most = 3;
       }
 
   -- and where one is kept
   abbrev pub goes : LoanFlight → ℕ → Registry T → After (Flight T) (Answer T)
-  goes flight old (registries.TheVariants.Loan book) =
-      as_call flights.TheVariants.Loan (λ answer. answer) (after book.places flight old)
+  goes flight old (registries.Loan book) =
+      as_call flights.Loan (λ answer. answer) (after book.places flight old)
   goes flight old kept = (going flight).after old

@@ -3,15 +3,15 @@ use Rattle.std.specs.Prelude.{ℕ, ◌+◌, ◌-◌, ◌^◌, ◌==◌, Bool, tr
 use Rattle.std.specs.Prelude.{◌∷◌, ◌++◌, replicate, if◌then◌else◌, nat_le, slice_index_or, slice_set}
 use Rattle.steps.specs.declared.loan.places.Place.TheVariants.{Free}
 use Rattle.model.specs.declared.families.Flight.{Flight}
-use Rattle.model.specs.declared.families.Flight as flights
+use Rattle.model.specs.declared.families.Flight.TheVariants as flights
 use Rattle.model.specs.declared.families.Registry.{Registry}
-use Rattle.model.specs.declared.families.Registry as registries
+use Rattle.model.specs.declared.families.Registry.TheVariants as registries
 use Rattle.model.specs.declared.families.loan.Book.{Book}
 use Rattle.model.specs.declared.families.loan.LoanStart.{LoanStart}
 use Rattle.model.specs.declared.families.loan.LoanStart.TheVariants.{Send, GiveUp, Receive, GiveBack, Reclaim}
 use Rattle.model.specs.declared.families.loan.calls.LoanFlight.{LoanFlight}
 use Rattle.model.specs.declared.turn.Kind.{Kind}
-use Rattle.model.specs.declared.turn.Kind as kinds
+use Rattle.model.specs.declared.turn.Kind.TheVariants as kinds
 use Rattle.model.specs.declared.turn.Refusal.{Refusal}
 use Rattle.model.specs.declared.turn.Refusal.TheVariants.{WrongCall, NoRole, NotHeld, BadIndex, OwnerIsDead, OwnerLives}
 use Rattle.model.specs.Families.Indices.Opening as index_opening
@@ -44,7 +44,7 @@ opening_book slots queue =
     }
 
 abbrev pub opening_kept : {T : Type 0} → ℕ → ℕ → Registry T
-opening_kept slots queue = registries.TheVariants.Loan (opening_book slots queue)
+opening_kept slots queue = registries.Loan (opening_book slots queue)
 
 -- of one number, which is both
 abbrev pub opening : Opening
@@ -60,7 +60,7 @@ opening =
 
 -- whether a machine of a kind is a loan channel
 abbrev pub is_loan : Kind → Bool
-is_loan kinds.TheVariants.Loan = true
+is_loan kinds.Loan = true
 is_loan kind = false
 
 -- whether the party may not begin calls of the sender, or of the receiver
@@ -107,7 +107,7 @@ call_rows slots book p start =
     ∷ []
 
 abbrev pub kept_rows : {T : Type 0} → ℕ → LoanStart → Registry T → ℕ → List (Bool × Refusal)
-kept_rows slots start (registries.TheVariants.Loan book) p = call_rows slots book p start
+kept_rows slots start (registries.Loan book) p = call_rows slots book p start
 kept_rows slots start kept p = (true, WrongCall) ∷ []
 
 -- the call that begins on a machine of this kind that keeps this
@@ -115,7 +115,7 @@ abbrev pub call_in : Kind → ℕ → LoanStart → Book → Option LoanFlight
 call_in kind slots start book = if is_loan kind then Some (first slots book start) else None
 
 abbrev pub call_kept : {T : Type 0} → ℕ → LoanStart → Registry T → Option LoanFlight
-call_kept slots start (registries.TheVariants.Loan book) = Some (first slots book start)
+call_kept slots start (registries.Loan book) = Some (first slots book start)
 call_kept slots start kept = None
 
 -- whatever is kept, no other kind has such a call
@@ -126,7 +126,7 @@ module _ {T : Type 0} where
   abbrev pub begin : Kind → ℕ → LoanStart → Beginning (Flight T) (Registry T)
   begin kind slots start =
       record {
-        call = λ kept. option_map flights.TheVariants.Loan (call_of kind slots start kept);
+        call = λ kept. option_map flights.Loan (call_of kind slots start kept);
         rows = kept_rows slots start;
       }
 
@@ -138,6 +138,6 @@ taken_from book None = book
 taken_from book (Some index) = record book { holders = slice_set book.holders index None }
 
 abbrev pub keeps : {T : Type 0} → LoanStart → Registry T → Registry T
-keeps start (registries.TheVariants.Loan book) =
-    registries.TheVariants.Loan (taken_from book (asks_for start))
+keeps start (registries.Loan book) =
+    registries.Loan (taken_from book (asks_for start))
 keeps start kept = kept

@@ -18,7 +18,7 @@ use Rattle.model.specs.declared.event.Item.TheVariants.{Index}
 use Rattle.model.specs.declared.event.Start.{Start}
 use Rattle.model.specs.declared.event.Start.TheVariants.{Loan}
 use Rattle.model.specs.declared.families.Registry.{Registry}
-use Rattle.model.specs.declared.families.Registry as registries
+use Rattle.model.specs.declared.families.Registry.TheVariants as registries
 use Rattle.model.specs.declared.families.loan.Book.{Book}
 use Rattle.model.specs.declared.families.loan.LoanStart.TheVariants as calls
 use Rattle.model.specs.declared.families.queues.QueueKind.TheVariants.{IndexQueue, Overflow}
@@ -186,7 +186,7 @@ module _ {T : Type 0} where
     pub keeps : KeepsBook book t.events
 
   abbrev pub IsChannelBy : Registry T → Trace T → Type 0
-  IsChannelBy (registries.TheVariants.Loan book) t = IsChannelOf book t
+  IsChannelBy (registries.Loan book) t = IsChannelOf book t
   IsChannelBy kept t = ⊥
 
   abbrev pub IsChannel : Trace T → Type 0

@@ -1,12 +1,18 @@
 -- What a step of a call of a loan channel writes down, and what is kept then.
 use Rattle.std.specs.Prelude.{ℕ, ◌+◌, ◌%◌, ◌^◌, ◌==◌, ◌&&◌, Option, Some, None, option_map, List, [], ◌∷◌, fold, if◌then◌else◌, slice_index, slice_set}
-use Rattle.steps.specs.declared.indices.unique.ReleaseStage as releases
+use Rattle.steps.specs.declared.indices.unique.ReleaseStage.{ReleaseStage}
+use Rattle.steps.specs.declared.indices.unique.ReleaseStage.TheVariants as releases
 use Rattle.steps.specs.declared.loan.places.Place.TheVariants.{Free, Loaned, Sent}
-use Rattle.steps.specs.declared.loan.reclaim.ReclaimStage as reclaims
-use Rattle.steps.specs.declared.loan.send.SendStage as sends
-use Rattle.steps.specs.declared.loan.take_back.TakeBackStage as take_backs
-use Rattle.steps.specs.declared.queues.overflow.PushStage as overflow_pushes
-use Rattle.steps.specs.declared.queues.overflow.PopStage as overflow_pops
+use Rattle.steps.specs.declared.loan.reclaim.ReclaimStage.{ReclaimStage}
+use Rattle.steps.specs.declared.loan.reclaim.ReclaimStage.TheVariants as reclaims
+use Rattle.steps.specs.declared.loan.send.SendStage.{SendStage}
+use Rattle.steps.specs.declared.loan.send.SendStage.TheVariants as sends
+use Rattle.steps.specs.declared.loan.take_back.TakeBackStage.{TakeBackStage}
+use Rattle.steps.specs.declared.loan.take_back.TakeBackStage.TheVariants as take_backs
+use Rattle.steps.specs.declared.queues.overflow.PushStage.{PushStage}
+use Rattle.steps.specs.declared.queues.overflow.PushStage.TheVariants as overflow_pushes
+use Rattle.steps.specs.declared.queues.overflow.PopStage.{PopStage}
+use Rattle.steps.specs.declared.queues.overflow.PopStage.TheVariants as overflow_pops
 use Rattle.steps.specs.declared.queues.ring.PushStage as pushes
 use Rattle.steps.specs.declared.queues.ring.PopStage as pops
 use Rattle.steps.specs.Loan.Back.{index_in}
@@ -21,10 +27,10 @@ use Rattle.model.specs.declared.event.Answer.TheVariants as answers
 use Rattle.model.specs.declared.event.Event.{Event}
 use Rattle.model.specs.declared.event.Event.TheVariants.{Published, HandedOut, Claimed, Freed, Returned, TakenBack, Acted}
 use Rattle.model.specs.declared.families.Flight.{Flight}
-use Rattle.model.specs.declared.families.Flight as flights
+use Rattle.model.specs.declared.families.Flight.TheVariants as flights
 use Rattle.model.specs.declared.families.loan.Book.{Book}
 use Rattle.model.specs.declared.families.loan.LoanStart.{LoanStart}
-use Rattle.model.specs.declared.families.loan.LoanStart as calls
+use Rattle.model.specs.declared.families.loan.LoanStart.TheVariants as calls
 use Rattle.model.specs.declared.families.loan.effects.Effect.{Effect}
 use Rattle.model.specs.declared.families.loan.effects.Effect.TheVariants as effects
 use Rattle.model.specs.declared.families.loan.calls.LoanFlight.{LoanFlight}
@@ -51,18 +57,18 @@ given_back_at base slots words position =
 
 -- ---- a send that has published over a full queue, and acts once the read position goes on
 
-abbrev pub pending_push : ℕ → ℕ → overflow_pushes.PushStage → Option ℕ
-pending_push position index (overflow_pushes.TheVariants.MovesRead read) =
+abbrev pub pending_push : ℕ → ℕ → PushStage → Option ℕ
+pending_push position index (overflow_pushes.MovesRead read) =
     if read == position then Some index else None
 pending_push position index stage = None
 
-abbrev pub pending_send : ℕ → ℕ → sends.SendStage → Option ℕ
-pending_send position index (sends.TheVariants.Pushes stage) = pending_push position index stage
-pending_send position index (sends.TheVariants.Releases other stage) = None
+abbrev pub pending_send : ℕ → ℕ → SendStage → Option ℕ
+pending_send position index (sends.Pushes stage) = pending_push position index stage
+pending_send position index (sends.Releases other stage) = None
 
 module _ {T : Type 0} where
   abbrev pub pending : List ℕ → Option (Flight T) → Option ℕ
-  pending words (Some (flights.TheVariants.Loan (Send run))) =
+  pending words (Some (flights.Loan (Send run))) =
       pending_send (read_in (submission_word run.call.slots) words) run.given run.call.stage
   pending words other = None
 
@@ -78,46 +84,46 @@ module _ {T : Type 0} where
 
 -- A send that finds the queue full waits for the read position to go on: it acts at its own move, or where a receive
 -- moves it first. Where it has gone on already, there is room. The submission queue begins at the first word.
-abbrev pub push_effect : ℕ → ℕ → List ℕ → ℕ → overflow_pushes.PushStage → ℕ → Effect
-push_effect base queue words index (overflow_pushes.TheVariants.StoresWrite write read) old =
+abbrev pub push_effect : ℕ → ℕ → List ℕ → ℕ → PushStage → ℕ → Effect
+push_effect base queue words index (overflow_pushes.StoresWrite write read) old =
     if distance write read == queue && (read_in base words == read)
     then effects.Publishes index
     else effects.PublishesAndActs index
-push_effect base queue words index (overflow_pushes.TheVariants.MovesRead read) old =
+push_effect base queue words index (overflow_pushes.MovesRead read) old =
     if old == read then effects.TakesOut index (sent_at base queue words read) else effects.Quiet
 push_effect base queue words index stage old = effects.Quiet
 
 -- the first step of a release clears the flag of its index
-abbrev pub release_effect : ℕ → releases.ReleaseStage → Effect
-release_effect index releases.TheVariants.ClearsFlag = effects.Frees index
+abbrev pub release_effect : ℕ → ReleaseStage → Effect
+release_effect index releases.ClearsFlag = effects.Frees index
 release_effect index stage = effects.Quiet
 
-abbrev pub send_effect : ℕ → ℕ → List ℕ → ℕ → sends.SendStage → ℕ → Effect
-send_effect base queue words index (sends.TheVariants.Pushes stage) old =
+abbrev pub send_effect : ℕ → ℕ → List ℕ → ℕ → SendStage → ℕ → Effect
+send_effect base queue words index (sends.Pushes stage) old =
     push_effect base queue words index stage old
-send_effect base queue words index (sends.TheVariants.Releases back stage) old =
+send_effect base queue words index (sends.Releases back stage) old =
     release_effect back stage
 
 -- beside a send that waits for the read position
-abbrev pub receive_effect : ℕ → ℕ → List ℕ → Option (ℕ × ℕ) → overflow_pops.PopStage → ℕ → Effect
-receive_effect base queue words push (overflow_pops.TheVariants.LoadsWrite read) old =
+abbrev pub receive_effect : ℕ → ℕ → List ℕ → Option (ℕ × ℕ) → PopStage → ℕ → Effect
+receive_effect base queue words push (overflow_pops.LoadsWrite read) old =
     if old == read then effects.FindsNone else effects.Quiet
-receive_effect base queue words push (overflow_pops.TheVariants.MovesRead read) old =
+receive_effect base queue words push (overflow_pops.MovesRead read) old =
     if old == read then effects.Receives (sent_at base queue words read) push else effects.Quiet
 receive_effect base queue words push stage old = effects.Quiet
 
-abbrev pub take_back_effect : take_backs.TakeBackStage → Effect
-take_back_effect (take_backs.TheVariants.Pops (pops.TheVariants.StoresRead read) found) =
+abbrev pub take_back_effect : TakeBackStage → Effect
+take_back_effect (take_backs.Pops (pops.TheVariants.StoresRead read) found) =
     effects.TakesBack found.0
-take_back_effect (take_backs.TheVariants.Pops stage found) = effects.Quiet
-take_back_effect (take_backs.TheVariants.Releases index stage) = release_effect index stage
+take_back_effect (take_backs.Pops stage found) = effects.Quiet
+take_back_effect (take_backs.Releases index stage) = release_effect index stage
 
 abbrev pub give_back_effect : ℕ → pushes.PushStage → Effect
 give_back_effect index (pushes.TheVariants.StoresWrite write) = effects.Returns index
 give_back_effect index stage = effects.Quiet
 
-abbrev pub drains_effect : ℕ → ℕ → List ℕ → overflow_pops.PopStage → ℕ → Effect
-drains_effect base queue words (overflow_pops.TheVariants.MovesRead read) old =
+abbrev pub drains_effect : ℕ → ℕ → List ℕ → PopStage → ℕ → Effect
+drains_effect base queue words (overflow_pops.MovesRead read) old =
     if old == read then effects.HandsOut (sent_at base queue words read) else effects.Quiet
 drains_effect base queue words stage old = effects.Quiet
 
@@ -126,12 +132,12 @@ empties_effect base slots words (pops.TheVariants.StoresRead read) =
     effects.TakesBack (given_back_at base slots words read)
 empties_effect base slots words stage = effects.Quiet
 
-abbrev pub reclaim_effect : ℕ → ℕ → List ℕ → reclaims.ReclaimStage → ℕ → Effect
-reclaim_effect slots queue words (reclaims.TheVariants.Drains stage) old =
+abbrev pub reclaim_effect : ℕ → ℕ → List ℕ → ReclaimStage → ℕ → Effect
+reclaim_effect slots queue words (reclaims.Drains stage) old =
     drains_effect (submission_word slots) queue words stage old
-reclaim_effect slots queue words (reclaims.TheVariants.Empties stage) old =
+reclaim_effect slots queue words (reclaims.Empties stage) old =
     empties_effect (completion_word slots queue) slots words stage
-reclaim_effect slots queue words (reclaims.TheVariants.Releases number index stage) old =
+reclaim_effect slots queue words (reclaims.Releases number index stage) old =
     release_effect index stage
 
 -- in these words, beside a send that waits, from this old value
@@ -160,7 +166,7 @@ module _ {T : Type 0} where
   -- a send that waited for the read position acts after the receive that has moved it
   abbrev pub room_made : Option (ℕ × ℕ) → List (Event T)
   room_made None = []
-  room_made (Some push) = acts push.0 (calls.TheVariants.Send push.1) answers.PoppedNone ∷ []
+  room_made (Some push) = acts push.0 (calls.Send push.1) answers.PoppedNone ∷ []
 
   -- the effects in their order, then the acts
   abbrev pub effects_of : ℕ → Effect → Option (Answer T) → List (Event T)
@@ -169,17 +175,17 @@ module _ {T : Type 0} where
   effects_of p (effects.Publishes index) outcome = Published p (Index index) ∷ []
   effects_of p (effects.PublishesAndActs index) outcome =
       Published p (Index index)
-      ∷ acts p (calls.TheVariants.Send index) answers.PoppedNone
+      ∷ acts p (calls.Send index) answers.PoppedNone
       ∷ []
   effects_of p (effects.TakesOut index oldest) outcome =
       HandedOut p (Index oldest)
-      ∷ acts p (calls.TheVariants.Send index) (answers.PoppedIndex oldest)
+      ∷ acts p (calls.Send index) (answers.PoppedIndex oldest)
       ∷ []
   effects_of p effects.FindsNone outcome =
-      acts p calls.TheVariants.Receive answers.PoppedNone ∷ []
+      acts p calls.Receive answers.PoppedNone ∷ []
   effects_of p (effects.Receives oldest push) outcome =
       HandedOut p (Index oldest)
-      ∷ acts p calls.TheVariants.Receive (answers.PoppedIndex oldest)
+      ∷ acts p calls.Receive (answers.PoppedIndex oldest)
       ∷ room_made push
   effects_of p (effects.HandsOut oldest) outcome = HandedOut p (Index oldest) ∷ []
   effects_of p (effects.Returns index) outcome = Returned p index ∷ []
@@ -208,11 +214,11 @@ module _ {T : Type 0} where
   -- A party has an index from the end of the call that has got it. A reclaim that is done leaves the next
   -- receiver, whose number, at most one a turn, has 64 bits.
   abbrev pub ended_book : ℕ → LoanStart → Option (Answer T) → Book → Book
-  ended_book p calls.TheVariants.Loan (Some (answers.Index index)) book =
+  ended_book p calls.Loan (Some (answers.Index index)) book =
       record book { holders = slice_set book.holders index (Some p) }
-  ended_book p calls.TheVariants.Receive (Some (answers.PoppedIndex index)) book =
+  ended_book p calls.Receive (Some (answers.PoppedIndex index)) book =
       record book { holders = slice_set book.holders (index_in index) (Some p) }
-  ended_book p calls.TheVariants.Reclaim (Some (answers.Number number)) book =
+  ended_book p calls.Reclaim (Some (answers.Number number)) book =
       record book { receiver = (book.receiver + 1) % 2 ^ 64 }
   ended_book p start outcome book = book
 

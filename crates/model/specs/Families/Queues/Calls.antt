@@ -11,20 +11,20 @@ use Rattle.steps.specs.Queues.Ring.{first_push, push_want, push_after, first_pop
 use Rattle.steps.specs.Queues.Lengths.{first_len, len_want, len_after, turns_back}
 use Rattle.steps.specs.Queues.Overflow as overflow
 use Rattle.model.specs.declared.event.Answer.{Answer}
-use Rattle.model.specs.declared.event.Answer as answers
+use Rattle.model.specs.declared.event.Answer.TheVariants as answers
 use Rattle.model.specs.declared.families.Flight.{Flight}
-use Rattle.model.specs.declared.families.Flight as flights
+use Rattle.model.specs.declared.families.Flight.TheVariants as flights
 use Rattle.model.specs.declared.families.queues.QueueStart.{QueueStart}
-use Rattle.model.specs.declared.families.queues.QueueStart as starts
+use Rattle.model.specs.declared.families.queues.QueueStart.TheVariants as starts
 use Rattle.model.specs.declared.families.queues.calls.RoleCall.TheVariants.{Acquire, Release}
-use Rattle.model.specs.declared.families.queues.calls.RingCall as rings
-use Rattle.model.specs.declared.families.queues.calls.OverflowCall as overflows
+use Rattle.model.specs.declared.families.queues.calls.RingCall.TheVariants as rings
+use Rattle.model.specs.declared.families.queues.calls.OverflowCall.TheVariants as overflows
 use Rattle.model.specs.declared.families.queues.calls.LengthOf.{LengthOf}
-use Rattle.model.specs.declared.families.queues.calls.LengthOf as measures
+use Rattle.model.specs.declared.families.queues.calls.LengthOf.TheVariants as measures
 use Rattle.model.specs.declared.families.queues.calls.QueueFlight.{QueueFlight}
 use Rattle.model.specs.declared.families.queues.calls.QueueFlight.TheVariants.{Role, Indices, Values, Overflow, Length}
 use Rattle.model.specs.declared.families.queues.QueueKind.{QueueKind}
-use Rattle.model.specs.declared.families.queues.QueueKind as kinds
+use Rattle.model.specs.declared.families.queues.QueueKind.TheVariants as kinds
 use Rattle.model.specs.Coding.{Coding, one_word}
 use Rattle.model.specs.Step.{Going, as_call}
 
@@ -63,29 +63,29 @@ fresh_cell = record { words = replicate 128 0 }
 
 -- the queues of indices push an index, and the queue of values a value
 abbrev pub push_index_of : {T : Type 0} → QueueKind → ℕ → ℕ → Option (QueueFlight T)
-push_index_of kinds.TheVariants.IndexQueue capacity index =
-    Some (Indices (rings.TheVariants.Push
+push_index_of kinds.IndexQueue capacity index =
+    Some (Indices (rings.Push
     (record { call = first_push capacity; given = index; room = tt })))
-push_index_of kinds.TheVariants.Overflow capacity index =
-    Some (Overflow (overflows.TheVariants.Push
+push_index_of kinds.Overflow capacity index =
+    Some (Overflow (overflows.Push
     (record { call = overflow.first_push capacity; given = index; room = fresh })))
-push_index_of kinds.TheVariants.Queue capacity index = None
+push_index_of kinds.Queue capacity index = None
 
 abbrev pub push_value_of : {T : Type 0} → QueueKind → ℕ → T → Option (QueueFlight T)
-push_value_of kinds.TheVariants.IndexQueue capacity value = None
-push_value_of kinds.TheVariants.Overflow capacity value = None
-push_value_of kinds.TheVariants.Queue capacity value =
-    Some (Values (rings.TheVariants.Push
+push_value_of kinds.IndexQueue capacity value = None
+push_value_of kinds.Overflow capacity value = None
+push_value_of kinds.Queue capacity value =
+    Some (Values (rings.Push
     (record { call = first_push capacity; given = value; room = tt })))
 
 abbrev pub pop_of : {T : Type 0} → QueueKind → ℕ → QueueFlight T
-pop_of kinds.TheVariants.IndexQueue capacity =
-    Indices (rings.TheVariants.Pop (record { call = first_pop capacity; given = tt; room = fresh }))
-pop_of kinds.TheVariants.Overflow capacity =
-    Overflow (overflows.TheVariants.Pop
+pop_of kinds.IndexQueue capacity =
+    Indices (rings.Pop (record { call = first_pop capacity; given = tt; room = fresh }))
+pop_of kinds.Overflow capacity =
+    Overflow (overflows.Pop
     (record { call = overflow.first_pop capacity; given = tt; room = fresh }))
-pop_of kinds.TheVariants.Queue capacity =
-    Values (rings.TheVariants.Pop
+pop_of kinds.Queue capacity =
+    Values (rings.Pop
     (record { call = first_pop capacity; given = tt; room = fresh_cell }))
 
 abbrev pub length_of : {T : Type 0} → LengthOf → ℕ → QueueFlight T
@@ -95,18 +95,18 @@ length_of which capacity =
 module _ {T : Type 0} where
   -- the call that begins, or None where the kind has no such call
   abbrev pub first : QueueKind → ℕ → QueueStart T → Option (QueueFlight T)
-  first kind capacity starts.TheVariants.AcquireProducer = Some (acquire_of producer_word)
-  first kind capacity starts.TheVariants.ReleaseProducer = Some (release_of producer_word)
-  first kind capacity starts.TheVariants.AcquireConsumer = Some (acquire_of consumer_word)
-  first kind capacity starts.TheVariants.ReleaseConsumer = Some (release_of consumer_word)
-  first kind capacity (starts.TheVariants.PushIndex index) = push_index_of kind capacity index
-  first kind capacity (starts.TheVariants.Push value) = push_value_of kind capacity value
-  first kind capacity starts.TheVariants.Pop = Some (pop_of kind capacity)
-  first kind capacity starts.TheVariants.Len = Some (length_of measures.TheVariants.Len capacity)
-  first kind capacity starts.TheVariants.IsEmpty =
-      Some (length_of measures.TheVariants.IsEmpty capacity)
-  first kind capacity starts.TheVariants.IsFull =
-      Some (length_of measures.TheVariants.IsFull capacity)
+  first kind capacity starts.AcquireProducer = Some (acquire_of producer_word)
+  first kind capacity starts.ReleaseProducer = Some (release_of producer_word)
+  first kind capacity starts.AcquireConsumer = Some (acquire_of consumer_word)
+  first kind capacity starts.ReleaseConsumer = Some (release_of consumer_word)
+  first kind capacity (starts.PushIndex index) = push_index_of kind capacity index
+  first kind capacity (starts.Push value) = push_value_of kind capacity value
+  first kind capacity starts.Pop = Some (pop_of kind capacity)
+  first kind capacity starts.Len = Some (length_of measures.Len capacity)
+  first kind capacity starts.IsEmpty =
+      Some (length_of measures.IsEmpty capacity)
+  first kind capacity starts.IsFull =
+      Some (length_of measures.IsFull capacity)
 
 -- ---- the calls under way
 
@@ -115,36 +115,36 @@ module _ {T : Type 0} where
   abbrev pub want : Coding T → QueueFlight T → Want (Unit {0})
   want code (Role (Acquire run)) = acquire_want run.call
   want code (Role (Release run)) = release_want run.call
-  want code (Indices (rings.TheVariants.Push run)) = push_want words_of_index run.call run.given
-  want code (Indices (rings.TheVariants.Pop run)) = pop_want run.call
-  want code (Values (rings.TheVariants.Push run)) = push_want code.words_of run.call run.given
-  want code (Values (rings.TheVariants.Pop run)) = pop_want run.call
-  want code (Overflow (overflows.TheVariants.Push run)) = overflow.push_want run.call run.given
-  want code (Overflow (overflows.TheVariants.Pop run)) = overflow.pop_want run.call
+  want code (Indices (rings.Push run)) = push_want words_of_index run.call run.given
+  want code (Indices (rings.Pop run)) = pop_want run.call
+  want code (Values (rings.Push run)) = push_want code.words_of run.call run.given
+  want code (Values (rings.Pop run)) = pop_want run.call
+  want code (Overflow (overflows.Push run)) = overflow.push_want run.call run.given
+  want code (Overflow (overflows.Pop run)) = overflow.pop_want run.call
   want code (Length which run) = len_want run.call
 
 abbrev pub popped : {T : Type 0} → Option ℕ → Answer T
-popped None = answers.TheVariants.PoppedNone
-popped (Some index) = answers.TheVariants.PoppedIndex index
+popped None = answers.PoppedNone
+popped (Some index) = answers.PoppedIndex index
 
 abbrev pub popped_value : {T : Type 0} → Option T → Answer T
-popped_value None = answers.TheVariants.PoppedNone
-popped_value (Some value) = answers.TheVariants.Popped value
+popped_value None = answers.PoppedNone
+popped_value (Some value) = answers.Popped value
 
 -- the answer where this number of values wait
 abbrev pub length_answer : {T : Type 0} → LengthOf → ℕ → ℕ → Answer T
-length_answer measures.TheVariants.Len capacity number = answers.TheVariants.Number number
-length_answer measures.TheVariants.IsEmpty capacity number = answers.TheVariants.Truth (number == 0)
-length_answer measures.TheVariants.IsFull capacity number =
-    answers.TheVariants.Truth (number == capacity)
+length_answer measures.Len capacity number = answers.Number number
+length_answer measures.IsEmpty capacity number = answers.Truth (number == 0)
+length_answer measures.IsFull capacity number =
+    answers.Truth (number == capacity)
 
 -- whether the call begins a turn of its loop again once it is handed this old value
 abbrev pub goes_back : {T : Type 0} → QueueFlight T → ℕ → Bool
 goes_back (Role call) old = false
 goes_back (Indices call) old = false
 goes_back (Values call) old = false
-goes_back (Overflow (overflows.TheVariants.Push run)) old = false
-goes_back (Overflow (overflows.TheVariants.Pop run)) old = overflow.goes_back run.call.stage old
+goes_back (Overflow (overflows.Push run)) old = false
+goes_back (Overflow (overflows.Pop run)) old = overflow.goes_back run.call.stage old
 goes_back (Length which run) old = turns_back run.call.stage old
 
 -- the value that the words in the room make
@@ -163,31 +163,31 @@ module _ {T : Type 0} where
   -- how it goes on from the old value of its word
   abbrev pub after : Coding T → QueueFlight T → ℕ → After (QueueFlight T) (Answer T)
   after code (Role (Acquire run)) old =
-      as_call (λ r. Role (Acquire r)) answers.TheVariants.Truth
+      as_call (λ r. Role (Acquire r)) answers.Truth
       (went_on as_it_is run.given run.room (acquire_after run.call old))
   after code (Role (Release run)) old =
-      as_call (λ r. Role (Release r)) (λ _. answers.TheVariants.Done)
+      as_call (λ r. Role (Release r)) (λ _. answers.Done)
       (went_on as_it_is run.given run.room (release_after run.call old))
-  after code (Indices (rings.TheVariants.Push run)) old =
-      as_call (λ r. Indices (rings.TheVariants.Push r)) answers.TheVariants.Truth
+  after code (Indices (rings.Push run)) old =
+      as_call (λ r. Indices (rings.Push r)) answers.Truth
       (went_on as_it_is run.given run.room (push_after 1 run.call old))
-  after code (Indices (rings.TheVariants.Pop run)) old =
-      as_call (λ r. Indices (rings.TheVariants.Pop r)) popped
+  after code (Indices (rings.Pop run)) old =
+      as_call (λ r. Indices (rings.Pop r)) popped
       (went_on (λ end given room. pop_answer room.0 end) run.given
       (pop_kept kept_in_one run.call run.room old) (pop_after 1 run.call old))
-  after code (Values (rings.TheVariants.Push run)) old =
-      as_call (λ r. Values (rings.TheVariants.Push r)) answers.TheVariants.Truth
+  after code (Values (rings.Push run)) old =
+      as_call (λ r. Values (rings.Push r)) answers.Truth
       (went_on as_it_is run.given run.room (push_after code.size run.call old))
-  after code (Values (rings.TheVariants.Pop run)) old =
-      as_call (λ r. Values (rings.TheVariants.Pop r)) popped_value
+  after code (Values (rings.Pop run)) old =
+      as_call (λ r. Values (rings.Pop r)) popped_value
       (went_on (λ end given room. pop_answer (read_in code room) end) run.given
       (pop_kept kept_at run.call run.room old) (pop_after code.size run.call old))
-  after code (Overflow (overflows.TheVariants.Push run)) old =
-      as_call (λ r. Overflow (overflows.TheVariants.Push r)) popped
+  after code (Overflow (overflows.Push run)) old =
+      as_call (λ r. Overflow (overflows.Push r)) popped
       (went_on (λ end given room. overflow.push_answer given room.0 end) run.given
       (overflow.push_kept run.call run.room old) (overflow.push_after run.call old))
-  after code (Overflow (overflows.TheVariants.Pop run)) old =
-      as_call (λ r. Overflow (overflows.TheVariants.Pop r)) popped
+  after code (Overflow (overflows.Pop run)) old =
+      as_call (λ r. Overflow (overflows.Pop r)) popped
       (went_on (λ end given room. overflow.pop_answer room.0 end) run.given
       (overflow.pop_kept run.call run.room old) (overflow.pop_after run.call old))
   after code (Length which run) old =
@@ -200,7 +200,7 @@ module _ {T : Type 0} where
       record {
         want = want code flight;
         after = λ old.
-            as_call flights.TheVariants.Queues (λ answer. answer) (after code flight old);
+            as_call flights.Queues (λ answer. answer) (after code flight old);
         rows = λ kept said. [];
         most = 3;
       }

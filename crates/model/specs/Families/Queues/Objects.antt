@@ -5,7 +5,7 @@ use Rattle.model.specs.declared.event.Item.TheVariants.{Index, Value}
 use Rattle.model.specs.declared.event.Start.{Start}
 use Rattle.model.specs.declared.event.Start.TheVariants.{Queues}
 use Rattle.model.specs.declared.event.Answer.{Answer}
-use Rattle.model.specs.declared.event.Answer as answers
+use Rattle.model.specs.declared.event.Answer.TheVariants as answers
 use Rattle.model.specs.declared.families.queues.QueueStart.TheVariants.{PushIndex, Push, Pop}
 use Rattle.model.specs.declared.families.queues.QueueKind.{QueueKind}
 use Rattle.model.specs.declared.families.queues.QueueKind.TheVariants.{IndexQueue, Overflow, Queue}
@@ -16,9 +16,9 @@ pub use Rattle.steps.specs.Objects.Lists.{appended, cut, cut_off}
 module _ {T : Type 0} where
   -- the answer of a pop, and of a push that hands back
   abbrev pub answer_of_item : Option (Item T) → Answer T
-  answer_of_item None = answers.TheVariants.PoppedNone
-  answer_of_item (Some (Index index)) = answers.TheVariants.PoppedIndex index
-  answer_of_item (Some (Value value)) = answers.TheVariants.Popped value
+  answer_of_item None = answers.PoppedNone
+  answer_of_item (Some (Index index)) = answers.PoppedIndex index
+  answer_of_item (Some (Value value)) = answers.Popped value
 
   -- ---- the bounded list
 
@@ -30,11 +30,11 @@ module _ {T : Type 0} where
 
   abbrev pub list_answer : ℕ → List (Item T) → Start T → Answer T
   list_answer capacity items (Queues (PushIndex index)) =
-      answers.TheVariants.Truth (nat_lt (length items) capacity)
+      answers.Truth (nat_lt (length items) capacity)
   list_answer capacity items (Queues (Push value)) =
-      answers.TheVariants.Truth (nat_lt (length items) capacity)
+      answers.Truth (nat_lt (length items) capacity)
   list_answer capacity items (Queues Pop) = answer_of_item (slice_get items 0)
-  list_answer capacity items other = answers.TheVariants.Done
+  list_answer capacity items other = answers.Done
 
   -- Push appends and answers true where the length is below the capacity, else it answers false and
   -- changes nothing. Pop takes the front, or answers None.
@@ -57,7 +57,7 @@ module _ {T : Type 0} where
   overflow_answer capacity items (Queues (Push value)) =
       answer_of_item (cut_off capacity (items ++ Value value ∷ []))
   overflow_answer capacity items (Queues Pop) = answer_of_item (slice_get items 0)
-  overflow_answer capacity items other = answers.TheVariants.Done
+  overflow_answer capacity items other = answers.Done
 
   -- Push appends, and where the length then passes the capacity the front leaves and is answered,
   -- else None. Pop takes the front, or answers None.

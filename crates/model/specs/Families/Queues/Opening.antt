@@ -1,9 +1,9 @@
 -- The words of a queue at its opening, and who may begin which call.
 use Rattle.std.specs.Prelude.{ℕ, ◌+◌, ◌*◌, ◌-◌, ◌^◌, ◌==◌, Bool, true, false, not, Option, Some, None, option_map, List, [], ◌∷◌, replicate}
 use Rattle.model.specs.declared.families.Flight.{Flight}
-use Rattle.model.specs.declared.families.Flight as flights
+use Rattle.model.specs.declared.families.Flight.TheVariants as flights
 use Rattle.model.specs.declared.families.Registry.{Registry}
-use Rattle.model.specs.declared.families.Registry as registries
+use Rattle.model.specs.declared.families.Registry.TheVariants as registries
 use Rattle.model.specs.declared.families.queues.QueueStart.{QueueStart}
 use Rattle.model.specs.declared.families.queues.QueueStart.TheVariants.{AcquireProducer, ReleaseProducer}
 use Rattle.model.specs.declared.families.queues.QueueStart.TheVariants.{AcquireConsumer, ReleaseConsumer, PushIndex}
@@ -11,9 +11,9 @@ use Rattle.model.specs.declared.families.queues.QueueStart.TheVariants.{Push, Po
 use Rattle.model.specs.declared.families.queues.Roles.{Roles}
 use Rattle.model.specs.declared.families.queues.calls.QueueFlight.{QueueFlight}
 use Rattle.model.specs.declared.turn.Kind.{Kind}
-use Rattle.model.specs.declared.turn.Kind as any_kinds
+use Rattle.model.specs.declared.turn.Kind.TheVariants as any_kinds
 use Rattle.model.specs.declared.families.queues.QueueKind.{QueueKind}
-use Rattle.model.specs.declared.families.queues.QueueKind as kinds
+use Rattle.model.specs.declared.families.queues.QueueKind.TheVariants as kinds
 use Rattle.model.specs.declared.turn.Refusal.{Refusal}
 use Rattle.model.specs.declared.turn.Refusal.TheVariants.{WrongCall, NoRole}
 use Rattle.model.specs.Families.Queues.Calls.{first}
@@ -22,15 +22,15 @@ use Rattle.model.specs.Step.{Beginning}
 
 -- the cells of a queue: an overflowing one has one more than its capacity
 abbrev pub cells_of : QueueKind → ℕ → ℕ
-cells_of kinds.TheVariants.IndexQueue capacity = capacity
-cells_of kinds.TheVariants.Overflow capacity = capacity + 1
-cells_of kinds.TheVariants.Queue capacity = capacity
+cells_of kinds.IndexQueue capacity = capacity
+cells_of kinds.Overflow capacity = capacity + 1
+cells_of kinds.Queue capacity = capacity
 
 -- the words of a cell, where a value of the machine's own type has so many
 abbrev pub words_of_cell : ℕ → QueueKind → ℕ
-words_of_cell size kinds.TheVariants.IndexQueue = 1
-words_of_cell size kinds.TheVariants.Overflow = 1
-words_of_cell size kinds.TheVariants.Queue = size
+words_of_cell size kinds.IndexQueue = 1
+words_of_cell size kinds.Overflow = 1
+words_of_cell size kinds.Queue = size
 
 -- write position, read position, both roles free, and the cells
 abbrev pub opening_words : ℕ → QueueKind → ℕ → List ℕ
@@ -44,7 +44,7 @@ opening kind =
       least = 0;
       greatest = 2 ^ 32 - 1;
       words = λ size capacity. opening_words size kind capacity;
-      kept = λ capacity. registries.TheVariants.Queues (record { producer = None; consumer = None });
+      kept = λ capacity. registries.Queues (record { producer = None; consumer = None });
     }
 
 abbrev pub holds : Option ℕ → ℕ → Bool
@@ -53,9 +53,9 @@ holds (Some q) p = q == p
 
 -- which queue a machine of a kind has, if any
 abbrev pub queue_kind : Kind → Option QueueKind
-queue_kind any_kinds.TheVariants.IndexQueue = Some kinds.TheVariants.IndexQueue
-queue_kind any_kinds.TheVariants.Overflow = Some kinds.TheVariants.Overflow
-queue_kind any_kinds.TheVariants.Queue = Some kinds.TheVariants.Queue
+queue_kind any_kinds.IndexQueue = Some kinds.IndexQueue
+queue_kind any_kinds.Overflow = Some kinds.Overflow
+queue_kind any_kinds.Queue = Some kinds.Queue
 queue_kind kind = None
 
 module _ {T : Type 0} where
@@ -85,12 +85,12 @@ module _ {T : Type 0} where
   call_rows roles p start = (lacks_role roles p start, NoRole) ∷ []
 
   abbrev pub kept_rows : QueueStart T → Registry T → ℕ → List (Bool × Refusal)
-  kept_rows start (registries.TheVariants.Queues roles) p = call_rows roles p start
+  kept_rows start (registries.Queues roles) p = call_rows roles p start
   kept_rows start kept p = (true, WrongCall) ∷ []
 
   abbrev pub begin : Kind → ℕ → QueueStart T → Beginning (Flight T) (Registry T)
   begin kind capacity start =
       record {
-        call = λ kept. option_map flights.TheVariants.Queues (call_of kind capacity start);
+        call = λ kept. option_map flights.Queues (call_of kind capacity start);
         rows = kept_rows start;
       }

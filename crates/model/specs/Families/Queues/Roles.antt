@@ -5,7 +5,7 @@ use Rattle.model.specs.declared.event.Answer.TheVariants.{Done, Truth}
 use Rattle.model.specs.declared.event.Event.{Event}
 use Rattle.model.specs.declared.event.Event.TheVariants.{Finished}
 use Rattle.model.specs.declared.families.Registry.{Registry}
-use Rattle.model.specs.declared.families.Registry as registries
+use Rattle.model.specs.declared.families.Registry.TheVariants as registries
 use Rattle.model.specs.declared.families.queues.QueueStart.TheVariants.{AcquireProducer, ReleaseProducer, AcquireConsumer, ReleaseConsumer}
 use Rattle.model.specs.Families.Queues.Reading.{producer_of, consumer_of}
 
@@ -24,6 +24,6 @@ module _ {T : Type 0} where
 
   -- the machine grants a push, a pop and a giving back to those that hold the role by the events
   abbrev pub KeepsHolders : Registry T → List (Event T) → Type 0
-  KeepsHolders (registries.TheVariants.Queues roles) events =
+  KeepsHolders (registries.Queues roles) events =
       (roles.producer ≡ producer_of events) × (roles.consumer ≡ consumer_of events)
   KeepsHolders kept events = ⊥

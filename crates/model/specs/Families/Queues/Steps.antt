@@ -4,8 +4,10 @@ use Rattle.steps.specs.Queues.Ring.{distance}
 use Rattle.steps.specs.Queues.Overflow.{cell_word}
 use Rattle.steps.specs.declared.queues.ring.PushStage as pushes
 use Rattle.steps.specs.declared.queues.ring.PopStage as pops
-use Rattle.steps.specs.declared.queues.overflow.PushStage as overflow_pushes
-use Rattle.steps.specs.declared.queues.overflow.PopStage as overflow_pops
+use Rattle.steps.specs.declared.queues.overflow.PushStage.{PushStage}
+use Rattle.steps.specs.declared.queues.overflow.PushStage.TheVariants as overflow_pushes
+use Rattle.steps.specs.declared.queues.overflow.PopStage.{PopStage}
+use Rattle.steps.specs.declared.queues.overflow.PopStage.TheVariants as overflow_pops
 use Rattle.model.specs.declared.event.Item.{Item}
 use Rattle.model.specs.declared.event.Item.TheVariants.{Index, Value}
 use Rattle.model.specs.declared.event.Start.TheVariants.{Queues}
@@ -14,12 +16,12 @@ use Rattle.model.specs.declared.event.Answer.TheVariants.{Truth, PoppedNone, Pop
 use Rattle.model.specs.declared.event.Event.{Event}
 use Rattle.model.specs.declared.event.Event.TheVariants.{Published, HandedOut, Acted}
 use Rattle.model.specs.declared.families.Flight.{Flight}
-use Rattle.model.specs.declared.families.Flight as flights
+use Rattle.model.specs.declared.families.Flight.TheVariants as flights
 use Rattle.model.specs.declared.families.queues.QueueStart.{QueueStart}
 use Rattle.model.specs.declared.families.queues.QueueStart.TheVariants.{AcquireProducer, ReleaseProducer, AcquireConsumer, ReleaseConsumer, PushIndex}
 use Rattle.model.specs.declared.families.queues.Roles.{Roles}
-use Rattle.model.specs.declared.families.queues.calls.RingCall as rings
-use Rattle.model.specs.declared.families.queues.calls.OverflowCall as overflows
+use Rattle.model.specs.declared.families.queues.calls.RingCall.TheVariants as rings
+use Rattle.model.specs.declared.families.queues.calls.OverflowCall.TheVariants as overflows
 use Rattle.model.specs.declared.families.queues.calls.QueueFlight.{QueueFlight}
 use Rattle.model.specs.declared.families.queues.calls.QueueFlight.TheVariants.{Role, Indices, Values, Overflow, Length}
 use Rattle.model.specs.declared.families.queues.effects.Effect.{Effect}
@@ -33,15 +35,15 @@ use Rattle.model.specs.Step.{Step, answer_in}
 
 -- ---- a push that has published over a full queue, and acts once the read position goes on
 
-abbrev pub pending_from : ℕ → ℕ → overflow_pushes.PushStage → Option ℕ
-pending_from position value (overflow_pushes.TheVariants.MovesRead read) =
+abbrev pub pending_from : ℕ → ℕ → PushStage → Option ℕ
+pending_from position value (overflow_pushes.MovesRead read) =
     if read == position then Some value else None
 pending_from position value other = None
 
 module _ {T : Type 0} where
   abbrev pub pending_at : ℕ → Option (Flight T) → Option ℕ
   pending_at position
-      (Some (flights.TheVariants.Queues (Overflow (overflows.TheVariants.Push run)))) =
+      (Some (flights.Queues (Overflow (overflows.Push run)))) =
       pending_from position run.given run.call.stage
   pending_at position other = None
 
@@ -80,20 +82,20 @@ module _ {T : Type 0} where
 
   -- A push that found the queue full waits for the read position to go on: it acts at its own move,
   -- or where a pop moves it first. Where it has gone on already, there is room.
-  abbrev pub overflow_push_effect : List ℕ → ℕ → Item T → overflow_pushes.PushStage → ℕ → Effect T
-  overflow_push_effect words capacity item overflow_pushes.TheVariants.HandsBack old = Acts
-  overflow_push_effect words capacity item overflow_pushes.TheVariants.LoadsWrite old = Quiet
-  overflow_push_effect words capacity item (overflow_pushes.TheVariants.LoadsRead write) old = Quiet
-  overflow_push_effect words capacity item (overflow_pushes.TheVariants.StoresCell write read) old =
+  abbrev pub overflow_push_effect : List ℕ → ℕ → Item T → PushStage → ℕ → Effect T
+  overflow_push_effect words capacity item overflow_pushes.HandsBack old = Acts
+  overflow_push_effect words capacity item overflow_pushes.LoadsWrite old = Quiet
+  overflow_push_effect words capacity item (overflow_pushes.LoadsRead write) old = Quiet
+  overflow_push_effect words capacity item (overflow_pushes.StoresCell write read) old =
       Quiet
   overflow_push_effect words capacity item
-      (overflow_pushes.TheVariants.StoresWrite write read) old =
+      (overflow_pushes.StoresWrite write read) old =
       if distance write read == capacity && not (slice_index words read_word == read)
       then PublishesAndActs item
       else Publishes item
-  overflow_push_effect words capacity item (overflow_pushes.TheVariants.MovesRead read) old =
+  overflow_push_effect words capacity item (overflow_pushes.MovesRead read) old =
       if old == read then TakesOut (slice_index words (cell_word capacity read)) else Quiet
-  overflow_push_effect words capacity item (overflow_pushes.TheVariants.LoadsCell read) old = Quiet
+  overflow_push_effect words capacity item (overflow_pushes.LoadsCell read) old = Quiet
 
   -- where a push waits for the read position, it acts after the pop that moves it
   abbrev pub takes_effect : Item T → Option (ℕ × ℕ) → Effect T
@@ -101,29 +103,29 @@ module _ {T : Type 0} where
   takes_effect item (Some push) = MakesRoom item push.0 push.1
 
   abbrev pub overflow_pop_effect : List ℕ → Option (ℕ × ℕ) → ℕ
-      → overflow_pops.PopStage → ℕ → Effect T
-  overflow_pop_effect words push capacity overflow_pops.TheVariants.FindsNone old = Acts
-  overflow_pop_effect words push capacity overflow_pops.TheVariants.LoadsRead old = Quiet
-  overflow_pop_effect words push capacity (overflow_pops.TheVariants.LoadsWrite read) old = Acts
-  overflow_pop_effect words push capacity (overflow_pops.TheVariants.LoadsCell read) old = Quiet
-  overflow_pop_effect words push capacity (overflow_pops.TheVariants.MovesRead read) old =
+      → PopStage → ℕ → Effect T
+  overflow_pop_effect words push capacity overflow_pops.FindsNone old = Acts
+  overflow_pop_effect words push capacity overflow_pops.LoadsRead old = Quiet
+  overflow_pop_effect words push capacity (overflow_pops.LoadsWrite read) old = Acts
+  overflow_pop_effect words push capacity (overflow_pops.LoadsCell read) old = Quiet
+  overflow_pop_effect words push capacity (overflow_pops.MovesRead read) old =
       if old == read
       then takes_effect (Index (slice_index words (cell_word capacity read))) push
       else Quiet
 
   abbrev pub effect_of : Coding T → List ℕ → Option (ℕ × ℕ) → QueueFlight T → ℕ → Effect T
   effect_of code words push (Role call) old = Quiet
-  effect_of code words push (Indices (rings.TheVariants.Push run)) old =
+  effect_of code words push (Indices (rings.Push run)) old =
       push_effect (Index run.given) run.call.stage
-  effect_of code words push (Indices (rings.TheVariants.Pop run)) old =
+  effect_of code words push (Indices (rings.Pop run)) old =
       pop_effect (Index run.room.0) run.call.stage
-  effect_of code words push (Values (rings.TheVariants.Push run)) old =
+  effect_of code words push (Values (rings.Push run)) old =
       push_effect (Value run.given) run.call.stage
-  effect_of code words push (Values (rings.TheVariants.Pop run)) old =
+  effect_of code words push (Values (rings.Pop run)) old =
       pop_effect (Value (read_in code run.room)) run.call.stage
-  effect_of code words push (Overflow (overflows.TheVariants.Push run)) old =
+  effect_of code words push (Overflow (overflows.Push run)) old =
       overflow_push_effect words run.call.capacity (Index run.given) run.call.stage old
-  effect_of code words push (Overflow (overflows.TheVariants.Pop run)) old =
+  effect_of code words push (Overflow (overflows.Pop run)) old =
       overflow_pop_effect words push run.call.capacity run.call.stage old
   effect_of code words push (Length which run) old = Quiet
 

@@ -9,28 +9,30 @@ use Rattle.steps.specs.declared.indices.enums.ReleaseState.{ReleaseState}
 use Rattle.steps.specs.declared.indices.enums.ReleaseState.TheVariants.{Locked, Unlocked}
 use Rattle.steps.specs.declared.indices.enums.UniqueIndexSetAcquireFailure.{UniqueIndexSetAcquireFailure}
 use Rattle.steps.specs.declared.indices.enums.UniqueIndexSetAcquireFailure.TheVariants as failures
-use Rattle.steps.specs.declared.indices.robust.parts.Raise as raises
+use Rattle.steps.specs.declared.indices.robust.parts.Raise.{Raise}
+use Rattle.steps.specs.declared.indices.robust.parts.Raise.TheVariants as raises
 use Rattle.steps.specs.declared.indices.robust.acquire.Acquire.{Acquire}
-use Rattle.steps.specs.declared.indices.robust.acquire.AcquireStage as acquires
+use Rattle.steps.specs.declared.indices.robust.acquire.AcquireStage.{AcquireStage}
+use Rattle.steps.specs.declared.indices.robust.acquire.AcquireStage.TheVariants as acquires
 
 abbrev pub Acquired : Type 0
 Acquired = Result ℕ UniqueIndexSetAcquireFailure
 
 abbrev pub first_acquire : ℕ → Acquire
 first_acquire capacity =
-    record { capacity = capacity; stage = acquires.TheVariants.LoadsCounter }
+    record { capacity = capacity; stage = acquires.LoadsCounter }
 
-abbrev pub at_acquire : Acquire → acquires.AcquireStage → Acquire
+abbrev pub at_acquire : Acquire → AcquireStage → Acquire
 at_acquire call stage = record call { stage = stage }
 
 -- load the counter; exchange the cells from empty to the owner;
 -- exchange the counter for itself; raise
-abbrev pub acquire_asks : acquires.AcquireStage → ℕ → Want (Unit {0})
-acquire_asks acquires.TheVariants.LoadsCounter owner = load 0
-acquire_asks (acquires.TheVariants.FillsCell counter index) owner =
+abbrev pub acquire_asks : AcquireStage → ℕ → Want (Unit {0})
+acquire_asks acquires.LoadsCounter owner = load 0
+acquire_asks (acquires.FillsCell counter index) owner =
     exchange (cell_word index) empty owner
-acquire_asks (acquires.TheVariants.ChecksCounter counter) owner = exchange 0 counter counter
-acquire_asks (acquires.TheVariants.Raises index raise) owner = raise_want raise
+acquire_asks (acquires.ChecksCounter counter) owner = exchange 0 counter counter
+acquire_asks (acquires.Raises index raise) owner = raise_want raise
 
 abbrev pub acquire_want : Acquire → ℕ → Want (Unit {0})
 acquire_want call owner = acquire_asks call.stage owner
@@ -41,8 +43,8 @@ acquire_tries call counter index =
     GoOn
     (at_acquire call
     (if nat_lt index call.capacity
-    then acquires.TheVariants.FillsCell counter index
-    else acquires.TheVariants.ChecksCounter counter))
+    then acquires.FillsCell counter index
+    else acquires.ChecksCounter counter))
 
 -- what a counter says
 abbrev pub acquire_sees : Acquire → ℕ → After Acquire Acquired
@@ -54,29 +56,29 @@ acquire_sees call counter =
     else acquire_tries call counter 0
 
 -- it answers the index, unless the set is locked by now
-abbrev pub acquire_raised : Acquire → ℕ → After raises.Raise ReleaseState → After Acquire Acquired
+abbrev pub acquire_raised : Acquire → ℕ → After Raise ReleaseState → After Acquire Acquired
 acquire_raised call index (GoOn raise) =
-    GoOn (at_acquire call (acquires.TheVariants.Raises index raise))
+    GoOn (at_acquire call (acquires.Raises index raise))
 acquire_raised call index (Done Locked) = Done (Err failures.IsLocked)
 acquire_raised call index (Done Unlocked) = Done (Ok index)
 
-abbrev pub acquire_takes : Acquire → acquires.AcquireStage → ℕ → After Acquire Acquired
-acquire_takes call acquires.TheVariants.LoadsCounter old = acquire_sees call old
-acquire_takes call (acquires.TheVariants.FillsCell counter index) old =
+abbrev pub acquire_takes : Acquire → AcquireStage → ℕ → After Acquire Acquired
+acquire_takes call acquires.LoadsCounter old = acquire_sees call old
+acquire_takes call (acquires.FillsCell counter index) old =
     if old == empty
-    then GoOn (at_acquire call (acquires.TheVariants.Raises index raises.TheVariants.LoadsCounter))
+    then GoOn (at_acquire call (acquires.Raises index raises.LoadsCounter))
     else acquire_tries call counter (index + 1)
-acquire_takes call (acquires.TheVariants.ChecksCounter counter) old =
+acquire_takes call (acquires.ChecksCounter counter) old =
     if old == counter then Done (Err failures.OutOfIndices) else acquire_sees call old
-acquire_takes call (acquires.TheVariants.Raises index raise) old =
+acquire_takes call (acquires.Raises index raise) old =
     acquire_raised call index (raise_after raise old)
 
 abbrev pub acquire_after : Acquire → ℕ → After Acquire Acquired
 acquire_after call old = acquire_takes call call.stage old
 
 -- the counter has moved
-abbrev pub acquire_goes_back : acquires.AcquireStage → ℕ → Bool
-acquire_goes_back acquires.TheVariants.LoadsCounter old = false
-acquire_goes_back (acquires.TheVariants.FillsCell counter index) old = false
-acquire_goes_back (acquires.TheVariants.ChecksCounter counter) old = not (old == counter)
-acquire_goes_back (acquires.TheVariants.Raises index raise) old = raise_goes_back raise old
+abbrev pub acquire_goes_back : AcquireStage → ℕ → Bool
+acquire_goes_back acquires.LoadsCounter old = false
+acquire_goes_back (acquires.FillsCell counter index) old = false
+acquire_goes_back (acquires.ChecksCounter counter) old = not (old == counter)
+acquire_goes_back (acquires.Raises index raise) old = raise_goes_back raise old

@@ -2,25 +2,26 @@
 use Rattle.std.specs.Prelude.{ℕ, ◌+◌, ◌-◌, ◌*◌, ◌==◌, if◌then◌else◌, nat_lt}
 use Rattle.steps.specs.Queues.Ring.{load}
 use Rattle.steps.specs.Indices.Robust.Parts.{cell_word, one_more}
-use Rattle.steps.specs.declared.ask.Question as questions
+use Rattle.steps.specs.declared.ask.Question.TheVariants as questions
 use Rattle.steps.specs.declared.ask.Want.{Want}
-use Rattle.steps.specs.declared.ask.Want as wants
+use Rattle.steps.specs.declared.ask.Want.TheVariants as wants
 use Rattle.steps.specs.declared.ask.After.{After}
 use Rattle.steps.specs.declared.ask.After.TheVariants.{GoOn, Done}
 use Rattle.steps.specs.declared.indices.robust.find.Find.{Find}
-use Rattle.steps.specs.declared.indices.robust.find.FindStage as finds
+use Rattle.steps.specs.declared.indices.robust.find.FindStage.{FindStage}
+use Rattle.steps.specs.declared.indices.robust.find.FindStage.TheVariants as finds
 
-abbrev pub at_find : Find → finds.FindStage → Find
+abbrev pub at_find : Find → FindStage → Find
 at_find call stage = record call { stage = stage }
 
 abbrev pub first_find : ℕ → Find
-first_find capacity = record { capacity = capacity; stage = finds.TheVariants.LoadsCell 0 0 }
+first_find capacity = record { capacity = capacity; stage = finds.LoadsCell 0 0 }
 
 -- load the cells; ask about the index
-abbrev pub find_asks : finds.FindStage → Want (Unit {0})
-find_asks (finds.TheVariants.LoadsCell index found) = load (cell_word index)
-find_asks (finds.TheVariants.Asks index found) =
-    wants.TheVariants.Question (questions.TheVariants.Index index)
+abbrev pub find_asks : FindStage → Want (Unit {0})
+find_asks (finds.LoadsCell index found) = load (cell_word index)
+find_asks (finds.Asks index found) =
+    wants.Question (questions.Index index)
 
 abbrev pub find_want : Find → Want (Unit {0})
 find_want call = find_asks call.stage
@@ -29,22 +30,22 @@ find_want call = find_asks call.stage
 abbrev pub find_comes_to : Find → ℕ → ℕ → After Find ℕ
 find_comes_to call index found =
     if nat_lt index call.capacity
-    then GoOn (at_find call (finds.TheVariants.LoadsCell index found))
+    then GoOn (at_find call (finds.LoadsCell index found))
     else Done found
 
 -- each index of the owner counts, also that on which it is told to stop
-abbrev pub find_takes : Find → finds.FindStage → ℕ → ℕ → After Find ℕ
-find_takes call (finds.TheVariants.LoadsCell index found) owner old =
+abbrev pub find_takes : Find → FindStage → ℕ → ℕ → After Find ℕ
+find_takes call (finds.LoadsCell index found) owner old =
     if old == owner
-    then GoOn (at_find call (finds.TheVariants.Asks index (one_more found)))
+    then GoOn (at_find call (finds.Asks index (one_more found)))
     else find_comes_to call (index + 1) found
-find_takes call (finds.TheVariants.Asks index found) owner old =
+find_takes call (finds.Asks index found) owner old =
     if old == 0 then Done found else find_comes_to call (index + 1) found
 
 abbrev pub find_after : Find → ℕ → ℕ → After Find ℕ
 find_after call owner old = find_takes call call.stage owner old
 
 -- it goes down at each step
-abbrev pub find_left : ℕ → finds.FindStage → ℕ
-find_left capacity (finds.TheVariants.LoadsCell index found) = 2 * (capacity - index) + 1
-find_left capacity (finds.TheVariants.Asks index found) = 2 * (capacity - index)
+abbrev pub find_left : ℕ → FindStage → ℕ
+find_left capacity (finds.LoadsCell index found) = 2 * (capacity - index) + 1
+find_left capacity (finds.Asks index found) = 2 * (capacity - index)

@@ -8,19 +8,26 @@ use Rattle.steps.specs.Laws.{no_store}
 use Rattle.steps.specs.Picks.{by_eq, by_test}
 use Rattle.steps.specs.declared.ask.After.{After}
 use Rattle.steps.specs.declared.ask.After.TheVariants.{GoOn, Done}
-use Rattle.steps.specs.declared.indices.robust.parts.Raise as raises
-use Rattle.steps.specs.declared.indices.robust.parts.Count as counts
-use Rattle.steps.specs.declared.indices.robust.parts.Lock as locks
+use Rattle.steps.specs.declared.indices.robust.parts.Raise.{Raise}
+use Rattle.steps.specs.declared.indices.robust.parts.Raise.TheVariants as raises
+use Rattle.steps.specs.declared.indices.robust.parts.Count.{Count}
+use Rattle.steps.specs.declared.indices.robust.parts.Count.TheVariants as counts
+use Rattle.steps.specs.declared.indices.robust.parts.Lock.{Lock}
+use Rattle.steps.specs.declared.indices.robust.parts.Lock.TheVariants as locks
 use Rattle.steps.specs.declared.indices.robust.acquire.Acquire.{Acquire}
-use Rattle.steps.specs.declared.indices.robust.acquire.AcquireStage as acquires
+use Rattle.steps.specs.declared.indices.robust.acquire.AcquireStage.{AcquireStage}
+use Rattle.steps.specs.declared.indices.robust.acquire.AcquireStage.TheVariants as acquires
 use Rattle.steps.specs.declared.indices.robust.release.Release.{Release}
 use Rattle.steps.specs.declared.indices.robust.release.GiveBack.{GiveBack}
-use Rattle.steps.specs.declared.indices.robust.release.ReleaseStage as releases
+use Rattle.steps.specs.declared.indices.robust.release.ReleaseStage.{ReleaseStage}
+use Rattle.steps.specs.declared.indices.robust.release.ReleaseStage.TheVariants as releases
 use Rattle.steps.specs.declared.indices.robust.find.Find.{Find}
-use Rattle.steps.specs.declared.indices.robust.find.FindStage as finds
+use Rattle.steps.specs.declared.indices.robust.find.FindStage.{FindStage}
+use Rattle.steps.specs.declared.indices.robust.find.FindStage.TheVariants as finds
 use Rattle.steps.specs.declared.indices.enums.ReleaseMode.{ReleaseMode}
 use Rattle.steps.specs.declared.indices.robust.recover.Recover.{Recover}
-use Rattle.steps.specs.declared.indices.robust.recover.RecoverStage as recovers
+use Rattle.steps.specs.declared.indices.robust.recover.RecoverStage.{RecoverStage}
+use Rattle.steps.specs.declared.indices.robust.recover.RecoverStage.TheVariants as recovers
 use Rattle.steps.specs.declared.indices.robust.looks.BorrowedIndices.{BorrowedIndices}
 use Rattle.steps.specs.declared.indices.robust.looks.IsLocked.{IsLocked}
 use Rattle.steps.specs.Indices.Robust.Parts.{one_more, raise_want, count_want, lock_want}
@@ -32,55 +39,55 @@ use Rattle.steps.specs.Indices.Robust.Looks.{borrowed_after, locked_after}
 
 -- ---- the parts ask for no store
 
-pub raise_stores_not : {A : Type 0} (raise : raises.Raise) → IsTrue (is_store (raise_want raise)) → A
-raise_stores_not raises.TheVariants.LoadsCounter t = no_store t
-raise_stores_not (raises.TheVariants.ExchangesCounter counter) t = no_store t
+pub raise_stores_not : {A : Type 0} (raise : Raise) → IsTrue (is_store (raise_want raise)) → A
+raise_stores_not raises.LoadsCounter t = no_store t
+raise_stores_not (raises.ExchangesCounter counter) t = no_store t
 
-count_stores_not : {A : Type 0} (count : counts.Count) → IsTrue (is_store (count_want count)) → A
-count_stores_not counts.TheVariants.LoadsCounter t = no_store t
-count_stores_not (counts.TheVariants.LoadsCell counter index filled) t = no_store t
-count_stores_not (counts.TheVariants.ExchangesCounter counter filled) t = no_store t
+count_stores_not : {A : Type 0} (count : Count) → IsTrue (is_store (count_want count)) → A
+count_stores_not counts.LoadsCounter t = no_store t
+count_stores_not (counts.LoadsCell counter index filled) t = no_store t
+count_stores_not (counts.ExchangesCounter counter filled) t = no_store t
 
-pub lock_stores_not : {A : Type 0} (lock : locks.Lock) → IsTrue (is_store (lock_want lock)) → A
-lock_stores_not (locks.TheVariants.Counts count) t = count_stores_not count t
-lock_stores_not (locks.TheVariants.ExchangesCounter counter) t = no_store t
+pub lock_stores_not : {A : Type 0} (lock : Lock) → IsTrue (is_store (lock_want lock)) → A
+lock_stores_not (locks.Counts count) t = count_stores_not count t
+lock_stores_not (locks.ExchangesCounter counter) t = no_store t
 
 -- ---- nor do the calls
 
-pub acquire_tells : (c : Acquire) (stage : acquires.AcquireStage) (owner : ℕ)
+pub acquire_tells : (c : Acquire) (stage : AcquireStage) (owner : ℕ)
     (room : Unit {0}) (m n : ℕ) → IsTrue (is_store (acquire_asks stage owner))
     → (acquire_takes c stage m ≡ acquire_takes c stage n) × (room ≡ room)
-acquire_tells c acquires.TheVariants.LoadsCounter owner room m n t = no_store t
-acquire_tells c (acquires.TheVariants.FillsCell counter index) owner room m n t = no_store t
-acquire_tells c (acquires.TheVariants.ChecksCounter counter) owner room m n t = no_store t
-acquire_tells c (acquires.TheVariants.Raises index raise) owner room m n t =
+acquire_tells c acquires.LoadsCounter owner room m n t = no_store t
+acquire_tells c (acquires.FillsCell counter index) owner room m n t = no_store t
+acquire_tells c (acquires.ChecksCounter counter) owner room m n t = no_store t
+acquire_tells c (acquires.Raises index raise) owner room m n t =
     raise_stores_not raise t
 
-pub release_tells : (c : Release) (stage : releases.ReleaseStage) (given : GiveBack)
+pub release_tells : (c : Release) (stage : ReleaseStage) (given : GiveBack)
     (room : Unit {0}) (m n : ℕ) → IsTrue (is_store (release_asks stage given))
     → (release_takes c stage given m ≡ release_takes c stage given n) × (room ≡ room)
-release_tells c releases.TheVariants.EmptiesCell given room m n t = no_store t
-release_tells c (releases.TheVariants.Raises raise) given room m n t = raise_stores_not raise t
-release_tells c (releases.TheVariants.Locks lock) given room m n t = lock_stores_not lock t
+release_tells c releases.EmptiesCell given room m n t = no_store t
+release_tells c (releases.Raises raise) given room m n t = raise_stores_not raise t
+release_tells c (releases.Locks lock) given room m n t = lock_stores_not lock t
 
-pub find_tells : (c : Find) (stage : finds.FindStage) (owner : ℕ) (room : Unit {0}) (m n : ℕ)
+pub find_tells : (c : Find) (stage : FindStage) (owner : ℕ) (room : Unit {0}) (m n : ℕ)
     → IsTrue (is_store (find_asks stage))
     → (find_takes c stage owner m ≡ find_takes c stage owner n) × (room ≡ room)
-find_tells c (finds.TheVariants.LoadsCell index found) owner room m n t = no_store t
-find_tells c (finds.TheVariants.Asks index found) owner room m n t = no_store t
+find_tells c (finds.LoadsCell index found) owner room m n t = no_store t
+find_tells c (finds.Asks index found) owner room m n t = no_store t
 
-pub recover_tells : (c : Recover) (stage : recovers.RecoverStage) (mode : ReleaseMode)
+pub recover_tells : (c : Recover) (stage : RecoverStage) (mode : ReleaseMode)
     (room : Unit {0}) (m n : ℕ) → IsTrue (is_store (recover_asks stage))
     → (recover_takes c stage mode m ≡ recover_takes c stage mode n) × (room ≡ room)
-recover_tells c recovers.TheVariants.LoadsCounter mode room m n t = no_store t
-recover_tells c (recovers.TheVariants.LoadsCell index) mode room m n t = no_store t
-recover_tells c (recovers.TheVariants.Asks index owner) mode room m n t = no_store t
-recover_tells c (recovers.TheVariants.EmptiesCell index owner) mode room m n t = no_store t
-recover_tells c (recovers.TheVariants.Raises index raise) mode room m n t = raise_stores_not raise t
-recover_tells c (recovers.TheVariants.Locks index lock) mode room m n t = lock_stores_not lock t
-recover_tells c recovers.TheVariants.LoadsCounterAgain mode room m n t = no_store t
+recover_tells c recovers.LoadsCounter mode room m n t = no_store t
+recover_tells c (recovers.LoadsCell index) mode room m n t = no_store t
+recover_tells c (recovers.Asks index owner) mode room m n t = no_store t
+recover_tells c (recovers.EmptiesCell index owner) mode room m n t = no_store t
+recover_tells c (recovers.Raises index raise) mode room m n t = raise_stores_not raise t
+recover_tells c (recovers.Locks index lock) mode room m n t = lock_stores_not lock t
+recover_tells c recovers.LoadsCounterAgain mode room m n t = no_store t
 
-pub borrowed_tells : (c : BorrowedIndices) (count : counts.Count) (room : Unit {0}) (m n : ℕ)
+pub borrowed_tells : (c : BorrowedIndices) (count : Count) (room : Unit {0}) (m n : ℕ)
     → IsTrue (is_store (count_want count)) → (borrowed_after c m ≡ borrowed_after c n)
     × (room ≡ room)
 borrowed_tells c count room m n t = count_stores_not count t
@@ -96,18 +103,18 @@ next_nearer : (c : Find) (index found : ℕ)
     → find_then (find_comes_to c (index + 1) found) ≤ 2 * (c.capacity - index)
 next_nearer c index found =
     by_test (λ a. find_then a ≤ 2 * (c.capacity - index)) (nat_lt (index + 1) c.capacity)
-    (GoOn (at_find c (finds.TheVariants.LoadsCell (index + 1) found))) (Done found)
+    (GoOn (at_find c (finds.LoadsCell (index + 1) found))) (Done found)
     (λ t. let further : index + 1 < c.capacity = grind (arith, nat_tests) in omega arith)
     (λ t. omega arith)
 
-find_stage_fewer : (c : Find) (stage : finds.FindStage) (owner k : ℕ)
+find_stage_fewer : (c : Find) (stage : FindStage) (owner k : ℕ)
     → find_then (find_takes c stage owner k) ≤ find_left c.capacity stage
-find_stage_fewer c (finds.TheVariants.LoadsCell index found) owner k =
+find_stage_fewer c (finds.LoadsCell index found) owner k =
     by_eq (λ a. find_then a ≤ 2 * (c.capacity - index) + 1) k owner
-    (GoOn (at_find c (finds.TheVariants.Asks index (one_more found))))
+    (GoOn (at_find c (finds.Asks index (one_more found))))
     (find_comes_to c (index + 1) found)
     (λ e. omega arith) (λ e. let next = next_nearer c index found in omega arith)
-find_stage_fewer c (finds.TheVariants.Asks index found) owner k =
+find_stage_fewer c (finds.Asks index found) owner k =
     by_eq (λ a. find_then a ≤ 2 * (c.capacity - index)) k 0 (Done found)
     (find_comes_to c (index + 1) found)
     (λ e. omega arith) (λ e. next_nearer c index found)

@@ -3,15 +3,19 @@ use Rattle.std.specs.Prelude.{ℕ, ◌+◌, ◌-◌, ◌%◌, ◌^◌, ◌==◌,
 use Rattle.steps.specs.Queues.Ring.{load}
 use Rattle.steps.specs.declared.ask.Op.TheVariants.{Exchange}
 use Rattle.steps.specs.declared.ask.Want.{Want}
-use Rattle.steps.specs.declared.ask.Want as wants
+use Rattle.steps.specs.declared.ask.Want.TheVariants as wants
 use Rattle.steps.specs.declared.ask.After.{After}
 use Rattle.steps.specs.declared.ask.After.TheVariants.{GoOn, Done}
 use Rattle.steps.specs.declared.indices.enums.ReleaseState.{ReleaseState}
 use Rattle.steps.specs.declared.indices.enums.ReleaseState.TheVariants.{Locked, Unlocked}
-use Rattle.steps.specs.declared.indices.robust.parts.Raise as raises
-use Rattle.steps.specs.declared.indices.robust.parts.Count as counts
-use Rattle.steps.specs.declared.indices.robust.parts.Counted as ends
-use Rattle.steps.specs.declared.indices.robust.parts.Lock as locks
+use Rattle.steps.specs.declared.indices.robust.parts.Raise.{Raise}
+use Rattle.steps.specs.declared.indices.robust.parts.Raise.TheVariants as raises
+use Rattle.steps.specs.declared.indices.robust.parts.Count.{Count}
+use Rattle.steps.specs.declared.indices.robust.parts.Count.TheVariants as counts
+use Rattle.steps.specs.declared.indices.robust.parts.Counted.{Counted}
+use Rattle.steps.specs.declared.indices.robust.parts.Counted.TheVariants as ends
+use Rattle.steps.specs.declared.indices.robust.parts.Lock.{Lock}
+use Rattle.steps.specs.declared.indices.robust.parts.Lock.TheVariants as locks
 
 -- the counter; for each index a cell with its owner
 abbrev pub cell_word : ℕ → ℕ
@@ -33,94 +37,94 @@ abbrev pub one_more : ℕ → ℕ
 one_more number = (number + 1) % 2 ^ 64
 
 abbrev pub exchange : ℕ → ℕ → ℕ → Want (Unit {0})
-exchange word from to = wants.TheVariants.Ask (record { word = word; op = Exchange from to })
+exchange word from to = wants.Ask (record { word = word; op = Exchange from to })
 
 -- ---- raise
 
 -- load the counter; exchange it for the next number
-abbrev pub raise_want : raises.Raise → Want (Unit {0})
-raise_want raises.TheVariants.LoadsCounter = load 0
-raise_want (raises.TheVariants.ExchangesCounter counter) = exchange 0 counter (one_more counter)
+abbrev pub raise_want : Raise → Want (Unit {0})
+raise_want raises.LoadsCounter = load 0
+raise_want (raises.ExchangesCounter counter) = exchange 0 counter (one_more counter)
 
-abbrev pub raise_sees : ℕ → After raises.Raise ReleaseState
+abbrev pub raise_sees : ℕ → After Raise ReleaseState
 raise_sees counter =
     if counter == locked
     then Done Locked
     else if counter == greatest
     then Done Unlocked
-    else GoOn (raises.TheVariants.ExchangesCounter counter)
+    else GoOn (raises.ExchangesCounter counter)
 
-abbrev pub raise_after : raises.Raise → ℕ → After raises.Raise ReleaseState
-raise_after raises.TheVariants.LoadsCounter old = raise_sees old
-raise_after (raises.TheVariants.ExchangesCounter counter) old =
+abbrev pub raise_after : Raise → ℕ → After Raise ReleaseState
+raise_after raises.LoadsCounter old = raise_sees old
+raise_after (raises.ExchangesCounter counter) old =
     if old == counter then Done Unlocked else raise_sees old
 
 -- the counter has moved
-abbrev pub raise_goes_back : raises.Raise → ℕ → Bool
-raise_goes_back raises.TheVariants.LoadsCounter old = false
-raise_goes_back (raises.TheVariants.ExchangesCounter counter) old = not (old == counter)
+abbrev pub raise_goes_back : Raise → ℕ → Bool
+raise_goes_back raises.LoadsCounter old = false
+raise_goes_back (raises.ExchangesCounter counter) old = not (old == counter)
 
 -- ---- count
 
 -- load the counter; load the cells; exchange the counter for the next number
-abbrev pub count_want : counts.Count → Want (Unit {0})
-count_want counts.TheVariants.LoadsCounter = load 0
-count_want (counts.TheVariants.LoadsCell counter index filled) = load (cell_word index)
-count_want (counts.TheVariants.ExchangesCounter counter filled) =
+abbrev pub count_want : Count → Want (Unit {0})
+count_want counts.LoadsCounter = load 0
+count_want (counts.LoadsCell counter index filled) = load (cell_word index)
+count_want (counts.ExchangesCounter counter filled) =
     exchange 0 counter (one_more counter)
 
 -- the next cell; after the last one the count is closed, at its end by nothing
-abbrev pub count_comes_to : ℕ → ℕ → ℕ → ℕ → After counts.Count ends.Counted
+abbrev pub count_comes_to : ℕ → ℕ → ℕ → ℕ → After Count Counted
 count_comes_to capacity counter index filled =
     if nat_lt index capacity
-    then GoOn (counts.TheVariants.LoadsCell counter index filled)
+    then GoOn (counts.LoadsCell counter index filled)
     else if counter == greatest
-    then Done (ends.TheVariants.Filled filled counter)
-    else GoOn (counts.TheVariants.ExchangesCounter counter filled)
+    then Done (ends.Filled filled counter)
+    else GoOn (counts.ExchangesCounter counter filled)
 
-abbrev pub count_after : ℕ → counts.Count → ℕ → After counts.Count ends.Counted
-count_after capacity counts.TheVariants.LoadsCounter old =
-    if old == locked then Done ends.TheVariants.Locked else count_comes_to capacity old 0 0
-count_after capacity (counts.TheVariants.LoadsCell counter index filled) old =
+abbrev pub count_after : ℕ → Count → ℕ → After Count Counted
+count_after capacity counts.LoadsCounter old =
+    if old == locked then Done ends.Locked else count_comes_to capacity old 0 0
+count_after capacity (counts.LoadsCell counter index filled) old =
     count_comes_to capacity counter (index + 1)
     (if old == empty then filled else one_more filled)
-count_after capacity (counts.TheVariants.ExchangesCounter counter filled) old =
+count_after capacity (counts.ExchangesCounter counter filled) old =
     if old == counter
-    then Done (ends.TheVariants.Filled filled (one_more counter))
-    else GoOn counts.TheVariants.LoadsCounter
+    then Done (ends.Filled filled (one_more counter))
+    else GoOn counts.LoadsCounter
 
 -- the counter has moved
-abbrev pub count_goes_back : counts.Count → ℕ → Bool
-count_goes_back counts.TheVariants.LoadsCounter old = false
-count_goes_back (counts.TheVariants.LoadsCell counter index filled) old = false
-count_goes_back (counts.TheVariants.ExchangesCounter counter filled) old = not (old == counter)
+abbrev pub count_goes_back : Count → ℕ → Bool
+count_goes_back counts.LoadsCounter old = false
+count_goes_back (counts.LoadsCell counter index filled) old = false
+count_goes_back (counts.ExchangesCounter counter filled) old = not (old == counter)
 
 -- ---- lock
 
-abbrev pub first_lock : locks.Lock
-first_lock = locks.TheVariants.Counts counts.TheVariants.LoadsCounter
+abbrev pub first_lock : Lock
+first_lock = locks.Counts counts.LoadsCounter
 
 -- count; exchange the counter for the lock
-abbrev pub lock_want : locks.Lock → Want (Unit {0})
-lock_want (locks.TheVariants.Counts count) = count_want count
-lock_want (locks.TheVariants.ExchangesCounter counter) = exchange 0 counter locked
+abbrev pub lock_want : Lock → Want (Unit {0})
+lock_want (locks.Counts count) = count_want count
+lock_want (locks.ExchangesCounter counter) = exchange 0 counter locked
 
 -- only a set without an owner is locked, and none whose counter is at its end
-abbrev pub lock_counted : After counts.Count ends.Counted → After locks.Lock ReleaseState
-lock_counted (GoOn count) = GoOn (locks.TheVariants.Counts count)
-lock_counted (Done ends.TheVariants.Locked) = Done Locked
-lock_counted (Done (ends.TheVariants.Filled filled counter)) =
+abbrev pub lock_counted : After Count Counted → After Lock ReleaseState
+lock_counted (GoOn count) = GoOn (locks.Counts count)
+lock_counted (Done ends.Locked) = Done Locked
+lock_counted (Done (ends.Filled filled counter)) =
     if (filled == 0) && not (counter == greatest)
-    then GoOn (locks.TheVariants.ExchangesCounter counter)
+    then GoOn (locks.ExchangesCounter counter)
     else Done Unlocked
 
-abbrev pub lock_after : ℕ → locks.Lock → ℕ → After locks.Lock ReleaseState
-lock_after capacity (locks.TheVariants.Counts count) old =
+abbrev pub lock_after : ℕ → Lock → ℕ → After Lock ReleaseState
+lock_after capacity (locks.Counts count) old =
     lock_counted (count_after capacity count old)
-lock_after capacity (locks.TheVariants.ExchangesCounter counter) old =
+lock_after capacity (locks.ExchangesCounter counter) old =
     if old == counter then Done Locked else GoOn first_lock
 
 -- the counter has moved
-abbrev pub lock_goes_back : locks.Lock → ℕ → Bool
-lock_goes_back (locks.TheVariants.Counts count) old = count_goes_back count old
-lock_goes_back (locks.TheVariants.ExchangesCounter counter) old = not (old == counter)
+abbrev pub lock_goes_back : Lock → ℕ → Bool
+lock_goes_back (locks.Counts count) old = count_goes_back count old
+lock_goes_back (locks.ExchangesCounter counter) old = not (old == counter)

@@ -11,59 +11,61 @@ use Rattle.steps.specs.declared.indices.enums.ReleaseState.{ReleaseState}
 use Rattle.steps.specs.declared.indices.enums.ReleaseState.TheVariants.{Unlocked}
 use Rattle.steps.specs.declared.indices.enums.RobustUniqueIndexSetReleaseError.{RobustUniqueIndexSetReleaseError}
 use Rattle.steps.specs.declared.indices.enums.RobustUniqueIndexSetReleaseError.TheVariants.{IndexIsNotOwnedByProvidedOwner}
-use Rattle.steps.specs.declared.indices.robust.parts.Raise as raises
+use Rattle.steps.specs.declared.indices.robust.parts.Raise.{Raise}
+use Rattle.steps.specs.declared.indices.robust.parts.Raise.TheVariants as raises
 use Rattle.steps.specs.declared.indices.robust.parts.Lock as locks
 use Rattle.steps.specs.declared.indices.robust.release.Release.{Release}
 use Rattle.steps.specs.declared.indices.robust.release.GiveBack.{GiveBack}
-use Rattle.steps.specs.declared.indices.robust.release.ReleaseStage as releases
+use Rattle.steps.specs.declared.indices.robust.release.ReleaseStage.{ReleaseStage}
+use Rattle.steps.specs.declared.indices.robust.release.ReleaseStage.TheVariants as releases
 
 abbrev pub Released : Type 0
 Released = Result ReleaseState RobustUniqueIndexSetReleaseError
 
 abbrev pub first_release : ℕ → Release
 first_release capacity =
-    record { capacity = capacity; stage = releases.TheVariants.EmptiesCell }
+    record { capacity = capacity; stage = releases.EmptiesCell }
 
-abbrev pub at_release : Release → releases.ReleaseStage → Release
+abbrev pub at_release : Release → ReleaseStage → Release
 at_release call stage = record call { stage = stage }
 
 -- exchange the cell from the owner to empty; raise; lock
-abbrev pub release_asks : releases.ReleaseStage → GiveBack → Want (Unit {0})
-release_asks releases.TheVariants.EmptiesCell given =
+abbrev pub release_asks : ReleaseStage → GiveBack → Want (Unit {0})
+release_asks releases.EmptiesCell given =
     exchange (cell_word given.index) given.owner empty
-release_asks (releases.TheVariants.Raises raise) given = raise_want raise
-release_asks (releases.TheVariants.Locks lock) given = lock_want lock
+release_asks (releases.Raises raise) given = raise_want raise
+release_asks (releases.Locks lock) given = lock_want lock
 
 abbrev pub release_want : Release → GiveBack → Want (Unit {0})
 release_want call given = release_asks call.stage given
 
 -- it locks in the mode for that alone
-abbrev pub release_raised : Release → ReleaseMode → After raises.Raise ReleaseState
+abbrev pub release_raised : Release → ReleaseMode → After Raise ReleaseState
     → After Release Released
-release_raised call mode (GoOn raise) = GoOn (at_release call (releases.TheVariants.Raises raise))
+release_raised call mode (GoOn raise) = GoOn (at_release call (releases.Raises raise))
 release_raised call LockIfLastIndex (Done state) =
-    GoOn (at_release call (releases.TheVariants.Locks first_lock))
+    GoOn (at_release call (releases.Locks first_lock))
 release_raised call Default (Done state) = Done (Ok Unlocked)
 
 abbrev pub release_locked : Release → After locks.Lock ReleaseState → After Release Released
-release_locked call (GoOn lock) = GoOn (at_release call (releases.TheVariants.Locks lock))
+release_locked call (GoOn lock) = GoOn (at_release call (releases.Locks lock))
 release_locked call (Done state) = Done (Ok state)
 
-abbrev pub release_takes : Release → releases.ReleaseStage → GiveBack → ℕ → After Release Released
-release_takes call releases.TheVariants.EmptiesCell given old =
+abbrev pub release_takes : Release → ReleaseStage → GiveBack → ℕ → After Release Released
+release_takes call releases.EmptiesCell given old =
     if old == given.owner
-    then GoOn (at_release call (releases.TheVariants.Raises raises.TheVariants.LoadsCounter))
+    then GoOn (at_release call (releases.Raises raises.LoadsCounter))
     else Done (Err IndexIsNotOwnedByProvidedOwner)
-release_takes call (releases.TheVariants.Raises raise) given old =
+release_takes call (releases.Raises raise) given old =
     release_raised call given.mode (raise_after raise old)
-release_takes call (releases.TheVariants.Locks lock) given old =
+release_takes call (releases.Locks lock) given old =
     release_locked call (lock_after call.capacity lock old)
 
 abbrev pub release_after : Release → GiveBack → ℕ → After Release Released
 release_after call given old = release_takes call call.stage given old
 
 -- the counter has moved
-abbrev pub release_goes_back : releases.ReleaseStage → ℕ → Bool
-release_goes_back releases.TheVariants.EmptiesCell old = false
-release_goes_back (releases.TheVariants.Raises raise) old = raise_goes_back raise old
-release_goes_back (releases.TheVariants.Locks lock) old = lock_goes_back lock old
+abbrev pub release_goes_back : ReleaseStage → ℕ → Bool
+release_goes_back releases.EmptiesCell old = false
+release_goes_back (releases.Raises raise) old = raise_goes_back raise old
+release_goes_back (releases.Locks lock) old = lock_goes_back lock old

@@ -1,4 +1,17 @@
-use Rattle.std.proofs.Common.{rules}
+use Rattle.std.proofs.Common.{ap, refl}
+use Rattle.model.specs.Coding.{Coding}
+use Rattle.model.specs.declared.families.Flight.TheVariants as flights
+use Rattle.model.specs.declared.families.Registry.TheVariants as registries
+use Rattle.model.specs.Families.Atomic.Steps as atomic_steps
+use Rattle.model.specs.Families.Bits.Steps as bits_steps
+use Rattle.model.specs.Families.Container.Steps as container_steps
+use Rattle.model.specs.Families.Indices.Robust.Steps as robust_steps
+use Rattle.model.specs.Families.Indices.Steps as index_steps
+use Rattle.model.specs.Families.Loan.Steps as loan_steps
+use Rattle.model.specs.Families.Queues.Steps as queue_steps
+use Rattle.turns.proofs.Passed.{passed, rests, queues_start, queues_kept, atomic_start, atomic_kept, bits_start}
+use Rattle.turns.proofs.Passed.{bits_kept, indices_start, indices_kept, robust_start, robust_kept, container_start}
+use Rattle.turns.proofs.Passed.{container_kept, loan_start, loan_kept}
 use Rattle.turns.proofs.families.advance.Goals as goal
 use Rattle.turns.proofs.families.advance.Goals.{in-Queues-Queues-Queues, in-Atomic-Atomic-Atomic, in-Bits-Bits-Nothing}
 use Rattle.turns.proofs.families.advance.Goals.{in-Indices-Indices-Indices, in-Robust-Robust-Owners}
@@ -20,31 +33,100 @@ use Rattle.turns.proofs.families.advance.Goals.{in_default-via-in-Loan+in_defaul
 
 pub returns-clause-step : goal.returns-clause-step
 returns-clause-step g c =
+    let code : Coding g.row.T.Denot = record { size = g.T.Words.WORDS; words_of = g.T.Words.words_of; value_of = g.T.Words.value_of } in
+    let p = c.args.number in
+    let old = c.args.answer in
+    let words = c.args.words.now.items in
+    let beside = c.args.beside in
+    let events = c.args.events.now.items in
     elim c.match-flight.branch [
-      | in-Queues-Queues-Queues w ↦ record { after = search rules; back = search rules; kept = search rules; wrote = search rules }
-      | in-Atomic-Atomic-Atomic w ↦ record { after = search rules; back = search rules; kept = search rules; wrote = search rules }
-      | in-Bits-Bits-Nothing w ↦ record { after = search rules; back = search rules; kept = search rules; wrote = search rules }
-      | in-Indices-Indices-Indices w ↦ record { after = search rules; back = search rules; kept = search rules; wrote = search rules }
-      | in-Robust-Robust-Owners w ↦ record { after = search rules; back = search rules; kept = search rules; wrote = search rules }
-      | in-Container-Container-Container w ↦ record { after = search rules; back = search rules; kept = search rules; wrote = search rules }
-      | in-Loan-Loan-Loan w ↦ record { after = search rules; back = search rules; kept = search rules; wrote = search rules }
+      | in-Queues-Queues-Queues w ↦
+          let a = w.in-Queues-Queues-Queues in
+          let r = w.perform in
+          rw (w.result-is, w.flight-is, w.kept-is, w.events-is, a.is-0, a.is-1, a.is-2)
+          (passed flights.Queues registries.Queues (queue_steps.step code words beside p a.start a.call old a.roles)
+          r.result r.new.flight r.new.roles events r.new.events.items r.ensures.after r.ensures.back r.ensures.kept r.ensures.wrote)
+      | in-Atomic-Atomic-Atomic w ↦
+          let a = w.in-Atomic-Atomic-Atomic in
+          let r = w.perform-in-Atomic-Atomic-Atomic in
+          rw (w.result-is, w.flight-is, w.kept-is, w.events-is, a.is-0, a.is-1, a.is-2)
+          (passed flights.Atomic registries.Atomic (atomic_steps.step code p a.start a.call old a.producer)
+          r.result r.new.flight r.new.producer events r.new.events.items r.ensures.after r.ensures.back r.ensures.kept r.ensures.wrote)
+      | in-Bits-Bits-Nothing w ↦
+          let a = w.in-Bits-Bits-Nothing in
+          let r = w.perform-in-Bits-Bits-Nothing in
+          rw (w.result-is, w.flight-is, w.kept-is, w.events-is, a.is-0, a.is-1, a.is-2)
+          (passed flights.Bits (λ _. registries.Nothing) (bits_steps.step p a.call old)
+          r.result r.new.flight tt events r.new.events.items r.ensures.after r.ensures.back refl r.ensures.wrote)
+      | in-Indices-Indices-Indices w ↦
+          let a = w.in-Indices-Indices-Indices in
+          let r = w.perform-in-Indices-Indices-Indices in
+          rw (w.result-is, w.flight-is, w.kept-is, w.events-is, a.is-0, a.is-1, a.is-2)
+          (passed flights.Indices registries.Indices (index_steps.step p a.call old a.holders)
+          r.result r.new.flight r.new.holders events r.new.events.items r.ensures.after r.ensures.back r.ensures.kept r.ensures.wrote)
+      | in-Robust-Robust-Owners w ↦
+          let a = w.in-Robust-Robust-Owners in
+          let r = w.perform-in-Robust-Robust-Owners in
+          rw (w.result-is, w.flight-is, w.kept-is, w.events-is, a.is-0, a.is-1, a.is-2)
+          (passed flights.Robust registries.Owners (robust_steps.step p a.call old a.dead)
+          r.result r.new.flight a.dead events r.new.events.items r.ensures.after r.ensures.back r.ensures.kept r.ensures.wrote)
+      | in-Container-Container-Container w ↦
+          let a = w.in-Container-Container-Container in
+          let r = w.perform-in-Container-Container-Container in
+          rw (w.result-is, w.flight-is, w.kept-is, w.events-is, a.is-0, a.is-1, a.is-2)
+          (passed flights.Container (λ kept. registries.Container kept.0 kept.1) (container_steps.step code p a.call old a.field-0-2 a.states)
+          r.result r.new.flight (a.field-0-2, r.new.states) events r.new.events.items r.ensures.after r.ensures.back
+          (ap (λ s. (a.field-0-2, s)) r.ensures.states) r.ensures.wrote)
+      | in-Loan-Loan-Loan w ↦
+          let a = w.in-Loan-Loan-Loan in
+          let r = w.perform-in-Loan-Loan-Loan in
+          rw (w.result-is, w.flight-is, w.kept-is, w.events-is, a.is-0, a.is-1, a.is-2)
+          (passed flights.Loan registries.Loan (loan_steps.step words beside p a.start a.call old a.book)
+          r.result r.new.flight r.new.book events r.new.events.items r.ensures.after r.ensures.back r.ensures.kept r.ensures.wrote)
       | in_default w ↦
           elim w.in_default.branch [
-            | in_default-via-in-Queues+in-Queues+in_default v ↦ record { after = search rules; back = search rules; kept = search rules; wrote = search rules }
-            | in_default-via-in-Queues+in_default v ↦ record { after = search rules; back = search rules; kept = search rules; wrote = search rules }
-            | in_default-via-in-Atomic+in-Atomic+in_default v ↦ record { after = search rules; back = search rules; kept = search rules; wrote = search rules }
-            | in_default-via-in-Atomic+in_default v ↦ record { after = search rules; back = search rules; kept = search rules; wrote = search rules }
-            | in_default-via-in-Bits+in-Bits+in_default v ↦ record { after = search rules; back = search rules; kept = search rules; wrote = search rules }
-            | in_default-via-in-Bits+in_default v ↦ record { after = search rules; back = search rules; kept = search rules; wrote = search rules }
+            | in_default-via-in-Queues+in-Queues+in_default v ↦
+                rw (w.result-is, w.flight-is, v.flight-is, w.kept-is, w.events-is, v.in_default.is-0, v.in_default.is-1)
+                (rests _ _ _ _ (queues_kept code words beside p v.in_default.field-0-1 v.in_default.field-0-0 old c.args.kept.now v.in_default.not-Queues-2))
+            | in_default-via-in-Queues+in_default v ↦
+                rw (w.result-is, w.flight-is, v.flight-is, w.kept-is, w.events-is, v.in_default.is-0)
+                (rests _ _ _ _ (queues_start code words beside p c.args.start.now v.in_default.field-0-0 old c.args.kept.now v.in_default.not-Queues-1))
+            | in_default-via-in-Atomic+in-Atomic+in_default v ↦
+                rw (w.result-is, w.flight-is, v.flight-is, w.kept-is, w.events-is, v.in_default.is-0, v.in_default.is-1)
+                (rests _ _ _ _ (atomic_kept code words beside p v.in_default.field-0-1 v.in_default.field-0-0 old c.args.kept.now v.in_default.not-Atomic-2))
+            | in_default-via-in-Atomic+in_default v ↦
+                rw (w.result-is, w.flight-is, v.flight-is, w.kept-is, w.events-is, v.in_default.is-0)
+                (rests _ _ _ _ (atomic_start code words beside p c.args.start.now v.in_default.field-0-0 old c.args.kept.now v.in_default.not-Atomic-1))
+            | in_default-via-in-Bits+in-Bits+in_default v ↦
+                rw (w.result-is, w.flight-is, v.flight-is, w.kept-is, w.events-is, v.in_default.is-0, v.in_default.is-1)
+                (rests _ _ _ _ (bits_kept code words beside p v.in_default.field-0-1 v.in_default.field-0-0 old c.args.kept.now v.in_default.not-Nothing-2))
+            | in_default-via-in-Bits+in_default v ↦
+                rw (w.result-is, w.flight-is, v.flight-is, w.kept-is, w.events-is, v.in_default.is-0)
+                (rests _ _ _ _ (bits_start code words beside p c.args.start.now v.in_default.field-0-0 old c.args.kept.now v.in_default.not-Bits-1))
             | in_default-via-in-Indices+in-Indices+in_default v ↦
-                record { after = search rules; back = search rules; kept = search rules; wrote = search rules }
-            | in_default-via-in-Indices+in_default v ↦ record { after = search rules; back = search rules; kept = search rules; wrote = search rules }
-            | in_default-via-in-Robust+in-Robust+in_default v ↦ record { after = search rules; back = search rules; kept = search rules; wrote = search rules }
-            | in_default-via-in-Robust+in_default v ↦ record { after = search rules; back = search rules; kept = search rules; wrote = search rules }
+                rw (w.result-is, w.flight-is, v.flight-is, w.kept-is, w.events-is, v.in_default.is-0, v.in_default.is-1)
+                (rests _ _ _ _ (indices_kept code words beside p v.in_default.field-0-1 v.in_default.field-0-0 old c.args.kept.now v.in_default.not-Indices-2))
+            | in_default-via-in-Indices+in_default v ↦
+                rw (w.result-is, w.flight-is, v.flight-is, w.kept-is, w.events-is, v.in_default.is-0)
+                (rests _ _ _ _ (indices_start code words beside p c.args.start.now v.in_default.field-0-0 old c.args.kept.now v.in_default.not-Indices-1))
+            | in_default-via-in-Robust+in-Robust+in_default v ↦
+                rw (w.result-is, w.flight-is, v.flight-is, w.kept-is, w.events-is, v.in_default.is-0, v.in_default.is-1)
+                (rests _ _ _ _ (robust_kept code words beside p v.in_default.field-0-1 v.in_default.field-0-0 old c.args.kept.now v.in_default.not-Owners-2))
+            | in_default-via-in-Robust+in_default v ↦
+                rw (w.result-is, w.flight-is, v.flight-is, w.kept-is, w.events-is, v.in_default.is-0)
+                (rests _ _ _ _ (robust_start code words beside p c.args.start.now v.in_default.field-0-0 old c.args.kept.now v.in_default.not-Robust-1))
             | in_default-via-in-Container+in-Container+in_default v ↦
-                record { after = search rules; back = search rules; kept = search rules; wrote = search rules }
-            | in_default-via-in-Container+in_default v ↦ record { after = search rules; back = search rules; kept = search rules; wrote = search rules }
-            | in_default-via-in-Loan+in-Loan+in_default v ↦ record { after = search rules; back = search rules; kept = search rules; wrote = search rules }
-            | in_default-via-in-Loan+in_default v ↦ record { after = search rules; back = search rules; kept = search rules; wrote = search rules }
+                rw (w.result-is, w.flight-is, v.flight-is, w.kept-is, w.events-is, v.in_default.is-0, v.in_default.is-1)
+                (rests _ _ _ _ (container_kept code words beside p v.in_default.field-0-1 v.in_default.field-0-0 old
+                c.args.kept.now v.in_default.not-Container-2))
+            | in_default-via-in-Container+in_default v ↦
+                rw (w.result-is, w.flight-is, v.flight-is, w.kept-is, w.events-is, v.in_default.is-0)
+                (rests _ _ _ _ (container_start code words beside p c.args.start.now v.in_default.field-0-0 old c.args.kept.now v.in_default.not-Container-1))
+            | in_default-via-in-Loan+in-Loan+in_default v ↦
+                rw (w.result-is, w.flight-is, v.flight-is, w.kept-is, w.events-is, v.in_default.is-0, v.in_default.is-1)
+                (rests _ _ _ _ (loan_kept code words beside p v.in_default.field-0-1 v.in_default.field-0-0 old c.args.kept.now v.in_default.not-Loan-2))
+            | in_default-via-in-Loan+in_default v ↦
+                rw (w.result-is, w.flight-is, v.flight-is, w.kept-is, w.events-is, v.in_default.is-0)
+                (rests _ _ _ _ (loan_start code words beside p c.args.start.now v.in_default.field-0-0 old c.args.kept.now v.in_default.not-Loan-1))
           ]
     ]

@@ -8,7 +8,7 @@ ghost use Rattle.lock_free_owners.specs.Container.Callable.{Visit, TakesVisits, 
 ghost use Rattle.lock_free_owners.specs.Container.FindContract.{HasSearched};
 ghost use Rattle.lock_free_owners.specs.Container.Questions.{TakesValues};
 ghost use Rattle.lock_free_owners.specs.Container.RecoverContract.{HasRecovered};
-ghost use Rattle.lock_free_owners.specs.Container.Steps.{FindTakes, RecoverTakes};
+ghost use Rattle.lock_free_owners.specs.Container.Steps.{FewAside, FindTakes, RecoverTakes};
 ghost use Rattle.lock_free_owners.specs.Container.Contracts.{IsRightRecovery};
 ghost use Rattle.lock_free_owners.specs.Container.Names.{history, capacity_of, IsHandleFor, SamePass};
 ghost use Rattle.lock_free_owners.specs.Container.Handles.{container_in, pass_in, knows};
@@ -30,6 +30,7 @@ impl<'a, T: Words> Handle<'a, T> {
             (IsHandleFor (container_in self.old) owner) visit.old }
         ensures container { container_in self.new ≡ container_in self.old }
         ensures goes { Goes (knows self.old) (knows self.new) }
+        ensures aside { FewAside (knows self.old) (knows self.new) }
         ensures keeps { KeepsState (knows self.old) (knows self.new) }
         ensures found { (visits : List (Visit T)) × (bound : ℕ)
             × HasSearched (capacity_of (container_in self.old)) owner result

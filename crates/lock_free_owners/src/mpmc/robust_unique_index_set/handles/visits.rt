@@ -7,7 +7,7 @@ ghost use Rattle.threaded.specs.Callable.{TakesPlaces};
 ghost use Rattle.lock_free_owners.specs.Robust.Callable.{TakesQuestions, TakesFreed};
 ghost use Rattle.lock_free_owners.specs.Robust.Steps.{RecoverTakes};
 ghost use Rattle.lock_free_owners.specs.Robust.Contracts.{HasRecovered, HasSearched, FoundState, IsRightRecovery};
-ghost use Rattle.lock_free_owners.specs.RobustUniqueIndexSet.{capacity_of, history, SamePass};
+ghost use Rattle.lock_free_owners.specs.RobustUniqueIndexSet.{capacity_of, history, LeavesPass, SamePass};
 ghost use Rattle.lock_free_owners.specs.Robust.Handles.{set_in, pass_in, knows};
 
 use super::Handle;
@@ -24,7 +24,7 @@ impl<'a> Handle<'a> {
     ) -> usize
         requires { TakesPlaces F.pre (λ p x q. F.step p x Continue q) (capacity_of (set_in self.old)) visit.old }
         ensures set { set_in self.new ≡ set_in self.old }
-        ensures same { SamePass (pass_in self.old) (pass_in self.new) }
+        ensures same { LeavesPass (capacity_of (set_in self.old) + 1) (pass_in self.old) (pass_in self.new) }
         ensures found { HasSearched (λ p x a q. F.step p x a q) (capacity_of (set_in self.old)) owner
             visit.old result visit.new (knows self.old) (knows self.new) }
         ensures steps { TakesAtMost (capacity_of (set_in self.old) + 1) (knows self.old) (knows self.new) }

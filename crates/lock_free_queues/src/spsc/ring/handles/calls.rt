@@ -10,6 +10,7 @@ ghost use Rattle.lock_free_queues.specs.Queues.Kinds.{most_waiting};
 ghost use Rattle.lock_free_queues.specs.Queues.Rings.{HasHistory, capacity_of, code_of, queue_of, producer_view};
 ghost use Rattle.lock_free_queues.specs.Queues.Rings.{consumer_view, IsPassOf, ToProducer, ToConsumer};
 ghost use Rattle.lock_free_queues.specs.Queues.Contracts.{HasAcquired, HasMeasured, HasSplit, HasLooked};
+ghost use Rattle.lock_free_queues.specs.Queues.Ends.{AreEnds};
 ghost use Rattle.lock_free_queues.specs.Queues.Handles.{ring_in, pass_in, knows, SameHandle};
 
 use super::Handle;
@@ -92,6 +93,14 @@ impl<'a, E: Kind, T: Words> Handle<'a, E, T> {
             Ok(consumer) => Ok(consumer),
             Err(pass) => Err(ring.handle(pass)),
         }
+    }
+
+    /// Calls `ends` of its queue, and returns both guards, or None, and then the pass is gone.
+    pub fn ends(self) -> Option<(Producer<'a, E, T>, Consumer<'a, E, T>)>
+        ensures { IfSome result (λ r. AreEnds (pass_in self.entry) r.0 r.1) }
+    {
+        let Handle { ring, pass } = self;
+        ring.ends(pass)
     }
 
     /// Calls `capacity` of its queue.

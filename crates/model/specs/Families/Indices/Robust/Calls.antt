@@ -11,11 +11,11 @@ use Rattle.steps.specs.Indices.Robust.Release.{Released, first_release, release_
 use Rattle.steps.specs.Queues.Ring.{load}
 use Rattle.steps.specs.Routine.{went_on}
 use Rattle.model.specs.declared.event.Answer.{Answer}
-use Rattle.model.specs.declared.event.Answer as answers
+use Rattle.model.specs.declared.event.Answer.TheVariants as answers
 use Rattle.model.specs.declared.families.Flight.{Flight}
-use Rattle.model.specs.declared.families.Flight as flights
+use Rattle.model.specs.declared.families.Flight.TheVariants as flights
 use Rattle.model.specs.declared.families.indices.robust.RobustStart.{RobustStart}
-use Rattle.model.specs.declared.families.indices.robust.RobustStart as starts
+use Rattle.model.specs.declared.families.indices.robust.RobustStart.TheVariants as starts
 use Rattle.model.specs.declared.families.indices.robust.calls.RobustFlight.{RobustFlight}
 use Rattle.model.specs.declared.families.indices.robust.calls.RobustFlight.TheVariants.{Acquire, Release, Find, Recover, BorrowedIndices, IsLocked}
 use Rattle.model.specs.Families.Indices.Robust.Dead.{kept_going_rows}
@@ -54,13 +54,13 @@ abbrev pub locked_of : RobustFlight
 locked_of = IsLocked (record { call = record {}; given = tt; room = tt })
 
 abbrev pub first : ℕ → RobustStart → RobustFlight
-first capacity (starts.TheVariants.Acquire owner) = acquire_of capacity owner
-first capacity (starts.TheVariants.Release index owner mode) =
+first capacity (starts.Acquire owner) = acquire_of capacity owner
+first capacity (starts.Release index owner mode) =
     release_of capacity index owner mode
-first capacity (starts.TheVariants.Find owner) = find_of capacity owner
-first capacity (starts.TheVariants.Recover mode) = recover_of capacity mode
-first capacity starts.TheVariants.BorrowedIndices = borrowed_of capacity
-first capacity starts.TheVariants.IsLocked = locked_of
+first capacity (starts.Find owner) = find_of capacity owner
+first capacity (starts.Recover mode) = recover_of capacity mode
+first capacity starts.BorrowedIndices = borrowed_of capacity
+first capacity starts.IsLocked = locked_of
 
 -- ---- the calls under way
 
@@ -84,12 +84,12 @@ goes_back (IsLocked run) old = false
 
 module _ {T : Type 0} where
   abbrev pub acquire_answer : Acquired → Answer T
-  acquire_answer (Ok index) = answers.TheVariants.Index index
-  acquire_answer (Err failure) = answers.TheVariants.NoIndex failure
+  acquire_answer (Ok index) = answers.Index index
+  acquire_answer (Err failure) = answers.NoIndex failure
 
   abbrev pub release_answer : Released → Answer T
-  release_answer (Ok state) = answers.TheVariants.State state
-  release_answer (Err failure) = answers.TheVariants.NotOwned failure
+  release_answer (Ok state) = answers.State state
+  release_answer (Err failure) = answers.NotOwned failure
 
   -- how it goes on from the old value of its word
   abbrev pub after : RobustFlight → ℕ → After RobustFlight (Answer T)
@@ -100,16 +100,16 @@ module _ {T : Type 0} where
       as_call Release release_answer
       (went_on as_it_is run.given run.room (release_after run.call run.given old))
   after (Find run) old =
-      as_call Find answers.TheVariants.Number
+      as_call Find answers.Number
       (went_on as_it_is run.given run.room (find_after run.call run.given old))
   after (Recover run) old =
-      as_call Recover answers.TheVariants.State
+      as_call Recover answers.State
       (went_on as_it_is run.given run.room (recover_after run.call run.given old))
   after (BorrowedIndices run) old =
-      as_call BorrowedIndices answers.TheVariants.Number
+      as_call BorrowedIndices answers.Number
       (went_on as_it_is run.given run.room (borrowed_after run.call old))
   after (IsLocked run) old =
-      as_call IsLocked answers.TheVariants.Truth
+      as_call IsLocked answers.Truth
       (went_on as_it_is run.given run.room (locked_after run.call old))
 
   -- the kind's call under way, as one of a machine
@@ -117,7 +117,7 @@ module _ {T : Type 0} where
   going flight =
       record {
         want = want flight;
-        after = λ old. as_call flights.TheVariants.Robust (λ answer. answer) (after flight old);
+        after = λ old. as_call flights.Robust (λ answer. answer) (after flight old);
         rows = kept_going_rows flight;
         most = 1;
       }

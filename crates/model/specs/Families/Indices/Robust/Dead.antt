@@ -7,9 +7,9 @@ use Rattle.std.specs.Ordering.{nat_cmp}
 use Rattle.steps.specs.declared.indices.robust.recover.RecoverStage.{RecoverStage}
 use Rattle.steps.specs.declared.indices.robust.recover.RecoverStage.TheVariants.{Asks}
 use Rattle.model.specs.declared.families.Registry.{Registry}
-use Rattle.model.specs.declared.families.Registry as registries
+use Rattle.model.specs.declared.families.Registry.TheVariants as registries
 use Rattle.model.specs.declared.families.indices.robust.calls.RobustFlight.{RobustFlight}
-use Rattle.model.specs.declared.families.indices.robust.calls.RobustFlight as robust_flights
+use Rattle.model.specs.declared.families.indices.robust.calls.RobustFlight.TheVariants as robust_flights
 use Rattle.model.specs.declared.turn.Refusal.{Refusal}
 use Rattle.model.specs.declared.turn.Refusal.TheVariants.{OwnerIsDead, OwnerLives}
 
@@ -24,8 +24,8 @@ dead_with owner dead = insert_key nat_cmp dead owner
 
 -- it acquires or releases for an owner who is dead
 abbrev pub acts_for_dead : List ℕ → RobustFlight → Bool
-acts_for_dead dead (robust_flights.TheVariants.Acquire run) = has_died run.given dead
-acts_for_dead dead (robust_flights.TheVariants.Release run) = has_died run.given.owner dead
+acts_for_dead dead (robust_flights.Acquire run) = has_died run.given dead
+acts_for_dead dead (robust_flights.Release run) = has_died run.given.owner dead
 acts_for_dead dead flight = false
 
 abbrev pub asks_about_living : List ℕ → RecoverStage → Bool
@@ -34,7 +34,7 @@ asks_about_living dead stage = false
 
 -- by a yes it would free an index of an owner who lives
 abbrev pub frees_living : List ℕ → RobustFlight → Option Bool → Bool
-frees_living dead (robust_flights.TheVariants.Recover run) (Some true) =
+frees_living dead (robust_flights.Recover run) (Some true) =
     asks_about_living dead run.call.stage
 frees_living dead flight said = false
 
@@ -44,5 +44,5 @@ going_rows dead flight said =
     (acts_for_dead dead flight, OwnerIsDead) ∷ (frees_living dead flight said, OwnerLives) ∷ []
 
 abbrev pub kept_going_rows : {T : Type 0} → RobustFlight → Registry T → Option Bool → List (Bool × Refusal)
-kept_going_rows flight (registries.TheVariants.Owners dead) said = going_rows dead flight said
+kept_going_rows flight (registries.Owners dead) said = going_rows dead flight said
 kept_going_rows flight kept said = []

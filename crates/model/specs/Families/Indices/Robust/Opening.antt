@@ -2,14 +2,14 @@
 use Rattle.std.specs.Prelude.{ℕ, ◌-◌, ◌^◌, ◌&&◌, Bool, true, false, Option, Some, None, option_map, List, [], ◌∷◌, replicate, nat_le, nat_lt, if◌then◌else◌}
 use Rattle.steps.specs.Indices.Robust.Parts.{empty}
 use Rattle.model.specs.declared.families.Flight.{Flight}
-use Rattle.model.specs.declared.families.Flight as flights
+use Rattle.model.specs.declared.families.Flight.TheVariants as flights
 use Rattle.model.specs.declared.families.Registry.{Registry}
-use Rattle.model.specs.declared.families.Registry as registries
+use Rattle.model.specs.declared.families.Registry.TheVariants as registries
 use Rattle.model.specs.declared.families.indices.robust.RobustStart.{RobustStart}
 use Rattle.model.specs.declared.families.indices.robust.RobustStart.TheVariants.{Acquire, Release, Find, Recover, BorrowedIndices, IsLocked}
 use Rattle.model.specs.declared.families.indices.robust.calls.RobustFlight.{RobustFlight}
 use Rattle.model.specs.declared.turn.Kind.{Kind}
-use Rattle.model.specs.declared.turn.Kind as kinds
+use Rattle.model.specs.declared.turn.Kind.TheVariants as kinds
 use Rattle.model.specs.declared.turn.Refusal.{Refusal}
 use Rattle.model.specs.declared.turn.Refusal.TheVariants.{WrongCall, BadIndex, OwnerIsDead}
 use Rattle.model.specs.Families.Indices.Robust.Calls.{first}
@@ -28,14 +28,14 @@ opening =
       least = 1;
       greatest = 2 ^ 32 - 1;
       words = λ size capacity. opening_words capacity;
-      kept = λ capacity. registries.TheVariants.Owners [];
+      kept = λ capacity. registries.Owners [];
     }
 
 -- ---- a call begins
 
 -- whether a machine of a kind has the set
 abbrev pub is_set : Kind → Bool
-is_set kinds.TheVariants.Robust = true
+is_set kinds.Robust = true
 is_set kind = false
 
 -- the greatest number of 64 bits marks an empty cell, so a call for it is none
@@ -67,13 +67,13 @@ call_rows capacity dead BorrowedIndices = []
 call_rows capacity dead IsLocked = []
 
 abbrev pub kept_rows : {T : Type 0} → ℕ → RobustStart → Registry T → ℕ → List (Bool × Refusal)
-kept_rows capacity start (registries.TheVariants.Owners dead) p = call_rows capacity dead start
+kept_rows capacity start (registries.Owners dead) p = call_rows capacity dead start
 kept_rows capacity start kept p = (true, WrongCall) ∷ []
 
 module _ {T : Type 0} where
   abbrev pub begin : Kind → ℕ → RobustStart → Beginning (Flight T) (Registry T)
   begin kind capacity start =
       record {
-        call = λ kept. option_map flights.TheVariants.Robust (call_of kind capacity start);
+        call = λ kept. option_map flights.Robust (call_of kind capacity start);
         rows = kept_rows capacity start;
       }

@@ -3,9 +3,9 @@ use Rattle.std.specs.Prelude.{◌≡◌, ◌≢◌, ◌⊎◌, ℕ, zero, suc, �
 use Rattle.std.specs.Prelude.{is_some, List, [], ◌∷◌, ◌++◌, if◌then◌else◌, slice_index}
 use Rattle.std.specs.List.{AllByRecursion}
 use Rattle.steps.specs.declared.ask.Ask.{Ask}
-use Rattle.steps.specs.declared.ask.Question as questions
+use Rattle.steps.specs.declared.ask.Question.TheVariants as questions
 use Rattle.steps.specs.declared.ask.Want.{Want}
-use Rattle.steps.specs.declared.ask.Want as wants
+use Rattle.steps.specs.declared.ask.Want.TheVariants as wants
 use Rattle.steps.specs.declared.indices.enums.ReleaseMode.{ReleaseMode}
 use Rattle.steps.specs.declared.indices.enums.ReleaseMode.TheVariants.{LockIfLastIndex}
 use Rattle.steps.specs.declared.indices.enums.ReleaseState.TheVariants as states
@@ -19,7 +19,7 @@ use Rattle.model.specs.declared.event.Start.{Start}
 use Rattle.model.specs.declared.event.Start.TheVariants.{Robust, Container}
 use Rattle.model.specs.declared.families.Flight.{Flight}
 use Rattle.model.specs.declared.families.Registry.{Registry}
-use Rattle.model.specs.declared.families.Registry as registries
+use Rattle.model.specs.declared.families.Registry.TheVariants as registries
 use Rattle.model.specs.declared.families.container.ContainerStart.TheVariants.{Remove}
 use Rattle.model.specs.declared.families.indices.robust.RobustStart.TheVariants.{Acquire, Release, Find, Recover, BorrowedIndices, IsLocked}
 use Rattle.model.specs.declared.turn.Turn.{Turn}
@@ -44,12 +44,12 @@ count_below chosen (suc n) = (if chosen n then 1 else 0) + count_below chosen n
 
 -- the index that a call asks about, if it asks so
 abbrev pub asked_by : Want (Unit {0}) → Option ℕ
-asked_by (wants.TheVariants.Question (questions.TheVariants.Index index)) = Some index
+asked_by (wants.Question (questions.Index index)) = Some index
 asked_by want = None
 
 -- the same, with its owner
 abbrev pub owned_by : Want (Unit {0}) → Option (ℕ × ℕ)
-owned_by (wants.TheVariants.Question (questions.TheVariants.Owned owner index)) =
+owned_by (wants.Question (questions.Owned owner index)) =
     Some (index, owner)
 owned_by want = None
 
@@ -202,7 +202,7 @@ module _ {T : Type 0} where
 
   -- the machine refuses as dead whoever has died by the events
   abbrev pub KeepsDead : Registry T → List (Event T) → Type 0
-  KeepsDead (registries.TheVariants.Owners dead) events =
+  KeepsDead (registries.Owners dead) events =
       (owner : ℕ) → has_died owner dead ≡ is_dead owner events
   KeepsDead kept events = ⊥
 

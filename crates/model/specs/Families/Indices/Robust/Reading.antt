@@ -3,7 +3,7 @@ use Rattle.std.specs.Prelude.{◌≡◌, ℕ, ◌==◌, ◌||◌, Bool, false, O
 use Rattle.std.specs.List.{flat_map}
 use Rattle.model.specs.declared.event.Answer.TheVariants.{Index}
 use Rattle.model.specs.declared.event.Event.{Event}
-use Rattle.model.specs.declared.event.Event as events
+use Rattle.model.specs.declared.event.Event.TheVariants as events
 use Rattle.model.specs.declared.event.Event.TheVariants.{Begun, Filled, Granted, FreedOf, Asked, Told, Died, Finished}
 use Rattle.model.specs.declared.event.Start.TheVariants.{Robust, Container}
 use Rattle.model.specs.declared.families.container.ContainerStart.TheVariants.{Add, Remove}
@@ -80,7 +80,7 @@ module _ {T : Type 0} where
   set_act (FreedOf p index owner) = Frees index owner ∷ []
   set_act (Asked p index owner) = Asks index owner ∷ []
   set_act (Told p index owner) = Yes index owner ∷ []
-  set_act (events.TheVariants.Locked p) = Locks ∷ []
+  set_act (events.Locked p) = Locks ∷ []
   set_act e = []
 
   abbrev pub set_acts : List (Event T) → List SetAct

@@ -5,15 +5,15 @@ use Rattle.steps.specs.declared.ask.After.TheVariants.{Done}
 use Rattle.steps.specs.declared.indices.enums.ReleaseState.{ReleaseState}
 use Rattle.steps.specs.declared.indices.enums.ReleaseState.TheVariants.{Unlocked}
 use Rattle.steps.specs.declared.indices.robust.acquire.AcquireStage.{AcquireStage}
-use Rattle.steps.specs.declared.indices.robust.acquire.AcquireStage as acquires
+use Rattle.steps.specs.declared.indices.robust.acquire.AcquireStage.TheVariants as acquires
 use Rattle.steps.specs.declared.indices.robust.parts.Lock.{Lock}
-use Rattle.steps.specs.declared.indices.robust.parts.Lock as locks
+use Rattle.steps.specs.declared.indices.robust.parts.Lock.TheVariants as locks
 use Rattle.steps.specs.declared.indices.robust.parts.Raise.{Raise}
 use Rattle.steps.specs.declared.indices.robust.recover.RecoverStage.{RecoverStage}
-use Rattle.steps.specs.declared.indices.robust.recover.RecoverStage as recovers
+use Rattle.steps.specs.declared.indices.robust.recover.RecoverStage.TheVariants as recovers
 use Rattle.steps.specs.declared.indices.robust.release.GiveBack.{GiveBack}
 use Rattle.steps.specs.declared.indices.robust.release.ReleaseStage.{ReleaseStage}
-use Rattle.steps.specs.declared.indices.robust.release.ReleaseStage as releases
+use Rattle.steps.specs.declared.indices.robust.release.ReleaseStage.TheVariants as releases
 use Rattle.steps.specs.Indices.Robust.Parts.{empty, raise_after}
 use Rattle.model.specs.declared.event.Event.{Event}
 use Rattle.model.specs.declared.event.Event.TheVariants.{Filled, Granted, FreedOf, Asked, Told, Locked}
@@ -29,8 +29,8 @@ module _ {T : Type 0} where
 
   -- the exchange of the counter to locked
   abbrev pub locked_by : ℕ → Lock → ℕ → List (Event T)
-  locked_by p (locks.TheVariants.Counts count) old = []
-  locked_by p (locks.TheVariants.ExchangesCounter counter) old =
+  locked_by p (locks.Counts count) old = []
+  locked_by p (locks.ExchangesCounter counter) old =
       if old == counter then Locked p ∷ [] else []
 
   -- an index is granted at the end of a raise that the lock has not met
@@ -40,30 +40,30 @@ module _ {T : Type 0} where
 
   -- the exchange of a cell from empty to its owner fills it
   abbrev pub acquire_effects : ℕ → ℕ → AcquireStage → ℕ → List (Event T)
-  acquire_effects p owner acquires.TheVariants.LoadsCounter old = []
-  acquire_effects p owner (acquires.TheVariants.FillsCell counter index) old =
+  acquire_effects p owner acquires.LoadsCounter old = []
+  acquire_effects p owner (acquires.FillsCell counter index) old =
       if old == empty then Filled p index owner ∷ [] else []
-  acquire_effects p owner (acquires.TheVariants.ChecksCounter counter) old = []
-  acquire_effects p owner (acquires.TheVariants.Raises index raise) old =
+  acquire_effects p owner (acquires.ChecksCounter counter) old = []
+  acquire_effects p owner (acquires.Raises index raise) old =
       granted p index owner (raise_after raise old)
 
   abbrev pub release_effects : ℕ → GiveBack → ReleaseStage → ℕ → List (Event T)
-  release_effects p given releases.TheVariants.EmptiesCell old =
+  release_effects p given releases.EmptiesCell old =
       freed p given.index given.owner old
-  release_effects p given (releases.TheVariants.Raises raise) old = []
-  release_effects p given (releases.TheVariants.Locks lock) old = locked_by p lock old
+  release_effects p given (releases.Raises raise) old = []
+  release_effects p given (releases.Locks lock) old = locked_by p lock old
 
   -- a cell that has an owner puts the question; a yes tells the recovery to free it
   abbrev pub recover_effects : ℕ → RecoverStage → ℕ → List (Event T)
-  recover_effects p recovers.TheVariants.LoadsCounter old = []
-  recover_effects p (recovers.TheVariants.LoadsCell index) old =
+  recover_effects p recovers.LoadsCounter old = []
+  recover_effects p (recovers.LoadsCell index) old =
       if old == empty then [] else Asked p index old ∷ []
-  recover_effects p (recovers.TheVariants.Asks index owner) old =
+  recover_effects p (recovers.Asks index owner) old =
       if old == 0 then [] else Told p index owner ∷ []
-  recover_effects p (recovers.TheVariants.EmptiesCell index owner) old = freed p index owner old
-  recover_effects p (recovers.TheVariants.Raises index raise) old = []
-  recover_effects p (recovers.TheVariants.Locks index lock) old = locked_by p lock old
-  recover_effects p recovers.TheVariants.LoadsCounterAgain old = []
+  recover_effects p (recovers.EmptiesCell index owner) old = freed p index owner old
+  recover_effects p (recovers.Raises index raise) old = []
+  recover_effects p (recovers.Locks index lock) old = locked_by p lock old
+  recover_effects p recovers.LoadsCounterAgain old = []
 
   -- a find and the calls that look write nothing
   abbrev pub effects : ℕ → RobustFlight → ℕ → List (Event T)

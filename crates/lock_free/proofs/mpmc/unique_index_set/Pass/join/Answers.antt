@@ -62,6 +62,7 @@ returns-clause-same c =
         others = looks.theirs;
         ours_ran = looks.ran.first;
         theirs_ran = looks.theirs_ran;
+        aside = (let all = looks.aside in omega arith);
         whole = λ all. looks.whole (subst IsAll looks.share all);
       };
       sound = sound _ w looks.capacity looks.history looks.parties;

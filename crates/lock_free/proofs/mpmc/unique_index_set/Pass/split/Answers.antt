@@ -3,6 +3,7 @@ use Rattle.std.specs.Prelude.{IfNone}
 use Rattle.model.specs.declared.turn.Kind.TheVariants as kinds
 use Rattle.history.specs.History.{Knows}
 use Rattle.history.specs.Views.{left_view}
+use Rattle.history.proofs.Asked.{left_asked}
 use Rattle.lock_free.specs.Unique.Held.{IsSound, IsDone}
 use Rattle.lock_free.proofs.Unique.Facts.{sound_same}
 use Rattle.lock_free.proofs.mpmc.unique_index_set.Pass.split.Goals as goal
@@ -30,8 +31,17 @@ invariant_of-self-clause-done c =
 pub invariant_of-self-clause-knows : goal.invariant_of-self-clause-knows
 invariant_of-self-clause-knows c =
     let size = c.args.self.now.capacity in
+    let v = c.args.self.now.seated.seat.me.0 in
     let k = c.args.self.now.knows in
     by_result c.split.result c.split.ensures.cut c.split.ensures.none
     (λ t h. subst (λ (z : View ℕ). Knows one_word kinds.Indices size z) (sym h.2)
-    (record { coded = k.coded; admitted = k.admitted; allowed = k.allowed; fresh = k.fresh; is = k.is; others = k.others }))
+    (record {
+      coded = k.coded;
+      admitted = k.admitted;
+      allowed = k.allowed;
+      fresh = k.fresh;
+      is = k.is;
+      others = k.others;
+      asked = left_asked v (left_view v) _ k.asked refl refl refl;
+    }))
     (λ same. subst (λ (z : View ℕ). Knows one_word kinds.Indices size z) (sym same) k)

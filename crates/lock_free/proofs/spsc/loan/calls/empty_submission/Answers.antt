@@ -20,7 +20,7 @@ loop-preserved g c =
       popping = λ wide. (let some : 0 < (consumer_queue c.loop.receiver).capacity = subst (λ n. 0 < n) (sym room) wide in
           pops_on (consumer_view c.args.receiver.now) (consumer_view c.loop.receiver)
           (consumer_view c.pop.new.self) (c.loop.invariant.popping wide) (c.pop.ensures.same.goes some) c.pop.result c.is_none.result
-          c.is_none.ensures c.if-is_none.false (oldest_popped Index _ _ c.pop.result c.pop.ensures.popped (c.pop.ensures.empty some)));
+          c.is_none.ensures c.if-is_none.false (oldest_popped Index _ _ c.pop.result c.pop.ensures.popped (c.pop.ensures.empty some)) c.pop.ensures.aside);
       none = λ none. c.pop.ensures.same.none (room ∙ none) ∙ c.loop.invariant.none none;
     }
 
@@ -42,4 +42,4 @@ returns-then-is_none-clause-emptied g c wide =
     let empty = c.pop.ensures.empty some in
     is_emptied (consumer_view c.args.receiver.now) (consumer_view c.loop.receiver) (consumer_view c.pop.new.self)
     (c.loop.invariant.popping wide) c.pop.result c.is_none.result c.is_none.ensures c.if-is_none.true
-    (oldest_popped Index _ _ c.pop.result c.pop.ensures.popped empty) (has_found_none _ _ c.pop.result empty)
+    (oldest_popped Index _ _ c.pop.result c.pop.ensures.popped empty) (has_found_none _ _ c.pop.result empty) c.pop.ensures.aside

@@ -3,7 +3,7 @@ use Rattle.lock_free_owners.proofs.Names.{Owned, Coding, IsCoding, coding_of, se
 use Rattle.steps.specs.declared.container.enums.ContainerAddFailure.TheVariants as failures
 use Rattle.lock_free_owners.specs.Container.Turns.{BeginsAdd, AddAt, AddEnds}
 use Rattle.lock_free_owners.proofs.ContainerSet.Begins.{add_keeps, add_begins}
-use Rattle.lock_free_owners.proofs.ContainerSet.Facts.{goes, has_added, filled_so, granted_so, within_so, open_so, refused_so, shut}
+use Rattle.lock_free_owners.proofs.ContainerSet.Facts.{goes, few_aside, has_added, filled_so, granted_so, within_so, open_so, refused_so, shut}
 use Rattle.lock_free_owners.proofs.ContainerSet.States.{add_leaves}
 use Rattle.lock_free_owners.proofs.Names.{◌+◌}
 use Rattle.lock_free_owners.specs.Container.Steps.{ContainerTakes}
@@ -38,6 +38,7 @@ returns-in-Ok-clause-same g c =
       container = search rules;
       idle = c.drive_on-end.ensures.end.over.idle;
       goes = (goes code (BeginsAdd given) (adds_value g.T.Words.WORDS given) v w c.drive_on-end.result c.drive_on-end.ensures.end);
+      aside = (few_aside code (BeginsAdd given) (adds_value g.T.Words.WORDS given) v w c.drive_on-end.result c.drive_on-end.ensures.end);
     }
 
 pub returns-in-Err-clause-same : goal.returns-in-Err-clause-same
@@ -50,6 +51,7 @@ returns-in-Err-clause-same g c =
       container = search rules;
       idle = c.drive_on-end.ensures.end.over.idle;
       goes = (goes code (BeginsAdd given) (adds_value g.T.Words.WORDS given) v w c.drive_on-end.result c.drive_on-end.ensures.end);
+      aside = (few_aside code (BeginsAdd given) (adds_value g.T.Words.WORDS given) v w c.drive_on-end.result c.drive_on-end.ensures.end);
     }
 
 pub returns-in-Ok-clause-added : goal.returns-in-Ok-clause-added

@@ -32,6 +32,9 @@ returns-clause-goes g c =
     let code : Coding g.row.T.Denot = coding_of g.T.Words.WORDS g.T.Words.words_of g.T.Words.value_of in
     c.find_all.ensures.searched.left.goes
 
+pub returns-clause-aside : goal.returns-clause-aside
+returns-clause-aside g c = c.find_all.ensures.searched.left.aside
+
 pub returns-clause-found : goal.returns-clause-found
 returns-clause-found g c =
     let code : Coding g.row.T.Denot = coding_of g.T.Words.WORDS g.T.Words.words_of g.T.Words.value_of in

@@ -3,7 +3,7 @@ use Rattle.lock_free_owners.proofs.Names.{shown_number, Coding, IsCoding, coding
 use Rattle.lock_free_owners.proofs.Names.{HasCopied, HasLookedAll}
 use Rattle.model.specs.declared.families.container.ContainerStart.TheVariants as starts
 use Rattle.lock_free_owners.specs.Container.LookTurns.{IsOnHistory, LookAt}
-use Rattle.lock_free_owners.proofs.ContainerSet.Looks.{look_begins, look_idle, look_goes, look_made, made_as, some_copied, latest_so}
+use Rattle.lock_free_owners.proofs.ContainerSet.Looks.{look_begins, look_idle, look_goes, look_aside, look_made, made_as, some_copied, latest_so}
 use Rattle.lock_free_owners.specs.Container.Steps.{LookTakes}
 use Rattle.lock_free_owners.proofs.ContainerSet.Steps.{look_takes}
 use Rattle.lock_free_owners.proofs.mpmc.container.Container.get_state.Goals as goal
@@ -37,6 +37,7 @@ returns-clause-same g c =
       container = search rules;
       idle = look_idle code GetState v w state.seen c.bring_up.result c.bring_up.new.state.shown ends;
       goes = (look_goes code GetState v w state.seen c.bring_up.result c.bring_up.new.state.shown ends);
+      aside = (look_aside code GetState v w state.seen c.bring_up.result c.bring_up.new.state.shown ends);
     }
 
 pub returns-clause-got : goal.returns-clause-got

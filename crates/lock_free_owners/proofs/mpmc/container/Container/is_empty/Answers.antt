@@ -2,7 +2,7 @@ use Rattle.lock_free_owners.proofs.Names.{rules, subst, first_borrowed, Coding, 
 use Rattle.model.specs.declared.families.container.calls.CountOf.TheVariants as counts
 use Rattle.lock_free_owners.specs.Container.Turns.{BeginsCount, CountAt}
 use Rattle.lock_free_owners.proofs.ContainerSet.Begins.{count_begins}
-use Rattle.lock_free_owners.proofs.ContainerSet.Facts.{goes, tested, tested_answered, tested_none}
+use Rattle.lock_free_owners.proofs.ContainerSet.Facts.{goes, few_aside, tested, tested_answered, tested_none}
 use Rattle.lock_free_owners.proofs.ContainerSet.States.{count_leaves}
 use Rattle.lock_free_owners.proofs.Names.{ap, SetId, ◌∙◌, ◌+◌}
 use Rattle.lock_free_owners.specs.Container.Steps.{ContainerTakes}
@@ -25,6 +25,7 @@ returns-clause-same g c =
       container = search rules;
       idle = c.count_all.ensures.ends.over.idle;
       goes = (goes code BeginsCount (counts_values counts.IsEmpty) v w c.count_all.result c.count_all.ensures.ends);
+      aside = (few_aside code BeginsCount (counts_values counts.IsEmpty) v w c.count_all.result c.count_all.ensures.ends);
     }
 
 pub returns-clause-tested : goal.returns-clause-tested

@@ -1,7 +1,7 @@
 use Rattle.lock_free_owners.proofs.Names.{rules, Coding, coding_of, seen, sees_lock}
 use Rattle.lock_free_owners.specs.Container.Turns.{BeginsLock}
 use Rattle.lock_free_owners.proofs.ContainerSet.Begins.{lock_keeps, lock_begins}
-use Rattle.lock_free_owners.proofs.ContainerSet.Facts.{goes, looked, looked_answered, looked_lock}
+use Rattle.lock_free_owners.proofs.ContainerSet.Facts.{goes, few_aside, looked, looked_answered, looked_lock}
 use Rattle.lock_free_owners.proofs.ContainerSet.States.{lock_leaves}
 use Rattle.lock_free_owners.proofs.ContainerSet.Steps.{lock_takes}
 use Rattle.lock_free_owners.proofs.mpmc.container.Container.is_locked.Goals as goal
@@ -23,6 +23,7 @@ returns-clause-same g c =
       container = search rules;
       idle = c.drive.ensures.end.over.idle;
       goes = (goes code BeginsLock sees_lock v w c.drive.result c.drive.ensures.end);
+      aside = (few_aside code BeginsLock sees_lock v w c.drive.result c.drive.ensures.end);
     }
 
 pub returns-clause-looked : goal.returns-clause-looked

@@ -3,7 +3,7 @@ use Rattle.lock_free_owners.proofs.Names.{counts_values}
 use Rattle.model.specs.declared.families.container.calls.CountOf.TheVariants as counts
 use Rattle.lock_free_owners.specs.Container.Turns.{BeginsCount, CountAt}
 use Rattle.lock_free_owners.proofs.ContainerSet.Begins.{count_begins}
-use Rattle.lock_free_owners.proofs.ContainerSet.Facts.{goes, counted, counted_answered, counted_most, counted_none}
+use Rattle.lock_free_owners.proofs.ContainerSet.Facts.{goes, few_aside, counted, counted_answered, counted_most, counted_none}
 use Rattle.lock_free_owners.proofs.ContainerSet.States.{count_leaves}
 use Rattle.lock_free_owners.proofs.Names.{◌+◌}
 use Rattle.lock_free_owners.specs.Container.Steps.{ContainerTakes}
@@ -26,6 +26,7 @@ returns-clause-same g c =
       container = search rules;
       idle = c.count_all.ensures.ends.over.idle;
       goes = (goes code BeginsCount (counts_values counts.Len) v w c.count_all.result c.count_all.ensures.ends);
+      aside = (few_aside code BeginsCount (counts_values counts.Len) v w c.count_all.result c.count_all.ensures.ends);
     }
 
 pub returns-clause-counted : goal.returns-clause-counted

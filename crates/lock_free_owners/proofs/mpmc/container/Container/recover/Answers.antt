@@ -4,7 +4,7 @@ use Rattle.steps.specs.Container.Recover.{first_recover}
 use Rattle.lock_free_owners.specs.Container.Questions.{TakesValues}
 use Rattle.lock_free_owners.specs.Container.RecoverContract.{HasRecovered}
 use Rattle.lock_free_owners.specs.Container.RecoverTurns.{RecoverAt}
-use Rattle.lock_free_owners.proofs.ContainerSet.RecoverTurns.{recover_begins, recovered_goes, recovered_answered, recovered_lock}
+use Rattle.lock_free_owners.proofs.ContainerSet.RecoverTurns.{recover_begins, recovered_goes, recovered_aside, recovered_answered, recovered_lock}
 use Rattle.lock_free_owners.proofs.ContainerSet.States.{recover_leaves}
 use Rattle.lock_free_owners.proofs.Names.{◌∙◌}
 use Rattle.lock_free_owners.specs.Container.Steps.{RecoverTakes}
@@ -41,6 +41,7 @@ returns-clause-same g c =
       container = search rules;
       idle = ends.1.over.idle;
       goes = (recovered_goes code law dead v w c.free_all.result ends.0 ends.1);
+      aside = (recovered_aside code law dead v w c.free_all.result ends.0 ends.1);
     }
 
 pub returns-clause-recovered : goal.returns-clause-recovered

@@ -2,7 +2,7 @@ use Rattle.lock_free_owners.proofs.Names.{◌<◌, rules, sym, ap, subst, ◌∙
 use Rattle.lock_free_owners.proofs.Names.{coding_of, seen, SetId, removes_value}
 use Rattle.lock_free_owners.specs.Container.Turns.{BeginsRemove, RemoveAt}
 use Rattle.lock_free_owners.proofs.ContainerSet.Begins.{remove_keeps, remove_begins}
-use Rattle.lock_free_owners.proofs.ContainerSet.Facts.{goes, has_removed, removed_right, freed, released}
+use Rattle.lock_free_owners.proofs.ContainerSet.Facts.{goes, few_aside, has_removed, removed_right, freed, released}
 use Rattle.lock_free_owners.proofs.ContainerSet.States.{remove_leaves}
 use Rattle.lock_free_owners.specs.Container.Steps.{RemoveTakes}
 use Rattle.lock_free_owners.proofs.ContainerSet.Steps.{remove_takes}
@@ -35,6 +35,7 @@ returns-clause-same g c own =
       container = search rules;
       idle = c.drive_on.ensures.end.over.idle;
       goes = (goes code (BeginsRemove given) (removes_value given) v w c.drive_on.result c.drive_on.ensures.end);
+      aside = (few_aside code (BeginsRemove given) (removes_value given) v w c.drive_on.result c.drive_on.ensures.end);
     }
 
 pub returns-clause-removed : goal.returns-clause-removed

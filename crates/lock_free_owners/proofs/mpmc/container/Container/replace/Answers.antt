@@ -2,7 +2,7 @@ use Rattle.lock_free_owners.proofs.Names.{◌<◌, rules, sym, ap, subst, ◌∙
 use Rattle.lock_free_owners.proofs.Names.{IsCoding, coding_of, seen, SetId, replaces_value}
 use Rattle.lock_free_owners.specs.Container.Turns.{BeginsReplace, ReplaceAt}
 use Rattle.lock_free_owners.proofs.ContainerSet.Begins.{replace_keeps, replace_begins}
-use Rattle.lock_free_owners.proofs.ContainerSet.Facts.{goes, has_replaced, replaced_answered}
+use Rattle.lock_free_owners.proofs.ContainerSet.Facts.{goes, few_aside, has_replaced, replaced_answered}
 use Rattle.lock_free_owners.proofs.ContainerSet.States.{replace_leaves}
 use Rattle.lock_free_owners.proofs.ContainerSet.Steps.{replace_takes}
 use Rattle.lock_free_owners.proofs.mpmc.container.Container.replace.Goals as goal
@@ -38,6 +38,7 @@ returns-clause-same g c own =
       container = search rules;
       idle = c.drive.ensures.end.over.idle;
       goes = (goes code (BeginsReplace given) (replaces_value g.T.Words.WORDS given) v w c.drive.result c.drive.ensures.end);
+      aside = (few_aside code (BeginsReplace given) (replaces_value g.T.Words.WORDS given) v w c.drive.result c.drive.ensures.end);
     }
 
 pub returns-clause-replaced : goal.returns-clause-replaced

@@ -4,7 +4,7 @@ use Rattle.model.specs.declared.turn.Kind.TheVariants as kinds
 use Rattle.threaded.specs.declared.share.Share.{Share}
 use Rattle.history.specs.History.{Knows}
 use Rattle.lock_free_owners.specs.Container.LookTurns.{LookAt}
-use Rattle.lock_free_owners.proofs.ContainerSet.Looks.{look_answered, look_begins, look_idle, look_goes, look_made}
+use Rattle.lock_free_owners.proofs.ContainerSet.Looks.{look_answered, look_begins, look_idle, look_goes, look_aside, look_made}
 use Rattle.lock_free_owners.proofs.ContainerSet.Looks.{latest_so, on_history, of_history, left_so, knows_so}
 use Rattle.lock_free_owners.proofs.ContainerSet.Began.{history_of}
 use Rattle.lock_free_owners.proofs.ContainerSet.Meeting.{has_met}
@@ -105,6 +105,7 @@ returns-clause-same g c latest =
       container = search rules;
       idle = look_idle code UpdateState v w state.seen c.bring_up.result c.bring_up.new.state.shown ends;
       goes = look_goes code UpdateState v w state.seen c.bring_up.result c.bring_up.new.state.shown ends;
+      aside = look_aside code UpdateState v w state.seen c.bring_up.result c.bring_up.new.state.shown ends;
     }
 
 pub returns-clause-updated : goal.returns-clause-updated

@@ -90,15 +90,16 @@ returns-clause-same g c =
         from = h.from;
         settled = settled_so code c.args.other.token.seated.seat.me.0 h.from h.settled;
         joined = record {
-          made = looked.made ∙ ap (λ (z : View g.row.T.Denot). mine.made ++ z.made) h.counted;
+          made = looked.made ∙ ap (λ (z : View g.row.T.Denot). mine.made ++ z.made) h.counted.known;
           party = looked.party;
-          share = looked.share ∙ ap (λ (z : View g.row.T.Denot). both_of mine.share z.share) h.counted;
+          share = looked.share ∙ ap (λ (z : View g.row.T.Denot). both_of mine.share z.share) h.counted.known;
           ours = looked.mine;
-          others = subst (λ (z : View g.row.T.Denot). IsBeginning z.seen new.seen) h.counted looked.theirs;
+          others = subst (λ (z : View g.row.T.Denot). IsBeginning z.seen new.seen) h.counted.known looked.theirs;
           ours_ran = looked.ran.first;
-          theirs_ran = subst (λ (z : View g.row.T.Denot). AreFirst z.turns new.turns) h.counted looked.theirs_ran;
+          theirs_ran = subst (λ (z : View g.row.T.Denot). AreFirst z.turns new.turns) h.counted.known looked.theirs_ran;
+          aside = (let once = h.counted.aside in let all = looked.aside in omega arith);
           whole = λ all.
-              subst (λ (z : View g.row.T.Denot). (new.seen ≡ mine.seen) ⊎ (new.seen ≡ z.seen)) h.counted
+              subst (λ (z : View g.row.T.Denot). (new.seen ≡ mine.seen) ⊎ (new.seen ≡ z.seen)) h.counted.known
               (looked.whole (subst IsAll looked.share all));
         };
       };

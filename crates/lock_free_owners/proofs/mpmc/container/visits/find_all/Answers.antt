@@ -1,6 +1,6 @@
 use Rattle.lock_free_owners.proofs.Names.{◌<◌, ◌^◌, rules, refl, sym, subst, ◌∙◌, Coding, IsCoding, coding_of}
 use Rattle.lock_free_owners.proofs.Names.{GoOn, Done, fresh_cell, seen}
-use Rattle.lock_free_owners.proofs.ContainerSet.Finds.{Further, starts, further, may_go, may_pass, passed_on}
+use Rattle.lock_free_owners.proofs.ContainerSet.Finds.{Further, starts, further, may_go, may_pass, passed_on, goes_lower}
 use Rattle.lock_free_owners.proofs.mpmc.container.visits.find_all.Goals as goal
 use Rattle.lock_free_owners.proofs.mpmc.container.visits.find_all.Given as given
 
@@ -56,6 +56,16 @@ find_next-after-requires-clause-asks g c =
     may_go code (λ p x h a q. given.F-step g p x h a q) c.args.capacity c.args.owner c.args.id
     (seen c.args.seat.now) c.args.visit.now law small (sym c.requires.known)
     (seen passed.new.seat) c.in-GoOn.next c.loop-next.room c.loop-next.visit there c.requires.visits
+
+pub loop-next-smaller : goal.loop-next-smaller
+loop-next-smaller g c =
+    let code : Coding g.row.T.Denot = coding_of g.T.Words.WORDS g.T.Words.words_of g.T.Words.value_of in
+    let passed = c.pass_others-passed in
+    let called = c.find_next-after in
+    goes_lower code g.met.T.Words.few (λ p x h a q. given.F-step g p x h a q) c.args.owner c.args.id
+    c.loop-next.call c.in-GoOn.next c.in-GoOn-after.next passed.result called.result
+    (seen c.loop-next.seat) (seen passed.new.seat) (seen called.new.seat) c.loop-next.room called.new.room _ c.loop-next.visit called.new.visit
+    c.in-GoOn.is passed.ensures.passed c.in-GoOn-after.is called.ensures.turns called.ensures.moves
 
 pub loop-next-preserved : goal.loop-next-preserved
 loop-next-preserved g c =

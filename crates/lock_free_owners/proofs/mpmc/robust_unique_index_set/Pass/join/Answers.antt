@@ -1,5 +1,5 @@
 use Rattle.lock_free_owners.proofs.Names.{◌≡◌, ◌<◌, ℕ, List, [], rules, sym, ap, subst, ◌∙◌, arith, TableId, OwesAsk}
-use Rattle.lock_free_owners.proofs.Names.{one_word, View, IsMachine, joined_view, positive, joins, seen, table_of, key_of}
+use Rattle.lock_free_owners.proofs.Names.{one_word, View, IsAll, IsMachine, joined_view, Looks, positive, joins, seen, table_of, key_of}
 use Rattle.steps.specs.declared.ask.Op.TheVariants.{Load}
 use Rattle.history.proofs.PassLooks.{owes_look}
 use Rattle.history.specs.Views.{LooksOnce}
@@ -38,3 +38,27 @@ look-requires-clause-owes c =
     subst (λ (xs : List (ℕ × Unit {0})). Owed (key_of s) words slots id (seen s) xs) (sym s.bare)
     (subst (λ (z : View ℕ). Owed (key_of s) words slots id z []) (sym c.join.ensures.joined)
     (subst (λ k. Owed k words slots id w []) size owed))
+
+pub returns-clause-same : goal.returns-clause-same
+returns-clause-same c =
+    let v = c.args.self.now.seated.seat.me.0 in
+    let other = c.args.other.seated.seat.me.0 in
+    let w = c.look.new.self.seat.me.0 in
+    let is : c.join.new.self.seat.me.0 ≡ joined_view v other = c.join.ensures.joined in
+    let looks : Looks one_word kinds.Robust (joined_view v other).capacity (joined_view v other) w =
+    subst (λ (z : View ℕ). Looks one_word kinds.Robust z.capacity z w) is c.look.ensures.told.0 in
+    record {
+      set = search rules;
+      joined = record {
+        made = looks.made;
+        party = looks.party;
+        share = looks.share;
+        ours = looks.mine;
+        others = looks.theirs;
+        ours_ran = looks.ran.first;
+        theirs_ran = looks.theirs_ran;
+        aside = (let all = looks.aside in omega arith);
+        whole = λ all. looks.whole (subst IsAll looks.share all);
+      };
+      all = λ whole. looks.all (subst IsAll looks.share whole);
+    }

@@ -5,7 +5,7 @@ use Rattle.lock_free_owners.specs.Robust.Turns.{AcquireAt}
 use Rattle.steps.specs.declared.indices.enums.UniqueIndexSetAcquireFailure.TheVariants.{IsLocked as Locked}
 use Rattle.lock_free_owners.specs.Robust.Contracts.{WasFilled, WasGranted, WasRefused}
 use Rattle.history.specs.Steps.{TakesAlone}
-use Rattle.lock_free_owners.proofs.RobustSet.Facts.{filled, granted, refused, shut, acquire_takes}
+use Rattle.lock_free_owners.proofs.RobustSet.Facts.{same_pass, filled, granted, refused, shut, acquire_takes}
 use Rattle.lock_free_owners.proofs.mpmc.robust_unique_index_set.RobustUniqueIndexSet.acquire.Goals as goal
 
 pub acquire_all-requires-clause-at : goal.acquire_all-requires-clause-at
@@ -14,6 +14,12 @@ acquire_all-requires-clause-at g c =
     let v = seen mine.seated in
     subst (λ n. AcquireAt c.args.owner v v (first_acquire n) tt) mine.known (acquire_first one_word c.args.owner v tt mine.idle mine.alone mine.some.0
     (search rules))
+
+pub returns-in-Ok-clause-same : goal.returns-in-Ok-clause-same
+returns-in-Ok-clause-same g c = same_pass (search rules) c.acquire_all.ensures.ends
+
+pub returns-in-Err-clause-same : goal.returns-in-Err-clause-same
+returns-in-Err-clause-same g c = same_pass (search rules) c.acquire_all.ensures.ends
 
 pub returns-in-Ok-clause-filled : goal.returns-in-Ok-clause-filled
 returns-in-Ok-clause-filled g c =

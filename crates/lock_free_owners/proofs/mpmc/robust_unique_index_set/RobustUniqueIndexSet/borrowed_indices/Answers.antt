@@ -1,9 +1,9 @@
 use Rattle.lock_free_owners.proofs.Names.{◌≤◌, rules, ap, subst, ◌∙◌, first_borrowed, one_word, seen, SetId}
 use Rattle.lock_free_owners.proofs.Names.{◌+◌}
-use Rattle.lock_free_owners.proofs.Names.{counts_owned, count_first}
+use Rattle.lock_free_owners.proofs.Names.{count_first}
 use Rattle.lock_free_owners.specs.Robust.Turns.{CountAt}
 use Rattle.history.specs.Steps.{TakesAlone}
-use Rattle.lock_free_owners.proofs.RobustSet.Facts.{goes, counted, counted_answered, counted_most, counted_none, count_takes}
+use Rattle.lock_free_owners.proofs.RobustSet.Facts.{same_pass, counted, counted_answered, counted_most, counted_none, count_takes}
 use Rattle.lock_free_owners.proofs.mpmc.robust_unique_index_set.RobustUniqueIndexSet.borrowed_indices.Goals as goal
 
 pub count_all-requires-clause-at : goal.count_all-requires-clause-at
@@ -13,13 +13,7 @@ count_all-requires-clause-at g c =
     subst (λ n. CountAt v v (first_borrowed n) tt) mine.known (count_first one_word v tt mine.idle mine.alone mine.some.0)
 
 pub returns-clause-same : goal.returns-clause-same
-returns-clause-same g c =
-    let v = seen c.args.pass.now.seated in
-    let w = seen c.count_all.new.seat in
-    record {
-      set = search rules;
-      goes = (goes counts_owned v w c.count_all.result tt c.count_all.ensures.ends);
-    }
+returns-clause-same g c = same_pass (search rules) c.count_all.ensures.ends
 
 pub returns-clause-counted : goal.returns-clause-counted
 returns-clause-counted g c = counted (seen c.args.pass.now.seated)

@@ -14,11 +14,16 @@ find_all-requires-clause-asks g c =
 pub returns-clause-same : goal.returns-clause-same
 returns-clause-same g c =
     let on = c.is_locked.ensures.same in
+    let same = ap (λ (z : SetId). z.capacity) (on.set ∙ c.requires.pass) in
+    let once = on.aside in
+    let looks = c.find_all.ensures.looked.aside in
+    let few = subst (λ n. TakesAtMost n (seen c.is_locked.new.pass.seated) (seen c.find_all.new.seat)) same c.find_all.ensures.steps in
     record {
       set = search rules;
       goes = looks_after c.args.pass.now.capacity (seen c.args.pass.now.seated) (seen c.is_locked.new.pass.seated) (seen c.find_all.new.seat) on.goes
           (subst (λ n. Looks one_word kinds.Robust n (seen c.is_locked.new.pass.seated) (seen c.find_all.new.seat))
           (ap (λ (z : SetId). z.capacity) on.set) c.find_all.ensures.looked);
+      aside = omega arith;
     }
 
 pub returns-clause-found : goal.returns-clause-found

@@ -1,5 +1,5 @@
-use Rattle.lock_free_owners.proofs.Names.{rules, one_word, seen, looks_owned, look_keeps, look_first}
-use Rattle.lock_free_owners.proofs.RobustSet.Facts.{goes, looked, looked_answered, looked_lock, look_takes}
+use Rattle.lock_free_owners.proofs.Names.{rules, one_word, seen, look_keeps, look_first}
+use Rattle.lock_free_owners.proofs.RobustSet.Facts.{same_pass, looked, looked_answered, looked_lock, look_takes}
 use Rattle.lock_free_owners.proofs.mpmc.robust_unique_index_set.RobustUniqueIndexSet.is_locked.Goals as goal
 
 pub drive-requires-clause-rule : goal.drive-requires-clause-rule
@@ -11,13 +11,7 @@ drive-requires-clause-at c =
     look_first one_word (seen mine.seated) _ tt mine.idle mine.alone mine.some.0
 
 pub returns-clause-same : goal.returns-clause-same
-returns-clause-same c =
-    let v = seen c.args.pass.now.seated in
-    let w = seen c.drive.new.self in
-    record {
-      set = search rules;
-      goes = (goes looks_owned v w c.drive.result tt c.drive.ensures.end);
-    }
+returns-clause-same c = same_pass (search rules) c.drive.ensures.end
 
 pub returns-clause-looked : goal.returns-clause-looked
 returns-clause-looked c = looked (seen c.args.pass.now.seated) (seen c.drive.new.self) tt c.args.pass.now.idle c.drive.result c.drive.ensures.end

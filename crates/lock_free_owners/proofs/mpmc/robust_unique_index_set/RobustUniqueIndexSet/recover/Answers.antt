@@ -1,10 +1,10 @@
-use Rattle.lock_free_owners.proofs.Names.{[], rules, sym, ap, subst, one_word, seen, SetId, recovers_owned}
+use Rattle.lock_free_owners.proofs.Names.{[], rules, sym, ap, subst, one_word, seen, SetId}
 use Rattle.lock_free_owners.proofs.Names.{◌∙◌}
 use Rattle.lock_free_owners.proofs.Names.{recover_first}
 use Rattle.steps.specs.Indices.Robust.Recover.{first_recover}
 use Rattle.lock_free_owners.specs.Robust.Turns.{RecoverAt}
 use Rattle.lock_free_owners.specs.Robust.Steps.{RecoverTakes}
-use Rattle.lock_free_owners.proofs.RobustSet.Facts.{goes, recovered, recovered_answered, recovered_lock, recover_takes}
+use Rattle.lock_free_owners.proofs.RobustSet.Facts.{same_pass, recovered, recovered_answered, recovered_lock, recover_takes}
 use Rattle.lock_free_owners.proofs.Rules.Robust.Recovering.{questions_at, freed_at}
 use Rattle.lock_free_owners.proofs.mpmc.robust_unique_index_set.RobustUniqueIndexSet.recover.Goals as goal
 use Rattle.lock_free_owners.proofs.mpmc.robust_unique_index_set.RobustUniqueIndexSet.recover.Given as given
@@ -22,13 +22,7 @@ pub recover_all-requires-clause-freed : goal.recover_all-requires-clause-freed
 recover_all-requires-clause-freed g c free = freed_at (ap (λ (z : SetId). z.capacity) (sym c.requires.pass)) (c.requires.freed free)
 
 pub returns-clause-same : goal.returns-clause-same
-returns-clause-same g c =
-    let v = seen c.args.pass.now.seated in
-    let w = seen c.recover_all.new.seat in
-    record {
-      set = search rules;
-      goes = (goes (recovers_owned c.args.mode) v w c.recover_all.result c.recover_all.ensures.ends.0 c.recover_all.ensures.ends.1);
-    }
+returns-clause-same g c = same_pass (search rules) c.recover_all.ensures.ends.1
 
 pub returns-clause-recovered : goal.returns-clause-recovered
 returns-clause-recovered g c =

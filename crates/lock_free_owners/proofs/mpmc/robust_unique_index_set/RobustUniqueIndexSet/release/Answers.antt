@@ -2,7 +2,7 @@ use Rattle.lock_free_owners.proofs.Names.{◌<◌, rules, sym, ap, subst, ◌∙
 use Rattle.lock_free_owners.proofs.Names.{SetId, gives_owned, At, release_keeps, release_first}
 use Rattle.model.specs.declared.turn.Kind.TheVariants as kinds
 use Rattle.lock_free_owners.specs.Robust.Steps.{ReleaseTakes}
-use Rattle.lock_free_owners.proofs.RobustSet.Facts.{goes, given, given_of, given_right, freed, released, release_takes}
+use Rattle.lock_free_owners.proofs.RobustSet.Facts.{same_pass, given, given_of, given_right, freed, released, release_takes}
 use Rattle.lock_free_owners.proofs.mpmc.robust_unique_index_set.RobustUniqueIndexSet.release.Goals as goal
 
 pub drive_on-requires-clause-rule : goal.drive_on-requires-clause-rule
@@ -19,13 +19,7 @@ drive_on-requires-clause-at g c =
     (release_first one_word given v tt mine.idle mine.alone mine.some.0 (subst (λ n. c.args.index < n) (sym size) c.requires.index) (search rules))
 
 pub returns-clause-same : goal.returns-clause-same
-returns-clause-same g c =
-    let v = seen c.args.pass.now.seated in
-    let w = seen c.drive_on.new.self in
-    record {
-      set = search rules;
-      goes = (goes (gives_owned _) v w c.drive_on.result tt c.drive_on.ensures.end);
-    }
+returns-clause-same g c = same_pass (search rules) c.drive_on.ensures.end
 
 pub returns-clause-given : goal.returns-clause-given
 returns-clause-given g c = given (seen c.args.pass.now.seated)

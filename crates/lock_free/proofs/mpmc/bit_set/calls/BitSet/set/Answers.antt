@@ -4,6 +4,7 @@ use Rattle.lock_free.specs.Bits.Stages.{sets_place}
 use Rattle.lock_free.specs.Sets.Calls.{SetId}
 use Rattle.lock_free.specs.Bits.Contracts.{HasSet}
 use Rattle.lock_free.proofs.Bits.Setting.{set_keeps, set_first, added, stood}
+use Rattle.lock_free.proofs.Ends.{aside_most}
 use Rattle.lock_free.proofs.Steps.{bits_take}
 use Rattle.lock_free.proofs.mpmc.bit_set.calls.BitSet.set.Goals as goal
 
@@ -25,6 +26,7 @@ returns-clause-same g c =
       share = search rules;
       party = search rules;
       first = c.drive_on-end.ensures.end.ran.first;
+      aside = aside_most c.drive_on-end.ensures.end.aside;
       all = search rules;
     }
 

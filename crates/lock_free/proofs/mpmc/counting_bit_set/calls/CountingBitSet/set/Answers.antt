@@ -3,6 +3,7 @@ use Rattle.lock_free.specs.Sets.Calls.{SetId}
 use Rattle.lock_free.specs.Counts.Contracts.{HasCounted, AnswersCount}
 use Rattle.lock_free.proofs.Counts.Counting.{count_keeps, count_first, counted, answers}
 use Rattle.lock_free.specs.Counts.Stages.{counts_place}
+use Rattle.lock_free.proofs.Ends.{aside_most}
 use Rattle.lock_free.proofs.Steps.{counts_take}
 use Rattle.lock_free.proofs.mpmc.counting_bit_set.calls.CountingBitSet.set.Goals as goal
 
@@ -23,6 +24,7 @@ returns-clause-same c =
       share = search rules;
       party = search rules;
       first = c.drive-old.ensures.end.ran.first;
+      aside = aside_most c.drive-old.ensures.end.aside;
       all = search rules;
     }
 

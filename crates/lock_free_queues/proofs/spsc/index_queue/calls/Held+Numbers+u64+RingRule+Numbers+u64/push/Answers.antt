@@ -2,7 +2,7 @@ use Rattle.lock_free_queues.proofs.Names.{rules, ◌≡◌, ◌<◌, ◌^◌, �
 use Rattle.lock_free_queues.proofs.Names.{seen, of_indices, At, pushes_index, push_keeps, push_first}
 use Rattle.steps.specs.Queues.Ring.{first_push}
 use Rattle.model.specs.declared.turn.Kind.TheVariants as kinds
-use Rattle.lock_free_queues.proofs.Queues.Facts.{goes_over}
+use Rattle.lock_free_queues.proofs.Queues.Facts.{goes_over, aside_over}
 use Rattle.lock_free_queues.proofs.Queues.Ended.{pushed, published_if, full}
 use Rattle.lock_free_queues.proofs.Queues.Indices.{index_push}
 use Rattle.lock_free_queues.specs.Queues.Contracts.{HasPushed, WasFull, WasAtEnd}
@@ -58,6 +58,8 @@ returns-clause-same c =
       queue = search rules;
       goes =
           goes_over one_word kinds.IndexQueue (pushes_index c.args.value) v w c.drive-end.result tt c.drive-end.ensures.end;
+      aside =
+          aside_over one_word kinds.IndexQueue (pushes_index c.args.value) v w c.drive-end.result tt c.drive-end.ensures.end;
     }
 
 pub returns-clause-steps : goal.returns-clause-steps

@@ -6,7 +6,7 @@ use Rattle.model.specs.declared.turn.Kind.TheVariants as kinds
 use Rattle.lock_free_queues.specs.Queues.Values.{token_view}
 use Rattle.lock_free_queues.specs.Queues.Contracts.{HasPushed, WasFull, WasAtEnd}
 use Rattle.lock_free_queues.proofs.Queues.Ended.{pushed, published_if, full}
-use Rattle.lock_free_queues.proofs.Queues.Facts.{goes_over}
+use Rattle.lock_free_queues.proofs.Queues.Facts.{goes_over, aside_over}
 use Rattle.lock_free_queues.proofs.Queues.Values.{value_push}
 use Rattle.lock_free_queues.proofs.Queues.Paid.{value_push_takes}
 use Rattle.lock_free_queues.proofs.spsc.queue.calls.Held+Values+T+RingRule+Values+T.push.Goals as goal
@@ -71,6 +71,8 @@ returns-clause-same g c =
       queue = search rules;
       goes =
           goes_over code kinds.Queue (pushes_value code c.args.value.now) v w c.drive-end.result tt c.drive-end.ensures.end;
+      aside =
+          aside_over code kinds.Queue (pushes_value code c.args.value.now) v w c.drive-end.result tt c.drive-end.ensures.end;
     }
 
 pub returns-clause-steps : goal.returns-clause-steps

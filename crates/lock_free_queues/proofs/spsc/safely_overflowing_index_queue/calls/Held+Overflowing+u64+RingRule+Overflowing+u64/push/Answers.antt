@@ -6,8 +6,9 @@ use Rattle.history.specs.Overflow.{pushes_over}
 use Rattle.history.proofs.OverflowCalls.{over_push_first, over_push_keeps}
 use Rattle.lock_free_queues.specs.Queues.Overflowing.{token_view, PushAdded, PushReplaced}
 use Rattle.lock_free_queues.specs.Queues.Contracts.{WasAtEnd}
-use Rattle.lock_free_queues.proofs.Queues.Facts.{goes_over, seen_over}
+use Rattle.lock_free_queues.proofs.Queues.Facts.{goes_over, aside_over, seen_over}
 use Rattle.lock_free_queues.proofs.Queues.OverEnded.{over_pushed, over_none, over_some}
+use Rattle.lock_free_queues.proofs.Queues.Sums.{over_push_moves}
 use Rattle.lock_free_queues.proofs.Queues.Paid.{over_push_takes}
 use Rattle.lock_free_queues.proofs.spsc.safely_overflowing_index_queue.calls.Held+Overflowing+u64+RingRule+Overflowing+u64.push.Goals as goal
 
@@ -32,6 +33,9 @@ returns-clause-same c =
       queue = search rules;
       goes =
           goes_over one_word kinds.Overflow (pushes_over c.args.value) v w c.drive-end.result c.drive-end.new.room
+          c.drive-end.ensures.end;
+      aside =
+          aside_over one_word kinds.Overflow (pushes_over c.args.value) v w c.drive-end.result c.drive-end.new.room
           c.drive-end.ensures.end;
     }
 
@@ -66,3 +70,13 @@ returns-clause-steps c =
     let mine = c.args.self.now in
     over_push_takes one_word (token_view mine) c.drive-end.new.self.seat.me.0 mine.idle c.args.value c.drive-end.result
     c.drive-end.new.room c.drive-end.ensures.end
+
+pub returns-clause-roles : goal.returns-clause-roles
+returns-clause-roles c role =
+    let mine = c.args.self.now in
+    let v = c.args.value in
+    let x = token_view mine in
+    let w = c.drive-end.new.self.seat.me.0 in
+    over_push_moves x w v (push_answer v c.drive-end.new.room.0 c.drive-end.result)
+    (over_pushed one_word x w mine.idle v mine.alone mine.some.0 c.requires.role c.drive-end.result c.drive-end.new.room
+    c.drive-end.ensures.end) role

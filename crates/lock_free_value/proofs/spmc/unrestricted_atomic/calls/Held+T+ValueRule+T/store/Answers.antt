@@ -47,6 +47,9 @@ returns-clause-same g c =
       goes =
           (leaves code (seen mine) c.drive-end.new.self.seat.me.0 mine.idle mine.known
           (stores_value code c.args.value.now) c.drive-end.result tt c.drive-end.ensures.end).goes;
+      aside =
+          (leaves code (seen mine) c.drive-end.new.self.seat.me.0 mine.idle mine.known
+          (stores_value code c.args.value.now) c.drive-end.result tt c.drive-end.ensures.end).aside;
     }
 
 pub returns-clause-steps : goal.returns-clause-steps

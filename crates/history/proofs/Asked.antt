@@ -1,0 +1,261 @@
+-- What the seats have asked for, and how it grows.
+use Rattle.history.proofs.Names.{◌≡◌, ◌≢◌, ◌⊎◌, inl, inr, ⊎_elim, ℕ, zero, suc, ◌+◌, ◌*◌, ◌<◌, ◌≤◌, List, [], ◌∷◌, ◌++◌, length, set, refl, sym, ap, subst, ◌∙◌}
+use Rattle.history.proofs.Names.{arith, sum_by, sum_by-append, sum_by-cons, at_set, Shares, IsAll, Turn, Begin, Next}
+use Rattle.history.proofs.Names.{Decide, Trace, World, Option, Some, None, Ask, Start, set_else}
+use mathlib.Core.Option.{some, some-injective, some-ne-none}
+use lib.ListN.{get_elem?}
+use Rattle.std.proofs.Math.Nat.{mul-le-mul_left}
+use Rattle.model.specs.LockFree.{steps_of as turn_steps, steps_in as run_steps}
+use Rattle.model.specs.Turns.{after_turn, after_turns, step_count}
+use Rattle.threaded.specs.declared.share.Share.{Share}
+use Rattle.threaded.specs.Shares.{half_of, tally}
+use Rattle.threaded.proofs.Shares.{others_none, at_below, positive}
+use Rattle.history.specs.declared.view.View.{View}
+use Rattle.history.specs.History.{IsPart, HasAsked, HaveAsked, nexts}
+use Rattle.history.specs.Views.{first_view, joined_view, spent_view}
+use Rattle.model.specs.declared.turn.Turn.TheVariants.{Die}
+use Rattle.history.proofs.Known.{nat_cases}
+
+module _ {A : Type 0} where
+  pub sum_set : (f : A → ℕ) (xs : List A) (i : ℕ) (x y : A) → get_elem? xs i ≡ some x → sum_by f (set xs i y) + f x ≡ sum_by f xs + f y
+  sum_set f [] i x y at = absurd (some-ne-none x (sym at))
+  sum_set f (z ∷ zs) zero x y at =
+      let here : f z ≡ f x = ap f (some-injective z x at) in
+      let a = sum_by-cons f y zs in
+      let b = sum_by-cons f z zs in
+      omega arith
+  sum_set f (z ∷ zs) (suc i) x y at =
+      let more = sum_set f zs i x y at in
+      let a = sum_by-cons f z (set zs i y) in
+      let b = sum_by-cons f z zs in
+      omega arith
+
+  sum_most : (f g : A → ℕ) (xs : List A) → ((j : ℕ) (x : A) → get_elem? xs j ≡ some x → f x ≤ g x) → sum_by f xs ≤ sum_by g xs
+  sum_most f g [] each = omega arith
+  sum_most f g (z ∷ zs) each =
+      let here = each zero z refl in
+      let more = sum_most f g zs (λ j x at. each (suc j) x at) in
+      let a = sum_by-cons f z zs in
+      let b = sum_by-cons g z zs in
+      omega arith
+
+  -- where all others have no more of the one than of the other
+  sum_rest : (f g : A → ℕ) (xs : List A) (i : ℕ) (x : A) → get_elem? xs i ≡ some x
+      → ((j : ℕ) (y : A) → j ≢ i → get_elem? xs j ≡ some y → f y ≤ g y) → sum_by f xs + g x ≤ sum_by g xs + f x
+  sum_rest f g [] i x at each = absurd (some-ne-none x (sym at))
+  sum_rest f g (z ∷ zs) zero x at each =
+      let one : f z ≡ f x = ap f (some-injective z x at) in
+      let two : g z ≡ g x = ap g (some-injective z x at) in
+      let more = sum_most f g zs (λ j y there. each (suc j) y (λ e. absurd (omega arith)) there) in
+      let a = sum_by-cons f z zs in
+      let b = sum_by-cons g z zs in
+      omega arith
+  sum_rest f g (z ∷ zs) (suc i) x at each =
+      let here = each zero z (λ e. absurd (omega arith)) refl in
+      let more = sum_rest f g zs i x at (λ j y ne there. each (suc j) y (λ e. ne (let same : j ≡ i = omega arith in same)) there) in
+      let a = sum_by-cons f z zs in
+      let b = sum_by-cons g z zs in
+      omega arith
+
+at_most_all : (k : ℕ → ℕ) (n i : ℕ) → i < n → k i ≤ tally k n
+at_most_all k zero i low = absurd (omega arith)
+at_most_all k (suc n) i low =
+    ⊎_elim (λ (past : n ≤ i). (let same : i ≡ n = omega arith in let here : k i ≡ k n = ap k same in omega arith))
+    (λ (low' : i < n). (let more = at_most_all k n i low' in omega arith)) (nat_cases n i)
+
+no_more_than : (a b n : ℕ) → 0 < n → a * n ≤ b * n → a ≤ b
+no_more_than zero b n any le = omega arith
+no_more_than (suc a) zero n any le = absurd (omega arith)
+no_more_than (suc a) (suc b) n any le = let less : a * n ≤ b * n = omega arith in let more = no_more_than a b n any less in omega arith
+
+half_part : (s : Share) → IsPart s → IsPart (half_of s)
+half_part s h = (let any = h.0 in omega arith, let few = h.1 in omega arith)
+
+no_half : (s : Share) → IsPart s → IsAll (half_of s) → s.part ≡ s.parts
+no_half s h whole = (let any = h.0 in let few = h.1 in let is : s.part ≡ s.parts + s.parts = whole in absurd (omega arith))
+
+abbrev asked_of : {T : Type 0} → View T → ℕ
+asked_of v = v.asked
+
+abbrev aside_of : {T : Type 0} → View T → ℕ
+aside_of v = v.aside
+
+module _ {T : Type 0} where
+  pub part_of : (views : List (View T)) (id : ℕ) (v : View T) → get_elem? views id ≡ some v → Shares (λ (v : View T). v.share) views → IsPart v.share
+  part_of views id v at h =
+      let fit = h.fits id v at in
+      let few : h.each id ≤ h.whole = (let all = h.sum in let low = at_most_all h.each (length views) id (at_below views id v at) in omega arith) in
+      let scaled : v.share.parts * h.each id ≤ v.share.parts * h.whole = mul-le-mul_left v.share.parts few in
+      (fit.0, no_more_than v.share.part v.share.parts h.whole h.any (let is = fit.1 in omega arith))
+
+  -- what one of the seats has asked for
+  pub asked_at : (views : List (View T)) (steps id : ℕ) (v : View T) → get_elem? views id ≡ some v → Shares (λ (v : View T). v.share) views
+      → HaveAsked views steps → HasAsked v steps
+  asked_at views steps id v at shares h =
+      let most = sum_rest aside_of asked_of views id v at (λ j x ne there. h.each j x there) in
+      let sum = h.sum in
+      record {
+        share = part_of views id v at shares;
+        most = omega arith;
+        all = λ whole. (
+            let spent : (j : ℕ) (x : View T) → j ≢ id → get_elem? views j ≡ some x → x.asked ≡ x.aside =
+            λ j x ne there. h.spent j x there (others_none (λ (v : View T). v.share) views id v at shares whole j x ne there) in
+            let least = sum_rest asked_of aside_of views id v at (λ j x ne there. (let same = spent j x ne there in omega arith)) in
+            omega arith);
+      }
+
+  -- it asks for some more, and the run takes so many steps more
+  pub has_more : (v w : View T) (old n : ℕ) → HasAsked v old → w.share ≡ v.share → w.asked + v.aside ≡ v.asked + w.aside + n → HasAsked w (old + n)
+  has_more v w old n h same own =
+      record {
+        share = subst IsPart (sym same) h.share;
+        most = (let most = h.most in omega arith);
+        all = λ whole. (let all = h.all (subst IsAll same whole) in omega arith);
+      }
+
+  pub have_more : (views : List (View T)) (id : ℕ) (v w : View T) (old n : ℕ) → get_elem? views id ≡ some v → HaveAsked views old
+      → w.asked + v.aside ≡ v.asked + w.aside + n → (w.share.part ≡ 0 → w.asked ≡ w.aside) → HaveAsked (set views id w) (old + n)
+  have_more views id v w old n at h own none =
+      record {
+        sum = (
+            let sum = h.sum in
+            let a = sum_set asked_of views id v w at in
+            let b = sum_set aside_of views id v w at in
+            omega arith);
+        each = λ j x found.
+            ⊎_elim (λ e. subst (λ (z : View T). z.aside ≤ z.asked) e.1 (let low = h.each id v at in omega arith)) (λ e. h.each j x e.1)
+            (at_set views id j w x found);
+        spent = λ j x found.
+            ⊎_elim (λ e. subst (λ (z : View T). z.share.part ≡ 0 → z.asked ≡ z.aside) e.1 none) (λ e. h.spent j x e.1)
+            (at_set views id j w x found);
+      }
+
+  -- what a seat with a share has gained since it stood so
+  pub record Gains (views : List (View T)) (v : View T) (asked aside steps : ℕ) : Type 0 where
+    pub old : ℕ
+    pub n : ℕ
+    pub have : HaveAsked views old
+    pub has : HasAsked v old
+    pub more : steps ≡ old + n
+    pub own : asked + v.aside ≡ v.asked + aside + n
+
+  pub gains_has : (views : List (View T)) (v w : View T) (steps : ℕ) → Gains views v w.asked w.aside steps → w.share ≡ v.share → HasAsked w steps
+  gains_has views v w steps g same = subst (λ n. HasAsked w n) (sym g.more) (has_more v w g.old g.n g.has same g.own)
+
+  pub gains_have : (views : List (View T)) (id : ℕ) (v w : View T) (steps : ℕ) → get_elem? views id ≡ some v → Gains views v w.asked w.aside steps
+      → 0 < w.share.part → HaveAsked (set views id w) steps
+  gains_have views id v w steps at g some_share =
+      subst (λ n. HaveAsked (set views id w) n) (sym g.more) (have_more views id v w g.old g.n at g.have g.own (λ none. absurd (omega arith)))
+
+  -- ---- the steps of a run
+
+  pub steps_more : (t : Trace T) (xs : List (Turn T)) (x : Turn T) → run_steps t (xs ++ x ∷ []) ≡ run_steps t xs + turn_steps (after_turns t xs).world x
+  steps_more t [] x = omega arith
+  steps_more t (y ∷ xs) x = let rest = steps_more (after_turn t y) xs x in omega arith
+
+  -- ---- a split
+
+  pub left_asked : (old left : View T) (steps : ℕ) → HasAsked old steps → left.share ≡ half_of old.share → left.asked ≡ old.asked + 1
+      → left.aside ≡ old.aside + 1 → HasAsked left steps
+  left_asked old left steps h share asked aside =
+      record {
+        share = subst IsPart (sym share) (half_part old.share h.share);
+        most = (let most = h.most in omega arith);
+        all = λ whole. (let all = h.all (no_half old.share h.share (subst IsAll share whole)) in omega arith);
+      }
+
+  pub right_asked : (old right : View T) (steps : ℕ) → HasAsked old steps → right.share ≡ half_of old.share → right.asked ≡ 0 → right.aside ≡ 0
+      → HasAsked right steps
+  right_asked old right steps h share asked aside =
+      record {
+        share = subst IsPart (sym share) (half_part old.share h.share);
+        most = omega arith;
+        all = λ whole. absurd (half_not old.share h.share (subst IsAll share whole));
+      }
+    where
+      half_not : (s : Share) → IsPart s → IsAll (half_of s) → ⊥
+      half_not s part whole = (let any = part.0 in let few = part.1 in let is : s.part ≡ s.parts + s.parts = whole in absurd (omega arith))
+
+-- an operation of a call that asks for no word is no step of it
+abbrev pub none_count : Option Ask → ℕ
+none_count None = 1
+none_count (Some ask) = 0
+
+pub one_or_none : (asked aside : ℕ) (o : Option Ask) → (asked + 1) + aside ≡ asked + (aside + none_count o) + step_count o
+one_or_none asked aside None = omega arith
+one_or_none asked aside (Some ask) = omega arith
+
+pub none_or_one : {a b : ℕ} (o : Option Ask) → a ≡ b → (a + none_count o ≡ b) ⊎ (a + none_count o ≡ b + 1)
+none_or_one None e = inr (omega arith)
+none_or_one (Some ask) e = inl (omega arith)
+
+module _ {T : Type 0} where
+  -- ---- a join
+
+  pub have_both : (views : List (View T)) (steps id other : ℕ) (v w : View T) → get_elem? views id ≡ some v → other ≢ id → get_elem? views other ≡ some w
+      → 0 < v.share.part → Shares (λ (v : View T). v.share) views → HaveAsked views steps
+      → HaveAsked (set (set views id (joined_view v w)) other spent_view) steps
+  have_both views steps id other v w at apart theirs any shares h =
+      record {
+        sum = (
+            let sum = h.sum in
+            let a = sum_set asked_of views id v (joined_view v w) at in
+            let b = sum_set asked_of (set views id (joined_view v w)) other w spent_view still in
+            let c = sum_set aside_of views id v (joined_view v w) at in
+            let d = sum_set aside_of (set views id (joined_view v w)) other w spent_view still in
+            omega arith);
+        each = λ j x found.
+            ⊎_elim (λ e. subst (λ (z : View T). z.aside ≤ z.asked) e.1 (omega arith))
+            (λ e. ⊎_elim (λ e'. subst (λ (z : View T). z.aside ≤ z.asked) e'.1 (let one = h.each id v at in let two = h.each other w theirs in omega arith))
+            (λ e'. h.each j x e'.1) (at_set views id j (joined_view v w) x e.1))
+            (at_set (set views id (joined_view v w)) other j spent_view x found);
+        spent = λ j x found.
+            ⊎_elim (λ e. subst (λ (z : View T). z.share.part ≡ 0 → z.asked ≡ z.aside) e.1 (λ none. refl))
+            (λ e. ⊎_elim (λ e'. subst (λ (z : View T). z.share.part ≡ 0 → z.asked ≡ z.aside) e'.1 (λ none. absurd (some_left none)))
+            (λ e'. h.spent j x e'.1) (at_set views id j (joined_view v w) x e.1))
+            (at_set (set views id (joined_view v w)) other j spent_view x found);
+      }
+    where
+      still : get_elem? (set views id (joined_view v w)) other ≡ some w
+      still = set_else views id other (joined_view v w) apart ∙ theirs
+
+      some_left : (joined_view v w).share.part ≡ 0 → ⊥
+      some_left none =
+          let its = (shares.fits other w theirs).0 in
+          let more = positive v.share.part w.share.parts any its in
+          let is : v.share.part * w.share.parts + w.share.part * v.share.parts ≡ 0 = none in
+          absurd (omega arith)
+
+  -- ---- the first pass
+
+  pub first_asked : (capacity : ℕ) → HaveAsked (first_view {T = T} capacity ∷ []) 0
+  first_asked capacity =
+      record {
+        sum = refl;
+        each = λ j x found. each j x found;
+        spent = λ j x found. spent j x found;
+      }
+    where
+      each : (j : ℕ) (x : View T) → get_elem? (first_view capacity ∷ []) j ≡ some x → x.aside ≤ x.asked
+      each zero x e = subst (λ (z : View T). z.aside ≤ z.asked) (some-injective (first_view capacity) x e) (omega arith)
+      each (suc j) x e = absurd (some-ne-none x (sym e))
+
+      spent : (j : ℕ) (x : View T) → get_elem? (first_view capacity ∷ []) j ≡ some x → x.share.part ≡ 0 → x.asked ≡ x.aside
+      spent zero x e = subst (λ (z : View T). z.share.part ≡ 0 → z.asked ≡ z.aside) (some-injective (first_view capacity) x e) (λ none. refl)
+      spent (suc j) x e = absurd (some-ne-none x (sym e))
+
+  -- ---- how many turns go on with a call
+
+  pub nexts_begin : (ts : List (Turn T)) (p : ℕ) (start : Start T) → nexts (ts ++ Begin p start ∷ []) ≡ nexts ts + 0
+  nexts_begin [] p start = refl
+  nexts_begin (Next q ∷ ts) p start = let more = nexts_begin ts p start in omega arith
+  nexts_begin (Begin q s ∷ ts) p start = nexts_begin ts p start
+  nexts_begin (Decide q s ∷ ts) p start = nexts_begin ts p start
+  nexts_begin (Die q ∷ ts) p start = nexts_begin ts p start
+
+  pub nexts_next : (ts : List (Turn T)) (p : ℕ) → nexts (ts ++ Next p ∷ []) ≡ nexts ts + 1
+  nexts_next [] p = refl
+  nexts_next (Next q ∷ ts) p = let more = nexts_next ts p in omega arith
+  nexts_next (Begin q s ∷ ts) p = nexts_next ts p
+  nexts_next (Decide q s ∷ ts) p = nexts_next ts p
+  nexts_next (Die q ∷ ts) p = nexts_next ts p

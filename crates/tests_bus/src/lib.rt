@@ -1,0 +1,17 @@
+//! A bus of `zero_copy_bus` by turns in one thread, and between four; and what BUS.md shows.
+#![tactic(auto)]
+
+#[cfg(test)]
+mod example;
+#[cfg(test)]
+mod lanes;
+#[cfg(test)]
+mod limit;
+#[cfg(test)]
+mod rooms;
+#[cfg(test)]
+mod threads;
+#[cfg(test)]
+mod turns;
+#[cfg(test)]
+mod words;

@@ -1,0 +1,292 @@
+//! Rows of steps on a bus, taken by one thread.
+use crate::rooms::Step::{
+    Collects, Dies, DropsLoan, FindsNone, Forgets, GivesUp, HasSeat, IsNext, IsStillRead, Joins,
+    Keeps, Leaves, Loans, Out, Publishes, Reads, ReadsOn, Reclaims, Recovers, Updates,
+};
+use crate::rooms::Who::{One, Other};
+use crate::rooms::{SIZES, Step, first_wrong, left_of};
+use crate::words::Words;
+use std::sync::Wait;
+use std::test::Fail;
+use zero_copy_bus::bus::{Bus, Sizes};
+use zero_copy_bus::news::{Listener, News, Notifier};
+use zero_copy_slots::Anything;
+
+/// Both get each record, in order; and none comes back before both have given it back.
+const BOTH: [Step; 9] = [
+    Publishes(7, 2),
+    Out(1),
+    Reads(One, 7),
+    Collects,
+    Out(1),
+    Reads(Other, 7),
+    Collects,
+    Out(0),
+    FindsNone(One),
+];
+
+/// Two wait for one who is slow, and what was sent before came back.
+const SLOW: [Step; 11] = [
+    Publishes(0, 1),
+    Publishes(1, 1),
+    Publishes(2, 1),
+    Publishes(3, 1),
+    Publishes(4, 1),
+    Out(2),
+    Reads(One, 3),
+    Reads(One, 4),
+    FindsNone(One),
+    Collects,
+    Out(0),
+];
+
+/// No slot is left for a ninth loan, until one is given up.
+const LOANS: [Step; 12] = [
+    Loans(true),
+    Loans(true),
+    Loans(true),
+    Loans(true),
+    Loans(true),
+    Loans(true),
+    Loans(true),
+    Loans(true),
+    Loans(false),
+    GivesUp,
+    Out(7),
+    Loans(true),
+];
+
+/// What those who left had in hand, had given back, and what waited for them comes back.
+const LEFT: [Step; 14] = [
+    Publishes(0, 2),
+    Publishes(1, 2),
+    Publishes(2, 2),
+    Keeps(One),
+    Reads(One, 2),
+    Leaves(One),
+    Leaves(Other),
+    Updates,
+    Out(0),
+    Publishes(3, 0),
+    Out(0),
+    Joins(One, 3),
+    Publishes(4, 1),
+    Reads(One, 4),
+];
+
+/// What one who died had comes back once he is recovered, and not before; nor is his place free.
+const DEAD: [Step; 17] = [
+    Publishes(0, 2),
+    Keeps(Other),
+    Publishes(1, 2),
+    Dies(Other),
+    Reads(One, 0),
+    Reads(One, 1),
+    Collects,
+    Updates,
+    Out(2),
+    HasSeat(false),
+    Recovers(2),
+    Out(0),
+    Joins(Other, 3),
+    Publishes(2, 2),
+    Reads(Other, 2),
+    FindsNone(Other),
+    Reads(One, 2),
+];
+
+/// What one who died gave back, and nobody took back, takes nothing from the one who follows him. Of three more records
+/// the last lies in the slot of the first, which the others have pushed out.
+const GIVEN: [Step; 17] = [
+    Publishes(0, 2),
+    Reads(Other, 0),
+    Dies(Other),
+    Recovers(2),
+    Joins(Other, 3),
+    Publishes(1, 2),
+    Publishes(2, 2),
+    Publishes(3, 2),
+    Collects,
+    Reads(One, 2),
+    Reads(One, 3),
+    Collects,
+    Out(2),
+    Reads(Other, 2),
+    Reads(Other, 3),
+    Collects,
+    Out(0),
+];
+
+/// A seat that nobody took is free again once the publisher has looked.
+const SEATS: [Step; 6] = [
+    HasSeat(true),
+    HasSeat(true),
+    HasSeat(false),
+    Updates,
+    HasSeat(true),
+    HasSeat(true),
+];
+
+/// A reading that is forgotten keeps its slot, of which the next loan is told, and the others go on.
+const FORGOTTEN: [Step; 10] = [
+    Publishes(0, 1),
+    Forgets(One),
+    Collects,
+    Out(0),
+    IsStillRead(0),
+    Reclaims(0, false),
+    Out(1),
+    Publishes(1, 1),
+    Reads(One, 1),
+    IsNext(2),
+];
+
+/// The slot of a loan that was dropped is free once it is reclaimed. That of a loan in hand is not.
+const DROPPED: [Step; 9] = [
+    Loans(true),
+    Reclaims(0, false),
+    DropsLoan,
+    Out(1),
+    Reclaims(1, false),
+    Reclaims(0, true),
+    Out(0),
+    Publishes(0, 0),
+    IsNext(1),
+];
+
+/// The slot of a second loan that was dropped is free once it is reclaimed. That of the first one, in hand, is not.
+const DROPPED_OTHER: [Step; 7] = [
+    Loans(true),
+    Loans(true),
+    Out(2),
+    Reclaims(0, false),
+    Reclaims(1, true),
+    Out(1),
+    GivesUp,
+];
+
+/// What lay in a slot that was still read is written again once the slot is reclaimed: there are 16 records.
+const READ_ON: [Step; 4] = [Publishes(0, 2), Reads(Other, 0), ReadsOn, Out(0)];
+
+/// A lane is free after one look, also where one who left has given back all slots that there are, and nothing was collected.
+const ALL_GIVEN: [Step; 20] = [
+    Publishes(0, 1),
+    Reads(One, 0),
+    Publishes(1, 1),
+    Reads(One, 1),
+    Publishes(2, 1),
+    Reads(One, 2),
+    Publishes(3, 1),
+    Reads(One, 3),
+    Publishes(4, 1),
+    Reads(One, 4),
+    Publishes(5, 1),
+    Reads(One, 5),
+    Publishes(6, 1),
+    Reads(One, 6),
+    Publishes(7, 1),
+    Reads(One, 7),
+    Out(8),
+    Leaves(One),
+    Updates,
+    Out(0),
+];
+
+/// The record of a loan that is given up is written again, and so is what lay in its slot.
+const GIVEN_UP: [Step; 3] = [Publishes(0, 0), Loans(true), GivesUp];
+
+/// Both take a seat, and none is left.
+const JOIN: [Step; 3] = [Joins(One, 1), Joins(Other, 2), HasSeat(false)];
+
+/// One takes a seat.
+const JOIN_ONE: [Step; 1] = [Joins(One, 1)];
+
+#[test]
+fn rows(rt: HostRuntime) -> Result<(), Fail> {
+    let rows: [(&str, &[Step], &[Step], usize); 13] = [
+        ("BOTH", &JOIN, &BOTH, 100),
+        ("SLOW", &JOIN_ONE, &SLOW, 3),
+        ("LOANS", &[], &LOANS, 1),
+        ("LEFT", &JOIN, &LEFT, 1),
+        ("DEAD", &JOIN, &DEAD, 1),
+        ("GIVEN", &JOIN, &GIVEN, 1),
+        ("SEATS", &[], &SEATS, 1),
+        ("FORGOTTEN", &JOIN_ONE, &FORGOTTEN, 1),
+        ("DROPPED", &[], &DROPPED, 1),
+        ("DROPPED_OTHER", &[], &DROPPED_OTHER, 1),
+        ("READ_ON", &JOIN, &READ_ON, 17),
+        ("ALL_GIVEN", &JOIN_ONE, &ALL_GIVEN, 1),
+        ("GIVEN_UP", &[], &GIVEN_UP, 100),
+    ];
+    for (name, begin, steps, rounds) in &rows {
+        let wrong = first_wrong(&rt, rt.alloc(), begin, steps, *rounds)?;
+        assert_eq!(rt; wrong, None, "{name}");
+    }
+    Ok(())
+}
+
+/// All records come back from a publisher who has none in a slot.
+#[test]
+fn a_publisher_hands_its_records_out(rt: HostRuntime) -> Result<(), Fail> {
+    assert_eq!(rt; left_of(&rt, rt.alloc(), 5)?, Some(5));
+    Ok(())
+}
+
+const REFUSED: [Sizes; 5] = [
+    Sizes { slots: 0, ..SIZES },
+    Sizes {
+        slots: 1 << 24,
+        ..SIZES
+    },
+    Sizes {
+        subscribers: 0,
+        ..SIZES
+    },
+    Sizes {
+        subscribers: 64,
+        ..SIZES
+    },
+    Sizes {
+        queue: 1 << 32,
+        ..SIZES
+    },
+];
+
+#[test]
+fn a_bus_has_sizes(rt: HostRuntime) -> Result<(), Fail> {
+    for sizes in &REFUSED {
+        assert!(rt; Bus::<Words, Anything>::new(rt.alloc(), *sizes).is_err());
+    }
+    let least = Sizes { queue: 0, ..SIZES };
+    Bus::<Words, Anything>::new(rt.alloc(), least)?;
+    Ok(())
+}
+
+fn tells(rt: &impl Wait, notifier: &mut Notifier<'_>) -> bool {
+    notifier.notify(rt, 69)
+        && notifier.notify(rt, 3)
+        && notifier.notify(rt, 3)
+        && !notifier.notify(rt, 70)
+}
+
+fn hears(rt: &impl Wait, listener: &mut Listener<'_>) -> [Option<usize>; 3] {
+    [listener.next(rt), listener.next(rt), listener.next(rt)]
+}
+
+/// What is heard before anything was told, and then. None where there is no pass.
+fn heard(rt: &impl Wait, news: &mut News) -> Option<(Option<usize>, [Option<usize>; 3])> {
+    let (mut notifier, mut listener) = news.ends()?;
+    let before = listener.next(rt);
+    if !tells(rt, &mut notifier) {
+        return None;
+    }
+    Some((before, hears(rt, &mut listener)))
+}
+
+#[test]
+fn a_topic_has_news_until_it_is_heard(rt: HostRuntime) -> Result<(), Fail> {
+    let mut news = News::new(rt.alloc(), 70)?;
+    let heard = heard(&rt, &mut news).ok_or("not told")?;
+    assert!(rt; heard == (None, [Some(3), Some(69), None]));
+    Ok(())
+}

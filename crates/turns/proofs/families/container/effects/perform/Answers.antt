@@ -1,0 +1,35 @@
+use Rattle.std.proofs.Common.{◌≡◌, List, ◌++◌, sym, ap, ◌∙◌, append_assoc, append-nil}
+use Rattle.std.specs.Prelude.{option_to_list}
+use Rattle.model.specs.declared.event.Event.{Event}
+use Rattle.turns.proofs.families.container.effects.perform.Goals as goal
+use Rattle.turns.proofs.families.container.effects.perform.Goals.{in-Some, in_default, in-Some-question, in_default-question}
+
+-- two lists were added, one after another
+both : {E : Type 0} (old between new xs ys told asked : List E) → told ≡ xs → asked ≡ ys → between ≡ old ++ told → new ≡ between ++ asked
+    → new ≡ old ++ (xs ++ ys)
+both old between new xs ys told asked is_told is_asked first second =
+    second
+    ∙ ap (λ l. l ++ asked) first
+    ∙ append_assoc old told asked
+    ∙ ap (λ l. old ++ (l ++ asked)) is_told
+    ∙ ap (λ l. old ++ (xs ++ l)) is_asked
+
+pub returns-clause-after : goal.returns-clause-after
+returns-clause-after g c = c.feed-done.ensures.after
+
+pub returns-clause-states : goal.returns-clause-states
+returns-clause-states g c = c.feed-done.ensures.states
+
+pub returns-clause-wrote : goal.returns-clause-wrote
+returns-clause-wrote g c =
+    let told : List (Event g.row.T.Denot) = option_to_list c.effect.result in
+    let asked : List (Event g.row.T.Denot) = option_to_list c.question.result in
+    let first : c.match-effect.events.items ≡ c.args.events.now.items ++ told = elim c.match-effect.branch [
+      | in-Some w ↦ rw (w.events-is, w.in-Some.is) w.push_reserved.ensures.items
+      | in_default w ↦ rw (w.events-is, w.in_default.is) (sym (append-nil c.args.events.now.items))
+    ] in
+    let second : c.match-question.events.items ≡ c.match-effect.events.items ++ asked = elim c.match-question.branch [
+      | in-Some-question w ↦ rw (w.events-is, w.in-Some-question.is) w.push_reserved-in-Some-question.ensures.items
+      | in_default-question w ↦ rw (w.events-is, w.in_default-question.is) (sym (append-nil c.match-effect.events.items))
+    ] in
+    both _ _ _ _ _ told asked c.effect.ensures c.question.ensures first second

@@ -1,8 +1,0 @@
--- What clauses see of the slots of a bus.
-use Rattle.lock_free.specs.declared.mpmc.unique_index_set.UniqueIndexSet.{UniqueIndexSet}
-use Rattle.uses_slots.specs.declared.Keeps.{Ghosts}
-use Rattle.uses_bus.specs.declared.store.Store.{Store}
-
-module _ {X K : Type 0} {rule : Ghosts K X} where
-  abbrev pub set_in : Store X K rule → UniqueIndexSet
-  set_in store = store.set

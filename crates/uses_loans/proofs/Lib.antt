@@ -1,6 +1,0 @@
-pub mod Ends
-pub mod Merged
-pub mod Numbers
-mod Places
-pub mod Relayed
-mod Shares

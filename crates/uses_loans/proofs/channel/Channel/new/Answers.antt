@@ -1,6 +1,0 @@
-use Rattle.std.proofs.Common.{rules}
-use Rattle.uses_loans.proofs.Relayed.{starts_at}
-use Rattle.uses_loans.proofs.channel.Channel.new.Goals as goal
-
-pub returns-clause-fresh : goal.returns-clause-fresh
-returns-clause-fresh g c = starts_at _ c.args.queue _ (search rules)

@@ -1,6 +1,0 @@
-use Rattle.std.proofs.Common.{[]}
-use Rattle.uses_loans.specs.Ends.{HasReceived}
-use Rattle.uses_loans.proofs.receiver.Receiver.receive_within.Given as given
-
-abbrev pub invariant-loop : given.invariant-loop
-invariant-loop g l = HasReceived [] l.fn.self l.self

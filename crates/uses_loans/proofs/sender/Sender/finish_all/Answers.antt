@@ -1,6 +1,0 @@
-use Rattle.std.proofs.Common.{rules, refl}
-use Rattle.uses_loans.proofs.Ends.{finishes}
-use Rattle.uses_loans.proofs.sender.Sender.finish_all.Goals as goal
-
-pub returns-clause-sends : goal.returns-clause-sends
-returns-clause-sends g c = finishes _ _ (search rules) refl (search rules) (search rules) (search rules)

@@ -1,5 +1,0 @@
-use Rattle.uses_loans.specs.Ends.{KeepsSends}
-use Rattle.uses_loans.proofs.sender.Sender.loan_within.Given as given
-
-abbrev pub invariant-loop : given.invariant-loop
-invariant-loop g l = KeepsSends l.fn.self l.self

@@ -1,0 +1,7 @@
+use Rattle.std.proofs.Common.{refl}
+use Rattle.uses_values.specs.Marks.{IsBlockOf}
+use Rattle.uses_values.proofs.MarksReadsVecU64MarkedU64.read.Goals as goal
+
+pub returns : goal.returns
+unfolding IsBlockOf
+returns c number block = rw (c.copied.ensures, c.first.ensures.value, c.deref.ensures.value, block) refl

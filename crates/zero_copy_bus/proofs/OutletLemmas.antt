@@ -1,0 +1,229 @@
+-- What a call does to a lane, as the table goes on before and after it.
+use Rattle.std.proofs.Common.{◌≡◌, ◌≢◌, ◌⊎◌, ℕ, ◌+◌, ◌<◌, Bool, true, cond, take, Option, Some, None, List, [], ◌∷◌, ◌++◌, length}
+use Rattle.std.proofs.Common.{map, ◌==◌, ◌&&◌, not, ap, sym, ◌∙◌, subst, inl, inr, ⊎_elim, append_assoc}
+use Rattle.std.proofs.Common.{arith, length-append}
+use Rattle.std.proofs.lemmas.List.{map-append}
+use Rattle.std.proofs.lemmas.List.Elements.{Contains-append_left, Contains-push, Contains-push_cases}
+use Rattle.std.specs.List.{count_by}
+use Rattle.std.specs.Prelude.{◌↔◌, Contains, IfNone, IfSome, slice_get}
+use Rattle.lock_free.specs.History.{IsBeginning}
+use Rattle.lock_free.specs.HistoryView.View.{View}
+use Rattle.lock_free.specs.Queues.Item.TheVariants.{Index}
+use Rattle.lock_free.specs.Queues.Overflowing.{PushAdded, PushHandedBack}
+use Rattle.lock_free.specs.Queues.Rings.{producer_queue}
+use Rattle.lock_free.specs.Queues.Reading.{handed_out}
+use Rattle.lock_free.specs.Queues.Contracts.{PopDone, PopEmpty}
+use Rattle.zero_copy_bus.specs.declared.holders.Holder.{Holder}
+use Rattle.zero_copy_bus.specs.declared.holders.Holders.{Holders}
+use Rattle.zero_copy_bus.specs.declared.outlet.Outlet.{Outlet}
+use Rattle.zero_copy_bus.specs.declared.roll.Roll.{Roll}
+use Rattle.zero_copy_bus.specs.Books.{CanSend, ChangesAt, Exchanges, HasSlot, KeepsLoans, KeepsOthers, KeepsSlots}
+use Rattle.zero_copy_bus.specs.Holders.{bit_of, publisher}
+use Rattle.zero_copy_bus.specs.Rolls.{IsShown}
+use Rattle.zero_copy_bus.specs.Outlets.{has_gained, has_slot, holder_of, holders_in, is_open, open_in, place_of, takes_view}
+use Rattle.zero_copy_bus.specs.Outlets.{sends_view, AreShown, EachLane, HasPushed, HaveTheirPlaces, IsSent, IsServed, IsSettled, IsTakenBack, KeepsRest}
+use Rattle.zero_copy_bus.specs.Words.{slot_back}
+use Rattle.zero_copy_loans.specs.Words.{word_of}
+use Rattle.zero_copy_bus.proofs.BookLemmas.{changes_keep, had_elsewhere, has_elsewhere}
+use Rattle.zero_copy_bus.proofs.LaneLemmas.{count_more, count_same, each_more, get_map, map_got, placed_at, KeepsAbove}
+use Rattle.lock_free.proofs.HistoryKnown.{begins_further}
+use Rattle.zero_copy_bus.proofs.ViewLemmas.{empty_found, found_since, out_later}
+
+-- ---- a publish
+
+-- what the push answered
+pub pushed_as : (word : ℕ) (old new : Outlet) (back : Option ℕ) → IfNone back (PushAdded word (sends_view old) (sends_view new))
+    → IfSome back (λ y. PushHandedBack (producer_queue old.sends).capacity word y (sends_view old) (sends_view new))
+    → HasPushed word back old new
+pushed_as word old new None added handed = added
+pushed_as word old new (Some y) added handed = handed
+
+-- what was sent, by the word that was made of it and what came back
+pub sent_as : (room number slot word : ℕ) (one two : List Holders) (old new : Outlet) (other : ℕ) (back : Option ℕ) (returned : Option ℕ)
+    → word ≡ word_of room number slot → other ≡ slot → returned ≡ slot_back room back
+    → IfNone back (PushAdded word (sends_view old) (sends_view new))
+    → IfSome back (λ y. PushHandedBack (producer_queue old.sends).capacity word y (sends_view old) (sends_view new))
+    → Exchanges other (holder_of old) returned one two → IsSent room number slot one two old new
+sent_as room number slot word one two old new other back returned is at came added handed has =
+    record {
+      back = back;
+      pushed = subst (λ w. HasPushed w back old new) is (pushed_as word old new back added handed);
+      has =
+          subst (λ s. Exchanges s (holder_of old) (slot_back room back) one two) at
+          (subst (λ b. Exchanges other (holder_of old) b one two) came has);
+    }
+
+module _ (room number slot : ℕ) (one two three : List Holders) (old new : Outlet) where
+  pub served_still : KeepsSlots (holder_of old) two three → IsServed room number slot one two old new → IsServed room number slot one three old new
+  served_still x0 x1 = grind arith
+
+  pub served_from : KeepsSlots (holder_of old) one two → KeepsLoans one two → IsServed room number slot two three old new
+      → IsServed room number slot one three old new
+  served_from keeps loans served =
+      record {
+        sent =
+            λ on can. (let s = served.sent on (forth can) in
+            record {
+              back = s.back;
+              pushed = s.pushed;
+              has = λ n. (λ has. (let x = (s.has n).0 has in (before n x.0, x.1)), λ x. (s.has n).1 (after n x.0, x.1));
+            });
+        other = λ no n. served.other (λ x. no (x.0, back x.1)) n ∙ keeps n;
+      }
+    where
+      forth : CanSend one slot (holder_of old) → CanSend two slot (holder_of old)
+      forth can = (loans slot ∙ can.0, λ has. can.1 (sym (keeps slot) ∙ has))
+
+      back : CanSend two slot (holder_of old) → CanSend one slot (holder_of old)
+      back can = (sym (loans slot) ∙ can.0, λ has. can.1 (keeps slot ∙ has))
+
+      before : (n : ℕ) → HasSlot two n (holder_of old) ⊎ (n ≡ slot) → HasSlot one n (holder_of old) ⊎ (n ≡ slot)
+      before n some = ⊎_elim (λ has. inl (sym (keeps n) ∙ has)) (λ e. inr e) some
+
+      after : (n : ℕ) → HasSlot one n (holder_of old) ⊎ (n ≡ slot) → HasSlot two n (holder_of old) ⊎ (n ≡ slot)
+      after n some = ⊎_elim (λ has. inl (keeps n ∙ has)) (λ e. inr e) some
+
+module _ (slot : ℕ) (one two three : List Holders) (lane : Outlet) where
+  pub gained_still : KeepsSlots (holder_of lane) two three → has_gained slot one two lane ≡ has_gained slot one three lane
+  gained_still keeps = ap (λ b. is_open lane && (not (has_slot one slot lane) && (b == 1))) (sym (keeps slot))
+
+  pub gained_from : KeepsSlots (holder_of lane) one two → has_gained slot two three lane ≡ has_gained slot one three lane
+  gained_from keeps = ap (λ b. is_open lane && (not (b == 1) && has_slot three slot lane)) (keeps slot)
+
+-- one more lane is counted
+pub counted : (slot : ℕ) (one two three : List Holders) (n number : ℕ) (lanes : List Outlet) (lane : Outlet) (gained : Bool)
+    → HaveTheirPlaces (holders_in lanes) → KeepsAbove n one two → KeepsOthers (holder_of lane) two three
+    → slice_get lanes n ≡ Some lane → number ≡ count_by (has_gained slot one two) (take n lanes)
+    → gained ≡ has_gained slot two three lane
+    → number + cond gained 1 0 ≡ count_by (has_gained slot one three) (take (n + 1) lanes)
+counted slot one two three n number lanes lane gained placed above others is count e =
+    let bit : bit_of (holder_of lane) ≡ n + 1 = placed_at lanes n lane placed is in
+    let kept : KeepsSlots (holder_of lane) one two = λ s. above (bit_of (holder_of lane)) (omega arith) lane.holder.within s in
+    count_more (has_gained slot one two) (has_gained slot one three) lanes n number lane gained (below bit) is count
+    (sym (e ∙ gained_from slot one two three lane kept))
+  where
+    below : bit_of (holder_of lane) ≡ n + 1 → (k : ℕ) (x : Outlet) → k < n → slice_get lanes k ≡ Some x
+        → has_gained slot one two x ≡ has_gained slot one three x
+    below bit k x lt got =
+        let own : bit_of (holder_of x) ≡ k + 1 = placed_at lanes k x placed got in
+        gained_still slot one two three x (λ s. others s (bit_of (holder_of x)) x.holder.within (λ same. absurd (omega arith)))
+
+-- what the publisher alone gives up is no subscriber's
+module _ (room number slot : ℕ) (one two three : List Holders) (olds news : List Outlet) (changes : ChangesAt slot publisher two three) where
+  kept : (lane : Outlet) → KeepsSlots (holder_of lane) two three
+  kept x0 x1 = grind (arith, changes_keep, publisher, bit_of, holder_of)
+
+  pub served_after : EachLane (IsServed room number slot one two) olds news → EachLane (IsServed room number slot one three) olds news
+  served_after each =
+      each_more (IsServed room number slot one two) (IsServed room number slot one three) olds news
+      (λ k old new is served. served_still room number slot one two three old new (kept old) served) each
+
+  pub rest_after : KeepsRest olds one two → KeepsRest olds one three
+  rest_after rest i long small s = changes_keep slot publisher two three changes s i small (λ e. absurd (omega (arith, e))) ∙ rest i long small s
+
+  pub number_after : count_by (has_gained slot one two) olds ≡ count_by (has_gained slot one three) olds
+  number_after = grind (arith, count_same, has_gained, gained_still, kept)
+
+-- what was laid is what was on loan
+module _ (laid slot loaned : ℕ) (one two three : List Holders) (olds news : List Outlet) (at : laid ≡ slot) (is : slot ≡ loaned)
+    (changes : ChangesAt slot publisher two three) where
+  there : ChangesAt laid publisher two three
+  there = subst (λ s. ChangesAt s publisher two three) (sym at) changes
+
+  pub number_of_all : (gained : ℕ) → gained ≡ count_by (has_gained laid one two) olds → gained ≡ count_by (has_gained loaned one three) olds
+  number_of_all gained count =
+      subst (λ s. gained ≡ count_by (has_gained s one three) olds) (at ∙ is) (count ∙ number_after 0 0 laid one two three olds news there)
+
+  pub served_of : (room laid_number number : ℕ) → laid_number ≡ number → EachLane (IsServed room laid_number laid one two) olds news
+      → EachLane (IsServed room number loaned one three) olds news
+  served_of room laid_number number same each =
+      subst (λ s. EachLane (IsServed room number s one three) olds news) (at ∙ is)
+      (subst (λ n. EachLane (IsServed room n laid one three) olds news) same (served_after room laid_number laid one two three olds news there each))
+
+-- ---- a collect
+
+module _ (slots : ℕ) (one two three : List Holders) (old new : Outlet) where
+  pub taken_still : KeepsSlots (holder_of old) two three → IsTakenBack slots one two old new → IsTakenBack slots one three old new
+  taken_still x0 x1 = grind arith
+
+  pub taken_from : KeepsSlots (holder_of old) one two → KeepsLoans one two → IsTakenBack slots two three old new → IsTakenBack slots one three old new
+  taken_from x0 x1 x2 = grind arith
+
+-- so many numbers came back, and nothing else changed
+pub record TakenSo (number : ℕ) (holder : Holder) (before after : List Holders) (old new : View ℕ) : Type 0 where
+  pub numbers : List ℕ
+  pub taken : handed_out new.seen ≡ handed_out old.seen ++ map Index numbers
+  pub many : length numbers ≡ number
+  pub since : IsBeginning old.seen new.seen
+  pub has : (slot : ℕ) → HasSlot after slot holder ↔ (HasSlot before slot holder × ¬ Contains numbers slot)
+
+pub so_more : (number back : ℕ) (holder : Holder) (one two three : List Holders) (u v w : View ℕ)
+    → TakenSo number holder one two u v → PopDone (Index back) v w → ChangesAt back holder two three
+    → ¬ HasSlot three back holder → TakenSo (number + 1) holder one three u w
+so_more number back holder one two three u v w so out changes lacks =
+    record {
+      numbers = so.numbers ++ back ∷ [];
+      taken =
+          out.1.list ∙ (ap (λ items. items ++ Index back ∷ []) so.taken
+          ∙ (append_assoc (handed_out u.seen) (map Index so.numbers) (Index back ∷ [])
+          ∙ ap (λ items. handed_out u.seen ++ items) (sym (map-append Index so.numbers (back ∷ [])))));
+      many = simp length-append (omega (arith, so.many));
+      since = begins_further u.seen v.seen w.seen so.since (out_later (Index back) v w out.1);
+      has = λ slot. (forth slot, back_from slot);
+    }
+  where
+    forth : (slot : ℕ) → HasSlot three slot holder → HasSlot one slot holder × ¬ Contains (so.numbers ++ back ∷ []) slot
+    forth slot has =
+        let ne : slot ≢ back = λ e. lacks (subst (λ n. HasSlot three n holder) e has) in
+        let x = (so.has slot).0 (had_elsewhere back holder two three slot changes ne has) in
+        (x.0, λ c. ⊎_elim x.1 (λ e. ne (sym e)) (Contains-push_cases so.numbers back slot c))
+
+    back_from : (slot : ℕ) → HasSlot one slot holder × ¬ Contains (so.numbers ++ back ∷ []) slot → HasSlot three slot holder
+    back_from slot x =
+        let ne : slot ≢ back = λ e. x.1 (subst (λ n. Contains (so.numbers ++ back ∷ []) n) (sym e) (Contains-push so.numbers back)) in
+        has_elsewhere back holder two three slot changes ne ((so.has slot).1 (x.0, λ c. x.1 (Contains-append_left so.numbers (back ∷ []) slot c)))
+
+module _ (slots number : ℕ) (one two : List Holders) (old now new : Outlet)
+    (so : TakenSo number (holder_of old) one two (takes_view old) (takes_view now)) where
+  pub so_empty : PopEmpty (takes_view now) (takes_view new) → IsTakenBack slots one two old new
+  so_empty was =
+      record {
+        numbers = so.numbers;
+        taken = was.1.list ∙ so.taken;
+        all = inl (found_since (takes_view old) (takes_view now) (takes_view new) so.since (empty_found (takes_view now) (takes_view new) was));
+        has = so.has;
+      }
+
+  pub so_full : number ≡ slots → IsTakenBack slots one two old now
+  so_full x0 = grind arith
+
+-- ---- a look at who takes part
+
+module _ (roll : Roll) (one two three : List Holders) (old new : Outlet) where
+  pub settled_still : KeepsSlots (holder_of old) two three → IsSettled roll one two old new → IsSettled roll one three old new
+  settled_still keeps settled =
+      record {
+        takes = settled.takes;
+        free =
+            λ is. ⊎_elim (λ was. inl was) (λ lost. inr ((λ slot has. lost.0 slot (sym (keeps slot) ∙ has)), lost.1)) (settled.free is);
+        kept = λ stays slot. keeps slot ∙ settled.kept stays slot;
+      }
+
+  pub settled_from : KeepsSlots (holder_of old) one two → KeepsLoans one two → IsSettled roll two three old new → IsSettled roll one three old new
+  settled_from x0 x1 x2 = grind arith
+
+-- who takes part after a look is one whom the roll shows
+pub shown_after : (roll : Roll) (before after : List Holders) (olds news : List Outlet)
+    → HaveTheirPlaces (holders_in olds) → holders_in news ≡ holders_in olds
+    → EachLane (IsSettled roll before after) olds news → AreShown roll (open_in news)
+shown_after roll before after olds news placed same each place is =
+    let on = map_got is_open news place true is in
+    let named : slice_get (holders_in olds) place ≡ Some (holder_of on.0) = ap (λ hs. slice_get hs place) (sym same) ∙ get_map holder_of news place on.0 on.1 in
+    let was = map_got holder_of olds place (holder_of on.0) named in
+    let it = each place was.0 was.1 in
+    let got : slice_get news place ≡ Some on.0 = on.1 in
+    let is_got : slice_get news place ≡ Some it.0 = it.1 in
+    let one : on.0 ≡ it.0 = cc in
+    let bit : bit_of (holder_of was.0) ≡ place + 1 = placed_at olds place was.0 placed was.1 in
+    let here : place_of was.0 ≡ place = omega arith in
+    subst (λ k. IsShown roll k) here (it.2.takes.0 (ap is_open (sym one) ∙ on.2)).1

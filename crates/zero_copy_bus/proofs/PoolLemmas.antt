@@ -1,0 +1,7 @@
+-- What stays the same from one call to the next.
+use Rattle.std.proofs.Common.{arith}
+use Rattle.zero_copy_bus.specs.declared.pool.Pool.{Pool}
+use Rattle.zero_copy_bus.specs.Pools.{IsSame}
+
+pub same_both : (one two three : Pool) → IsSame one two → IsSame two three → IsSame one three
+same_both x0 x1 x2 x3 x4 = grind arith

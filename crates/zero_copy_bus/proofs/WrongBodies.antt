@@ -1,0 +1,139 @@
+-- What a wrong body of a call would leave or answer, and which of the call's clauses refuses that. A name says what the body does.
+use Rattle.std.proofs.Common.{◌≡◌, ◌≢◌, ⊎_elim, ℕ, ◌+◌, ◌<◌, Option, Some, None, true, List, [], ◌∷◌, ◌++◌}
+use Rattle.std.proofs.Common.{length, length-append, ap, refl, sym, ◌∙◌, arith}
+use Rattle.std.proofs.lemmas.List.{append_cancel_left}
+use Rattle.std.specs.Prelude.{slice_get, Bool, IsTrue}
+use Rattle.model.specs.declared.event.Answer.{Answer}
+use Rattle.model.specs.declared.event.Event.{Event}
+use Rattle.model.specs.declared.event.Event.TheVariants.{Begun, Finished}
+use Rattle.model.specs.declared.event.Start.{Start}
+use Rattle.lock_free.specs.History.{Called, IsBeginning}
+use Rattle.lock_free.specs.HistoryView.View.{View}
+use Rattle.lock_free.specs.Queues.Overflowing.{HasOverflowed, PushAdded}
+use Rattle.lock_free.specs.Robust.Contracts.{WasFreed}
+use Rattle.zero_copy_bus.specs.declared.error.LoanFailure.TheVariants.{NoRecord}
+use Rattle.zero_copy_bus.specs.declared.holders.Holders.{Holders}
+use Rattle.zero_copy_bus.specs.declared.loan.Emptied.{Emptied}
+use Rattle.zero_copy_bus.specs.declared.outlet.Outlet.{Outlet}
+use Rattle.zero_copy_bus.specs.declared.roll.Roll.{Roll}
+use Rattle.zero_copy_bus.specs.declared.subscriber.Sample.{Sample}
+use Rattle.zero_copy_bus.specs.Books.{CanSend}
+use Rattle.zero_copy_bus.specs.Ends.{emptied, number_of, numbers_of, received, IsTakenFor}
+use Rattle.zero_copy_bus.specs.Outlets.{holder_of, is_open, sends_view, waits_queue, waits_view, AreShown, FoundEmpty, HasPushed, IsFree, IsServed, IsSettled}
+use Rattle.zero_copy_bus.specs.Rolls.{IsShown}
+use Rattle.zero_copy_bus.specs.Sequences.{Rises}
+use Rattle.zero_copy_bus.proofs.Words.{number_in_word}
+use Rattle.zero_copy_loans.specs.Words.{word_of}
+use Rattle.zero_copy_slots.specs.declared.Reading.{Reading}
+use Rattle.zero_copy_slots.specs.declared.Writing.{Writing}
+use Rattle.zero_copy_slots.specs.Slots.{number_in, slot_in, slot_of}
+
+-- what was seen has no further event in it
+no_more : (before after seen : List (Event ℕ)) (event : Event ℕ) → seen ≡ before ++ event ∷ after → IsBeginning seen before → ⊥
+no_more before after seen event is since =
+    let a = ap length is in
+    let b = length-append before (event ∷ after) in
+    let c = ap length since.is in
+    let d = length-append seen since.rest in
+    absurd (omega arith)
+
+-- ---- the publisher
+
+-- a lane that is freed, and nobody has looked whether its queue of what waits is empty
+pub drain_leaves_what_waits : (old new : Outlet) → waits_view new ≡ waits_view old → 0 < (waits_queue old).capacity → FoundEmpty old new → ⊥
+drain_leaves_what_waits old new same room k =
+    let found = k.0 room in
+    no_more found.before found.after _ _ (sym (ap (λ (v : View ℕ). v.seen) same) ∙ found.is) found.since
+
+-- so it is of what `update` says
+pub update_leaves_what_waits : (roll : Roll) (before after : List Holders) (old new : Outlet) → waits_view new ≡ waits_view old
+    → 0 < (waits_queue old).capacity
+    → ¬ IsFree old
+    → IsFree new
+    → IsSettled roll before after old new
+    → ⊥
+update_leaves_what_waits roll before after old new same room taken free k =
+    ⊎_elim taken (λ found. drain_leaves_what_waits old new same room found.1) (k.free free)
+
+-- a loan that is refused since there is no record, and there is one
+pub loan_tells_no_record_with_one_left : (more : ℕ) (old new : List Holders) → IsTakenFor (1 + more) old new NoRecord → ⊥
+loan_tells_no_record_with_one_left more old new k = let none = k.1 in absurd (omega arith)
+
+-- one push has one word
+one_word : (word other : ℕ) (back given : Option ℕ) (v w : View ℕ) → HasOverflowed word back v w → HasOverflowed other given v w → word ≡ other
+one_word word other back given v w one two =
+    let is = append_cancel_left v.made _ _ (sym one.called.made ∙ two.called.made) in
+    cc
+
+-- and is a call
+no_call : (p : ℕ) (start : Start ℕ) (answer : Answer ℕ) (wrote : List (Event ℕ)) (v w : View ℕ) → w.made ≡ v.made
+    → Called p start answer wrote v w
+    → ⊥
+no_call p start answer wrote v w none c =
+    let all = length-append v.made (Begun p start ∷ (wrote ++ Finished p start answer ∷ [])) in
+    let made = ap length c.made in
+    let same = ap length none in
+    absurd (omega arith)
+
+no_push : (word : ℕ) (back : Option ℕ) (v w : View ℕ) → w.made ≡ v.made → HasOverflowed word back v w → ⊥
+no_push word back v w none one = no_call _ _ _ _ v w none one.called
+
+-- a word with another number than the next goes out to one who takes part and has not the slot
+pub publish_lays_another_number : (room number other slot : ℕ) (before after : List Holders) (old new : Outlet) → slot < room
+    → number ≢ other
+    → IsTrue (is_open old)
+    → CanSend before slot (holder_of old)
+    → PushAdded (word_of room other slot) (sends_view old) (sends_view new)
+    → IsServed room number slot before after old new
+    → ⊥
+publish_lays_another_number room number other slot before after old new within differs takes can wrong k =
+    let sent = k.sent takes can in
+    go sent.back sent.pushed
+  where
+    not_both : word_of room number slot ≡ word_of room other slot → ⊥
+    not_both is = differs (number_in_word room number slot _ is within ∙ sym (number_in_word room other slot _ refl within))
+
+    go : (back : Option ℕ) → HasPushed (word_of room number slot) back old new → ⊥
+    go None pushed = not_both (one_word _ _ _ _ (sends_view old) (sends_view new) pushed.0 wrong.0)
+    go (Some back) pushed =
+        ⊎_elim (λ replaced. not_both (one_word _ _ _ _ (sends_view old) (sends_view new) replaced.0 wrong.0))
+        (λ own. ⊎_elim (λ none. no_push _ _ _ _ (ap (λ (v : View ℕ). v.made) none.1) wrong.0) (λ end. no_push _ _ _ _ end.made wrong.0) own.1)
+        pushed
+
+module _ {X K : Type 0} where
+  -- a slot is left empty by who had the right to write another one: no such thing can be made, and it would be of the other
+  pub reclaim_takes_another_slot : (slot other : ℕ) (writing : Writing X K) → other ≢ slot → slot_of writing ≡ other → slot_of writing ≡ slot → ⊥
+  reclaim_takes_another_slot slot other writing differs is k = differs (sym is ∙ k)
+
+-- or he tells of the other
+pub reclaim_answers_another_slot : (slot other : ℕ) (e : Emptied) → other ≢ slot → emptied e ≡ other → emptied e ≡ slot → ⊥
+reclaim_answers_another_slot slot other e differs is k = differs (sym is ∙ k)
+
+-- who is told that he takes part, and no record of his is seen
+pub subscribe_does_not_look : (roll : Roll) (taking : List Bool) (place : ℕ) → AreShown roll taking → ¬ IsShown roll place
+    → slice_get taking place ≡ Some true
+    → ⊥
+subscribe_does_not_look roll taking place shown hidden k = hidden (shown place k)
+
+-- ---- a subscriber
+
+-- a record is received whose number is below the one that is expected
+pub receive_takes_older_numbers : (from next : ℕ) (sample : Sample) → number_of sample < from → Rises from (numbers_of (Some sample)) next → ⊥
+receive_takes_older_numbers from next sample older k = let first = k.0 in absurd (omega arith)
+
+module _ {X K : Type 0} where
+  -- what lies in another slot is read
+  pub read_takes_another_slot : (reading : Reading X K) (sample : Sample) (other : ℕ) → other ≢ received sample → slot_in reading ≡ other
+      → (number_in reading ≡ number_of sample) × (slot_in reading ≡ received sample)
+      → ⊥
+  read_takes_another_slot reading sample other differs is k = differs (sym is ∙ k.1)
+
+  -- what lies there with a later number is read
+  pub read_takes_later_numbers : (reading : Reading X K) (sample : Sample) → number_of sample < number_in reading
+      → (number_in reading ≡ number_of sample) × (slot_in reading ≡ received sample)
+      → ⊥
+  read_takes_later_numbers reading sample later k = let same = k.0 in absurd (omega arith)
+
+-- one who leaves, and his record stays in the registry
+pub leave_removes_nothing : (index owner : ℕ) (v : View ℕ) → WasFreed index owner v v → ⊥
+leave_removes_nothing index owner v k = no_more k.before k.after v.seen _ k.is k.since

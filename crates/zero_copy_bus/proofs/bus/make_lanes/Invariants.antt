@@ -1,0 +1,6 @@
+use Rattle.std.proofs.Common.{◌≡◌, ◌-◌, ◌^◌, ◌<◌, None}
+use Rattle.lock_free.specs.Enums.{capacity_refusal}
+use Rattle.zero_copy_bus.proofs.bus.make_lanes.Given as given
+
+abbrev pub invariant-loop : given.invariant-loop
+invariant-loop l = 0 < l.counter → capacity_refusal 0 (2 ^ 32 - 1) l.sizes.queue ≡ None

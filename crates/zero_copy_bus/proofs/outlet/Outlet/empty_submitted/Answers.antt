@@ -1,0 +1,15 @@
+use Rattle.std.proofs.Common.{◌<◌, ◌∙◌, sym, subst}
+use Rattle.lock_free.specs.History.{IsBeginning}
+use Rattle.lock_free.proofs.HistoryKnown.{begins_further}
+use Rattle.lock_free.specs.Queues.Rings.{QueueId, consumer_view, view}
+use Rattle.zero_copy_bus.proofs.ViewLemmas.{found_further}
+use Rattle.zero_copy_bus.proofs.outlet.Outlet.empty_submitted.Goals as goal
+
+pub returns-in-Ok-clause-empty : goal.returns-in-Ok-clause-empty
+returns-in-Ok-clause-empty g c seen some =
+    let taken = c.in-Ok.ensures.acquired.0 in
+    let first : IsBeginning (view c.args.self.now.waits).seen (consumer_view c.in-Ok.receives).seen =
+    subst (λ es. IsBeginning es (consumer_view c.in-Ok.receives).seen) c.in-Some.ensures.cut.right_seen taken.goes.since in
+    let found =
+    c.empty-is_empty.ensures.empty (subst (λ (q : QueueId). 0 < q.capacity) (sym (taken.queue ∙ c.in-Some.ensures.new)) some) seen in
+    found_further _ _ _ _ first found (begins_further _ _ _ c.release.ensures.same.goes.since c.join.ensures.same.joined.others)

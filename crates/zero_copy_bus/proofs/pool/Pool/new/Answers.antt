@@ -1,0 +1,15 @@
+use Rattle.std.proofs.Common.{◌≡◌, replicate, rules, sym, subst}
+use Rattle.lock_free.specs.UniqueIndexSet.{view}
+use Rattle.zero_copy_bus.specs.Books.{IsBookOf}
+use Rattle.zero_copy_bus.specs.Holders.{nobody}
+use Rattle.zero_copy_bus.proofs.BookLemmas.{book_opens}
+use Rattle.zero_copy_bus.proofs.pool.Pool.new.Goals as goal
+
+pub invariant_of-result : goal.invariant_of-result
+invariant_of-result c =
+    let all : c.in-Ok.table.items ≡ replicate c.capacity.result nobody = search rules in
+    record {
+      of = c.requires.pass;
+      long = search rules;
+      book = subst (IsBookOf (view c.args.pass)) (sym all) (book_opens (view c.args.pass) c.capacity.result c.requires.nothing);
+    }

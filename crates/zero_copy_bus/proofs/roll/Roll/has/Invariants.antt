@@ -1,0 +1,6 @@
+use Rattle.std.proofs.Common.{◌≢◌, ℕ, ◌<◌, Some}
+use Rattle.lock_free.specs.ContainerState.{shown_at}
+use Rattle.zero_copy_bus.proofs.roll.Roll.has.Given as given
+
+abbrev pub invariant-loop-index : given.invariant-loop-index
+invariant-loop-index l = (i : ℕ) → i < l.index → shown_at l.self.state.shown.elements i ≢ Some l.place

@@ -1,0 +1,10 @@
+use Rattle.std.proofs.Common.{rules}
+use Rattle.zero_copy_bus.proofs.RollLemmas.{told_yes}
+use Rattle.zero_copy_bus.proofs.roll.Roll.recover.Goals as goal
+
+pub returns-clause-taken : goal.returns-clause-taken
+returns-clause-taken g c =
+    record {
+      state = c.recover.result;
+      recovered = told_yes _ (λ p x b q k. search rules) _ _ _ _ _ _ _ _ c.recover.ensures.recovered;
+    }

@@ -1,0 +1,212 @@
+-- What clauses see of the ends of a bus.
+use Rattle.std.specs.Prelude.{◌≡◌, ◌≢◌, ◌⊎◌, ℕ, ◌/◌, ◌%◌, ◌<◌, ◌≤◌, Ok, Option, Some, None, List, [], ◌∷◌, vec_len}
+use Rattle.zero_copy_slots.specs.declared.Keeps.{Ghosts}
+use Rattle.lock_free.specs.Coding.{Coding}
+use Rattle.lock_free.specs.Container.Handles.{knows, pass_in}
+use Rattle.lock_free.specs.Container.Names.{code_of}
+use Rattle.lock_free.specs.Container.Contracts.{HasAdded}
+use Rattle.lock_free.specs.HistoryView.View.{View}
+use Rattle.lock_free.specs.Queues.Item.TheVariants.{Index}
+use Rattle.lock_free.specs.Queues.Rings.{QueueId, consumer_queue, consumer_view, producer_queue, producer_view, view}
+use Rattle.lock_free.specs.Queues.Contracts.{PopFoundNone, PopOldest, PushRefused}
+use Rattle.lock_free.specs.Share.{Share}
+use Rattle.lock_free.specs.UniqueIndexSet.{SetId}
+use Rattle.lock_free.specs.declared.mpmc.container.ContainerHandle.{ContainerHandle}
+use Rattle.zero_copy_bus.specs.declared.error.LoanFailure.{LoanFailure}
+use Rattle.zero_copy_bus.specs.declared.error.LoanFailure.TheVariants.{NoSlot, NoRecord, StillRead}
+use Rattle.zero_copy_bus.specs.declared.error.ReclaimFailure.{ReclaimFailure}
+use Rattle.zero_copy_bus.specs.declared.error.ReclaimFailure.TheVariants.{NotHeld, InUse}
+use Rattle.zero_copy_bus.specs.declared.holders.Holders.{Holders}
+use Rattle.zero_copy_bus.specs.declared.outlet.Outlet.{Outlet}
+use Rattle.zero_copy_bus.specs.declared.loan.Emptied.{Emptied}
+use Rattle.zero_copy_bus.specs.declared.loan.Loan.{Loan}
+use Rattle.zero_copy_bus.specs.declared.publisher.Publisher.{Publisher}
+use Rattle.zero_copy_bus.specs.declared.roll.Roll.{Roll}
+use Rattle.zero_copy_bus.specs.declared.subscriber.Left.{Left}
+use Rattle.zero_copy_bus.specs.declared.subscriber.Sample.{Sample}
+use Rattle.zero_copy_bus.specs.declared.subscriber.Seat.{Seat}
+use Rattle.zero_copy_bus.specs.declared.subscriber.Subscriber.{Subscriber}
+use Rattle.zero_copy_bus.specs.Outlets.{holders_in}
+use Rattle.zero_copy_bus.specs.Pools as pools
+use Rattle.zero_copy_bus.specs.Books.{ChangesAt, IsLoaned}
+use Rattle.zero_copy_bus.specs.Holders.{publisher}
+use Rattle.zero_copy_loans.specs.Words.{word_of, IsWord}
+use Rattle.zero_copy_loans.specs.declared.error.ReadFailure.{ReadFailure}
+use Rattle.zero_copy_loans.specs.declared.error.ReadFailure.TheVariants.{Slot, Other}
+use Rattle.zero_copy_loans.specs.declared.words.Layout.{Layout}
+use Rattle.zero_copy_slots.specs.Slots.{slots_in, IsUnreadable, IsUntaken}
+
+-- nothing changed, and no record to write was left where that is the reason; or one slot more is out, which the publisher has
+abbrev pub IsTakenFor : ℕ → List Holders → List Holders → LoanFailure → Type 0
+IsTakenFor spares old new (StillRead slot) = ChangesAt slot publisher old new × IsLoaned new slot
+IsTakenFor spares old new (NoSlot e) = new ≡ old
+IsTakenFor spares old new NoRecord = (new ≡ old) × (spares ≡ 0)
+
+-- the slot that is read, and the number that its record was published with
+abbrev pub received : Sample → ℕ
+received sample = sample.slot
+
+abbrev pub number_of : Sample → ℕ
+number_of sample = sample.number
+
+-- the numbers that came
+abbrev pub numbers_of : Option Sample → List ℕ
+numbers_of (Some sample) = number_of sample ∷ []
+numbers_of None = []
+
+-- the slot that is written
+abbrev pub loaned : {X K : Type 0} → Loan X K → ℕ
+loaned loan = loan.slot
+
+-- the slot that was left empty
+abbrev pub emptied : Emptied → ℕ
+emptied e = e.slot
+
+-- what one that left knew of the registry, of the queue that it received from, and of the one by which it gave back
+abbrev pub members_left : Left → View ℕ
+members_left left = knows left.members
+
+abbrev pub receives_left : Left → View ℕ
+receives_left left = view left.submission
+
+abbrev pub returns_left : Left → View ℕ
+returns_left left = view left.completion
+
+module _ {X K : Type 0} {rule : Ghosts K X} where
+  -- ---- the publisher
+
+  -- who holds each slot
+  abbrev pub table_of : Publisher X K rule → List Holders
+  table_of p = pools.table_of p.pool
+
+  abbrev pub slots_of : Publisher X K rule → ℕ
+  slots_of p = pools.slots_of p.pool
+
+  -- the number of the record that is published next
+  abbrev pub next_of : Publisher X K rule → ℕ
+  next_of p = p.next
+
+  -- how many records are not in a slot
+  abbrev pub spares_in : Publisher X K rule → ℕ
+  spares_in p = vec_len p.spares
+
+  -- how its words are made, and whether there is one of the next number with this slot
+  abbrev pub layout_of : Publisher X K rule → Layout
+  layout_of p = p.layout
+
+  abbrev pub room_of : Publisher X K rule → ℕ
+  room_of p = (layout_of p).room
+
+  abbrev pub HasNumber : Publisher X K rule → ℕ → Type 0
+  HasNumber p slot = IsWord (room_of p) (slots_of p) (next_of p) slot
+
+  -- why a slot is not reclaimed: it is not on loan, or its slot is not to be written
+  abbrev pub IsKept : ℕ → Publisher X K rule → ReclaimFailure → Type 0
+  IsKept slot p NotHeld = ¬ IsLoaned (table_of p) slot
+  IsKept slot p (InUse failure) = IsUntaken p.records.now slot failure
+
+  -- of which set its pass is, and how much of the right to know the whole it has
+  abbrev pub set_in : Publisher X K rule → SetId
+  set_in p = pools.set_in p.pool
+
+  abbrev pub share_in : Publisher X K rule → Share
+  share_in p = pools.share_in p.pool
+
+  -- its end of each lane, by places, and of the registry
+  abbrev pub lanes_of : Publisher X K rule → List Outlet
+  lanes_of p = p.outlets.items
+
+  abbrev pub roll_of : Publisher X K rule → Roll
+  roll_of p = p.roll
+
+  -- a publisher of the same bus
+  pub record IsSame (old new : Publisher X K rule) : Type 0 where
+    pub pool : pools.IsSame old.pool new.pool
+    pub records : new.records ≡ old.records
+    pub layout : layout_of new ≡ layout_of old
+    pub lanes : holders_in (lanes_of new) ≡ holders_in (lanes_of old)
+
+  -- ---- a subscriber
+
+  abbrev pub slots_at : Subscriber X K rule → ℕ
+  slots_at s = slots_in s.records.now
+
+  -- how many slots the bus has at which it is a seat
+  abbrev pub slots_before : Seat X K rule → ℕ
+  slots_before s = slots_in s.records.now
+
+  -- the place of the lane whose end it has
+  abbrev pub place_before : Seat X K rule → ℕ
+  place_before s = s.place
+
+  abbrev pub place_at : Subscriber X K rule → ℕ
+  place_at s = s.place
+
+  -- how it takes words apart
+  abbrev pub layout_before : Seat X K rule → Layout
+  layout_before s = s.layout
+
+  abbrev pub layout_at : Subscriber X K rule → Layout
+  layout_at s = s.layout
+
+  -- the number of the first record that it takes, and of the next
+  abbrev pub first_before : Seat X K rule → ℕ
+  first_before s = s.first
+
+  abbrev pub expected_at : Subscriber X K rule → ℕ
+  expected_at s = s.expected
+
+  -- what was published, of a sample
+  abbrev pub word_at : Subscriber X K rule → Sample → ℕ
+  word_at s sample = word_of (layout_at s).room (number_of sample) (received sample)
+
+  -- where its record is in the registry
+  abbrev pub record_of : Subscriber X K rule → ContainerHandle
+  record_of s = s.record
+
+  -- why a sample is not read: its slot is not, or the failure has another number (that it lies there, no clause says)
+  abbrev pub IsUnread : Subscriber X K rule → Sample → ReadFailure → Type 0
+  IsUnread s sample (Slot failure) = IsUnreadable s.records.now (received sample) failure
+  IsUnread s sample (Other number) = number ≢ number_of sample
+
+  -- how the registry's records are written in words, and what is known of it
+  abbrev pub code_before : Seat X K rule → Coding ℕ
+  code_before s = code_of (pass_in s.members)
+
+  abbrev pub members_before : Seat X K rule → View ℕ
+  members_before s = knows s.members
+
+  abbrev pub members_view : Subscriber X K rule → View ℕ
+  members_view s = knows s.members
+
+  -- the registry was given a record of the seat's place, by this owner
+  abbrev pub IsLetIn : ℕ → Seat X K rule → Subscriber X K rule → Type 0
+  IsLetIn owner seat s =
+      (index : ℕ) × HasAdded (record { value = place_before seat; owner = owner }) (Ok index)
+      (members_before seat) (members_view s)
+
+  -- what it knows of the queue that it receives from, and of the one by which it gives back
+  abbrev pub receives_view : Subscriber X K rule → View ℕ
+  receives_view s = consumer_view s.inlet.receives
+
+  abbrev pub returns_view : Subscriber X K rule → View ℕ
+  returns_view s = producer_view s.inlet.returns
+
+  abbrev pub receives_queue : Subscriber X K rule → QueueId
+  receives_queue s = consumer_queue s.inlet.receives
+
+  abbrev pub returns_queue : Subscriber X K rule → QueueId
+  returns_queue s = producer_queue s.inlet.returns
+
+  -- nothing waited; or the queue has no room at all, and nothing is written; or what came is no slot, or a record that was
+  -- published before its seat was made, or before one that it has received
+  abbrev pub ReceivedNone : Subscriber X K rule → Subscriber X K rule → Type 0
+  ReceivedNone old new =
+      PopFoundNone (receives_view old) (receives_view new)
+      ⊎ ((receives_queue old).capacity ≡ 0) × (receives_view new ≡ receives_view old)
+      ⊎ (word : ℕ) × ((slots_at old ≤ word % (layout_at old).room) ⊎ (word / (layout_at old).room < expected_at old))
+      × PopOldest (Index word) (receives_view old) (receives_view new)
+
+  -- the slot was not taken back: as many waited as the queue has room for, or its last position is reached
+  abbrev pub TookNoneBack : ℕ → Subscriber X K rule → Subscriber X K rule → Type 0
+  TookNoneBack slot old new = PushRefused (returns_queue old).capacity (Index slot) (returns_view old) (returns_view new)

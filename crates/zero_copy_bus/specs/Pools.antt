@@ -1,0 +1,26 @@
+-- What clauses see of a pool.
+use Rattle.std.specs.Prelude.{◌≡◌, ℕ, List}
+use Rattle.lock_free.specs.Share.{Share}
+use Rattle.lock_free.specs.UniqueIndexSet.{SetId, capacity_of, set_of, share}
+use Rattle.zero_copy_bus.specs.declared.holders.Holders.{Holders}
+use Rattle.zero_copy_bus.specs.declared.pool.Pool.{Pool}
+
+-- who holds each slot
+abbrev pub table_of : Pool → List Holders
+table_of pool = pool.table.items
+
+abbrev pub slots_of : Pool → ℕ
+slots_of pool = capacity_of pool.set.now
+
+-- of which set its pass is, and how much of the right to know the whole it has
+abbrev pub set_in : Pool → SetId
+set_in pool = set_of pool.pass
+
+abbrev pub share_in : Pool → Share
+share_in pool = share pool.pass
+
+-- a pool of the same set, with the same share
+pub record IsSame (old new : Pool) : Type 0 where
+  pub set : set_in new ≡ set_in old
+  pub share : share_in new ≡ share_in old
+  pub slots : slots_of new ≡ slots_of old

@@ -1,0 +1,12 @@
+-- What clauses see of the numbers of records.
+use Rattle.std.specs.Prelude.{◌≡◌, ℕ, ◌+◌, ◌≤◌, List, [], ◌∷◌}
+use Rattle.zero_copy_bus.specs.declared.numbers.Sequence.{Sequence}
+
+-- which number is expected next
+abbrev pub expected : Sequence → ℕ
+expected s = s.next
+
+-- each number is above the one before it, the first is not below this one, and the one behind the last is that
+abbrev pub Rises : ℕ → List ℕ → ℕ → Type 0
+Rises from [] next = next ≡ from
+Rises from (n ∷ ns) next = (from ≤ n) × Rises (n + 1) ns next

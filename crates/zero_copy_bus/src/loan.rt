@@ -1,0 +1,88 @@
+//! A slot that the publisher has on loan, and what says that a slot was left empty.
+ghost use Rattle.std.specs.Prelude.{◌≡◌};
+ghost use Rattle.zero_copy_slots.specs.Slots.{slot_of};
+
+use zero_copy_slots::{Anything, Keeps, Writing};
+
+/// A slot, which nobody reads, and a record for it that the publisher writes in plain memory, until it publishes it or gives it
+/// up. It stays in its thread. Where it is dropped, its record is dropped too, and its slot stays out until it is reclaimed.
+pub struct Loan<'a, X: Drop, K: Keeps<X> = Anything> {
+    slot: u32,
+    /// The record, where it is written. It is one that was published before, or a spare as the publisher was given it.
+    pub value: X,
+    writing: Writing<'a, X, K>,
+    ghost at: { slot_of writing ≡ slot },
+}
+
+impl<'a, X: Drop, K: Keeps<X>> Drop for Loan<'a, X, K> {
+    fn drop(self) {
+        let Self {
+            slot: _,
+            value: _value,
+            writing: _writing,
+        } = self;
+    }
+}
+
+impl<'a, X: Drop, K: Keeps<X>> Loan<'a, X, K> {
+    ghost use Rattle.zero_copy_bus.specs.Ends.{loaned};
+
+    pub(crate) fn of(slot: u32, value: X, writing: Writing<'a, X, K>) -> Loan<'a, X, K>
+        requires { slot_of writing ≡ slot }
+        ensures { loaned result ≡ slot }
+    {
+        Loan {
+            slot,
+            value,
+            writing,
+        }
+    }
+
+    /// The number of the slot.
+    pub fn slot(&self) -> u32
+        ensures { result ≡ loaned self.now }
+    {
+        self.slot
+    }
+
+    pub(crate) fn into_parts(self) -> (X, Writing<'a, X, K>)
+        ensures value { result.0 ≡ self.entry.value }
+        ensures at { slot_of result.1 ≡ loaned self.entry }
+    {
+        let Self {
+            slot: _,
+            value,
+            writing,
+        } = self;
+        (value, writing)
+    }
+}
+
+/// That a slot was left empty by who had the right to write it, so nobody read or wrote it then.
+#[derive(Debug, Drop)]
+pub struct Emptied {
+    slot: u32,
+}
+
+impl Emptied {
+    ghost use Rattle.zero_copy_bus.specs.Ends.{emptied};
+
+    /// The number of the slot.
+    pub fn slot(&self) -> u32
+        ensures { result ≡ emptied self.now }
+    {
+        self.slot
+    }
+
+    /// Leaves a slot empty, and hands out what lay there with its number, if anything did. One atomic step.
+    pub(crate) fn by<X: Drop, K: Keeps<X>>(
+        slot: u32,
+        writing: Writing<'_, X, K>,
+    ) -> (Emptied, Option<(u64, X)>)
+        requires { slot_of writing ≡ slot }
+        ensures { emptied result.0 ≡ slot_of writing.entry }
+    {
+        let before = writing.empty();
+        (Emptied { slot }, before)
+    }
+}

@@ -1,0 +1,108 @@
+//! The publisher's ends of all lanes, each at the place by which its subscriber is named.
+ghost use Rattle.std.specs.Prelude.{◌≡◌, true, Some, count_by, slice_get, IsFalse, IsTrue};
+ghost use Rattle.zero_copy_bus.specs.Books.{GainsNone, GainsOnly, KeepsAllOrNone, KeepsLoans};
+ghost use Rattle.zero_copy_bus.specs.Outlets.{has_gained, holders_in, open_in, AreShown, EachLane, HaveTheirPlaces};
+ghost use Rattle.zero_copy_bus.specs.Outlets.{IsServed, IsSettled, IsTakenBack, KeepsRest};
+ghost use Rattle.zero_copy_bus.specs.Pools.{slots_of, table_of, IsSame};
+ghost use Rattle.zero_copy_loans.specs.Words.{IsWord};
+ghost use Rattle.zero_copy_slots.specs.Slots.{laid_number, laid_slot};
+
+use crate::lane::Inlet;
+use crate::outlet::Outlet;
+use crate::pool::Pool;
+use crate::roll::Roll;
+use std::sync::Wait;
+use zero_copy_loans::words::Layout;
+use zero_copy_slots::Laid;
+
+/// The first other end that nobody has, and its place.
+pub fn free_inlet<'a>(outlets: &mut Vec<Outlet<'a>>) -> Option<(Inlet<'a>, usize)>
+    ensures holders { holders_in outlets.new.items ≡ holders_in outlets.old.items }
+    ensures taking { open_in outlets.new.items ≡ open_in outlets.old.items }
+{
+    for place in 0..outlets.len() {
+        if let Some(inlet) = outlets[place].inlet() {
+            return Some((inlet, place));
+        }
+    }
+    None
+}
+
+/// Whether he takes part who has the lane of this place.
+pub fn takes_part(outlets: &Vec<Outlet<'_>>, place: u64) -> bool
+    ensures { IsTrue result → slice_get (open_in outlets.now.items) place ≡ Some true }
+{
+    match outlets.get(place as usize) {
+        Some(outlet) => outlet.is_open(),
+        None => false,
+    }
+}
+
+/// Sends the slot of what was laid there, with its number, to each who takes part and has it not: how many have gained it.
+pub fn send_to_all(
+    outlets: &mut Vec<Outlet<'_>>,
+    pool: &mut Pool<'_>,
+    layout: &Layout,
+    laid: &Laid,
+) -> usize
+    requires placed { HaveTheirPlaces (holders_in outlets.old.items) }
+    requires word { IsWord layout.now.room layout.now.places (laid_number laid.now) (laid_slot laid.now) }
+    ensures holders { holders_in outlets.new.items ≡ holders_in outlets.old.items }
+    ensures taking { open_in outlets.new.items ≡ open_in outlets.old.items }
+    ensures served { EachLane (IsServed layout.now.room (laid_number laid.now) (laid_slot laid.now) (table_of pool.old) (table_of pool.new))
+        outlets.old.items outlets.new.items }
+    ensures number { result
+        ≡ count_by (has_gained (laid_slot laid.now) (table_of pool.old) (table_of pool.new)) outlets.old.items }
+    ensures rest { KeepsRest outlets.old.items (table_of pool.old) (table_of pool.new) }
+    ensures gains { GainsOnly (laid_slot laid.now) (table_of pool.old) (table_of pool.new) }
+    ensures loans { KeepsLoans (table_of pool.old) (table_of pool.new) }
+    ensures nobody { result ≡ 0 → table_of pool.new ≡ table_of pool.old }
+    ensures pool { IsSame pool.old pool.new }
+{
+    let mut number: usize = 0;
+    for place in 0..outlets.len() {
+        if outlets[place].send(pool, layout, laid) {
+            number = number.saturating_add(1);
+        }
+    }
+    number
+}
+
+/// Takes back what all subscribers have given back.
+pub fn take_all_back(outlets: &mut Vec<Outlet<'_>>, pool: &mut Pool<'_>)
+    requires { HaveTheirPlaces (holders_in outlets.old.items) }
+    ensures holders { holders_in outlets.new.items ≡ holders_in outlets.old.items }
+    ensures taking { open_in outlets.new.items ≡ open_in outlets.old.items }
+    ensures taken { EachLane (IsTakenBack (slots_of pool.old) (table_of pool.old) (table_of pool.new))
+        outlets.old.items outlets.new.items }
+    ensures rest { KeepsRest outlets.old.items (table_of pool.old) (table_of pool.new) }
+    ensures gains { GainsNone (table_of pool.old) (table_of pool.new) }
+    ensures loans { KeepsLoans (table_of pool.old) (table_of pool.new) }
+    ensures pool { IsSame pool.old pool.new }
+{
+    for place in 0..outlets.len() {
+        outlets[place].take_back(pool);
+    }
+}
+
+/// Settles each, by what the roll shows; where that has not changed, those alone of whom the other end is not free yet.
+pub fn settle_all(
+    rt: &impl Wait,
+    outlets: &mut Vec<Outlet<'_>>,
+    pool: &mut Pool<'_>,
+    roll: &Roll<'_>,
+    has_changed: bool,
+)
+    requires placed { HaveTheirPlaces (holders_in outlets.old.items) }
+    requires shown { IsFalse has_changed → AreShown roll.now (open_in outlets.old.items) }
+    ensures holders { holders_in outlets.new.items ≡ holders_in outlets.old.items }
+    ensures settled { EachLane (IsSettled roll.now (table_of pool.old) (table_of pool.new)) outlets.old.items outlets.new.items }
+    ensures rest { KeepsRest outlets.old.items (table_of pool.old) (table_of pool.new) }
+    ensures all { KeepsAllOrNone (table_of pool.old) (table_of pool.new) }
+    ensures loans { KeepsLoans (table_of pool.old) (table_of pool.new) }
+    ensures pool { IsSame pool.old pool.new }
+{
+    for place in 0..outlets.len() {
+        outlets[place].settle_by(rt, pool, roll, has_changed);
+    }
+}

@@ -1,0 +1,229 @@
+//! The slots of a bus, and who holds each: a slot is out of the set of free indices as long as anybody holds it.
+ghost use Rattle.std.specs.Prelude.{◌≡◌, ◌<◌, ◌≤◌, ◌↔◌, true, false, length, replicate, IsTrue, IsFalse, IfOk, OnErr};
+ghost use Rattle.lock_free.specs.Shares.{IsAll};
+ghost use Rattle.lock_free.specs.Unique.Held.{HoldsNothing};
+ghost use Rattle.lock_free.specs.UniqueIndexSet.{capacity_of, made, set_of, share, view, IsPassOf};
+ghost use Rattle.zero_copy_bus.specs.Books.{holders_at, AllFree, CanSend, ChangesAt, Exchanges, GainsNone, GainsOnly};
+ghost use Rattle.zero_copy_bus.specs.Books.{HasNone, HasSlot, IsBookOf, KeepsOthers, held_number};
+ghost use Rattle.zero_copy_bus.specs.Holders.{is_held, nobody};
+
+use crate::error::BusError;
+use crate::holders::{Holder, Holders};
+use lock_free::mpmc::unique_index_set::{Pass, UniqueIndexSet};
+use lock_free::mpmc::unique_index_set_enums::UniqueIndexSetAcquireFailure;
+use std::alloc::Global;
+use std::sync::Wait;
+
+/// A set of free slots, with a table of who holds each of the others.
+pub struct Pool<'a> {
+    set: &'a UniqueIndexSet,
+    pass: Pass,
+    table: Vec<Holders>,
+    ghost of: { IsPassOf set.now pass },
+    ghost long: { length table.items ≡ capacity_of set.now },
+    ghost book: { IsBookOf (view pass) table.items },
+}
+
+impl<'a> Drop for Pool<'a> {
+    fn drop(self) {
+        let Self {
+            set: _,
+            pass: _pass,
+            table: _table,
+        } = self;
+    }
+}
+
+impl<'a> Pool<'a> {
+    ghost use Rattle.zero_copy_bus.specs.Pools.{set_in, share_in, slots_of, table_of, IsSame};
+
+    /// A pool of which nobody holds a slot, over a pass of the set that holds nothing.
+    pub fn new(alloc: Global, set: &'a UniqueIndexSet, pass: Pass) -> Result<Pool<'a>, BusError>
+        requires pass { IsPassOf set.now pass }
+        requires nothing { HoldsNothing (made pass) }
+        ensures set { IfOk result (λ p. set_in p ≡ set_of pass) }
+        ensures share { IfOk result (λ p. share_in p ≡ share pass) }
+        ensures slots { IfOk result (λ p. slots_of p ≡ capacity_of set.now) }
+        ensures free { IfOk result (λ p. table_of p ≡ replicate (capacity_of set.now) nobody) }
+    {
+        match vec![in alloc; Holders::nobody(); set.capacity() as usize] {
+            Ok(table) => Ok(Pool { set, pass, table }),
+            Err(_) => Err(BusError::NoMemory),
+        }
+    }
+
+    /// Takes a free slot for this holder.
+    pub fn take(
+        &mut self,
+        rt: &impl Wait,
+        holder: Holder,
+    ) -> Result<u32, UniqueIndexSetAcquireFailure>
+        ensures within { IfOk result (λ slot. slot < slots_of self.old) }
+        ensures free { IfOk result
+            (λ slot. is_held (holders_at (table_of self.old) slot) ≡ false) }
+        ensures changes { IfOk result
+            (λ slot. ChangesAt slot holder (table_of self.old) (table_of self.new)) }
+        ensures has { IfOk result (λ slot. HasSlot (table_of self.new) slot holder) }
+        ensures refused { OnErr result (table_of self.new ≡ table_of self.old) }
+        ensures same { IsSame self.old self.new }
+    {
+        let slot = self.set.acquire_raw_index(rt, &mut self.pass)?;
+        self.table[slot as usize] = Holders::nobody().with(holder);
+        Ok(slot)
+    }
+
+    /// Whether this holder has the slot.
+    pub fn has(&self, slot: u32, holder: Holder) -> bool
+        ensures { IsTrue result ↔ HasSlot (table_of self.now) slot holder }
+    {
+        match self.table.get(slot as usize) {
+            Some(holders) => holders.has(holder),
+            None => false,
+        }
+    }
+
+    /// Whether nobody holds a slot.
+    pub fn is_free(&self) -> bool
+        ensures { IsTrue result ↔ AllFree (table_of self.now) }
+    {
+        for slot in 0..self.table.len() {
+            if self.table[slot].is_somebody() {
+                return false;
+            }
+        }
+        true
+    }
+
+    /// A slot that somebody holds is held by this one too. A free one, or none, changes nothing: false.
+    pub fn lend(&mut self, slot: u32, holder: Holder) -> bool
+        ensures held { IsTrue result
+            ↔ (is_held (holders_at (table_of self.old) slot) ≡ true) }
+        ensures changes { ChangesAt slot holder (table_of self.old) (table_of self.new) }
+        ensures has { IsTrue result → HasSlot (table_of self.new) slot holder }
+        ensures refused { IsFalse result → table_of self.new ≡ table_of self.old }
+        ensures same { IsSame self.old self.new }
+    {
+        if slot as usize >= self.table.len() {
+            return false;
+        }
+        let holders = self.table[slot as usize];
+        if !holders.is_somebody() {
+            return false;
+        }
+        self.table[slot as usize] = holders.with(holder);
+        true
+    }
+
+    /// Whether a slot is on loan, and this holder has it not.
+    pub fn can_send(&self, slot: u32, holder: Holder) -> bool
+        ensures { IsTrue result ↔ CanSend (table_of self.now) slot holder }
+    {
+        self.has(slot, Holder::publisher()) && !self.has(slot, holder)
+    }
+
+    /// Lends a slot that is on loan to a holder who has it not, and for whom this came back, which he has no more. Where
+    /// it is the slot itself nothing changes: false.
+    pub fn exchange(&mut self, slot: u32, holder: Holder, back: Option<u32>) -> bool
+        requires { CanSend (table_of self.old) slot holder }
+        ensures has { Exchanges slot holder back (table_of self.old) (table_of self.new) }
+        ensures gained { IsTrue result ↔ HasSlot (table_of self.new) slot holder }
+        ensures others { KeepsOthers holder (table_of self.old) (table_of self.new) }
+        ensures gains { GainsOnly slot (table_of self.old) (table_of self.new) }
+        ensures refused { IsFalse result → table_of self.new ≡ table_of self.old }
+        ensures same { IsSame self.old self.new }
+    {
+        match back {
+            None => {
+                self.lend(slot, holder);
+                true
+            }
+            Some(other) => {
+                if other == slot {
+                    return false;
+                }
+                self.lend(slot, holder);
+                self.put_back(other as u64, holder);
+                true
+            }
+        }
+    }
+
+    /// This holder has a slot no more, which is free where nobody else has it.
+    fn remove(&mut self, slot: u32, holder: Holder)
+        requires within { slot < length (table_of self.old) }
+        requires has { HasSlot (table_of self.old) slot holder }
+        ensures changes { ChangesAt slot holder (table_of self.old) (table_of self.new) }
+        ensures lacks { ¬ HasSlot (table_of self.new) slot holder }
+        ensures same { IsSame self.old self.new }
+    {
+        let left = self.table[slot as usize].without(holder);
+        self.table[slot as usize] = left;
+        if !left.is_somebody() {
+            self.set.release_raw_index(slot, &mut self.pass);
+        }
+    }
+
+    /// This holder gives a slot back, which is free once nobody holds it. A number of which he has no slot changes
+    /// nothing: false.
+    pub fn put_back(&mut self, number: u64, holder: Holder) -> bool
+        ensures had { IsTrue result ↔ HasSlot (table_of self.old) number holder }
+        ensures changes { ChangesAt number holder (table_of self.old) (table_of self.new) }
+        ensures lacks { ¬ HasSlot (table_of self.new) number holder }
+        ensures gains { GainsNone (table_of self.old) (table_of self.new) }
+        ensures refused { IsFalse result → table_of self.new ≡ table_of self.old }
+        ensures same { IsSame self.old self.new }
+    {
+        if number >= self.set.capacity() as u64 {
+            return false;
+        }
+        let slot = number as u32;
+        if !self.has(slot, holder) {
+            return false;
+        }
+        self.remove(slot, holder);
+        true
+    }
+
+    /// Gives back all slots of a holder that is gone.
+    pub fn put_all_back(&mut self, holder: Holder)
+        ensures none { HasNone holder (table_of self.new) }
+        ensures others { KeepsOthers holder (table_of self.old) (table_of self.new) }
+        ensures same { IsSame self.old self.new }
+    {
+        for slot in 0..self.set.capacity() {
+            self.put_back(slot as u64, holder);
+        }
+    }
+
+    /// How many slots are out: at least those that somebody holds, at most all, and just those where nobody else has a share of
+    /// the set.
+    pub fn borrowed(&mut self) -> usize
+        ensures table { table_of self.new ≡ table_of self.old }
+        ensures least { held_number (table_of self.old) ≤ result }
+        ensures most { result ≤ slots_of self.old }
+        ensures whole { IsAll (share_in self.old) → result ≡ held_number (table_of self.old) }
+        ensures same { IsSame self.old self.new }
+    {
+        self.set.borrowed_indices(&mut self.pass)
+    }
+
+    /// How many slots there are.
+    pub fn slots(&self) -> u32
+        ensures { result ≡ slots_of self.now }
+    {
+        self.set.capacity()
+    }
+
+    /// The pass, which holds what is out.
+    pub fn into_pass(self) -> Pass
+        ensures set { set_of result ≡ set_in self.entry }
+        ensures share { share result ≡ share_in self.entry }
+    {
+        let Pool {
+            set: _,
+            pass,
+            table: _,
+        } = self;
+        pass
+    }
+}

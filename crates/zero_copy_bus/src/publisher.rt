@@ -1,0 +1,371 @@
+//! The end of a bus that writes records and publishes them.
+ghost use Rattle.std.specs.Prelude.{◌≡◌, ◌+◌, ◌-◌, ◌^◌, ◌<◌, ◌≤◌, ◌↔◌, Bool, true};
+ghost use Rattle.std.specs.Prelude.{false, Some, count_by, slice_get, vec_len, IsTrue, IsFalse, IfOk, IfErr, IfSome};
+ghost use Rattle.lock_free.specs.Shares.{IsAll};
+ghost use Rattle.lock_free.specs.UniqueIndexSet.{set_of, share};
+ghost use Rattle.zero_copy_bus.specs.Books.{holders_at, AllFree, ChangesAt, GainsNone, GainsOnly, IsLoaned};
+ghost use Rattle.zero_copy_bus.specs.Books.{KeepsAllOrNone, KeepsLoans, KeepsLoansBut, held_number};
+ghost use Rattle.zero_copy_bus.specs.Holders.{is_held, publisher};
+ghost use Rattle.zero_copy_bus.specs.Outlets.{has_gained, holders_in, open_in, AreShown, EachLane, HaveTheirPlaces};
+ghost use Rattle.zero_copy_bus.specs.Outlets.{IsServed, IsSettled, IsTakenBack, KeepsRest, NobodyTakesPart};
+ghost use Rattle.zero_copy_bus.specs.Pools as pools;
+ghost use Rattle.zero_copy_bus.specs.Rolls.{HasLooked, HasRecovered};
+ghost use Rattle.zero_copy_slots.specs.Slots.{slots_in};
+
+use crate::error::{LoanFailure, ReclaimFailure, SubscribeFailure};
+use crate::holders::Holder;
+pub use crate::loan::{Emptied, Loan};
+use crate::outlet::Outlet;
+use crate::outlets::{free_inlet, send_to_all, settle_all, take_all_back, takes_part};
+use crate::pool::Pool;
+use crate::roll::Roll;
+use crate::subscriber::{Seat, Subscriber};
+use lock_free::mpmc::container::OwnerId;
+use lock_free::mpmc::unique_index_set::Pass;
+use std::sync::Wait;
+use zero_copy_loans::words::Layout;
+use zero_copy_slots::{Anything, Keeps, Slots};
+
+/// Keeps what lay in a slot, if anything did, to be written again.
+fn keep<X: Drop>(spares: &mut Vec<X>, old: Option<(u64, X)>) {
+    if let Some((_, value)) = old {
+        let _ = spares.push(value);
+    }
+}
+
+/// The publisher, of which a bus has one at a time. It knows who holds each slot, and keeps the records that are not in a slot.
+pub struct Publisher<'a, X: Drop, K: Keeps<X> = Anything> {
+    pool: Pool<'a>,
+    records: &'a Slots<X, K>,
+    spares: Vec<X>,
+    layout: Layout,
+    next: u64,
+    outlets: Vec<Outlet<'a>>,
+    roll: Roll<'a>,
+    ghost sized: { slots_in records.now ≡ pools.slots_of pool },
+    ghost fits: { layout.places ≡ slots_in records.now },
+    ghost placed: { HaveTheirPlaces (holders_in outlets.items) },
+    ghost shown: { AreShown roll (open_in outlets.items) },
+}
+
+impl<'a, X: Drop, K: Keeps<X>> Drop for Publisher<'a, X, K> {
+    fn drop(self) {
+        let Self {
+            pool: _pool,
+            records: _,
+            spares: _spares,
+            layout: _,
+            next: _,
+            outlets: _outlets,
+            roll: _roll,
+        } = self;
+    }
+}
+
+impl<'a, X: Drop, K: Keeps<X>> Publisher<'a, X, K> {
+    ghost use Rattle.zero_copy_bus.specs.Ends.{emptied, expected_at, first_before, lanes_of, layout_before, layout_of, loaned, next_of, place_at};
+    ghost use Rattle.zero_copy_bus.specs.Ends.{place_before, roll_of, room_of, set_in, share_in, slots_at, slots_before, slots_of, spares_in, table_of};
+    ghost use Rattle.zero_copy_bus.specs.Ends.{HasNumber, IsKept, IsSame, IsTakenFor};
+
+    pub(crate) fn of(
+        pool: Pool<'a>,
+        records: &'a Slots<X, K>,
+        spares: Vec<X>,
+        outlets: Vec<Outlet<'a>>,
+        roll: Roll<'a>,
+    ) -> Publisher<'a, X, K>
+        requires sized { slots_in records.now ≡ pools.slots_of pool }
+        requires placed { HaveTheirPlaces (holders_in outlets.items) }
+        requires closed { NobodyTakesPart (open_in outlets.items) }
+        ensures pool { result.pool ≡ pool.entry }
+        ensures records { result.records ≡ records.entry }
+        ensures spares { spares_in result ≡ vec_len spares }
+        ensures next { next_of result ≡ 0 }
+    {
+        let layout = Layout::new(records.number());
+        Publisher {
+            pool,
+            records,
+            spares,
+            layout,
+            next: 0,
+            outlets,
+            roll,
+        }
+    }
+
+    /// A seat for a subscriber, who may take it in another thread, and takes part from the next `update` after that on. It receives
+    /// no record that was published before the seat was made. None where no place is free, or no further pass can be counted.
+    pub fn seat(&mut self) -> Option<Seat<'a, X, K>>
+        ensures slots { IfSome result (λ s. slots_before s ≡ slots_of self.old) }
+        ensures layout { IfSome result (λ s. layout_before s ≡ layout_of self.old) }
+        ensures first { IfSome result (λ s. first_before s ≡ next_of self.old) }
+        ensures table { table_of self.new ≡ table_of self.old }
+        ensures taking { open_in (lanes_of self.new) ≡ open_in (lanes_of self.old) }
+        ensures same { IsSame self.old self.new }
+        ensures next { next_of self.new ≡ next_of self.old }
+    {
+        let member = self.roll.member()?;
+        let (inlet, place) = free_inlet(&mut self.outlets)?;
+        Some(Seat::of(
+            inlet,
+            self.records,
+            self.layout,
+            self.next,
+            member,
+            place as u64,
+        ))
+    }
+
+    /// A subscriber who takes part at once: by its clause the lane of its place does, and `publish` serves the lanes that do. That the
+    /// words of this lane come to this subscriber is only tested. It is a `seat`, a `join` as this owner and an `update` in one.
+    /// Refused where no seat is to be had (`NoSeat`) and where the registry does not let the owner in (`NotLetIn`); and where the
+    /// look does not show it (`NotSeen`, which no clause rules out), and then it leaves again (by no clause).
+    pub fn subscribe(
+        &mut self,
+        rt: &impl Wait,
+        owner: OwnerId,
+    ) -> Result<Subscriber<'a, X, K>, SubscribeFailure>
+        ensures part { IfOk result (λ s. slice_get (open_in (lanes_of self.new)) (place_at s) ≡ Some true) }
+        ensures slots { IfOk result (λ s. slots_at s ≡ slots_of self.old) }
+        ensures first { IfOk result (λ s. expected_at s ≡ next_of self.old) }
+        ensures all { KeepsAllOrNone (table_of self.old) (table_of self.new) }
+        ensures loans { KeepsLoans (table_of self.old) (table_of self.new) }
+        ensures same { IsSame self.old self.new }
+        ensures next { next_of self.new ≡ next_of self.old }
+    {
+        let Some(seat) = self.seat() else {
+            return Err(SubscribeFailure::NoSeat);
+        };
+        let subscriber = match seat.join(rt, owner) {
+            Ok(subscriber) => subscriber,
+            Err((failure, _)) => return Err(SubscribeFailure::NotLetIn(failure)),
+        };
+        self.update(rt);
+        if takes_part(&self.outlets, subscriber.place()) {
+            Ok(subscriber)
+        } else {
+            let _ = subscriber.leave(rt);
+            Err(SubscribeFailure::NotSeen)
+        }
+    }
+
+    /// Looks who takes part, once. Who does gets what is published from now on; and where one has left, or a recovery has
+    /// taken him out, and nobody has his end of the lane any more, that is free again, and all that he had comes back. Each
+    /// of the others has what he had, and the publisher too.
+    pub fn update(&mut self, rt: &impl Wait)
+        ensures looked { (changed : Bool) × HasLooked changed (roll_of self.old) (roll_of self.new) }
+        ensures settled { EachLane (IsSettled (roll_of self.new) (table_of self.old) (table_of self.new))
+            (lanes_of self.old) (lanes_of self.new) }
+        ensures rest { KeepsRest (lanes_of self.old) (table_of self.old) (table_of self.new) }
+        ensures all { KeepsAllOrNone (table_of self.old) (table_of self.new) }
+        ensures loans { KeepsLoans (table_of self.old) (table_of self.new) }
+        ensures same { IsSame self.old self.new }
+        ensures next { next_of self.new ≡ next_of self.old }
+    {
+        let has_changed = self.roll.update(rt);
+        settle_all(
+            rt,
+            &mut self.outlets,
+            &mut self.pool,
+            &self.roll,
+            has_changed,
+        );
+    }
+
+    /// Takes an owner out who is dead, and then as `update`.
+    pub fn recover(&mut self, rt: &impl Wait, dead: OwnerId)
+        ensures recovered { HasRecovered dead (roll_of self.old) (roll_of self.new) }
+        ensures settled { EachLane (IsSettled (roll_of self.new) (table_of self.old) (table_of self.new))
+            (lanes_of self.old) (lanes_of self.new) }
+        ensures rest { KeepsRest (lanes_of self.old) (table_of self.old) (table_of self.new) }
+        ensures all { KeepsAllOrNone (table_of self.old) (table_of self.new) }
+        ensures loans { KeepsLoans (table_of self.old) (table_of self.new) }
+        ensures same { IsSame self.old self.new }
+        ensures next { next_of self.new ≡ next_of self.old }
+    {
+        self.roll.recover(rt, dead);
+        self.update(rt);
+    }
+
+    /// A free slot, which the publisher alone holds, with a record to write. Refused as follows:
+    ///
+    /// - where no record is left to write (`NoRecord`), and then nothing changes. One record more than there are slots is enough
+    ///   for one loan at a time, and one more for each further loan in hand, as long as no loan is dropped: a dropped loan drops
+    ///   its record and what lay in its slot (by no clause);
+    /// - where each slot is out, or the pool is locked (`NoSlot`; by no clause, which says only that nothing changes);
+    /// - where somebody still reads the slot, who has it not: a reading that was forgotten, or a sample that another than its
+    ///   subscriber reads (`StillRead`). The slot stays out, so that the next loan gets another; `reclaim` tries it again.
+    ///
+    /// A load and at most one compare-exchange on the slot, and the steps of `acquire_raw_index`.
+    pub fn loan(&mut self, rt: &impl Wait) -> Result<Loan<'a, X, K>, LoanFailure>
+        ensures within { IfOk result (λ l. loaned l < slots_of self.old) }
+        ensures free { IfOk result
+            (λ l. is_held (holders_at (table_of self.old) (loaned l)) ≡ false) }
+        ensures changes { IfOk result
+            (λ l. ChangesAt (loaned l) publisher (table_of self.old) (table_of self.new)) }
+        ensures loaned { IfOk result (λ l. IsLoaned (table_of self.new) (loaned l)) }
+        ensures spares { IfOk result (λ l. spares_in self.new + 1 ≡ spares_in self.old) }
+        ensures refused { IfErr result (IsTakenFor (spares_in self.old) (table_of self.old) (table_of self.new)) }
+        ensures taking { open_in (lanes_of self.new) ≡ open_in (lanes_of self.old) }
+        ensures same { IsSame self.old self.new }
+        ensures next { next_of self.new ≡ next_of self.old }
+    {
+        if self.spares.is_empty() {
+            return Err(LoanFailure::NoRecord);
+        }
+        let slot = match self.pool.take(rt, Holder::publisher()) {
+            Ok(slot) => slot,
+            Err(failure) => return Err(LoanFailure::NoSlot(failure)),
+        };
+        let Ok(writing) = self.records.take(slot) else {
+            return Err(LoanFailure::StillRead(slot));
+        };
+        let Some(value) = self.spares.pop() else {
+            unreachable!()
+        };
+        Ok(Loan::of(slot, value, writing))
+    }
+
+    /// Publishes a record, which keeps its rule with the number that comes next, to each who takes part and has it not: how many
+    /// gained it. Its slot is on loan no more, and nobody gains another. The oldest record of one who is too slow comes back. The
+    /// numbers rise by one with each record.
+    ///
+    /// A number and a slot go into one word, so there are 2^64 numbers divided by the slots rounded up to a power of two (at least
+    /// 2). From the one past the last nothing is published any more: each loan is given up, 0.
+    ///
+    /// One step on the slot, a push for each who takes part, and a release where nobody gained it.
+    pub fn publish(&mut self, loan: Loan<'a, X, K>) -> usize
+        requires fits { K.holds (next_of self.old) loan.value }
+        ensures served { HasNumber self.old (loaned loan.entry)
+            → EachLane (IsServed (room_of self.old) (next_of self.old) (loaned loan.entry) (table_of self.old) (table_of self.new))
+            (lanes_of self.old) (lanes_of self.new) }
+        ensures number { HasNumber self.old (loaned loan.entry) → result
+            ≡ count_by (has_gained (loaned loan.entry) (table_of self.old) (table_of self.new)) (lanes_of self.old) }
+        ensures rest { KeepsRest (lanes_of self.old) (table_of self.old) (table_of self.new) }
+        ensures gone { ¬ IsLoaned (table_of self.new) (loaned loan.entry) }
+        ensures gains { GainsOnly (loaned loan.entry) (table_of self.old) (table_of self.new) }
+        ensures loans { KeepsLoansBut (loaned loan.entry) (table_of self.old) (table_of self.new) }
+        ensures nobody { result ≡ 0
+            → ChangesAt (loaned loan.entry) publisher (table_of self.old) (table_of self.new) }
+        ensures taking { open_in (lanes_of self.new) ≡ open_in (lanes_of self.old) }
+        ensures same { IsSame self.old self.new }
+        ensures next { HasNumber self.old (loaned loan.entry) → next_of self.new ≡ next_of self.old + 1 }
+        ensures last { ¬ HasNumber self.old (loaned loan.entry) → (result ≡ 0) × (next_of self.new ≡ next_of self.old) }
+    {
+        let slot = loan.slot();
+        let number = self.next;
+        if !self.layout.has(number, slot) {
+            self.give_up(loan);
+            return 0;
+        }
+        let (value, writing) = loan.into_parts();
+        let (laid, before) = writing.put(number, value);
+        keep(&mut self.spares, before);
+        self.next = number + 1;
+        let gained = send_to_all(&mut self.outlets, &mut self.pool, &self.layout, &laid);
+        self.pool.put_back(slot as u64, Holder::publisher());
+        gained
+    }
+
+    /// Gives a loan up: nobody gets its record, which is kept to be written again (by no clause). One step on the slot, and a release.
+    pub fn give_up(&mut self, loan: Loan<'a, X, K>)
+        ensures gone { ¬ IsLoaned (table_of self.new) (loaned loan.entry) }
+        ensures changes { ChangesAt (loaned loan.entry) publisher (table_of self.old) (table_of self.new) }
+        ensures taking { open_in (lanes_of self.new) ≡ open_in (lanes_of self.old) }
+        ensures same { IsSame self.old self.new }
+        ensures next { next_of self.new ≡ next_of self.old }
+    {
+        let slot = loan.slot();
+        let (value, writing) = loan.into_parts();
+        let _ = self.spares.push(value);
+        keep(&mut self.spares, writing.empty());
+        self.pool.put_back(slot as u64, Holder::publisher());
+    }
+
+    /// Tries a slot again that stayed out, since it was `StillRead` or its loan was dropped: it is left empty, and it is free. Refused
+    /// where the publisher does not hold it (`NotHeld`), and where its word says that somebody reads it still or (its loan is in
+    /// hand) writes it (`InUse`); then nothing changes. A load, at most one compare-exchange and one further step on the slot, and a
+    /// release.
+    pub fn reclaim(&mut self, slot: u32) -> Result<Emptied, ReclaimFailure>
+        ensures had { IfOk result (λ e. IsLoaned (table_of self.old) slot) }
+        ensures emptied { IfOk result (λ e. emptied e ≡ slot) }
+        ensures gone { IfOk result (λ e. ¬ IsLoaned (table_of self.new) slot) }
+        ensures changes { ChangesAt slot publisher (table_of self.old) (table_of self.new) }
+        ensures refused { IfErr result (λ e. IsKept slot self.old e × (table_of self.new ≡ table_of self.old)) }
+        ensures taking { open_in (lanes_of self.new) ≡ open_in (lanes_of self.old) }
+        ensures same { IsSame self.old self.new }
+        ensures next { next_of self.new ≡ next_of self.old }
+    {
+        if !self.pool.has(slot, Holder::publisher()) {
+            return Err(ReclaimFailure::NotHeld);
+        }
+        let writing = match self.records.take(slot) {
+            Ok(writing) => writing,
+            Err(failure) => return Err(ReclaimFailure::InUse(failure)),
+        };
+        let (emptied, before) = Emptied::by(slot, writing);
+        keep(&mut self.spares, before);
+        self.pool.put_back(slot as u64, Holder::publisher());
+        Ok(emptied)
+    }
+
+    /// Takes back what subscribers have given back: nobody gains a slot, and what is on loan stays so.
+    pub fn collect(&mut self)
+        ensures taken { EachLane (IsTakenBack (slots_of self.old) (table_of self.old) (table_of self.new))
+            (lanes_of self.old) (lanes_of self.new) }
+        ensures rest { KeepsRest (lanes_of self.old) (table_of self.old) (table_of self.new) }
+        ensures gains { GainsNone (table_of self.old) (table_of self.new) }
+        ensures loans { KeepsLoans (table_of self.old) (table_of self.new) }
+        ensures taking { open_in (lanes_of self.new) ≡ open_in (lanes_of self.old) }
+        ensures same { IsSame self.old self.new }
+        ensures next { next_of self.new ≡ next_of self.old }
+    {
+        take_all_back(&mut self.outlets, &mut self.pool);
+    }
+
+    /// Whether nobody holds a slot.
+    pub fn is_free(&self) -> bool
+        ensures { IsTrue result ↔ AllFree (table_of self.now) }
+    {
+        self.pool.is_free()
+    }
+
+    /// How many slots are not free: at least those that somebody holds, at most all, and just those where nobody else has a
+    /// share of the pool.
+    pub fn borrowed(&mut self) -> usize
+        ensures table { table_of self.new ≡ table_of self.old }
+        ensures least { held_number (table_of self.old) ≤ result }
+        ensures most { result ≤ slots_of self.old }
+        ensures whole { IsAll (share_in self.old) → result ≡ held_number (table_of self.old) }
+        ensures same { IsSame self.old self.new }
+        ensures next { next_of self.new ≡ next_of self.old }
+    {
+        self.pool.borrowed()
+    }
+
+    /// The number that the next record gets that is published: 0 for the first.
+    pub fn next_number(&self) -> u64
+        ensures { result ≡ next_of self.now }
+    {
+        self.next
+    }
+
+    /// Hands out the pass, and the records that are not in a slot, to be written by a later publisher.
+    pub fn finish(self) -> (Pass, Vec<X>)
+        ensures set { set_of result.0 ≡ set_in self.entry }
+        ensures share { share result.0 ≡ share_in self.entry }
+        ensures spares { vec_len result.1 ≡ spares_in self.entry }
+    {
+        let Publisher {
+            pool,
+            records: _,
+            spares,
+            layout: _,
+            next: _,
+            outlets: _,
+            roll: _,
+        } = self;
+        (pool.into_pass(), spares)
+    }
+}

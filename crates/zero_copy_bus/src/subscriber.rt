@@ -1,0 +1,297 @@
+//! The end of a bus that receives records and reads them.
+ghost use Rattle.std.specs.Prelude.{◌≡◌, ◌<◌, IsTrue, IsFalse, IfOk, IfErr, IfSome, IfNone};
+ghost use Rattle.lock_free.specs.Container.Contracts.{WasNotAdded};
+ghost use Rattle.lock_free.specs.Queues.Item.TheVariants.{Index};
+ghost use Rattle.lock_free.specs.Queues.Contracts.{HasReleased, PopOldest, PushDone};
+ghost use Rattle.lock_free.specs.Queues.Role.TheVariants as roles;
+ghost use Rattle.lock_free.specs.Robust.Contracts.{WasFreed};
+ghost use Rattle.zero_copy_bus.specs.Sequences.{Rises};
+ghost use Rattle.zero_copy_slots.specs.Slots.{number_in, slot_in, slots_in};
+
+use crate::lane::Inlet;
+use lock_free::mpmc::container::{
+    ContainerAddFailure, ContainerHandle, ContainerRemoveError, Handle, OwnerId,
+};
+use lock_free::mpmc::unique_index_set_enums::ReleaseMode;
+use lock_free::spsc::{index_queue, safely_overflowing_index_queue as overflow};
+use std::sync::Wait;
+use zero_copy_loans::error::ReadFailure;
+use zero_copy_loans::words::Layout;
+use zero_copy_slots::{Anything, Keeps, Reading, Slots};
+
+/// A place at a bus, which a subscriber takes.
+pub struct Seat<'a, X: Drop, K: Keeps<X> = Anything> {
+    inlet: Inlet<'a>,
+    records: &'a Slots<X, K>,
+    layout: Layout,
+    first: u64,
+    members: Handle<'a, u64>,
+    place: u64,
+    ghost fits: { layout.places ≡ slots_in records.now },
+}
+
+impl<'a, X: Drop, K: Keeps<X>> Drop for Seat<'a, X, K> {
+    fn drop(self) {
+        let Self {
+            inlet: _inlet,
+            records: _,
+            layout: _,
+            first: _,
+            members: _members,
+            place: _,
+        } = self;
+    }
+}
+
+impl<'a, X: Drop, K: Keeps<X>> Seat<'a, X, K> {
+    ghost use Rattle.zero_copy_bus.specs.Ends.{code_before, expected_at, first_before, layout_at, layout_before, members_before, place_at};
+    ghost use Rattle.zero_copy_bus.specs.Ends.{place_before, slots_at, slots_before, IsLetIn};
+
+    pub(crate) fn of(
+        inlet: Inlet<'a>,
+        records: &'a Slots<X, K>,
+        layout: Layout,
+        first: u64,
+        members: Handle<'a, u64>,
+        place: u64,
+    ) -> Seat<'a, X, K>
+        requires { layout.places ≡ slots_in records.now }
+        ensures slots { slots_before result ≡ slots_in records.now }
+        ensures layout { layout_before result ≡ layout }
+        ensures first { first_before result ≡ first }
+        ensures place { place_before result ≡ place }
+    {
+        Seat {
+            inlet,
+            records,
+            layout,
+            first,
+            members,
+            place,
+        }
+    }
+
+    /// Takes part as this owner, whom no other has, from the publisher's next `update` on. Else the seat comes back, with why.
+    pub fn join(
+        self,
+        rt: &impl Wait,
+        owner: OwnerId,
+    ) -> Result<Subscriber<'a, X, K>, (ContainerAddFailure, Seat<'a, X, K>)>
+        ensures joined { IfOk result (IsLetIn owner self.entry) }
+        ensures slots { IfOk result (λ s. slots_at s ≡ slots_before self.entry) }
+        ensures layout { IfOk result (λ s. layout_at s ≡ layout_before self.entry) }
+        ensures first { IfOk result (λ s. expected_at s ≡ first_before self.entry) }
+        ensures at { IfOk result (λ s. place_at s ≡ place_before self.entry) }
+        ensures back { IfErr result (λ e. slots_before e.1 ≡ slots_before self.entry) }
+        ensures place { IfErr result (λ e. place_before e.1 ≡ place_before self.entry) }
+        ensures refused { IfErr result (λ e. WasNotAdded (place_before self.entry) owner e.0
+            (members_before self.entry) (members_before e.1)) }
+    {
+        let Seat {
+            inlet,
+            records,
+            layout,
+            first,
+            mut members,
+            place,
+        } = self;
+        match members.add(rt, place, owner) {
+            Ok(record) => Ok(Subscriber {
+                inlet,
+                records,
+                layout,
+                expected: first,
+                members,
+                record,
+                place,
+            }),
+            Err(failure) => Err((
+                failure,
+                Seat {
+                    inlet,
+                    records,
+                    layout,
+                    first,
+                    members,
+                    place,
+                },
+            )),
+        }
+    }
+}
+
+/// A record by its number and its slot, which a subscriber may read until it gives it back. It may be sent to another thread.
+#[derive(Debug, Drop)]
+pub struct Sample {
+    number: u64,
+    slot: u32,
+}
+
+impl Sample {
+    ghost use Rattle.zero_copy_bus.specs.Ends.{number_of, received};
+
+    /// The number that the record was published with.
+    pub fn number(&self) -> u64
+        ensures { result ≡ number_of self.now }
+    {
+        self.number
+    }
+
+    /// The number of the slot.
+    pub fn slot(&self) -> u32
+        ensures { result ≡ received self.now }
+    {
+        self.slot
+    }
+}
+
+/// A subscriber. Where it is dropped it is dead: what it had stays out until it is recovered.
+pub struct Subscriber<'a, X: Drop, K: Keeps<X> = Anything> {
+    inlet: Inlet<'a>,
+    records: &'a Slots<X, K>,
+    layout: Layout,
+    expected: u64,
+    members: Handle<'a, u64>,
+    record: ContainerHandle,
+    place: u64,
+    ghost fits: { layout.places ≡ slots_in records.now },
+}
+
+impl<'a, X: Drop, K: Keeps<X>> Drop for Subscriber<'a, X, K> {
+    fn drop(self) {
+        let Self {
+            inlet: _inlet,
+            records: _,
+            layout: _,
+            expected: _,
+            members: _members,
+            record: _record,
+            place: _,
+        } = self;
+    }
+}
+
+/// What a subscriber that left had of the lane and of the registry.
+pub struct Left<'a> {
+    pub members: Handle<'a, u64>,
+    pub submission: overflow::Pass,
+    pub completion: index_queue::Pass,
+}
+
+impl<'a> Drop for Left<'a> {
+    fn drop(self) {
+        let Self {
+            members: _members,
+            submission: _submission,
+            completion: _completion,
+        } = self;
+    }
+}
+
+impl<'a, X: Drop, K: Keeps<X>> Subscriber<'a, X, K> {
+    ghost use Rattle.zero_copy_bus.specs.Ends.{expected_at, layout_at, members_left, members_view, number_of, numbers_of, place_at};
+    ghost use Rattle.zero_copy_bus.specs.Ends.{received, receives_left, receives_view, record_of, returns_left, returns_view, slots_at};
+    ghost use Rattle.zero_copy_bus.specs.Ends.{word_at, IsUnread, ReceivedNone, TookNoneBack};
+
+    /// The oldest record that waits, whose number is above that of each record that it received before, and not below that of the
+    /// first one that was published after it got its seat. None where none waits, or where what came is no such record, and is
+    /// gone. The steps of `pop`.
+    pub fn receive(&mut self, rt: &impl Wait) -> Option<Sample>
+        ensures within { IfSome result (λ s. received s < slots_at self.old) }
+        ensures rises { Rises (expected_at self.old) (numbers_of result) (expected_at self.new) }
+        ensures oldest { IfSome result
+            (λ s. PopOldest (Index (word_at self.old s)) (receives_view self.old) (receives_view self.new)) }
+        ensures none { IfNone result (ReceivedNone self.old self.new) }
+        ensures same { (slots_at self.new ≡ slots_at self.old) × (layout_at self.new ≡ layout_at self.old) }
+    {
+        let word = self.inlet.receives.pop(rt)?;
+        let (number, slot) = self.layout.parts(word);
+        if slot >= self.layout.places() {
+            return None;
+        }
+        if number < self.expected {
+            return None;
+        }
+        self.expected = number + 1;
+        Some(Sample { number, slot })
+    }
+
+    /// The number from which on it takes records: that of the first one that was published after it got its seat, or one more than
+    /// that of the record that it received last.
+    pub fn expected(&self) -> u64
+        ensures { result ≡ expected_at self.now }
+    {
+        self.expected
+    }
+
+    /// Reads a record that was received, where it lies: the value that was laid there with the number of the sample, which keeps
+    /// its rule. As long as it is read, this subscriber receives and gives back nothing and is not dropped, since the reading
+    /// borrows it. Refused where the slot is (`Slot`): there is none, or its word says that it is empty or written, or that
+    /// 2^30 - 1 read it already; and where a value of another number lies there (`Other`: by its clause that number is another; that
+    /// it lies there, by no clause). Of a sample in hand here the first is ruled out by clauses (`within` of `receive`), and the others by tests alone.
+    ///
+    /// A load and a compare-exchange, again for each time that another subscriber comes to the slot or leaves it in between; and
+    /// a subtraction as the reading is dropped. A reading that is forgotten keeps its slot for good (`StillRead`).
+    pub fn read(&self, sample: &Sample) -> Result<Reading<'_, X, K>, ReadFailure>
+        ensures published { IfOk result (λ r. (number_in r ≡ number_of sample.now) × (slot_in r ≡ received sample.now)) }
+        ensures refused { IfErr result (IsUnread self.now sample.now) }
+    {
+        let reading = match self.records.read(sample.slot) {
+            Ok(reading) => reading,
+            Err(failure) => return Err(ReadFailure::Slot(failure)),
+        };
+        let number = reading.number();
+        if number == sample.number {
+            Ok(reading)
+        } else {
+            Err(ReadFailure::Other(number))
+        }
+    }
+
+    /// Gives a record back: true, since there is room for each slot (by no clause); false only where the queue is full, or at
+    /// its last position.
+    pub fn give_back(&mut self, sample: Sample) -> bool
+        ensures given { IsTrue result
+            → PushDone (Index (received sample)) (returns_view self.old) (returns_view self.new) }
+        ensures full { IsFalse result → TookNoneBack (received sample) self.old self.new }
+        ensures expected { expected_at self.new ≡ expected_at self.old }
+        ensures receives { receives_view self.new ≡ receives_view self.old }
+        ensures same { (slots_at self.new ≡ slots_at self.old) × (layout_at self.new ≡ layout_at self.old) }
+    {
+        let Sample { number: _, slot } = sample;
+        self.inlet.returns.push(slot as u64)
+    }
+
+    /// Takes part no more: its record is out of the registry, and both roles of its lane are free. What it had comes back once the
+    /// publisher looks who takes part (`update`).
+    pub fn leave(self, rt: &impl Wait) -> Result<Left<'a>, ContainerRemoveError>
+        ensures removed { IfOk result
+            (λ l. WasFreed (record_of self.entry).index (record_of self.entry).owner (members_view self.entry) (members_left l)) }
+        ensures received { IfOk result (λ l. HasReleased roles.Consumer (receives_view self.entry) (receives_left l)) }
+        ensures returned { IfOk result (λ l. HasReleased roles.Producer (returns_view self.entry) (returns_left l)) }
+    {
+        let Subscriber {
+            inlet,
+            records: _,
+            layout: _,
+            expected: _,
+            mut members,
+            record,
+            place: _,
+        } = self;
+        members.remove(rt, record, ReleaseMode::Default)?;
+        let (submission, completion) = inlet.release();
+        Ok(Left {
+            members,
+            submission,
+            completion,
+        })
+    }
+
+    /// The place of its lane.
+    pub fn place(&self) -> u64
+        ensures { result ≡ place_at self.now }
+    {
+        self.place
+    }
+}

@@ -1,0 +1,7 @@
+pub mod Ends
+pub mod Merged
+pub mod Numbers
+mod Places
+pub mod Relayed
+mod Shares
+pub mod WrongBodies

@@ -1,0 +1,65 @@
+-- What a wrong body of a call would leave or answer, and which of the call's clauses refuses that. A name says what the body does.
+use Rattle.std.proofs.Common.{◌≡◌, ◌≢◌, ℕ, Option, Some, None, List, [], ◌∷◌, true≢false, sym, ap, subst, ◌∙◌}
+use Rattle.std.specs.Prelude.{is_some, MatchOption}
+use Rattle.zero_copy_loans.specs.declared.pool.Buffer.{Buffer}
+use Rattle.zero_copy_loans.specs.declared.receiver.Sample.{Sample}
+use Rattle.zero_copy_loans.specs.Ends.{number_of, received}
+use Rattle.zero_copy_loans.specs.Numbers.{AreTold}
+use Rattle.zero_copy_loans.specs.Pools.{place_in, IsGivenBack, IsTakenOut}
+use Rattle.zero_copy_slots.specs.declared.Keeps.{Ghosts}
+use Rattle.zero_copy_slots.specs.declared.Laid.{Laid}
+use Rattle.zero_copy_slots.specs.declared.Reading.{Reading}
+use Rattle.zero_copy_slots.specs.declared.words.Emptied.{Emptied}
+use Rattle.zero_copy_slots.specs.Slots.{laid_slot, number_in, slot_in}
+use Rattle.zero_copy_slots.specs.Words.{emptied_number, emptied_slot}
+
+-- ---- the sender
+
+-- another slot is left empty than that of the place, as slot 0
+pub regain_empties_another_slot : (place other : ℕ) (e : Emptied) → other ≢ place → emptied_slot e ≡ other → emptied_slot e ≡ place → ⊥
+regain_empties_another_slot place other e differs is k = differs (sym is ∙ k)
+
+-- ---- the receiver
+
+module _ {X K : Type 0} where
+  -- what lies in another slot is read, or with another number
+  pub read_takes_another_slot : (reading : Reading X K) (sample : Sample) (other : ℕ) → other ≢ received sample → slot_in reading ≡ other
+      → (number_in reading ≡ number_of sample) × (slot_in reading ≡ received sample) → ⊥
+  read_takes_another_slot reading sample other differs is k = differs (sym is ∙ k.1)
+
+  pub read_takes_another_number : (reading : Reading X K) (sample : Sample) → number_in reading ≢ number_of sample
+      → (number_in reading ≡ number_of sample) × (slot_in reading ≡ received sample) → ⊥
+  read_takes_another_number reading sample differs k = differs k.0
+
+-- of a value that is read nothing stands in the answer
+pub read_each_tells_too_little : {A : Type 0} (tells : ℕ → A → Type 0) (number : ℕ) (numbers : List ℕ) → AreTold tells (number ∷ numbers) [] → ⊥
+read_each_tells_too_little tells number numbers k = k
+
+-- what is told holds with no such number
+pub read_each_tells_of_another : {A : Type 0} (tells : ℕ → A → Type 0) (number : ℕ) (numbers : List ℕ) (one : A) (told : List A)
+    → ¬ tells number one → AreTold tells (number ∷ numbers) (one ∷ told) → ⊥
+read_each_tells_of_another tells number numbers one told wrong k = wrong k.0
+
+-- ---- the pool
+
+module _ {X K : Type 0} {rule : Ghosts K X} where
+  -- the value comes out of another slot than that of the place
+  pub acquire_takes_another_slot : (b : Buffer X K rule) → emptied_slot b.came ≢ place_in b → IsTakenOut b → ⊥
+  acquire_takes_another_slot b differs k = differs k.0
+
+  -- it is said to have another number than it lay there with
+  pub acquire_tells_another_number : (b : Buffer X K rule) (value : X) (number : ℕ) → b.value ≡ Some value → emptied_number b.came ≡ Some number
+      → number ≢ b.number → IsTakenOut b → ⊥
+  acquire_tells_another_number b value number some was differs k =
+      let out : MatchOption (Some value) ((emptied_number b.came ≡ None) × (b.number ≡ 0)) (λ v. emptied_number b.came ≡ Some b.number) =
+      subst (λ o. MatchOption o ((emptied_number b.came ≡ None) × (b.number ≡ 0)) (λ v. emptied_number b.came ≡ Some b.number)) some k.1 in
+      let same : number ≡ b.number = cc in
+      differs same
+
+  -- something is said to lie there, and there was no value
+  pub give_back_lays_nothing : (b : Buffer X K rule) (laid : Laid) → b.value ≡ None → IsGivenBack b (Some laid) → ⊥
+  give_back_lays_nothing b laid none k = true≢false (sym k.0 ∙ ap is_some none)
+
+  -- the value is laid into another slot
+  pub give_back_lays_elsewhere : (b : Buffer X K rule) (laid : Laid) → laid_slot laid ≢ place_in b → IsGivenBack b (Some laid) → ⊥
+  give_back_lays_elsewhere b laid differs k = differs k.1

@@ -1,0 +1,5 @@
+use Rattle.zero_copy_loans.proofs.Relayed.{passed_on}
+use Rattle.zero_copy_loans.proofs.channel.Channel.passes_on.Goals as goal
+
+pub returns : goal.returns
+returns g c sent back received h = passed_on _ sent back received _ h

@@ -1,0 +1,5 @@
+use Rattle.zero_copy_loans.specs.Ends.{HasRead}
+use Rattle.zero_copy_loans.proofs.receiver.Receiver.read_each.Given as given
+
+abbrev pub invariant-loop : given.invariant-loop
+invariant-loop g l = HasRead g.R.Reads.tells l.told.items l.fn.self l.self

@@ -1,0 +1,28 @@
+use Rattle.std.proofs.Common.{rules, inl, refl, sym, subst, ◌∙◌}
+use Rattle.lock_free_queues.specs.Queues.Overflowing.{PushHandedBack}
+use Rattle.zero_copy_loans.specs.Ends.{sends_queue, sends_view}
+use Rattle.zero_copy_loans.proofs.Ends.{handed_back, sent_back, sent_one}
+use Rattle.zero_copy_loans.proofs.Places.{unsent}
+use Rattle.zero_copy_loans.proofs.sender.Sender.send.Goals as goal
+
+pub returns-then-not-has-clause-back : goal.returns-then-not-has-clause-back
+returns-then-not-has-clause-back g c = c.give_up.ensures.places ∙ unsent _ _ c.requires.loaned
+
+pub returns-in_err-back-clause-sends : goal.returns-in_err-back-clause-sends
+returns-in_err-back-clause-sends g c has =
+    sent_one _ c.word-word.result _ _ _ c.from_residual.ensures has c.args.self.now.layout.fits (search rules) refl refl (search rules) (search rules)
+    c.in_err-back.ensures.added
+
+pub returns-clause-handed_back : goal.returns-clause-handed_back
+returns-clause-handed_back g c =
+    inl (handed_back _ c.word-word.result _ c.in_ok-back.back _ _ _ _ (search rules) c.parts-number.ensures.is c.settle.ensures.queues.0
+    c.in_ok-back.ensures.handed_back)
+
+pub returns-clause-sends : goal.returns-clause-sends
+returns-clause-sends g c has =
+    sent_back _ c.word-word.result _ _ c.in_ok-back.back _ _ has c.args.self.now.layout.fits
+    c.parts-number.ensures.within (search rules) refl refl (search rules) (search rules)
+    c.parts-number.ensures.is
+    (subst
+    (λ v. PushHandedBack (sends_queue c.args.self.now).capacity c.word-word.result c.in_ok-back.back (sends_view c.args.self.now) v)
+    (sym c.settle.ensures.queues.0) c.in_ok-back.ensures.handed_back)

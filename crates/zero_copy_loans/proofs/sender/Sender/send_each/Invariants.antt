@@ -1,0 +1,5 @@
+use Rattle.zero_copy_loans.specs.Ends.{HasSent}
+use Rattle.zero_copy_loans.proofs.sender.Sender.send_each.Given as given
+
+abbrev pub invariant-loop : given.invariant-loop
+invariant-loop g l = HasSent l.counter l.back.items l.fn.self l.self

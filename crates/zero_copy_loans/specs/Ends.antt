@@ -1,0 +1,266 @@
+-- What clauses see of the ends of a channel.
+use Rattle.std.specs.Prelude.{◌≡◌, ◌≢◌, ◌⊎◌, ℕ, ◌+◌, ◌%◌, ◌^◌, ◌<◌, ◌≤◌, Option, Some, None, List, [], ◌∷◌, slice_set, vec_len}
+use Rattle.std.specs.List.{range_with_len}
+use Rattle.lock_free.specs.HistoryView.View.{View}
+use Rattle.lock_free.specs.Loan.Places.{place_at}
+use Rattle.lock_free.specs.Loan.Sender as loans
+use Rattle.lock_free.specs.declared.spsc.loan.places.Place.{Place}
+use Rattle.lock_free.specs.declared.spsc.loan.places.Place.TheVariants.{Free, Loaned}
+use Rattle.lock_free.specs.Queues.Item.TheVariants.{Index}
+use Rattle.lock_free.specs.Queues.Rings.{QueueId, consumer_queue, consumer_view, producer_queue, producer_view, queue_of, view}
+use Rattle.lock_free.specs.Queues.Overflowing.{PushHandedBack}
+use Rattle.lock_free.specs.Queues.Contracts.{PopFoundNone, PopOldest, PushRefused}
+use Rattle.lock_free.specs.Unique.Contracts.{WasRefused}
+use Rattle.lock_free.specs.UniqueIndexSet.{set_of}
+use Rattle.lock_free.specs.declared.spsc.loan.LoanSender.{LoanSender}
+use Rattle.zero_copy_loans.specs.declared.error.LoanFailure.{LoanFailure}
+use Rattle.zero_copy_loans.specs.declared.error.LoanFailure.TheVariants.{NoPlace, NoValue, StillRead}
+use Rattle.zero_copy_loans.specs.declared.error.ReadFailure.{ReadFailure}
+use Rattle.zero_copy_loans.specs.declared.error.ReadFailure.TheVariants.{Slot, Other}
+use Rattle.zero_copy_loans.specs.declared.receiver.Receiver.{Receiver}
+use Rattle.zero_copy_loans.specs.declared.receiver.ReceiverParts.{ReceiverParts}
+use Rattle.zero_copy_loans.specs.declared.receiver.Sample.{Sample}
+use Rattle.zero_copy_loans.specs.declared.sender.Back.{Back}
+use Rattle.zero_copy_loans.specs.declared.sender.Loan.{Loan}
+use Rattle.zero_copy_loans.specs.declared.sender.Sender.{Sender}
+use Rattle.zero_copy_loans.specs.declared.sender.SenderParts.{SenderParts}
+use Rattle.zero_copy_loans.specs.declared.words.Layout.{Layout}
+use Rattle.zero_copy_loans.specs.Numbers.{Shape, AreTold, HasSentNumbers, HasReceivedNumbers, SendsOn, ReceivesOn}
+use Rattle.zero_copy_loans.specs.Words.{word_of, IsWord}
+use Rattle.zero_copy_slots.specs.Slots.{slots_in, IsUnreadable}
+use Rattle.zero_copy_slots.specs.declared.Keeps.{Ghosts}
+
+-- the place that is read, and the number that its value was sent with
+abbrev pub received : Sample → ℕ
+received sample = sample.place
+
+abbrev pub number_of : Sample → ℕ
+number_of sample = sample.number
+
+-- the numbers that came
+abbrev pub numbers_of : Option Sample → List ℕ
+numbers_of (Some sample) = number_of sample ∷ []
+numbers_of None = []
+
+abbrev pub numbers_back : Option Back → List ℕ
+numbers_back (Some back) = back.number ∷ []
+numbers_back None = []
+
+-- the place that is written
+abbrev pub loaned : {X K : Type 0} → Loan X K → ℕ
+loaned loan = loan.place
+
+-- what a sender is made of knows of the queue, and which queue that is
+abbrev pub sent_view : SenderParts → View ℕ
+sent_view parts = view parts.submission
+
+abbrev pub sent_queue : SenderParts → QueueId
+sent_queue parts = queue_of parts.submission
+
+-- what it knows of the queue by which places come back
+abbrev pub taken_view : SenderParts → View ℕ
+taken_view parts = view parts.completion
+
+-- what a receiver is made of knows of the queue, and which queue that is
+abbrev pub received_view : ReceiverParts → View ℕ
+received_view parts = view parts.submission
+
+abbrev pub received_queue : ReceiverParts → QueueId
+received_queue parts = queue_of parts.submission
+
+-- what it knows of the queue by which places come back
+abbrev pub returned_view : ReceiverParts → View ℕ
+returned_view parts = view parts.completion
+
+module _ {X K : Type 0} {rule : Ghosts K X} where
+  -- ---- the sender
+
+  -- its sender of places, and the table of that: where each place is
+  abbrev pub sender_of : Sender X K rule → LoanSender
+  sender_of s = s.loans
+
+  abbrev pub places_of : Sender X K rule → List Place
+  places_of s = loans.places_of s.loans
+
+  -- how many values it has that are not in a slot
+  abbrev pub spares_in : Sender X K rule → ℕ
+  spares_in s = vec_len s.spares
+
+  -- the number of the value that is sent next
+  abbrev pub next_of : Sender X K rule → ℕ
+  next_of s = s.next
+
+  -- how it makes its words, for how many places
+  abbrev pub layout_of : Sender X K rule → Layout
+  layout_of s = s.layout
+
+  abbrev pub slots_of : Sender X K rule → ℕ
+  slots_of s = (layout_of s).places
+
+  -- what it knows of the queue that it sends through, and which that is
+  abbrev pub sends_view : Sender X K rule → View ℕ
+  sends_view s = loans.submission_view s.loans
+
+  abbrev pub sends_queue : Sender X K rule → QueueId
+  sends_queue s = loans.submission_of s.loans
+
+  abbrev pub sends_shape : Sender X K rule → Shape
+  sends_shape s =
+      record { room = (layout_of s).room; places = slots_of s; capacity = (sends_queue s).capacity }
+
+  -- what is sent next with this place, and whether there is such a number
+  abbrev pub word_next : Sender X K rule → ℕ → ℕ
+  word_next s place = word_of (layout_of s).room (next_of s) place
+
+  abbrev pub HasWord : Sender X K rule → ℕ → Type 0
+  HasWord s place = IsWord (layout_of s).room (slots_of s) (next_of s) place
+
+  -- there is no such number, so nothing was sent: what was to be sent comes back
+  abbrev pub IsUnsent : ℕ → Back → Sender X K rule → Sender X K rule → Type 0
+  IsUnsent place back old new =
+      ((slots_of old ≤ place) ⊎ (2 ^ 64 ≤ word_next old place))
+      × (back.number ≡ next_of old) × (back.place ≡ place)
+      × (sends_view new ≡ sends_view old) × (next_of new ≡ next_of old)
+
+  -- what the queue handed back: the oldest that waited, or its own where the queue takes none; or there is no such number, and
+  -- nothing was sent
+  abbrev pub HandsBack : ℕ → Back → Sender X K rule → Sender X K rule → Type 0
+  HandsBack place back old new =
+      PushHandedBack (sends_queue old).capacity (word_next old place) (word_of (layout_of old).room back.number back.place)
+      (sends_view old) (sends_view new)
+      ⊎ IsUnsent place back old new
+
+  -- it sends through the same queue, in the same way, and has sent nothing
+  abbrev pub KeepsSends : Sender X K rule → Sender X K rule → Type 0
+  KeepsSends old new =
+      (sends_view new ≡ sends_view old) × loans.IsSame (sender_of old) (sender_of new) × (layout_of new ≡ layout_of old)
+      × (next_of new ≡ next_of old)
+
+  -- It has sent so many values, with the numbers that came next, and those came back.
+  pub record HasSent (count : ℕ) (back : List ℕ) (old new : Sender X K rule) : Type 0 where
+    pub same : loans.IsSame (sender_of old) (sender_of new)
+    pub layout : layout_of new ≡ layout_of old
+    pub next : next_of new ≡ next_of old + count
+    pub sends : 0 < (sends_queue old).capacity
+        → SendsOn (sends_shape old) (range_with_len (next_of old) count) back (sends_view old) (sends_view new)
+
+  -- the parts are for the set and the queues of the sender
+  abbrev pub IsOfSender : Sender X K rule → SenderParts → Type 0
+  IsOfSender s parts =
+      (set_of parts.pass ≡ loans.set_of_sender (sender_of s)) × (sent_queue parts ≡ sends_queue s)
+      × (queue_of parts.completion ≡ loans.completion_of (sender_of s))
+
+  -- it has sent nothing since it was made of its parts
+  pub record HasBegun (parts : SenderParts) (s : Sender X K rule) : Type 0 where
+    pub of : IsOfSender s parts
+    pub next : next_of s ≡ parts.next
+    pub sent : HasSentNumbers (sends_shape s) [] [] (sent_view parts) (sends_view s)
+
+  -- it has sent so many values until it was taken apart
+  pub record HasSentAll (count : ℕ) (back : List ℕ) (s : Sender X K rule) (parts : SenderParts) : Type 0 where
+    pub of : IsOfSender s parts
+    pub next : parts.next ≡ next_of s + count
+    pub sends : 0 < (sends_queue s).capacity
+        → SendsOn (sends_shape s) (range_with_len (next_of s) count) back (sends_view s) (sent_view parts)
+
+  -- no value was left, and nothing changed; or the set refused; or a place that was free is loaned, and there is no loan of it
+  abbrev pub IsRefused : Sender X K rule → Sender X K rule → LoanFailure → Type 0
+  IsRefused old new NoValue = (spares_in old ≡ 0) × (sender_of new ≡ sender_of old)
+  IsRefused old new (NoPlace e) =
+      WasRefused e (loans.pass_view (sender_of old)) (loans.pass_view (sender_of new)) × (places_of new ≡ places_of old)
+  IsRefused old new (StillRead i) =
+      (place_at (places_of old) i ≡ Free) × (places_of new ≡ slice_set (places_of old) i Loaned)
+
+  -- ---- the receiver
+
+  -- how many places it reads
+  abbrev pub places_in : Receiver X K rule → ℕ
+  places_in r = slots_in r.slots.now
+
+  -- what it knows of the queue that it receives from, and of the one by which it gives back, and which they are
+  abbrev pub receives_view : Receiver X K rule → View ℕ
+  receives_view r = consumer_view r.receives
+
+  abbrev pub returns_view : Receiver X K rule → View ℕ
+  returns_view r = producer_view r.returns
+
+  abbrev pub receives_queue : Receiver X K rule → QueueId
+  receives_queue r = consumer_queue r.receives
+
+  abbrev pub returns_queue : Receiver X K rule → QueueId
+  returns_queue r = producer_queue r.returns
+
+  -- how it takes words apart
+  abbrev pub layout_in : Receiver X K rule → Layout
+  layout_in r = r.layout
+
+  abbrev pub receives_shape : Receiver X K rule → Shape
+  receives_shape r =
+      record { room = (layout_in r).room; places = places_in r; capacity = (receives_queue r).capacity }
+
+  -- what was sent, of a sample
+  abbrev pub word_in : Receiver X K rule → Sample → ℕ
+  word_in r sample = word_of (layout_in r).room (number_of sample) (received sample)
+
+  -- nothing waited; or the queue has no room at all, and nothing is written; or what came is no place
+  abbrev pub ReceivedNone : Receiver X K rule → Receiver X K rule → Type 0
+  ReceivedNone old new =
+      PopFoundNone (receives_view old) (receives_view new)
+      ⊎ ((receives_queue old).capacity ≡ 0) × (receives_view new ≡ receives_view old)
+      ⊎ (word : ℕ) × (places_in old ≤ word % (layout_in old).room) × PopOldest (Index word) (receives_view old) (receives_view new)
+
+  -- it receives from the same queue, and gives back through the same one
+  abbrev pub IsSameReceiver : Receiver X K rule → Receiver X K rule → Type 0
+  IsSameReceiver old new =
+      (receives_queue new ≡ receives_queue old) × (returns_queue new ≡ returns_queue old)
+
+  -- it does so in the same way, and has received nothing
+  abbrev pub KeepsReceives : Receiver X K rule → Receiver X K rule → Type 0
+  KeepsReceives old new =
+      (receives_view new ≡ receives_view old) × IsSameReceiver old new × (layout_in new ≡ layout_in old)
+      × (places_in new ≡ places_in old)
+
+  -- It has received the values of these numbers.
+  pub record HasReceived (numbers : List ℕ) (old new : Receiver X K rule) : Type 0 where
+    pub same : IsSameReceiver old new
+    pub layout : layout_in new ≡ layout_in old
+    pub places : places_in new ≡ places_in old
+    pub receives : 0 < (receives_queue old).capacity
+        → ReceivesOn (receives_shape old) numbers (receives_view old) (receives_view new)
+
+  -- It has received values, and what stands here was told of them, one of each, in their order.
+  pub record HasRead {A : Type 0} (tells : ℕ → A → Type 0) (told : List A) (old new : Receiver X K rule) : Type 0 where
+    pub numbers : List ℕ
+    pub of_each : AreTold tells numbers told
+    pub received : HasReceived numbers old new
+
+  -- the parts are for the queues of the receiver
+  abbrev pub IsOfReceiver : Receiver X K rule → ReceiverParts → Type 0
+  IsOfReceiver r parts =
+      (received_queue parts ≡ receives_queue r) × (queue_of parts.completion ≡ returns_queue r)
+
+  -- it has received nothing since it was made of its parts
+  pub record HasWaited (parts : ReceiverParts) (r : Receiver X K rule) : Type 0 where
+    pub of : IsOfReceiver r parts
+    pub received : HasReceivedNumbers (receives_shape r) [] (received_view parts) (receives_view r)
+
+  -- it has received the values of these numbers until it was taken apart
+  pub record HasReceivedAll (numbers : List ℕ) (r : Receiver X K rule) (parts : ReceiverParts) : Type 0 where
+    pub of : IsOfReceiver r parts
+    pub receives : 0 < (receives_queue r).capacity
+        → ReceivesOn (receives_shape r) numbers (receives_view r) (received_view parts)
+
+  -- the same until it was taken apart
+  pub record HasReadAll {A : Type 0} (tells : ℕ → A → Type 0) (told : List A) (r : Receiver X K rule) (parts : ReceiverParts) : Type 0 where
+    pub numbers : List ℕ
+    pub of_each : AreTold tells numbers told
+    pub received : HasReceivedAll numbers r parts
+
+  -- why a sample is not read: its slot is not, or the failure has another number (that it lies there, no clause says)
+  abbrev pub IsUnread : Receiver X K rule → Sample → ReadFailure → Type 0
+  IsUnread r sample (Slot failure) = IsUnreadable r.slots.now (received sample) failure
+  IsUnread r sample (Other number) = number ≢ number_of sample
+
+  -- the place was not taken back: as many waited as the queue has room for, or its last position is reached
+  abbrev pub TookNoneBack : ℕ → Receiver X K rule → Receiver X K rule → Type 0
+  TookNoneBack place old new = PushRefused (returns_queue old).capacity (Index place) (returns_view old) (returns_view new)

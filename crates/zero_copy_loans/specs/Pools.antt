@@ -1,0 +1,55 @@
+-- What clauses see of a pool, of who takes buffers of it, and of a buffer.
+use Rattle.std.specs.Prelude.{◌≡◌, ℕ, ◌*◌, ◌<◌, Option, Some, None, IsSome, MatchOption}
+use Rattle.threaded.specs.declared.share.Share.{Share}
+use Rattle.lock_free.specs.UniqueIndexSet.{capacity_of, share, value_of}
+use Rattle.zero_copy_loans.specs.declared.error.PoolFailure.{PoolFailure}
+use Rattle.zero_copy_loans.specs.declared.error.PoolFailure.TheVariants.{InUse, NoPass, NoPlace}
+use Rattle.zero_copy_loans.specs.declared.pool.Buffer.{Buffer}
+use Rattle.zero_copy_loans.specs.declared.pool.Lender.{Lender}
+use Rattle.zero_copy_loans.specs.declared.pool.Pool.{Pool}
+use Rattle.zero_copy_slots.specs.Slots.{laid_number, laid_slot, IsUntaken}
+use Rattle.zero_copy_slots.specs.Words.{emptied_number, emptied_slot}
+use Rattle.zero_copy_slots.specs.declared.error.TakeFailure.{TakeFailure}
+use Rattle.zero_copy_slots.specs.declared.Keeps.{Ghosts}
+use Rattle.zero_copy_slots.specs.declared.Laid.{Laid}
+
+module _ {X K : Type 0} {rule : Ghosts K X} where
+  -- how many places there are
+  abbrev pub places_of : Pool X K rule → ℕ
+  places_of p = capacity_of p.set
+
+  abbrev pub places_lent : Lender X K rule → ℕ
+  places_lent l = capacity_of l.set.now
+
+  -- the place that is taken
+  abbrev pub place_in : Buffer X K rule → ℕ
+  place_in b = value_of b.index
+
+  -- its share of the right to know all that happens to the places, and that it is as much as before: the same fraction
+  abbrev pub share_lent : Lender X K rule → Share
+  share_lent l = share l.pass
+
+  abbrev pub KeepsShare : Lender X K rule → Lender X K rule → Type 0
+  KeepsShare old new =
+      (share_lent new).part * (share_lent old).parts ≡ (share_lent old).part * (share_lent new).parts
+
+  -- somebody had the slot of a place, which there is
+  abbrev pub IsRefusedBuffer : Lender X K rule → PoolFailure → Type 0
+  IsRefusedBuffer l (NoPlace failure) = Unit {0}
+  IsRefusedBuffer l NoPass = Unit {0}
+  IsRefusedBuffer l (InUse failure) = (place : ℕ) × (place < places_lent l) × IsUntaken l.slots.now place failure
+
+  -- the slot of its place was left empty, in which the value lay with the number; or nothing lay there
+  abbrev pub IsTakenOut : Buffer X K rule → Type 0
+  IsTakenOut b =
+      (emptied_slot b.came ≡ place_in b)
+      × MatchOption b.value ((emptied_number b.came ≡ None) × (b.number ≡ 0)) (λ value. emptied_number b.came ≡ Some b.number)
+
+  -- its value was laid into the slot of the place, with its number; or there was none
+  abbrev pub IsGivenBack : Buffer X K rule → Option Laid → Type 0
+  IsGivenBack b (Some laid) = IsSome b.value × (laid_slot laid ≡ place_in b) × (laid_number laid ≡ b.number)
+  IsGivenBack b None = b.value ≡ None
+
+  -- the value comes back, since its slot was not to be had
+  abbrev pub IsNotLaid : Buffer X K rule → X × TakeFailure → Type 0
+  IsNotLaid b back = (b.value ≡ Some back.0) × IsUntaken b.slots.now (place_in b) back.1

@@ -1,0 +1,466 @@
+//! The end of the channel that loans and sends.
+ghost use Rattle.std.specs.Prelude.{◌≡◌, ◌+◌, ◌-◌, ◌^◌, ◌<◌, ◌↔◌, IsTrue, IfOk, IfErr, IfSome, IfNone};
+ghost use Rattle.std.specs.Prelude.{[], ◌++◌, count_by, map, slice_set, vec_len};
+ghost use Rattle.lock_free.specs.Loan.Contracts.{HasEmptied};
+ghost use Rattle.lock_free.specs.Loan.Places.{is_sent, place_at, reclaimed, returned};
+ghost use Rattle.lock_free.specs.Loan.Sender.{completion_of, completion_view, pass_view, set_of_sender, submission_of, IsLoaned, IsSame};
+ghost use Rattle.lock_free.specs.declared.spsc.loan.places.Place.TheVariants.{Free, Loaned, Sent};
+ghost use Rattle.lock_free.specs.Queues.Item.TheVariants.{Index};
+ghost use Rattle.lock_free.specs.Passes.{Goes};
+ghost use Rattle.lock_free.specs.Queues.Overflowing.{consumer_queue, consumer_view, PushAdded, SameConsumerByCapacity};
+ghost use Rattle.lock_free.specs.Queues.Contracts.{HasReleased, PopDone, PopEmpty};
+ghost use Rattle.lock_free.specs.Queues.Reading.{published};
+ghost use Rattle.lock_free.specs.Queues.Rings as queues;
+ghost use Rattle.lock_free.specs.Queues.Role.TheVariants as roles;
+ghost use Rattle.lock_free.specs.UniqueIndexSet.{set_of, view};
+ghost use Rattle.zero_copy_loans.specs.Words.{IsRoomFor};
+ghost use Rattle.zero_copy_slots.specs.Slots.{slots_in, slot_of};
+ghost use Rattle.zero_copy_slots.specs.Words.{emptied_slot};
+
+use crate::error::LoanFailure;
+use crate::words::Layout;
+use lock_free::mpmc::unique_index_set::Pass;
+use lock_free::spsc::loan::LoanSender;
+use lock_free::spsc::{index_queue, safely_overflowing_index_queue as overflow};
+use std::alloc::Global;
+use std::sync::Wait;
+use std::thread;
+use zero_copy_slots::words::Emptied;
+use zero_copy_slots::{Anything, Keeps, Slots, Writing};
+
+/// A place that is Loaned, and a value for it that is written in plain memory, until it is sent or given up. It stays in its
+/// thread. Where it is dropped, its value and what lay in its slot are dropped for good, and its place stays Loaned until it is
+/// regained. Where it is forgotten, its place stays Loaned for good.
+pub struct Loan<'a, X: Drop, K: Keeps<X> = Anything> {
+    place: u32,
+    /// The value, where it is written. It was sent or given up before, or is a spare as the sender was given it.
+    pub value: X,
+    writing: Writing<'a, X, K>,
+    ghost at: { slot_of writing ≡ place },
+}
+
+impl<'a, X: Drop, K: Keeps<X>> Drop for Loan<'a, X, K> {
+    fn drop(self) {
+        let Self {
+            place: _,
+            value: _value,
+            writing: _writing,
+        } = self;
+    }
+}
+
+impl<'a, X: Drop, K: Keeps<X>> Loan<'a, X, K> {
+    ghost use Rattle.zero_copy_loans.specs.Ends.{loaned};
+
+    /// The number of the place. No atomic step.
+    pub fn place(&self) -> u32
+        ensures { result ≡ loaned self.now }
+    {
+        self.place
+    }
+
+    fn into_parts(self) -> (X, Writing<'a, X, K>)
+        ensures value { result.0 ≡ self.entry.value }
+        ensures at { slot_of result.1 ≡ loaned self.entry }
+    {
+        let Self {
+            place: _,
+            value,
+            writing,
+        } = self;
+        (value, writing)
+    }
+}
+
+/// A value that is not received: its number, and the place that it lay in.
+#[derive(Debug, Clone, Copy, PartialEq, Eq)]
+pub struct Back {
+    pub number: u64,
+    pub place: u32,
+}
+
+impl Back {
+    ghost use Rattle.zero_copy_loans.specs.Ends.{numbers_back};
+
+    /// Notes the number of what came back, if anything did. None where there is no memory.
+    fn note(came: Option<Back>, back: &mut Vec<u64>) -> Option<()>
+        ensures { IfSome result (λ _. back.new.items ≡ back.old.items ++ numbers_back came) }
+    {
+        match came {
+            Some(Back { number, place: _ }) => back.push(number).ok(),
+            None => Some(()),
+        }
+    }
+}
+
+/// Who writes values that are sent, each so that it keeps its rule with its number. False where it cannot.
+pub trait Writes<X, K: Keeps<X>> {
+    fn write(&mut self, number: u64, value: &mut X) -> bool
+        ensures { IsTrue result → K.holds number value.new };
+}
+
+/// What a sender is made of, beside the channel: a pass of the set and one of each queue, and the number that comes next.
+#[derive(Drop)]
+pub struct SenderParts {
+    pub pass: Pass,
+    pub submission: overflow::Pass,
+    pub completion: index_queue::Pass,
+    pub next: u64,
+}
+
+/// Keeps what lay in a place, if anything did, to be written again.
+fn keep<X: Drop>(spares: &mut Vec<X>, old: Option<(u64, X)>) {
+    if let Some((_, value)) = old {
+        let _ = spares.push(value);
+    }
+}
+
+/// A sender of values: a `LoanSender`, whose table says where each place is, with a slot for each place.
+pub struct Sender<'a, X: Drop, K: Keeps<X> = Anything> {
+    loans: LoanSender<'a>,
+    slots: &'a Slots<X, K>,
+    spares: Vec<X>,
+    layout: Layout,
+    next: u64,
+}
+
+impl<'a, X: Drop, K: Keeps<X>> Drop for Sender<'a, X, K> {
+    fn drop(self) {
+        let Self {
+            loans: _loans,
+            slots: _,
+            spares: _spares,
+            layout: _,
+            next: _,
+        } = self;
+    }
+}
+
+impl<'a, X: Drop, K: Keeps<X>> Sender<'a, X, K> {
+    ghost use Rattle.zero_copy_loans.specs.Ends.{layout_of, loaned, next_of, numbers_back, places_of, sender_of};
+    ghost use Rattle.zero_copy_loans.specs.Ends.{sends_queue, sends_view, sent_queue, sent_view};
+    ghost use Rattle.zero_copy_loans.specs.Ends.{slots_of, spares_in, word_next, HandsBack, HasSent, HasSentAll, HasWord, IsRefused, KeepsSends};
+
+    /// A sender of values, over slots that are meant to be as many as the set of the `LoanSender` has indices, and with values to
+    /// write, which need not keep the rule yet: one more than there are slots, and one more for each further loan that is in hand
+    /// at a time. A loan that is dropped takes up to two of them away. Nobody else may write the slots. No atomic step.
+    pub fn new(loans: LoanSender<'a>, slots: &'a Slots<X, K>, spares: Vec<X>) -> Sender<'a, X, K>
+        ensures loans { sender_of result ≡ loans.entry }
+        ensures spares { spares_in result ≡ vec_len spares }
+        ensures next { next_of result ≡ 0 }
+        ensures slots { slots_of result ≡ slots_in slots.now }
+        ensures room { IsRoomFor (slots_in slots.now) (layout_of result).room }
+    {
+        let layout = Layout::new(slots.number());
+        Sender::of(loans, slots, spares, layout, 0)
+    }
+
+    /// The same, with the way in which the words are made and the number that comes next.
+    pub(crate) fn of(
+        loans: LoanSender<'a>,
+        slots: &'a Slots<X, K>,
+        spares: Vec<X>,
+        layout: Layout,
+        next: u64,
+    ) -> Sender<'a, X, K>
+        ensures loans { sender_of result ≡ loans.entry }
+        ensures spares { spares_in result ≡ vec_len spares }
+        ensures layout { layout_of result ≡ layout }
+        ensures next { next_of result ≡ next }
+    {
+        Sender {
+            loans,
+            slots,
+            spares,
+            layout,
+            next,
+        }
+    }
+
+    /// A place that was Free, and a value to write there: the place is Loaned. Refused as follows:
+    ///
+    /// - where no value is left to write (`NoValue`), and then nothing changes;
+    /// - where no index is left, or the set is locked (`NoPlace`), and then the table stays;
+    /// - where somebody still reads the place, who has it not, or where it has no slot (`StillRead`). The place stays Loaned, so
+    ///   that the next loan gets another; `regain` tries it again.
+    ///
+    /// The steps of `LoanSender::loan`, and on the slot a load and at most one compare-exchange.
+    pub fn loan(&mut self, rt: &impl Wait) -> Result<Loan<'a, X, K>, LoanFailure>
+        ensures loaned { IfOk result (λ l. (place_at (places_of self.old) (loaned l) ≡ Free)
+            × (places_of self.new ≡ slice_set (places_of self.old) (loaned l) Loaned)) }
+        ensures is { IfOk result (λ l. IsLoaned (loaned l) (sender_of self.new)) }
+        ensures spares { IfOk result (λ l. spares_in self.new + 1 ≡ spares_in self.old) }
+        ensures refused { IfErr result (IsRefused self.old self.new) }
+        ensures next { next_of self.new ≡ next_of self.old }
+        ensures same { IsSame (sender_of self.old) (sender_of self.new) }
+        ensures sends { KeepsSends self.old self.new }
+    {
+        if self.spares.is_empty() {
+            return Err(LoanFailure::NoValue);
+        }
+        let place = match self.loans.loan(rt) {
+            Ok(place) => place,
+            Err(failure) => return Err(LoanFailure::NoPlace(failure)),
+        };
+        let Ok(writing) = self.slots.take(place) else {
+            return Err(LoanFailure::StillRead(place));
+        };
+        let Some(value) = self.spares.pop() else {
+            unreachable!()
+        };
+        Ok(Loan {
+            place,
+            value,
+            writing,
+        })
+    }
+
+    /// Whether the number of the loan's place is Loaned here, which `send` and `give_up` ask for. A loan of another channel is not
+    /// told apart. No atomic step.
+    pub fn is_loaned(&self, loan: &Loan<'a, X, K>) -> bool
+        ensures { IsTrue result ↔ IsLoaned (loaned loan.now) (sender_of self.now) }
+    {
+        self.loans.is_loaned(loan.place)
+    }
+
+    /// A loan as soon as there is one, by at most so many tries (by no clause). After one that is refused it takes back a place, or lets another
+    /// thread run where none came. None where each try was refused. A place that is `StillRead` stays Loaned.
+    ///
+    /// For each try, the steps of `loan` and those of `take_back`.
+    pub fn loan_within(&mut self, rt: &impl Wait, tries: u64) -> Option<Loan<'a, X, K>>
+        ensures is { IfSome result (λ l. IsLoaned (loaned l) (sender_of self.new)) }
+        ensures sends { KeepsSends self.old self.new }
+    {
+        for _ in 0..tries {
+            if let Ok(loan) = self.loan(rt) {
+                return Some(loan);
+            }
+            if self.take_back().is_none() {
+                thread::yield_now();
+            }
+        }
+        None
+    }
+
+    /// Whether there is a number for this loan. From the one past the last number on `send` sends nothing. No atomic step.
+    pub fn has_number(&self, loan: &Loan<'a, X, K>) -> bool
+        ensures { IsTrue result ↔ HasWord self.now (loaned loan.now) }
+    {
+        self.layout.has(self.next, loan.place)
+    }
+
+    /// Sends a value, which keeps its rule with the number that comes next: its place is Sent. Where the queue is full, the
+    /// answer is the oldest value that waited, and where it takes none (it has no capacity, or is at its last position) the value
+    /// itself: its place is Free again where it is Sent, and else nothing changes. The numbers of values rise by one with each.
+    ///
+    /// A number and a place go into one word, so there are 2^64 numbers divided by the places rounded up to a power of two (at
+    /// least 2). From the one past the last nothing is sent any more (`IsUnsent`): each value comes back at once, its place Free.
+    ///
+    /// One step on the slot, and those of `LoanSender::send`.
+    pub fn send(&mut self, loan: Loan<'a, X, K>) -> Option<Back>
+        requires fits { K.holds (next_of self.old) loan.value }
+        requires loaned { IsLoaned (loaned loan) (sender_of self.old) }
+        ensures sent { IfNone result
+            (places_of self.new ≡ slice_set (places_of self.old) (loaned loan.entry) Sent) }
+        ensures back { IfSome result (λ y. places_of self.new
+            ≡ returned y.place (slice_set (places_of self.old) (loaned loan.entry) Sent)) }
+        ensures added { IfNone result (HasWord self.old (loaned loan.entry)
+            × PushAdded (word_next self.old (loaned loan.entry)) (sends_view self.old) (sends_view self.new)) }
+        ensures handed_back { IfSome result (λ y. HandsBack (loaned loan.entry) y self.old self.new) }
+        ensures goes { HasWord self.old (loaned loan.entry) → 0 < (sends_queue self.old).capacity
+            → Goes (sends_view self.old) (sends_view self.new) }
+        ensures next { HasWord self.old (loaned loan.entry) → next_of self.new ≡ next_of self.old + 1 }
+        ensures sends { HasWord self.old (loaned loan.entry) → HasSent 1 (numbers_back result) self.old self.new }
+        ensures layout { layout_of self.new ≡ layout_of self.old }
+        ensures same { IsSame (sender_of self.old) (sender_of self.new) }
+    {
+        let place = loan.place;
+        let number = self.next;
+        if !self.layout.has(number, place) {
+            self.give_up(loan);
+            return Some(Back { number, place });
+        }
+        let (value, writing) = loan.into_parts();
+        let (laid, before) = writing.put(number, value);
+        keep(&mut self.spares, before);
+        self.next = number + 1;
+        let word = self.layout.word(&laid);
+        let back = self.loans.send_as(place, word)?;
+        let (number, place) = self.layout.parts(back);
+        self.loans.settle(place as u64);
+        Some(Back { number, place })
+    }
+
+    /// A loan whose value is written so that it keeps its rule with the number that comes next, if there is one. Else it is given up.
+    fn written(
+        &mut self,
+        mut loan: Loan<'a, X, K>,
+        writer: &mut impl Writes<X, K>,
+    ) -> Option<Loan<'a, X, K>>
+        requires { IsLoaned (loaned loan) (sender_of self.old) }
+        ensures fits { IfSome result (λ l. K.holds (next_of self.new) l.value) }
+        ensures is { IfSome result (λ l. IsLoaned (loaned l) (sender_of self.new)) }
+        ensures has { IfSome result (λ l. HasWord self.new (loaned l)) }
+        ensures sends { KeepsSends self.old self.new }
+    {
+        if self.has_number(&loan) && writer.write(self.next, &mut loan.value) {
+            return Some(loan);
+        }
+        self.give_up(loan);
+        None
+    }
+
+    /// Loans, writes and sends so many values, each loan by at most so many tries: the numbers of those that came back. None where no
+    /// place came, where a value was not written, or where there is no memory or no further number; then the values sent until then
+    /// are sent. The steps of `loan_within` and of `send` for each.
+    pub fn send_each(
+        &mut self,
+        rt: &impl Wait,
+        alloc: Global,
+        count: u32,
+        tries: u64,
+        writer: &mut impl Writes<X, K>,
+    ) -> Option<Vec<u64>>
+        ensures { IfSome result (λ back. HasSent count back.items self.old self.new) }
+    {
+        let mut back = Vec::new(alloc);
+        for _ in 0..count {
+            let loan = self.loan_within(rt, tries)?;
+            let written = self.written(loan, writer)?;
+            let came = self.send(written);
+            Back::note(came, &mut back)?;
+        }
+        Some(back)
+    }
+
+    /// Gives a loan up: its place is Free, and its value and what lay in its slot are kept to be written again (by no clause). One
+    /// step on the slot, and those of `LoanSender::give_up`.
+    pub fn give_up(&mut self, loan: Loan<'a, X, K>)
+        requires loaned { IsLoaned (loaned loan) (sender_of self.old) }
+        ensures places { places_of self.new ≡ slice_set (places_of self.old) (loaned loan.entry) Free }
+        ensures next { next_of self.new ≡ next_of self.old }
+        ensures same { IsSame (sender_of self.old) (sender_of self.new) }
+        ensures sends { KeepsSends self.old self.new }
+    {
+        let place = loan.place;
+        let (value, writing) = loan.into_parts();
+        let _ = self.spares.push(value);
+        keep(&mut self.spares, writing.empty());
+        self.loans.give_up(place);
+    }
+
+    /// Tries a place again that is Loaned without a loan, since it was `StillRead` or its loan was dropped: it is Free, and its slot
+    /// was left empty, where nobody reads it any more. None where it is not Loaned, where somebody reads it still, or where its loan
+    /// is in hand (which of these, no clause says); then no place changes. A load, at most one compare-exchange and one further step
+    /// on the slot, and those of `LoanSender::give_up`.
+    pub fn regain(&mut self, place: u32) -> Option<Emptied>
+        ensures had { IfSome result (λ _. IsLoaned place (sender_of self.old)) }
+        ensures emptied { IfSome result (λ e. emptied_slot e ≡ place) }
+        ensures free { IfSome result (λ _. places_of self.new ≡ slice_set (places_of self.old) place Free) }
+        ensures refused { IfNone result (places_of self.new ≡ places_of self.old) }
+        ensures next { next_of self.new ≡ next_of self.old }
+        ensures same { IsSame (sender_of self.old) (sender_of self.new) }
+        ensures sends { KeepsSends self.old self.new }
+    {
+        if !self.loans.is_loaned(place) {
+            return None;
+        }
+        let Ok(writing) = self.slots.take(place) else {
+            return None;
+        };
+        let (emptied, before) = writing.clear();
+        keep(&mut self.spares, before);
+        self.loans.give_up(place);
+        Some(emptied)
+    }
+
+    /// Takes the oldest number that the receiver gave back: it is Free again where it is a place that is Sent, and else changes
+    /// nothing. None where nothing waits, and then nothing changes. The steps of `LoanSender::take_back`.
+    pub fn take_back(&mut self) -> Option<u64>
+        ensures back { IfSome result (λ y. places_of self.new ≡ returned y (places_of self.old)) }
+        ensures popped { IfSome result
+            (λ y. PopDone (Index y) (completion_view (sender_of self.old)) (completion_view (sender_of self.new))) }
+        ensures none { IfNone result (places_of self.new ≡ places_of self.old) }
+        ensures empty { IfNone result
+            (PopEmpty (completion_view (sender_of self.old)) (completion_view (sender_of self.new))) }
+        ensures next { next_of self.new ≡ next_of self.old }
+        ensures spares { spares_in self.new ≡ spares_in self.old }
+        ensures same { IsSame (sender_of self.old) (sender_of self.new) }
+        ensures sends { KeepsSends self.old self.new }
+    {
+        self.loans.take_back()
+    }
+
+    /// Empties both queues, frees each place that is Sent, and returns how many these were. For a sender whose receiver is gone,
+    /// with the receiver's guard of the queue. No sample of the former receiver may be used afterwards. The steps of
+    /// `LoanSender::reclaim`.
+    pub fn reclaim(&mut self, rt: &impl Wait, receiver: &mut overflow::Consumer<'_>) -> usize
+        requires { consumer_queue receiver.old ≡ submission_of (sender_of self.old) }
+        ensures places { places_of self.new ≡ map reclaimed (places_of self.old) }
+        ensures number { result ≡ count_by is_sent (places_of self.old) }
+        ensures emptied { HasEmptied (completion_view (sender_of self.old)) (completion_view (sender_of self.new)) }
+        ensures receiver { SameConsumerByCapacity receiver.old receiver.new }
+        ensures receiver_emptied { 0 < (consumer_queue receiver.old).capacity
+            → HasEmptied (consumer_view receiver.old) (consumer_view receiver.new) }
+        ensures next { next_of self.new ≡ next_of self.old }
+        ensures spares { spares_in self.new ≡ spares_in self.old }
+        ensures same { IsSame (sender_of self.old) (sender_of self.new) }
+        ensures sends { KeepsSends self.old self.new }
+    {
+        self.loans.reclaim(rt, receiver)
+    }
+
+    /// The number that the next value gets that is sent: 0 for the first. No atomic step.
+    pub fn next_number(&self) -> u64
+        ensures { result ≡ next_of self.now }
+    {
+        self.next
+    }
+
+    /// Hands out the pass, which holds what is Loaned or Sent, and the values that are not in a slot; both roles are free. Two
+    /// atomic steps.
+    pub fn finish(self) -> (Pass, Vec<X>)
+        ensures view { view result.0 ≡ pass_view (sender_of self.entry) }
+        ensures set { set_of result.0 ≡ set_of_sender (sender_of self.entry) }
+        ensures spares { vec_len result.1 ≡ spares_in self.entry }
+    {
+        let Sender {
+            loans,
+            slots: _,
+            spares,
+            layout: _,
+            next: _,
+        } = self;
+        (loans.finish(), spares)
+    }
+
+    /// The same, with the passes of both queues and the number that comes next, for `Channel::relayed`.
+    pub fn finish_all(self) -> (SenderParts, Vec<X>)
+        ensures view { view result.0.pass ≡ pass_view (sender_of self.entry) }
+        ensures set { set_of result.0.pass ≡ set_of_sender (sender_of self.entry) }
+        ensures goes { Goes (sends_view self.entry) (sent_view result.0) }
+        ensures released { HasReleased roles.Producer (sends_view self.entry) (sent_view result.0) }
+        ensures list { published (sent_view result.0).seen ≡ published (sends_view self.entry).seen }
+        ensures queues { (sent_queue result.0 ≡ sends_queue self.entry)
+            × (queues.queue_of result.0.completion ≡ completion_of (sender_of self.entry)) }
+        ensures sends { HasSentAll 0 [] self.entry result.0 }
+        ensures next { result.0.next ≡ next_of self.entry }
+        ensures spares { vec_len result.1 ≡ spares_in self.entry }
+    {
+        let Sender {
+            loans,
+            slots: _,
+            spares,
+            layout: _,
+            next,
+        } = self;
+        let (pass, producer, consumer) = loans.into_parts();
+        let parts = SenderParts {
+            pass,
+            submission: producer.release(),
+            completion: consumer.release(),
+            next,
+        };
+        (parts, spares)
+    }
+}

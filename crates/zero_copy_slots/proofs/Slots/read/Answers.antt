@@ -1,0 +1,9 @@
+use Rattle.zero_copy_slots.proofs.Ranges.{is_slot, is_past}
+use Rattle.zero_copy_slots.proofs.Slots.read.Goals as goal
+
+pub returns-in_default-clause-refused : goal.returns-in_default-clause-refused
+returns-in_default-clause-refused g c = is_past _ _ _ _ c.deref.ensures.value c.args.self.now.numbered c.in_default.ensures.lookup.3
+
+pub loop-init : goal.loop-init
+loop-init g c =
+    let found = c.in-Some.ensures.lookup in is_slot _ _ _ _ c.deref.ensures.value c.args.self.now.numbered _ found.1 found.3.0

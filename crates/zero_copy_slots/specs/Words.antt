@@ -1,0 +1,31 @@
+-- What clauses see of a word that was seen, of a value that was laid, and of a slot that was left empty.
+use Rattle.std.specs.Prelude.{ℕ, Option, Some, None}
+use Rattle.zero_copy_slots.specs.declared.words.Emptied.{Emptied}
+use Rattle.zero_copy_slots.specs.declared.words.Lies.{Lies}
+use Rattle.zero_copy_slots.specs.declared.words.Seen.{Seen}
+
+-- the word, and the slot that it was seen in
+abbrev pub seen_word : Seen → ℕ
+seen_word seen = seen.word
+
+abbrev pub seen_in : Seen → ℕ
+seen_in seen = seen.slot
+
+-- the slot that a value was laid into, and the number that it was laid there with
+abbrev pub lies_in : Lies → ℕ
+lies_in lies = lies.slot
+
+abbrev pub lies_with : Lies → ℕ
+lies_with lies = lies.number
+
+-- the slot that was left empty, and the number that a value lay there with
+abbrev pub emptied_slot : Emptied → ℕ
+emptied_slot emptied = emptied.slot
+
+abbrev pub emptied_number : Emptied → Option ℕ
+emptied_number emptied = emptied.number
+
+-- the number that comes with a value
+abbrev pub number_with : {X : Type 0} → Option (ℕ × X) → Option ℕ
+number_with (Some pair) = Some pair.0
+number_with None = None
