@@ -91,7 +91,7 @@ fn joins<'a>(
     publisher: &mut Publishes<'a>,
     lane: usize,
 ) -> Result<Subscribes<'a>, Failure> {
-    let owner = some(OwnerId::new(lane as u64 + 1).ok())?;
+    let owner = some(OwnerId::new((lane as u64).saturating_add(1)).ok())?;
     let subscriber = some(publisher.subscribe(rt, owner).ok())?;
     holds(subscriber.place() == lane as u64)?;
     Ok(subscriber)

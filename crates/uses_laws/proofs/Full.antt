@@ -1,14 +1,15 @@
--- In a young history who was refused for want of an index met a full pool.
-use Rattle.std.proofs.Common.{◌≡◌, ⊎_elim, ℕ, Err, List, sum_by, refl, sym, ap, subst, arith}
+-- In a young history who was refused for want of an index met a full pool. What nobody has given back is not given back by an acquire.
+use Rattle.std.proofs.Common.{◌≡◌, ⊎_elim, ℕ, Err, Ok, List, [], ◌∷◌, sum_by, refl, sym, ap, subst, arith}
 use Rattle.steps.specs.declared.indices.enums.UniqueIndexSetAcquireFailure.TheVariants.{OutOfIndices}
-use Rattle.model.specs.declared.event.Answer.TheVariants.{NoIndex}
+use Rattle.model.specs.declared.event.Answer.TheVariants.{Index, NoIndex}
 use Rattle.model.specs.declared.event.Start.TheVariants.{Robust}
 use Rattle.model.specs.declared.families.indices.robust.RobustStart.TheVariants.{Acquire}
 use Rattle.model.specs.Families.Indices.Robust.Promises.{IsFilled}
 use Rattle.model.specs.Moments.{HeldSometime}
 use Rattle.model.proofs.Moments.{held_later}
 use Rattle.lock_free.specs.Event.{Event}
-use Rattle.lock_free.specs.Event.TheVariants.{Begun, Finished}
+use Rattle.lock_free.specs.Event.TheVariants.{Begun, Filled, Finished, Granted}
+use Rattle.lock_free.specs.GrantLaws.{freeing, times_freed}
 use Rattle.lock_free.specs.HistoryView.View.{View}
 use Rattle.lock_free.specs.Robust.Contracts.{HasTaken, WasRefused}
 use Rattle.lock_free.proofs.Sums.{sum_made}
@@ -65,3 +66,14 @@ was_full apart owner old new taken refused whole young =
           (held_later last.by (IsFilled index) last.before _ tt (full index below));
     })
     last.right.1
+
+-- an acquire that got an index
+module _ (owner index : ℕ) (old new : View ℕ) (taken : HasTaken owner (Ok index) old new)
+    (whole : (f : Event ℕ → ℕ) → sum_by f new.seen ≡ sum_by f new.made) where
+  pub never_freed : (i : ℕ) → times_freed i old.made ≡ 0 → times_freed i new.seen ≡ 0
+  never_freed i never =
+      let all = sum_made (freeing i) taken.by (Robust (Acquire owner)) (Index index) taken.wrote old new taken.called in
+      let wrote = ap (times_freed i) taken.tells.1 in
+      let none : times_freed {T = ℕ} i (Filled taken.by index owner ∷ Granted taken.by index owner ∷ []) ≡ 0 = refl in
+      let is = whole (freeing i) in
+      omega arith

@@ -7,6 +7,9 @@ pub mod Shared
 pub mod Drained
 pub mod Full
 pub mod Whole
+pub mod Running
+pub mod Parting
+pub mod Firsts
 pub mod WrongBodies
 pub mod WrongHistories
 pub mod Moments

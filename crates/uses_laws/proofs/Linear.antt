@@ -8,16 +8,18 @@ use Rattle.model.specs.declared.event.Answer.{Answer}
 use Rattle.model.specs.declared.event.Answer.TheVariants.{Truth}
 use Rattle.model.specs.declared.event.Event.{Event}
 use Rattle.model.specs.declared.event.Event.TheVariants.{Begun, Finished}
-use Rattle.model.specs.declared.event.Start.TheVariants.{Queues}
+use Rattle.model.specs.declared.event.Start.TheVariants.{Atomic, Queues}
+use Rattle.model.specs.declared.families.atomic.AtomicStart.TheVariants.{Store}
 use Rattle.model.specs.declared.families.queues.QueueKind.TheVariants.{IndexQueue}
 use Rattle.model.specs.declared.families.queues.QueueStart.TheVariants.{PushIndex}
 use Rattle.model.specs.Linearizable.{Response, Call, response_in, calls_from, calls_of, Precedes, StandsBefore, Specification, IsLinearizable}
-use Rattle.model.specs.Linearized.{as_list, is_push_or_pop}
+use Rattle.model.specs.Linearized.{as_list, as_value, is_push_or_pop, is_store_or_load}
 use Rattle.model.proofs.Linearizable.Acting.{call_at, response_at, responded, passed}
 use Rattle.model.proofs.Linearizable.Members.{none_there, split}
 use Rattle.history.specs.declared.view.View.{View}
 use Rattle.history.specs.Order.{StandsIn}
-use Rattle.uses_laws.specs.Order.{PushedInOrder}
+use Rattle.lock_free.specs.Coding.{one_word}
+use Rattle.uses_laws.specs.Order.{PushedInOrder, StoredInOrder}
 
 module _ {T : Type 0} where
   -- ---- a call responds after its invocation
@@ -128,4 +130,24 @@ pushed_in_order capacity first second p q old between new history order x y befo
           x.there x.answered before;
       first_push = (x.call, slice_get_read order.sequential (length order.sequential) one.0 (x.call, Truth true) refl one.1 (sym one.2), x.named);
       second_push = (y.call, slice_get_read order.sequential (length order.sequential) two.0 (y.call, Truth true) refl two.1 (sym two.2), y.named);
+    }
+
+-- two stores of one caller
+pub stored_in_order : (first second p q : ℕ) (old between new : View ℕ) (history : List (Event ℕ))
+    → IsLinearizable (as_value one_word) history
+    → (x : StandsIn p (Atomic (Store first)) (Truth true) old between history)
+    → (y : StandsIn q (Atomic (Store second)) (Truth true) between new history)
+    → Precedes x.call y.call → StoredInOrder first second history
+stored_in_order first second p q old between new history order x y before =
+    let one = ended_there (as_value one_word) history order x.call (response_at x.ends (Truth true)) x.there x.answered (ap is_store_or_load x.named) in
+    let two = ended_there (as_value one_word) history order y.call (response_at y.ends (Truth true)) y.there y.answered (ap is_store_or_load y.named) in
+    record {
+      order = order;
+      place = one.0;
+      later = two.0;
+      before =
+          in_order (as_value one_word) history order x.call y.call (Truth true) (Truth true) (response_at x.ends (Truth true)) one two
+          x.there x.answered before;
+      first_store = (x.call, slice_get_read order.sequential (length order.sequential) one.0 (x.call, Truth true) refl one.1 (sym one.2), x.named);
+      second_store = (y.call, slice_get_read order.sequential (length order.sequential) two.0 (y.call, Truth true) refl two.1 (sym two.2), y.named);
     }

@@ -1,6 +1,7 @@
 -- What a wrong body of a call would leave or answer, and which of the call's clauses refuses that. It is said of every history, as
 -- far as a premise does not ask for more. A name says what the body does.
-use Rattle.std.proofs.Common.{◌≡◌, ◌≢◌, ℕ, zero, suc, ◌+◌, ◌-◌, ◌*◌, ◌^◌, ◌<◌, ◌≤◌, ⊎_elim, true, false, Option, List, [], ◌∷◌, ◌++◌, if◌then◌else◌}
+use Rattle.std.proofs.Common.{◌≡◌, ◌≢◌, ℕ, zero, suc, ◌+◌, ◌-◌, ◌*◌, ◌^◌, ◌<◌, ◌≤◌, ⊎_elim, true, false, Option, Some, None, List, [], ◌∷◌, ◌++◌}
+use Rattle.std.proofs.Common.{if◌then◌else◌}
 use Rattle.std.proofs.Common.{length, length-append, length-set, map, slice_set, get_or-set_same, get_or-append-add, append-nil, append_assoc}
 use Rattle.std.proofs.Common.{add-mul, mul-add, mul-pos, refl, ap, ap₂, sym, subst, ◌∙◌, arith}
 use Rattle.std.proofs.Math.Nat.{eq_of_mul-eq-mul_left}
@@ -15,6 +16,7 @@ use Rattle.model.specs.declared.event.Event.TheVariants.{Begun, Finished}
 use Rattle.model.specs.declared.event.Item.{Item}
 use Rattle.model.specs.declared.event.Start.{Start}
 use Rattle.model.specs.declared.event.Item.TheVariants.{Index}
+use Rattle.model.specs.declared.families.Flight.{Flight}
 use Rattle.model.specs.declared.turn.Kind.{Kind}
 use Rattle.model.specs.Families.Indices.Reading.{is_locked}
 use Rattle.model.specs.Families.Queues.Reading.{published, handed_out}
@@ -26,6 +28,9 @@ use Rattle.lock_free.specs.Bits.Calls as bits
 use Rattle.lock_free.specs.Bits.Contracts.{HasCleanedOut}
 use Rattle.lock_free.specs.Counts.Contracts.{HasTakenOut, taken_by}
 use Rattle.lock_free.specs.Coding.{Coding}
+use Rattle.lock_free.specs.Container.Bare.{IsCounted}
+use Rattle.lock_free.specs.Container.Resting.{Settles}
+use Rattle.lock_free.specs.Container.Steps.{FewAside, to_settle, one_if_some}
 use Rattle.lock_free.specs.History.{Called, Knows, steps_of_run}
 use Rattle.lock_free.specs.HistorySteps.{TakesAtMost}
 use Rattle.lock_free.specs.HistoryView.View.{View}
@@ -47,7 +52,7 @@ use Rattle.lock_free.specs.Queues.Views.{left_view}
 use Rattle.lock_free.specs.ReleaseState.TheVariants.{Unlocked}
 use Rattle.lock_free.specs.Robust.Callable.{HasFound}
 use Rattle.lock_free.specs.Robust.Contracts as owners
-use Rattle.lock_free.specs.Robust.Contracts.{HasSearched}
+use Rattle.lock_free.specs.Robust.Contracts.{HasSearched, OnlyLooked}
 use Rattle.lock_free.specs.RobustUniqueIndexSet as robust
 use Rattle.lock_free_owners.specs.declared.mpmc.robust_unique_index_set.Pass.{Pass as OwnerPass}
 use Rattle.lock_free.specs.Share.{Share}
@@ -62,6 +67,10 @@ use Rattle.lock_free.specs.declared.mpmc.unique_index_set.Pass.{Pass}
 use Rattle.lock_free.specs.declared.spsc.loan.LoanSender.{LoanSender}
 use Rattle.lock_free.specs.Value.Contracts as value
 use Rattle.lock_free.specs.Value.Contracts.{HasStored, HasLoaded}
+use Rattle.lock_free.specs.Value.Calls.{IsSame, seen}
+use Rattle.lock_free_value.specs.declared.spmc.unrestricted_atomic.Held.{Held as ValueHeld}
+use Rattle.lock_free_value.specs.declared.spmc.unrestricted_atomic.rule.ValueRule.{ValueRule}
+use Rattle.uses_laws.specs.Parted.{HasParted}
 
 -- two halves of one fraction are less than it and another one
 other_share : (part parts other others : ℕ) → 0 < parts → 0 < other → parts * others ≡ (parts + parts) * (parts + parts)
@@ -235,6 +244,13 @@ pub pop_looks_twice_aside : {E T : Type 0} {kind : QueueKind.Ghosts E} {words : 
     → ⊥
 pop_looks_twice_aside old new two k = let one = k.aside in absurd (omega arith)
 
+-- a load, or a store, that looks twice beside its steps
+pub load_looks_twice_aside : {T : Type 0} {words : Words.Ghosts T} (old new : ValueHeld T (ValueRule T) words)
+    → (seen new).aside ≡ (seen old).aside + 2
+    → IsSame old new
+    → ⊥
+load_looks_twice_aside old new two k = let one = k.aside in absurd (omega arith)
+
 -- ---- bit sets
 
 -- a set of a place that looks twice beside its steps
@@ -388,6 +404,38 @@ loan_reclaim_pushes number back v w pushed k = no_call _ _ _ _ v w (ap (λ (u : 
 pub robust_looks_twice_aside : (old new : OwnerPass) → (robust.view new).aside ≡ (robust.view old).aside + 2 → robust.SamePass old new → ⊥
 robust_looks_twice_aside old new two k = let one = k.aside in absurd (omega arith)
 
+-- a find that looks once more than at the lock and at each index
+pub find_looks_once_more : (capacity : ℕ) (old new : OwnerPass) → (robust.view new).aside ≡ (robust.view old).aside + (capacity + 2)
+    → robust.LeavesPass (capacity + 1) old new
+    → ⊥
+find_looks_once_more capacity old new more k = let most = k.aside in absurd (omega arith)
+
+module _ {T : Type 0} where
+  -- one whose looks count as steps of calls
+  pub find_looks_in_a_run : (old new : View T) → new.asked ≡ old.asked + 1 → new.aside ≡ old.aside → OnlyLooked old new → ⊥
+  find_looks_in_a_run old new asked aside k = let is = k.aside in absurd (omega arith)
+
+  -- a call on a container that looks twice beside its steps, and one that looks once more than that where a find rested
+  pub add_looks_twice_aside : (old new : View T) → old.going ≡ None → new.aside ≡ old.aside + 2 → FewAside old new → ⊥
+  add_looks_twice_aside old new idle two k =
+      let none : to_settle old ≡ 0 = ap one_if_some idle in
+      let most : new.aside ≤ old.aside + (1 + to_settle old) = k in
+      absurd (omega arith)
+
+  pub add_settles_twice : (call : Start T × Flight T) (old new : View T) → old.going ≡ Some call → new.aside ≡ old.aside + 3 → FewAside old new → ⊥
+  add_settles_twice call old new rests three k =
+      let one : to_settle old ≡ 1 = ap one_if_some rests in
+      let most : new.aside ≤ old.aside + (1 + to_settle old) = k in
+      absurd (omega arith)
+
+  -- the end of a find that rested, as if the run had that step
+  pub settling_is_a_step : (old new : View T) → new.asked ≡ old.asked + 1 → new.aside ≡ old.aside → Settles old new → ⊥
+  settling_is_a_step old new asked aside k = let is = k.aside in absurd (omega arith)
+
+  -- an update of a state that the pass has not, as if the run had its steps
+  pub update_beside_is_a_step : (old new : View T) → new.asked ≡ old.asked + 1 → new.aside ≡ old.aside → IsCounted old new → ⊥
+  update_beside_is_a_step old new asked aside k = let is = k.aside in absurd (omega arith)
+
 -- a look at the lock that answers otherwise than it found
 pub is_locked_is_always_true : (v w : View ℕ) → owners.HasLooked false v w → owners.HasLooked true v w → ⊥
 is_locked_is_always_true v w right k = let e = (made_once _ _ _ _ _ _ _ v w right.called k.called).1 in cc
@@ -408,3 +456,8 @@ pub find_visits_twice : (capacity owner number index : ℕ) (before after : List
     → ⊥
 find_visits_twice capacity owner number index before after v w k =
     none_twice before after index capacity (subst (Ascends capacity) (sym (heard _ _ _ _ _ _ k.found)) k.found.ascend)
+
+module _ {T : Type 0} where
+  -- both ends, taken by a pass that looked first
+  pub both_ends_looks_first : (old p c : View T) → p.asked + c.asked ≡ old.asked + 4 → HasParted old p c → ⊥
+  both_ends_looks_first old p c more k = let most = k.asked in absurd (omega arith)

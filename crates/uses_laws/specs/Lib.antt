@@ -6,4 +6,6 @@ pub mod Page
 pub mod Leases
 pub mod Sums
 pub mod Copies
+pub mod Runs
+pub mod Parted
 pub mod Wrong

@@ -1,14 +1,16 @@
--- Two pushes in an order of the calls of all threads.
+-- Two pushes, or two stores, in an order of the calls of all threads.
 use Rattle.std.specs.Prelude.{◌≡◌, ◌<◌, ℕ, true, Some, List}
 use Rattle.std.specs.List.{slice_get}
 use Rattle.model.specs.declared.event.Answer.{Answer}
 use Rattle.model.specs.declared.event.Answer.TheVariants.{Truth}
 use Rattle.model.specs.declared.event.Event.{Event}
-use Rattle.model.specs.declared.event.Start.TheVariants.{Queues}
+use Rattle.model.specs.declared.event.Start.TheVariants.{Atomic, Queues}
+use Rattle.model.specs.declared.families.atomic.AtomicStart.TheVariants.{Store}
 use Rattle.model.specs.declared.families.queues.QueueKind.TheVariants.{IndexQueue}
 use Rattle.model.specs.declared.families.queues.QueueStart.TheVariants.{PushIndex}
 use Rattle.model.specs.Linearizable.{Call, IsLinearizable}
-use Rattle.model.specs.Linearized.{as_list}
+use Rattle.model.specs.Linearized.{as_list, as_value}
+use Rattle.lock_free.specs.Coding.{one_word}
 
 -- at this place stands a push of this number, which answers true
 abbrev pub IsPushAt : List (Call ℕ × Answer ℕ) → ℕ → ℕ → Type 0
@@ -23,3 +25,17 @@ pub record PushedInOrder (capacity first second : ℕ) (events : List (Event ℕ
   pub before : place < later
   pub first_push : IsPushAt order.sequential place first
   pub second_push : IsPushAt order.sequential later second
+
+-- at this place stands a store of this number, which answers true
+abbrev pub IsStoreAt : List (Call ℕ × Answer ℕ) → ℕ → ℕ → Type 0
+IsStoreAt sequential place number =
+    (call : Call ℕ) × (slice_get sequential place ≡ Some (call, Truth true)) × (call.start ≡ Atomic (Store number))
+
+-- the stores and loads have a linearization in which a store of the one number stands before a store of the other
+pub record StoredInOrder (first second : ℕ) (events : List (Event ℕ)) : Type 0 where
+  pub order : IsLinearizable (as_value one_word) events
+  pub place : ℕ
+  pub later : ℕ
+  pub before : place < later
+  pub first_store : IsStoreAt order.sequential place first
+  pub second_store : IsStoreAt order.sequential later second

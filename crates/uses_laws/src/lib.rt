@@ -11,6 +11,8 @@ pub mod known;
 pub mod leases;
 pub mod order;
 pub mod page;
+pub mod parted;
+pub mod runs;
 pub mod sole;
 pub mod totals;
 pub mod twice;

@@ -2,10 +2,13 @@
 
 ghost use Rattle.std.specs.Prelude.{IsTrue};
 ghost use Rattle.lock_free.specs.Queues.Calls.{producer_queue, producer_view};
-ghost use Rattle.uses_laws.specs.Order.{PushedInOrder};
+ghost use Rattle.lock_free.specs.Value.Calls as values;
+ghost use Rattle.uses_laws.specs.Order.{PushedInOrder, StoredInOrder};
 
 use lock_free::laws::histories::{calls_are_in_order, calls_stand};
 use lock_free::laws::queues::histories_are_linearizable;
+use lock_free::laws::value;
+use lock_free::spmc::unrestricted_atomic;
 use lock_free::spsc::index_queue::Producer;
 
 /// Pushes two numbers, one after the other: whether both were taken. Then the calls of all threads have a linearization in
@@ -23,4 +26,24 @@ pub fn push_both(producer: &mut Producer<'_>, first: u64, second: u64) -> bool
     let taken = producer.push(second);
     producer.history();
     taken
+}
+
+/// Stores two numbers, one after the other: whether both were stored. Then the stores and loads of all threads have a
+/// linearization in which the first store stands before the second.
+pub fn store_both(
+    producer: &mut unrestricted_atomic::Producer<'_, u64>,
+    first: u64,
+    second: u64,
+) -> bool
+    ensures { IsTrue result → StoredInOrder first second (values.producer_view producer.new).seen }
+{
+    calls_stand::<u64>();
+    calls_are_in_order::<u64>();
+    value::histories_are_linearizable::<u64>();
+    if !producer.store(first) {
+        return false;
+    }
+    let stored = producer.store(second);
+    producer.history();
+    stored
 }

@@ -10,6 +10,8 @@ use lock_free::spmc::unrestricted_atomic::Pass;
 use lock_free::spsc::loan::LoanSender;
 use lock_free::words::Words;
 
+pub mod containers;
+pub mod histories;
 pub mod owners;
 
 /// A loan that is given up is given back to the set.

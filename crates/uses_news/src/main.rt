@@ -1,13 +1,14 @@
 //! One thread publishes a hundred blocks of 64 KiB, each full of the mark of its number, and two others read them where they lie.
-//! Proved of what each of them reads in its thread: they are the marks of numbers that rise strictly, from the one that came next
-//! when it subscribed, and of those that are published, though nobody copies a block.
+//! Proved of what each of them reads: they are the marks of numbers that rise strictly, of the hundred, though nobody copies a block.
+//! On the way the law of a lane is used (`passes_on`). What came back by a lane no clause of this program says.
 #![tactic(auto)]
 
 pub mod twins;
 
-ghost use Rattle.std.specs.Prelude.{◌≡◌, ◌<◌, IfSome, IsTrue, replicate};
-ghost use Rattle.zero_copy_bus.specs.Ends.{expected_at, next_of, number_of};
-ghost use Rattle.uses_news.specs.Marks.{mark, AreNewsFrom, HasRead};
+ghost use Rattle.std.specs.Prelude.{◌≡◌, ◌<◌, ◌≤◌, [], IfSome, IsTrue, replicate};
+ghost use Rattle.zero_copy_bus.specs.Ends.{next_of, number_of};
+ghost use Rattle.zero_copy_bus.specs.Relays.{HasPublished};
+ghost use Rattle.uses_news.specs.Marks.{mark, AreNews, HasRead};
 
 use lock_free::mpmc::container::OwnerId;
 use std::alloc::Global;
@@ -69,7 +70,8 @@ fn loan_one<'a>(
     rt: &impl Wait,
     publisher: &mut Publisher<'a, Vec<u64>, Marked>,
 ) -> Option<Loan<'a, Vec<u64>, Marked>>
-    ensures { next_of publisher.new ≡ next_of publisher.old }
+    ensures next { next_of publisher.new ≡ next_of publisher.old }
+    ensures out { HasPublished publisher.old publisher.new }
 {
     for _ in 0..TRIES {
         publisher.collect();
@@ -82,7 +84,10 @@ fn loan_one<'a>(
 }
 
 /// Publishes the block of the number that comes next: to how many it went. None where there is no slot, or all are published.
-fn publish_one(rt: &impl Wait, publisher: &mut Publisher<'_, Vec<u64>, Marked>) -> Option<usize> {
+fn publish_one(rt: &impl Wait, publisher: &mut Publisher<'_, Vec<u64>, Marked>) -> Option<usize>
+    ensures out { HasPublished publisher.old publisher.new }
+    ensures few { next_of publisher.old ≤ 100 → next_of publisher.new ≤ 100 }
+{
     let number = publisher.next_number();
     if number >= BLOCKS {
         return None;
@@ -95,7 +100,10 @@ fn publish_one(rt: &impl Wait, publisher: &mut Publisher<'_, Vec<u64>, Marked>) 
 }
 
 /// Publishes all blocks: to how many they went in all.
-fn publish_all(rt: &impl Wait, publisher: &mut Publisher<'_, Vec<u64>, Marked>) -> usize {
+fn publish_all(rt: &impl Wait, publisher: &mut Publisher<'_, Vec<u64>, Marked>) -> usize
+    ensures out { HasPublished publisher.old publisher.new }
+    ensures few { next_of publisher.old ≤ 100 → next_of publisher.new ≤ 100 }
+{
     let mut sent: usize = 0;
     for _ in 0..BLOCKS {
         match publish_one(rt, publisher) {
@@ -121,7 +129,7 @@ fn receive_one(
     subscriber: &mut Subscriber<'_, Vec<u64>, Marked>,
     marks: &mut Vec<u64>,
 ) -> Option<bool>
-    ensures { IfSome result (λ _. HasRead marks.old.items marks.new.items (expected_at subscriber.old) (expected_at subscriber.new)) }
+    ensures { IfSome result (λ _. HasRead marks.old.items marks.new.items subscriber.old subscriber.new) }
 {
     let Some(sample) = subscriber.receive(rt) else {
         thread::yield_now();
@@ -140,51 +148,35 @@ fn receive_one(
 fn receive_all(
     rt: &impl Wait,
     alloc: Global,
-    mut subscriber: Subscriber<'_, Vec<u64>, Marked>,
+    subscriber: &mut Subscriber<'_, Vec<u64>, Marked>,
 ) -> Option<Vec<u64>>
-    ensures { IfSome result (λ marks. AreNewsFrom (expected_at subscriber.entry) marks.items) }
+    ensures { IfSome result (λ marks. HasRead [] marks.items subscriber.old subscriber.new) }
 {
     let mut marks = Vec::new(alloc);
     for _ in 0..TRIES {
-        if receive_one(rt, &mut subscriber, &mut marks)? {
+        if receive_one(rt, subscriber, &mut marks)? {
             return Some(marks);
         }
     }
     Some(marks)
 }
 
-/// The marks that two subscribers read, each in a thread of its own. The clause of what they are is that of `receive_all`, which
-/// each of the two closures calls; this function and those that call it have none about them.
+/// The marks that two subscribers read, each in a thread of its own.
 fn read_both<R: Threads + Wait + Sync>(
     rt: &R,
     alloc: Global,
-    one: Subscriber<'_, Vec<u64>, Marked>,
-    other: Subscriber<'_, Vec<u64>, Marked>,
-) -> Option<(Vec<u64>, Vec<u64>)> {
-    let (first, second) = thread::join(
+    one: &mut Subscriber<'_, Vec<u64>, Marked>,
+    other: &mut Subscriber<'_, Vec<u64>, Marked>,
+) -> Option<(Vec<u64>, Vec<u64>)>
+    ensures one { IfSome result (λ r. HasRead [] r.0.items one.old one.new) }
+    ensures other { IfSome result (λ r. HasRead [] r.1.items other.old other.new) }
+{
+    let (first, second) = thread::join_mut(
         rt,
-        move || receive_all(rt, alloc, one),
-        move || receive_all(rt, alloc, other),
+        &mut || receive_all(rt, alloc, one),
+        &mut || receive_all(rt, alloc, other),
     );
     Some((first?, second?))
-}
-
-/// One more subscriber, as the owner of this number. It takes part at once.
-fn subscribe<'a>(
-    rt: &impl Wait,
-    publisher: &mut Publisher<'a, Vec<u64>, Marked>,
-    number: u64,
-) -> Option<Subscriber<'a, Vec<u64>, Marked>>
-    ensures first { IfSome result (λ s. expected_at s ≡ next_of publisher.old) }
-    ensures next { next_of publisher.new ≡ next_of publisher.old }
-{
-    let Ok(owner) = OwnerId::new(number) else {
-        return None;
-    };
-    match publisher.subscribe(rt, owner) {
-        Ok(subscriber) => Some(subscriber),
-        Err(_) => None,
-    }
 }
 
 /// The marks that two subscribers read, each in a thread of its own, of what a third thread publishes.
@@ -192,20 +184,28 @@ fn run<R: Threads + Wait + Sync>(
     rt: &R,
     alloc: Global,
     publisher: &mut Publisher<'_, Vec<u64>, Marked>,
-) -> Option<(Vec<u64>, Vec<u64>)> {
-    let one = subscribe(rt, publisher, 1)?;
-    let other = subscribe(rt, publisher, 2)?;
-    // (`join` calls its first closure last where no thread can be made)
-    let (marks, _) = thread::join(
+    one: &mut Subscriber<'_, Vec<u64>, Marked>,
+    other: &mut Subscriber<'_, Vec<u64>, Marked>,
+) -> Option<(Vec<u64>, Vec<u64>)>
+    ensures out { HasPublished publisher.old publisher.new }
+    ensures few { next_of publisher.old ≤ 100 → next_of publisher.new ≤ 100 }
+    ensures one { IfSome result (λ r. HasRead [] r.0.items one.old one.new) }
+    ensures other { IfSome result (λ r. HasRead [] r.1.items other.old other.new) }
+{
+    // (`join_mut` calls its first closure last where no thread can be made)
+    let (marks, _) = thread::join_mut(
         rt,
-        move || read_both(rt, alloc, one, other),
-        move || publish_all(rt, publisher),
+        &mut || read_both(rt, alloc, one, other),
+        &mut || publish_all(rt, publisher),
     );
     marks
 }
 
-/// The same on a new bus.
-fn relay<R: Threads + Wait + Sync>(rt: &R, alloc: Global) -> Option<(Vec<u64>, Vec<u64>)> {
+/// The same on a new bus, until both subscribers have left. None where one of them was not seen to take part, or nothing can wait for it.
+fn relay<R: Threads + Wait + Sync>(rt: &R, alloc: Global) -> Option<(Vec<u64>, Vec<u64>)>
+    ensures one { IfSome result (λ r. AreNews r.0.items) }
+    ensures other { IfSome result (λ r. AreNews r.1.items) }
+{
     let records = blocks(alloc, SIZES.slots + 1)?;
     let Ok((mut bus, pass)) = Bus::new(alloc, SIZES) else {
         return None;
@@ -213,7 +213,33 @@ fn relay<R: Threads + Wait + Sync>(rt: &R, alloc: Global) -> Option<(Vec<u64>, V
     let Ok(mut publisher) = bus.publisher(rt, alloc, pass, records) else {
         return None;
     };
-    run(rt, alloc, &mut publisher)
+    let (first, second) = (OwnerId::new(1).ok()?, OwnerId::new(2).ok()?);
+    let Ok(mut one) = publisher.subscribe(rt, first) else {
+        return None;
+    };
+    let Ok(mut other) = publisher.subscribe(rt, second) else {
+        return None;
+    };
+    if !publisher.takes_part(&one) {
+        return None;
+    }
+    if one.room() == 0 {
+        return None;
+    }
+    if other.room() == 0 {
+        return None;
+    }
+    let marks = run(rt, alloc, &mut publisher, &mut one, &mut other)?;
+    let Ok(left) = one.leave(rt) else {
+        return None;
+    };
+    publisher.rejoin(left);
+    let Ok(left) = other.leave(rt) else {
+        return None;
+    };
+    publisher.rejoin(left);
+    publisher.passes_on();
+    Some(marks)
 }
 
 /// Whether the marks end with that of the last number.

@@ -2,7 +2,8 @@
 //! unnoticed. What a wrong body would leave, and the clause refuses, stands in `proofs/WrongBodies.antt` of the bus.
 ghost use Rattle.std.specs.Prelude.{◌≡◌, true, Some, slice_get, IfErr, IfOk, IfSome};
 ghost use Rattle.lock_free.specs.Robust.Contracts.{WasFreed};
-ghost use Rattle.zero_copy_bus.specs.Ends.{lanes_of, members_left, members_view, place_at, received, record_of, spares_in, table_of, IsTakenFor};
+ghost use Rattle.zero_copy_bus.specs.Ends.{lanes_of, members_left, members_view, place_at, received, record_of, spares_in, table_of};
+ghost use Rattle.zero_copy_bus.specs.Ends.{IsTakenFor, WasNotSubscribed};
 ghost use Rattle.zero_copy_bus.specs.Outlets.{open_in};
 ghost use Rattle.zero_copy_slots.specs.Slots.{slot_in};
 
@@ -13,13 +14,14 @@ use zero_copy_bus::publisher::{Loan, Publisher};
 use zero_copy_bus::subscriber::{Left, Sample, Subscriber};
 use zero_copy_slots::{Keeps, Reading};
 
-/// Who has subscribed takes part.
+/// Who has subscribed takes part, and who is refused is told why.
 pub fn subscribe<'a, X: Drop, K: Keeps<X>>(
     publisher: &mut Publisher<'a, X, K>,
     rt: &impl Wait,
     owner: OwnerId,
 ) -> Result<Subscriber<'a, X, K>, SubscribeFailure>
     ensures part { IfOk result (λ s. slice_get (open_in (lanes_of publisher.new)) (place_at s) ≡ Some true) }
+    ensures refused { IfErr result (WasNotSubscribed owner publisher.old publisher.new) }
 {
     publisher.subscribe(rt, owner)
 }

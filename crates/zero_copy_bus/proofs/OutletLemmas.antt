@@ -10,7 +10,7 @@ use Rattle.lock_free.specs.History.{IsBeginning}
 use Rattle.lock_free.specs.HistoryView.View.{View}
 use Rattle.lock_free.specs.Queues.Item.TheVariants.{Index}
 use Rattle.lock_free.specs.Queues.Overflowing.{PushAdded, PushHandedBack}
-use Rattle.lock_free.specs.Queues.Rings.{producer_queue}
+use Rattle.lock_free.specs.Passes.{Goes}
 use Rattle.lock_free.specs.Queues.Reading.{handed_out}
 use Rattle.lock_free.specs.Queues.Contracts.{PopDone, PopEmpty}
 use Rattle.zero_copy_bus.specs.declared.holders.Holder.{Holder}
@@ -21,7 +21,9 @@ use Rattle.zero_copy_bus.specs.Books.{CanSend, ChangesAt, Exchanges, HasSlot, Ke
 use Rattle.zero_copy_bus.specs.Holders.{bit_of, publisher}
 use Rattle.zero_copy_bus.specs.Rolls.{IsShown}
 use Rattle.zero_copy_bus.specs.Outlets.{has_gained, has_slot, holder_of, holders_in, is_open, open_in, place_of, takes_view}
-use Rattle.zero_copy_bus.specs.Outlets.{sends_view, AreShown, EachLane, HasPushed, HaveTheirPlaces, IsSent, IsServed, IsSettled, IsTakenBack, KeepsRest}
+use Rattle.zero_copy_bus.specs.Outlets.{sends_view, waits_queue, AreShown, EachLane, HasPushed, HaveTheirPlaces}
+use Rattle.zero_copy_bus.specs.Outlets.{IsSent, IsServed, IsSettled, IsTakenBack, KeepsRest}
+use Rattle.zero_copy_bus.specs.Outlets.{SamePasses}
 use Rattle.zero_copy_bus.specs.Words.{slot_back}
 use Rattle.zero_copy_loans.specs.Words.{word_of}
 use Rattle.zero_copy_bus.proofs.BookLemmas.{changes_keep, had_elsewhere, has_elsewhere}
@@ -33,7 +35,7 @@ use Rattle.zero_copy_bus.proofs.ViewLemmas.{empty_found, found_since, out_later}
 
 -- what the push answered
 pub pushed_as : (word : ℕ) (old new : Outlet) (back : Option ℕ) → IfNone back (PushAdded word (sends_view old) (sends_view new))
-    → IfSome back (λ y. PushHandedBack (producer_queue old.sends).capacity word y (sends_view old) (sends_view new))
+    → IfSome back (λ y. PushHandedBack (waits_queue old).capacity word y (sends_view old) (sends_view new))
     → HasPushed word back old new
 pushed_as word old new None added handed = added
 pushed_as word old new (Some y) added handed = handed
@@ -42,12 +44,14 @@ pushed_as word old new (Some y) added handed = handed
 pub sent_as : (room number slot word : ℕ) (one two : List Holders) (old new : Outlet) (other : ℕ) (back : Option ℕ) (returned : Option ℕ)
     → word ≡ word_of room number slot → other ≡ slot → returned ≡ slot_back room back
     → IfNone back (PushAdded word (sends_view old) (sends_view new))
-    → IfSome back (λ y. PushHandedBack (producer_queue old.sends).capacity word y (sends_view old) (sends_view new))
+    → IfSome back (λ y. PushHandedBack (waits_queue old).capacity word y (sends_view old) (sends_view new))
+    → (0 < (waits_queue old).capacity → Goes (sends_view old) (sends_view new))
     → Exchanges other (holder_of old) returned one two → IsSent room number slot one two old new
-sent_as room number slot word one two old new other back returned is at came added handed has =
+sent_as room number slot word one two old new other back returned is at came added handed goes has =
     record {
       back = back;
       pushed = subst (λ w. HasPushed w back old new) is (pushed_as word old new back added handed);
+      goes = goes;
       has =
           subst (λ s. Exchanges s (holder_of old) (slot_back room back) one two) at
           (subst (λ b. Exchanges other (holder_of old) b one two) came has);
@@ -55,7 +59,20 @@ sent_as room number slot word one two old new other back returned is at came add
 
 module _ (room number slot : ℕ) (one two three : List Holders) (old new : Outlet) where
   pub served_still : KeepsSlots (holder_of old) two three → IsServed room number slot one two old new → IsServed room number slot one three old new
-  served_still x0 x1 = grind arith
+  served_still keeps served =
+      record {
+        sent =
+            λ on can. (let s = served.sent on can in
+            record {
+              back = s.back;
+              pushed = s.pushed;
+              goes = s.goes;
+              has = λ n. (λ has. (s.has n).0 (sym (keeps n) ∙ has), λ x. keeps n ∙ (s.has n).1 x);
+            });
+        other = λ no n. keeps n ∙ served.other no n;
+        idle = served.idle;
+        waits = served.waits;
+      }
 
   pub served_from : KeepsSlots (holder_of old) one two → KeepsLoans one two → IsServed room number slot two three old new
       → IsServed room number slot one three old new
@@ -66,9 +83,12 @@ module _ (room number slot : ℕ) (one two three : List Holders) (old new : Outl
             record {
               back = s.back;
               pushed = s.pushed;
+              goes = s.goes;
               has = λ n. (λ has. (let x = (s.has n).0 has in (before n x.0, x.1)), λ x. (s.has n).1 (after n x.0, x.1));
             });
         other = λ no n. served.other (λ x. no (x.0, back x.1)) n ∙ keeps n;
+        idle = λ no. served.idle (λ x. no (x.0, back x.1));
+        waits = served.waits;
       }
     where
       forth : CanSend one slot (holder_of old) → CanSend two slot (holder_of old)
@@ -185,17 +205,19 @@ so_more number back holder one two three u v w so out changes lacks =
 
 module _ (slots number : ℕ) (one two : List Holders) (old now new : Outlet)
     (so : TakenSo number (holder_of old) one two (takes_view old) (takes_view now)) where
-  pub so_empty : PopEmpty (takes_view now) (takes_view new) → IsTakenBack slots one two old new
-  so_empty was =
+  pub so_empty : PopEmpty (takes_view now) (takes_view new) → SamePasses old new → IsTakenBack slots one two old new
+  so_empty was same =
       record {
         numbers = so.numbers;
         taken = was.1.list ∙ so.taken;
         all = inl (found_since (takes_view old) (takes_view now) (takes_view new) so.since (empty_found (takes_view now) (takes_view new) was));
         has = so.has;
+        passes = same;
       }
 
-  pub so_full : number ≡ slots → IsTakenBack slots one two old now
-  so_full x0 = grind arith
+  pub so_full : number ≡ slots → SamePasses old now → IsTakenBack slots one two old now
+  so_full all same =
+      record { numbers = so.numbers; taken = so.taken; all = inr (so.many ∙ all); has = so.has; passes = same }
 
 -- ---- a look at who takes part
 
@@ -204,13 +226,26 @@ module _ (roll : Roll) (one two three : List Holders) (old new : Outlet) where
   settled_still keeps settled =
       record {
         takes = settled.takes;
+        passes = settled.passes;
+        end = settled.end;
+        lost = settled.lost;
+        still = settled.still;
         free =
             λ is. ⊎_elim (λ was. inl was) (λ lost. inr ((λ slot has. lost.0 slot (sym (keeps slot) ∙ has)), lost.1)) (settled.free is);
         kept = λ stays slot. keeps slot ∙ settled.kept stays slot;
       }
 
   pub settled_from : KeepsSlots (holder_of old) one two → KeepsLoans one two → IsSettled roll two three old new → IsSettled roll one three old new
-  settled_from x0 x1 x2 = grind arith
+  settled_from keeps loans settled =
+      record {
+        takes = settled.takes;
+        passes = settled.passes;
+        end = settled.end;
+        lost = settled.lost;
+        still = settled.still;
+        free = settled.free;
+        kept = λ stays slot. settled.kept stays slot ∙ keeps slot;
+      }
 
 -- who takes part after a look is one whom the roll shows
 pub shown_after : (roll : Roll) (before after : List Holders) (olds news : List Outlet)

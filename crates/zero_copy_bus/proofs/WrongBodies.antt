@@ -1,8 +1,8 @@
 -- What a wrong body of a call would leave or answer, and which of the call's clauses refuses that. A name says what the body does.
-use Rattle.std.proofs.Common.{◌≡◌, ◌≢◌, ⊎_elim, ℕ, ◌+◌, ◌<◌, Option, Some, None, true, List, [], ◌∷◌, ◌++◌}
+use Rattle.std.proofs.Common.{◌≡◌, ◌≢◌, ◌&&◌, ⊎_elim, inl, inr, ℕ, ◌+◌, ◌<◌, Option, Some, None, true, true≢false, List, [], ◌∷◌, ◌++◌}
 use Rattle.std.proofs.Common.{length, length-append, ap, refl, sym, ◌∙◌, arith}
 use Rattle.std.proofs.lemmas.List.{append_cancel_left}
-use Rattle.std.specs.Prelude.{slice_get, Bool, IsTrue}
+use Rattle.std.specs.Prelude.{is_some, slice_get, Bool, IsTrue}
 use Rattle.model.specs.declared.event.Answer.{Answer}
 use Rattle.model.specs.declared.event.Event.{Event}
 use Rattle.model.specs.declared.event.Event.TheVariants.{Begun, Finished}
@@ -20,6 +20,7 @@ use Rattle.zero_copy_bus.specs.declared.subscriber.Sample.{Sample}
 use Rattle.zero_copy_bus.specs.Books.{CanSend}
 use Rattle.zero_copy_bus.specs.Ends.{emptied, number_of, numbers_of, received, IsTakenFor}
 use Rattle.zero_copy_bus.specs.Outlets.{holder_of, is_open, sends_view, waits_queue, waits_view, AreShown, FoundEmpty, HasPushed, IsFree, IsServed, IsSettled}
+use Rattle.zero_copy_bus.specs.Outlets.{has_end, is_let, lets, EachLane, StaysOrLost, WasTakenIn}
 use Rattle.zero_copy_bus.specs.Rolls.{IsShown}
 use Rattle.zero_copy_bus.specs.Sequences.{Rises}
 use Rattle.zero_copy_bus.proofs.Words.{number_in_word}
@@ -114,6 +115,31 @@ pub subscribe_does_not_look : (roll : Roll) (taking : List Bool) (place : ℕ) �
     → slice_get taking place ≡ Some true
     → ⊥
 subscribe_does_not_look roll taking place shown hidden k = hidden (shown place k)
+
+-- nobody had the lane, somebody has it then, and the answer is that no seat was to be had
+pub subscribe_tells_no_seat : (place : ℕ) (old new : Outlet) (olds news : List Outlet) → slice_get olds place ≡ Some old
+    → slice_get news place ≡ Some new
+    → IsFree old
+    → is_let new ≡ true
+    → EachLane StaysOrLost olds news
+    → ⊥
+subscribe_tells_no_seat place old new olds news was is free leased k =
+    let it = k place old was in
+    let got : slice_get news place ≡ Some it.0 = it.1 in
+    let same : it.0 ≡ new = cc in
+    go it.0 (ap is_let same ∙ leased) it.2
+  where
+    go : (lane : Outlet) → is_let lane ≡ true → StaysOrLost old lane → ⊥
+    go lane taken (inl still) = true≢false (sym taken ∙ ap (λ t. lets t && has_end lane) (still.tenancy ∙ free))
+    go lane taken (inr lost) = true≢false (sym taken ∙ ap (λ t. lets t && has_end lane) lost)
+
+-- one whom the look does not show is dropped, so the registry keeps his record
+pub subscribe_drops_who_is_hidden : (index owner : ℕ) (v w : View ℕ) → w ≡ v → WasFreed index owner v w → ⊥
+subscribe_drops_who_is_hidden index owner v w same k = no_more k.before k.after v.seen _ (sym (ap (λ (u : View ℕ). u.seen) same) ∙ k.is) k.since
+
+-- the passes of a lane are taken in, and the publisher's end goes on
+pub rejoin_keeps_its_end : (theirs : View ℕ) (old new : Outlet) → new.sends ≡ old.sends → is_some old.sends ≡ true → WasTakenIn theirs old new → ⊥
+rejoin_keeps_its_end theirs old new same some k = true≢false (sym some ∙ ap is_some (sym same ∙ k.none))
 
 -- ---- a subscriber
 

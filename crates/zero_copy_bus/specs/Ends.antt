@@ -1,14 +1,17 @@
 -- What clauses see of the ends of a bus.
-use Rattle.std.specs.Prelude.{◌≡◌, ◌≢◌, ◌⊎◌, ℕ, ◌/◌, ◌%◌, ◌<◌, ◌≤◌, Ok, Option, Some, None, List, [], ◌∷◌, vec_len}
+use Rattle.std.specs.Prelude.{◌≡◌, ◌≢◌, ◌⊎◌, ℕ, ◌/◌, ◌%◌, ◌<◌, ◌≤◌, true, Ok, Option, Some, None, List, [], ◌∷◌, slice_get, vec_len}
 use Rattle.zero_copy_slots.specs.declared.Keeps.{Ghosts}
 use Rattle.lock_free.specs.Coding.{Coding}
 use Rattle.lock_free.specs.Container.Handles.{knows, pass_in}
 use Rattle.lock_free.specs.Container.Names.{code_of}
-use Rattle.lock_free.specs.Container.Contracts.{HasAdded}
+use Rattle.lock_free.specs.Container.Contracts.{HasAdded, WasNotAdded}
+use Rattle.lock_free.specs.Robust.Contracts.{WasFreed}
 use Rattle.lock_free.specs.HistoryView.View.{View}
 use Rattle.lock_free.specs.Queues.Item.TheVariants.{Index}
-use Rattle.lock_free.specs.Queues.Rings.{QueueId, consumer_queue, consumer_view, producer_queue, producer_view, view}
-use Rattle.lock_free.specs.Queues.Contracts.{PopFoundNone, PopOldest, PushRefused}
+use Rattle.lock_free.specs.Passes.{Goes}
+use Rattle.lock_free.specs.Queues.Rings.{QueueId, consumer_queue, consumer_view, producer_queue, producer_view, queue_of, view}
+use Rattle.lock_free.specs.Queues.Role.TheVariants as roles
+use Rattle.lock_free.specs.Queues.Contracts.{HasReleased, PopFoundNone, PopOldest, PushRefused}
 use Rattle.lock_free.specs.Share.{Share}
 use Rattle.lock_free.specs.UniqueIndexSet.{SetId}
 use Rattle.lock_free.specs.declared.mpmc.container.ContainerHandle.{ContainerHandle}
@@ -16,6 +19,8 @@ use Rattle.zero_copy_bus.specs.declared.error.LoanFailure.{LoanFailure}
 use Rattle.zero_copy_bus.specs.declared.error.LoanFailure.TheVariants.{NoSlot, NoRecord, StillRead}
 use Rattle.zero_copy_bus.specs.declared.error.ReclaimFailure.{ReclaimFailure}
 use Rattle.zero_copy_bus.specs.declared.error.ReclaimFailure.TheVariants.{NotHeld, InUse}
+use Rattle.zero_copy_bus.specs.declared.error.SubscribeFailure.{SubscribeFailure}
+use Rattle.zero_copy_bus.specs.declared.error.SubscribeFailure.TheVariants.{NoSeat, NotLetIn, NotSeen, NotRemoved}
 use Rattle.zero_copy_bus.specs.declared.holders.Holders.{Holders}
 use Rattle.zero_copy_bus.specs.declared.outlet.Outlet.{Outlet}
 use Rattle.zero_copy_bus.specs.declared.loan.Emptied.{Emptied}
@@ -26,10 +31,12 @@ use Rattle.zero_copy_bus.specs.declared.subscriber.Left.{Left}
 use Rattle.zero_copy_bus.specs.declared.subscriber.Sample.{Sample}
 use Rattle.zero_copy_bus.specs.declared.subscriber.Seat.{Seat}
 use Rattle.zero_copy_bus.specs.declared.subscriber.Subscriber.{Subscriber}
-use Rattle.zero_copy_bus.specs.Outlets.{holders_in}
+use Rattle.zero_copy_bus.specs.Outlets.{holders_in, open_in, waits_queue, EachLane, StaysOrLost}
 use Rattle.zero_copy_bus.specs.Pools as pools
 use Rattle.zero_copy_bus.specs.Books.{ChangesAt, IsLoaned}
 use Rattle.zero_copy_bus.specs.Holders.{publisher}
+use Rattle.zero_copy_bus.specs.Sequences.{Delivers}
+use Rattle.zero_copy_loans.specs.Numbers.{Shape, ReceivesOn}
 use Rattle.zero_copy_loans.specs.Words.{word_of, IsWord}
 use Rattle.zero_copy_loans.specs.declared.error.ReadFailure.{ReadFailure}
 use Rattle.zero_copy_loans.specs.declared.error.ReadFailure.TheVariants.{Slot, Other}
@@ -71,6 +78,17 @@ receives_left left = view left.submission
 
 abbrev pub returns_left : Left → View ℕ
 returns_left left = view left.completion
+
+-- which queue it received from, and the place of its lane
+abbrev pub queue_left : Left → QueueId
+queue_left left = queue_of left.submission
+
+abbrev pub place_left : Left → ℕ
+place_left left = left.place
+
+-- how the words of a lane are made, and how many of them wait at most
+abbrev pub shape_of : Layout → QueueId → Shape
+shape_of layout queue = record { room = layout.room; places = layout.places; capacity = queue.capacity }
 
 module _ {X K : Type 0} {rule : Ghosts K X} where
   -- ---- the publisher
@@ -118,6 +136,11 @@ module _ {X K : Type 0} {rule : Ghosts K X} where
 
   abbrev pub roll_of : Publisher X K rule → Roll
   roll_of p = p.roll
+
+  -- what one who left had was of the lane of its place
+  abbrev pub IsOfLane : Left → Publisher X K rule → Type 0
+  IsOfLane left p =
+      (lane : Outlet) × (slice_get (lanes_of p) (place_left left) ≡ Some lane) × (queue_left left ≡ waits_queue lane)
 
   -- a publisher of the same bus
   pub record IsSame (old new : Publisher X K rule) : Type 0 where
@@ -169,6 +192,13 @@ module _ {X K : Type 0} {rule : Ghosts K X} where
   IsUnread s sample (Slot failure) = IsUnreadable s.records.now (received sample) failure
   IsUnread s sample (Other number) = number ≢ number_of sample
 
+  -- what a seat knows of the queue that it is to receive from, and which that is
+  abbrev pub receives_before : Seat X K rule → View ℕ
+  receives_before s = consumer_view s.inlet.receives
+
+  abbrev pub receives_at : Seat X K rule → QueueId
+  receives_at s = consumer_queue s.inlet.receives
+
   -- how the registry's records are written in words, and what is known of it
   abbrev pub code_before : Seat X K rule → Coding ℕ
   code_before s = code_of (pass_in s.members)
@@ -198,6 +228,22 @@ module _ {X K : Type 0} {rule : Ghosts K X} where
   abbrev pub returns_queue : Subscriber X K rule → QueueId
   returns_queue s = producer_queue s.inlet.returns
 
+  -- Words of these numbers came (one without a slot is none that was sent), and these of them are the records that it received.
+  pub record HasHad (came delivered : List ℕ) (old new : Subscriber X K rule) : Type 0 where
+    pub queue : receives_queue new ≡ receives_queue old
+    pub layout : layout_at new ≡ layout_at old
+    pub place : place_at new ≡ place_at old
+    pub receives : 0 < (receives_queue old).capacity
+        → ReceivesOn (shape_of (layout_at old) (receives_queue old)) came (receives_view old) (receives_view new)
+    pub delivers : Delivers (expected_at old) came delivered (expected_at new)
+
+  -- it has received nothing more until it was taken apart
+  pub record HasLeft (s : Subscriber X K rule) (left : Left) : Type 0 where
+    pub queue : queue_left left ≡ receives_queue s
+    pub place : place_left left ≡ place_at s
+    pub goes : Goes (receives_view s) (receives_left left)
+    pub released : HasReleased roles.Consumer (receives_view s) (receives_left left)
+
   -- nothing waited; or the queue has no room at all, and nothing is written; or what came is no slot, or a record that was
   -- published before its seat was made, or before one that it has received
   abbrev pub ReceivedNone : Subscriber X K rule → Subscriber X K rule → Type 0
@@ -210,3 +256,19 @@ module _ {X K : Type 0} {rule : Ghosts K X} where
   -- the slot was not taken back: as many waited as the queue has room for, or its last position is reached
   abbrev pub TookNoneBack : ℕ → Subscriber X K rule → Subscriber X K rule → Type 0
   TookNoneBack slot old new = PushRefused (returns_queue old).capacity (Index slot) (returns_view old) (returns_view new)
+
+  -- the lane of its place is none of one who takes part
+  abbrev pub IsHidden : Subscriber X K rule → Publisher X K rule → Type 0
+  IsHidden s p = slice_get (open_in (lanes_of p)) (place_at s) ≢ Some true
+
+  -- why one did not subscribe: nobody was given a lane; or the registry refused one who had a seat; or one was let in whom the look
+  -- does not show, and he has left again, or the registry did not forget him
+  abbrev pub WasNotSubscribed : ℕ → Publisher X K rule → Publisher X K rule → SubscribeFailure → Type 0
+  WasNotSubscribed owner old new NoSeat = EachLane StaysOrLost (lanes_of old) (lanes_of new)
+  WasNotSubscribed owner old new (NotLetIn failure) =
+      (seat : Seat X K rule) × (left : Seat X K rule)
+      × WasNotAdded (place_before seat) owner failure (members_before seat) (members_before left)
+  WasNotSubscribed owner old new NotSeen =
+      (s : Subscriber X K rule) × (left : Left) × IsHidden s new
+      × WasFreed (record_of s).index (record_of s).owner (members_view s) (members_left left) × HasLeft s left
+  WasNotSubscribed owner old new (NotRemoved failure) = (s : Subscriber X K rule) × IsHidden s new

@@ -6,6 +6,7 @@ pub mod Lanes
 pub mod News
 pub mod Outlets
 pub mod Pools
+pub mod Relays
 pub mod Rolls
 pub mod Sequences
 pub mod Stores

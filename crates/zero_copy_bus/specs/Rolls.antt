@@ -1,7 +1,7 @@
 -- What clauses see of the publisher's end of the registry.
 use Rattle.std.specs.Prelude.{◌≡◌, ◌≢◌, ℕ, ◌<◌, Bool, true, Some, IsFalse}
-use Rattle.lock_free.specs.Container.Handles.{container_in, knows, pass_in}
-use Rattle.lock_free.specs.Container.Names.{capacity_of, code_of, IsLeft}
+use Rattle.lock_free.specs.Container.Handles.{container_in, knows}
+use Rattle.lock_free.specs.Container.Names.{capacity_of, IsLeft}
 use Rattle.lock_free.specs.Container.RecoverContract as recoveries
 use Rattle.lock_free.specs.Container.Contracts.{HasUpdatedState}
 use Rattle.lock_free.specs.ContainerState.{shown_at}

@@ -1,5 +1,5 @@
 -- What clauses see of the numbers of records.
-use Rattle.std.specs.Prelude.{◌≡◌, ℕ, ◌+◌, ◌≤◌, List, [], ◌∷◌}
+use Rattle.std.specs.Prelude.{◌≡◌, ◌⊎◌, ℕ, ◌+◌, ◌<◌, ◌≤◌, List, [], ◌∷◌}
 use Rattle.zero_copy_bus.specs.declared.numbers.Sequence.{Sequence}
 
 -- which number is expected next
@@ -10,3 +10,10 @@ expected s = s.next
 abbrev pub Rises : ℕ → List ℕ → ℕ → Type 0
 Rises from [] next = next ≡ from
 Rises from (n ∷ ns) next = (from ≤ n) × Rises (n + 1) ns next
+
+-- of the numbers that came, these were delivered: each one that is not below that which was expected then
+abbrev pub Delivers : ℕ → List ℕ → List ℕ → ℕ → Type 0
+Delivers from [] ds next = (ds ≡ []) × (next ≡ from)
+Delivers from (n ∷ ns) ds next =
+    ((n < from) × Delivers from ns ds next)
+    ⊎ ((from ≤ n) × (rest : List ℕ) × (ds ≡ n ∷ rest) × Delivers (n + 1) ns rest next)

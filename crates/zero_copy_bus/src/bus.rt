@@ -6,7 +6,7 @@ ghost use Rattle.lock_free.specs.Unique.Held.{HoldsNothing};
 ghost use Rattle.lock_free.specs.UniqueIndexSet.{made, set_of, share};
 ghost use Rattle.zero_copy_bus.specs.Books.{AllFree};
 ghost use Rattle.zero_copy_bus.specs.Ends as ends;
-ghost use Rattle.zero_copy_bus.specs.Outlets.{holders_in, open_in, HaveTheirPlaces, NobodyTakesPart};
+ghost use Rattle.zero_copy_bus.specs.Outlets.{holders_in, open_in, AllNew, HaveTheirPlaces, NobodyTakesPart};
 
 use crate::error::BusError;
 use crate::holders::{Holder, MOST_SUBSCRIBERS};
@@ -32,12 +32,15 @@ pub struct Sizes {
     pub queue: usize,
 }
 
-/// A bus, from one publisher to many subscribers, for records of a type, each of which keeps a rule with its number. A record
-/// lies in its slot until the slot is used again or the bus is dropped.
+/// A bus, from one publisher to many subscribers. Its records are of a type, and each keeps a rule with its number. A record lies
+/// in its slot until the slot is used again or the bus is dropped.
 pub struct Bus<X: Drop, K: Keeps<X> = Anything> {
     store: Store<X, K>,
     members: Members,
     lanes: Vec<Lane>,
+    sizes: Sizes,
+    /// Whether the lanes had a publisher before. A further one gets new ones, so that it has the passes of each whole.
+    is_used: bool,
 }
 
 impl<X: Drop, K: Keeps<X>> Drop for Bus<X, K> {
@@ -46,6 +49,8 @@ impl<X: Drop, K: Keeps<X>> Drop for Bus<X, K> {
             store: _store,
             members: _members,
             lanes: _lanes,
+            sizes: _,
+            is_used: _,
         } = self;
     }
 }
@@ -69,6 +74,7 @@ fn make_lanes(alloc: Global, sizes: Sizes) -> Result<Vec<Lane>, BusError>
 fn make_outlets(alloc: Global, lanes: &mut [Lane]) -> Result<Vec<Outlet<'_>>, BusError>
     ensures placed { IfOk result (λ o. HaveTheirPlaces (holders_in o.items)) }
     ensures closed { IfOk result (λ o. NobodyTakesPart (open_in o.items)) }
+    ensures fresh { IfOk result (λ o. AllNew o.items) }
 {
     let mut outlets = Vec::new(alloc);
     for (place, lane) in lanes.iter_mut().enumerate() {
@@ -88,7 +94,7 @@ fn make_outlets(alloc: Global, lanes: &mut [Lane]) -> Result<Vec<Outlet<'_>>, Bu
 impl<X: Drop, K: Keeps<X>> Bus<X, K> {
     ghost use Rattle.zero_copy_bus.specs.Bus.{slots_of, IsAdmitted, IsPassOf};
 
-    /// A bus of which each slot is free and has no record, and the pass of its publisher, which has the whole share of the slots.
+    /// A bus whose slots are all free and empty, and the pass of its publisher. That pass has the whole share of the slots.
     ///
     /// Refused are more than 63 subscribers (`TooManySubscribers`), what a part refuses (`Part`), and memory.
     pub fn new(alloc: Global, sizes: Sizes) -> Result<(Bus<X, K>, Pass), BusError>
@@ -108,12 +114,15 @@ impl<X: Drop, K: Keeps<X>> Bus<X, K> {
             store,
             members,
             lanes,
+            sizes,
+            is_used: false,
         };
         Ok((bus, pass))
     }
 
-    /// The publisher, with the pass that the bus was made with, and the records that are to be written, which need not keep the
-    /// rule yet: one more than there are slots, and one more for each further loan that is in hand at a time.
+    /// The publisher, by the pass that the bus was made with. It is given the records that are to be written, which need not keep
+    /// the rule yet: one more than there are slots, and one more for each further loan that is in hand at a time. A later
+    /// publisher gets new lanes.
     pub fn publisher(
         &mut self,
         rt: &impl Wait,
@@ -128,12 +137,19 @@ impl<X: Drop, K: Keeps<X>> Bus<X, K> {
         ensures slots { IfOk result (λ p. ends.slots_of p ≡ slots_of self.old) }
         ensures free { IfOk result (λ p. AllFree (ends.table_of p)) }
         ensures next { IfOk result (λ p. ends.next_of p ≡ 0) }
+        ensures fresh { IfOk result (λ p. AllNew (ends.lanes_of p)) }
     {
         let Bus {
             store,
             members,
             lanes,
+            sizes,
+            is_used,
         } = self;
+        if *is_used {
+            *lanes = make_lanes(alloc, *sizes)?;
+        }
+        *is_used = true;
         let Some(member) = members.member() else {
             return Err(BusError::NoPass);
         };

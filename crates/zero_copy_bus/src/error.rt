@@ -1,5 +1,5 @@
 //! Why a bus, or an end of it, is not made.
-use lock_free::mpmc::container::ContainerAddFailure;
+use lock_free::mpmc::container::{ContainerAddFailure, ContainerRemoveError};
 use lock_free::mpmc::unique_index_set_enums::{
     UniqueIndexCreationError, UniqueIndexSetAcquireFailure,
 };
@@ -40,6 +40,8 @@ pub enum SubscribeFailure {
     NotLetIn(#[from] ContainerAddFailure),
     #[error("the look at the registry does not show it")]
     NotSeen,
+    #[error("the look at the registry does not show it, and the registry does not forget it: {0}")]
+    NotRemoved(ContainerRemoveError),
 }
 
 /// Why a slot that stayed out is not reclaimed.

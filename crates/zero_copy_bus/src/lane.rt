@@ -1,9 +1,12 @@
-//! The way between a publisher and one subscriber: words of a record's number and its slot go out by an overflowing queue,
-//! and slots come back by an index queue that has room for all of them.
+//! The way between a publisher and one subscriber. Words of a record's number and its slot go out by an overflowing queue, and
+//! slots come back by an index queue that has room for all of them.
+ghost use Rattle.std.specs.Option.{ForSome};
 ghost use Rattle.std.specs.Prelude.{◌≡◌, ◌-◌, ◌^◌, ◌<◌, false, None, IfSome, OnOk};
 ghost use Rattle.lock_free.specs.Enums.{capacity_refusal};
 ghost use Rattle.lock_free.specs.Queues.Contracts.{HasReleased};
-ghost use Rattle.lock_free.specs.Queues.Rings.{consumer_view, producer_view, queue_of, view, IsPassOf};
+ghost use Rattle.history.specs.Views.{first_view};
+ghost use Rattle.lock_free.specs.Passes.{Goes};
+ghost use Rattle.lock_free.specs.Queues.Rings.{capacity_of, consumer_queue, consumer_view, producer_view, queue_of, view, IsPassOf};
 ghost use Rattle.lock_free.specs.Queues.Role.TheVariants as roles;
 ghost use Rattle.zero_copy_bus.specs.Holders.{bit_of};
 
@@ -15,13 +18,14 @@ use lock_free::spsc::safely_overflowing_index_queue::SafelyOverflowingIndexQueue
 use lock_free::spsc::{index_queue, safely_overflowing_index_queue as overflow};
 use std::alloc::Global;
 
-/// The two queues, each with a pass from which the ends get theirs.
+/// The two queues, each with a pass from which the ends get theirs. The publisher's end takes that of the first one whole.
 pub struct Lane {
     submission: SafelyOverflowingIndexQueue,
-    sending: overflow::Pass,
+    sending: Option<overflow::Pass>,
     completion: IndexQueue,
     returning: index_queue::Pass,
-    ghost submits: { IsPassOf submission sending },
+    ghost submits: { ForSome sending (λ p. IsPassOf submission p) },
+    ghost fresh: { ForSome sending (λ p. view p ≡ first_view (capacity_of submission)) },
     ghost completes: { IsPassOf completion returning },
 }
 
@@ -37,7 +41,7 @@ impl Drop for Lane {
 }
 
 impl Lane {
-    ghost use Rattle.zero_copy_bus.specs.Outlets.{holder_of, is_open};
+    ghost use Rattle.zero_copy_bus.specs.Outlets.{holder_of, is_open, IsNew};
     ghost use Rattle.zero_copy_bus.specs.Lanes.{completion_of, submission_of};
 
     /// A lane for so many slots, of which so many wait at most.
@@ -48,41 +52,44 @@ impl Lane {
         let (completion, returning) = IndexQueue::new(alloc, slots)?;
         Ok(Lane {
             submission,
-            sending,
+            sending: Some(sending),
             completion,
             returning,
         })
     }
 
-    /// The publisher's end, for a subscriber who holds slots by this name. None where another has that end, or no further
+    /// The publisher's end, for a subscriber who holds slots by this name. None where another has had that end, or no further
     /// pass can be counted.
     pub fn outlet(&mut self, holder: Holder) -> Option<Outlet<'_>>
         requires subscribes { 0 < bit_of holder }
         ensures holder { IfSome result (λ o. holder_of o ≡ holder) }
         ensures closed { IfSome result (λ o. is_open o ≡ false) }
+        ensures fresh { IfSome result IsNew }
     {
-        let sends = self.sending.split()?;
+        let waits = self.sending.take()?;
         let takes = self.returning.split()?;
-        self.outlet_with(holder, sends, takes)
+        self.outlet_with(holder, waits, takes)
     }
 
     /// The same, with passes of the two queues.
     fn outlet_with(
         &self,
         holder: Holder,
-        sends: overflow::Pass,
+        waits: overflow::Pass,
         takes: index_queue::Pass,
     ) -> Option<Outlet<'_>>
         requires subscribes { 0 < bit_of holder }
-        requires sends { queue_of sends ≡ submission_of self.now }
+        requires waits { queue_of waits ≡ submission_of self.now }
+        requires fresh { view waits ≡ first_view (submission_of self.now).capacity }
         requires takes { queue_of takes ≡ completion_of self.now }
         ensures holder { IfSome result (λ o. holder_of o ≡ holder) }
         ensures closed { IfSome result (λ o. is_open o ≡ false) }
+        ensures fresh { IfSome result IsNew }
     {
         Outlet::of(
             holder,
             &self.submission,
-            sends,
+            waits,
             self.completion.handle(takes),
         )
     }
@@ -106,6 +113,8 @@ impl<'a> Drop for Inlet<'a> {
 impl<'a> Inlet<'a> {
     /// Gives both roles back, and hands the passes out.
     pub fn release(self) -> (overflow::Pass, index_queue::Pass)
+        ensures queue { queue_of result.0 ≡ consumer_queue self.entry.receives }
+        ensures goes { Goes (consumer_view self.entry.receives) (view result.0) }
         ensures receives { HasReleased roles.Consumer (consumer_view self.entry.receives) (view result.0) }
         ensures returns { HasReleased roles.Producer (producer_view self.entry.returns) (view result.1) }
     {

@@ -4,8 +4,8 @@ ghost use Rattle.zero_copy_slots.specs.Slots.{slot_of};
 
 use zero_copy_slots::{Anything, Keeps, Writing};
 
-/// A slot, which nobody reads, and a record for it that the publisher writes in plain memory, until it publishes it or gives it
-/// up. It stays in its thread. Where it is dropped, its record is dropped too, and its slot stays out until it is reclaimed.
+/// A slot that nobody reads, and a record for it, which the publisher writes in plain memory. It ends as it is published or given
+/// up, and stays in its thread. Where it is dropped, its record is dropped too, and its slot stays out until it is reclaimed.
 pub struct Loan<'a, X: Drop, K: Keeps<X> = Anything> {
     slot: u32,
     /// The record, where it is written. It is one that was published before, or a spare as the publisher was given it.
@@ -58,7 +58,7 @@ impl<'a, X: Drop, K: Keeps<X>> Loan<'a, X, K> {
     }
 }
 
-/// That a slot was left empty by who had the right to write it, so nobody read or wrote it then.
+/// A slot was left empty by who had the right to write it. So nobody read or wrote it then.
 #[derive(Debug, Drop)]
 pub struct Emptied {
     slot: u32,

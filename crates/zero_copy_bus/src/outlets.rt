@@ -1,9 +1,11 @@
 //! The publisher's ends of all lanes, each at the place by which its subscriber is named.
-ghost use Rattle.std.specs.Prelude.{◌≡◌, true, Some, count_by, slice_get, IsFalse, IsTrue};
+ghost use Rattle.std.specs.Prelude.{◌≡◌, ◌↔◌, true, false, Some, count_by, length, slice_get, slice_set, IfNone, IfSome, IsFalse, IsTrue};
 ghost use Rattle.zero_copy_bus.specs.Books.{GainsNone, GainsOnly, KeepsAllOrNone, KeepsLoans};
-ghost use Rattle.zero_copy_bus.specs.Outlets.{has_gained, holders_in, open_in, AreShown, EachLane, HaveTheirPlaces};
-ghost use Rattle.zero_copy_bus.specs.Outlets.{IsServed, IsSettled, IsTakenBack, KeepsRest};
+ghost use Rattle.lock_free.specs.Queues.Rings.{consumer_queue, consumer_view, queue_of, view};
+ghost use Rattle.zero_copy_bus.specs.Outlets.{has_end, has_gained, holders_in, open_in, AreShown, AtLane, EachLane, EachOther, HaveTheirPlaces};
+ghost use Rattle.zero_copy_bus.specs.Outlets.{waits_queue, IsServed, IsSettled, IsTakenBack, KeepsRest, StaysOrLost, WasLetOf, WasTakenIn};
 ghost use Rattle.zero_copy_bus.specs.Pools.{slots_of, table_of, IsSame};
+ghost use Rattle.zero_copy_bus.specs.declared.outlet.Outlet.{Outlet};
 ghost use Rattle.zero_copy_loans.specs.Words.{IsWord};
 ghost use Rattle.zero_copy_slots.specs.Slots.{laid_number, laid_slot};
 
@@ -11,6 +13,7 @@ use crate::lane::Inlet;
 use crate::outlet::Outlet;
 use crate::pool::Pool;
 use crate::roll::Roll;
+use lock_free::spsc::safely_overflowing_index_queue as overflow;
 use std::sync::Wait;
 use zero_copy_loans::words::Layout;
 use zero_copy_slots::Laid;
@@ -19,6 +22,10 @@ use zero_copy_slots::Laid;
 pub fn free_inlet<'a>(outlets: &mut Vec<Outlet<'a>>) -> Option<(Inlet<'a>, usize)>
     ensures holders { holders_in outlets.new.items ≡ holders_in outlets.old.items }
     ensures taking { open_in outlets.new.items ≡ open_in outlets.old.items }
+    ensures leased { IfSome result (λ r. AtLane r.1 (WasLetOf (consumer_queue r.0.receives) (consumer_view r.0.receives))
+        outlets.old.items outlets.new.items) }
+    ensures others { IfSome result (λ r. EachOther r.1 StaysOrLost outlets.old.items outlets.new.items) }
+    ensures none { IfNone result (EachLane StaysOrLost outlets.old.items outlets.new.items) }
 {
     for place in 0..outlets.len() {
         if let Some(inlet) = outlets[place].inlet() {
@@ -28,9 +35,20 @@ pub fn free_inlet<'a>(outlets: &mut Vec<Outlet<'a>>) -> Option<(Inlet<'a>, usize
     None
 }
 
+/// Takes in both ends of the lane of this place: the pass of the other, and the publisher's own.
+pub fn rejoin_at(outlets: &mut Vec<Outlet<'_>>, place: usize, other: overflow::Pass)
+    requires { (lane : Outlet) × (slice_get outlets.old.items place ≡ Some lane) × (queue_of other ≡ waits_queue lane) }
+    ensures holders { holders_in outlets.new.items ≡ holders_in outlets.old.items }
+    ensures closed { open_in outlets.new.items ≡ slice_set (open_in outlets.old.items) place false }
+    ensures taken_in { AtLane place (λ old new. IsTrue (has_end old) → WasTakenIn (view other) old new) outlets.old.items outlets.new.items }
+    ensures others { EachOther place (λ old new. new ≡ old) outlets.old.items outlets.new.items }
+{
+    outlets[place].rejoin(other);
+}
+
 /// Whether he takes part who has the lane of this place.
 pub fn takes_part(outlets: &Vec<Outlet<'_>>, place: u64) -> bool
-    ensures { IsTrue result → slice_get (open_in outlets.now.items) place ≡ Some true }
+    ensures { IsTrue result ↔ (slice_get (open_in outlets.now.items) place ≡ Some true) }
 {
     match outlets.get(place as usize) {
         Some(outlet) => outlet.is_open(),
@@ -38,7 +56,7 @@ pub fn takes_part(outlets: &Vec<Outlet<'_>>, place: u64) -> bool
     }
 }
 
-/// Sends the slot of what was laid there, with its number, to each who takes part and has it not: how many have gained it.
+/// Sends a slot, with its number, to each who takes part and has it not. Answers how many have gained it.
 pub fn send_to_all(
     outlets: &mut Vec<Outlet<'_>>,
     pool: &mut Pool<'_>,
@@ -85,7 +103,7 @@ pub fn take_all_back(outlets: &mut Vec<Outlet<'_>>, pool: &mut Pool<'_>)
     }
 }
 
-/// Settles each, by what the roll shows; where that has not changed, those alone of whom the other end is not free yet.
+/// Settles each lane by what the roll shows. Where that has not changed, those alone of whom the other end is not free yet.
 pub fn settle_all(
     rt: &impl Wait,
     outlets: &mut Vec<Outlet<'_>>,

@@ -1,4 +1,4 @@
-//! The slots of a bus, and who holds each: a slot is out of the set of free indices as long as anybody holds it.
+//! The slots of a bus, and who holds each. A slot is out of the set of free indices as long as anybody holds it.
 ghost use Rattle.std.specs.Prelude.{◌≡◌, ◌<◌, ◌≤◌, ◌↔◌, true, false, length, replicate, IsTrue, IsFalse, IfOk, OnErr};
 ghost use Rattle.lock_free.specs.Shares.{IsAll};
 ghost use Rattle.lock_free.specs.Unique.Held.{HoldsNothing};
@@ -121,8 +121,8 @@ impl<'a> Pool<'a> {
         self.has(slot, Holder::publisher()) && !self.has(slot, holder)
     }
 
-    /// Lends a slot that is on loan to a holder who has it not, and for whom this came back, which he has no more. Where
-    /// it is the slot itself nothing changes: false.
+    /// Lends a slot that is on loan to a holder who has it not. What came back for it he has no more. Where that is the slot
+    /// itself nothing changes: false.
     pub fn exchange(&mut self, slot: u32, holder: Holder, back: Option<u32>) -> bool
         requires { CanSend (table_of self.old) slot holder }
         ensures has { Exchanges slot holder back (table_of self.old) (table_of self.new) }
@@ -195,8 +195,8 @@ impl<'a> Pool<'a> {
         }
     }
 
-    /// How many slots are out: at least those that somebody holds, at most all, and just those where nobody else has a share of
-    /// the set.
+    /// How many slots are out. They are at least those that somebody holds, at most all, and just those where nobody else has a
+    /// share of the set.
     pub fn borrowed(&mut self) -> usize
         ensures table { table_of self.new ≡ table_of self.old }
         ensures least { held_number (table_of self.old) ≤ result }

@@ -1,13 +1,13 @@
 //! The end of a bus that writes records and publishes them.
 ghost use Rattle.std.specs.Prelude.{◌≡◌, ◌+◌, ◌-◌, ◌^◌, ◌<◌, ◌≤◌, ◌↔◌, Bool, true};
-ghost use Rattle.std.specs.Prelude.{false, Some, count_by, slice_get, vec_len, IsTrue, IsFalse, IfOk, IfErr, IfSome};
+ghost use Rattle.std.specs.Prelude.{false, Some, count_by, slice_get, slice_set, vec_len, IsTrue, IsFalse, IfOk, IfErr, IfNone, IfSome};
 ghost use Rattle.lock_free.specs.Shares.{IsAll};
 ghost use Rattle.lock_free.specs.UniqueIndexSet.{set_of, share};
 ghost use Rattle.zero_copy_bus.specs.Books.{holders_at, AllFree, ChangesAt, GainsNone, GainsOnly, IsLoaned};
 ghost use Rattle.zero_copy_bus.specs.Books.{KeepsAllOrNone, KeepsLoans, KeepsLoansBut, held_number};
 ghost use Rattle.zero_copy_bus.specs.Holders.{is_held, publisher};
-ghost use Rattle.zero_copy_bus.specs.Outlets.{has_gained, holders_in, open_in, AreShown, EachLane, HaveTheirPlaces};
-ghost use Rattle.zero_copy_bus.specs.Outlets.{IsServed, IsSettled, IsTakenBack, KeepsRest, NobodyTakesPart};
+ghost use Rattle.zero_copy_bus.specs.Outlets.{has_end, has_gained, holders_in, open_in, AreShown, AtLane, EachLane, EachOther, HaveTheirPlaces};
+ghost use Rattle.zero_copy_bus.specs.Outlets.{IsServed, IsSettled, IsTakenBack, KeepsRest, NobodyTakesPart, OthersStay, StaysOrLost, WasLetOf, WasTakenIn};
 ghost use Rattle.zero_copy_bus.specs.Pools as pools;
 ghost use Rattle.zero_copy_bus.specs.Rolls.{HasLooked, HasRecovered};
 ghost use Rattle.zero_copy_slots.specs.Slots.{slots_in};
@@ -16,10 +16,10 @@ use crate::error::{LoanFailure, ReclaimFailure, SubscribeFailure};
 use crate::holders::Holder;
 pub use crate::loan::{Emptied, Loan};
 use crate::outlet::Outlet;
-use crate::outlets::{free_inlet, send_to_all, settle_all, take_all_back, takes_part};
+use crate::outlets::{free_inlet, rejoin_at, send_to_all, settle_all, take_all_back, takes_part};
 use crate::pool::Pool;
 use crate::roll::Roll;
-use crate::subscriber::{Seat, Subscriber};
+use crate::subscriber::{Left, Seat, Subscriber};
 use lock_free::mpmc::container::OwnerId;
 use lock_free::mpmc::unique_index_set::Pass;
 use std::sync::Wait;
@@ -63,9 +63,11 @@ impl<'a, X: Drop, K: Keeps<X>> Drop for Publisher<'a, X, K> {
 }
 
 impl<'a, X: Drop, K: Keeps<X>> Publisher<'a, X, K> {
-    ghost use Rattle.zero_copy_bus.specs.Ends.{emptied, expected_at, first_before, lanes_of, layout_before, layout_of, loaned, next_of, place_at};
+    ghost use Rattle.zero_copy_bus.specs.Ends.{emptied, expected_at, first_before, lanes_of, layout_at, layout_before, layout_of, loaned, next_of, place_at};
     ghost use Rattle.zero_copy_bus.specs.Ends.{place_before, roll_of, room_of, set_in, share_in, slots_at, slots_before, slots_of, spares_in, table_of};
-    ghost use Rattle.zero_copy_bus.specs.Ends.{HasNumber, IsKept, IsSame, IsTakenFor};
+    ghost use Rattle.zero_copy_bus.specs.Ends.{place_left, receives_at, receives_before, receives_left, receives_queue, receives_view};
+    ghost use Rattle.zero_copy_bus.specs.Relays.{LanesPassOn};
+    ghost use Rattle.zero_copy_bus.specs.Ends.{HasNumber, IsKept, IsOfLane, IsSame, IsTakenFor, WasNotSubscribed};
 
     pub(crate) fn of(
         pool: Pool<'a>,
@@ -80,6 +82,7 @@ impl<'a, X: Drop, K: Keeps<X>> Publisher<'a, X, K> {
         ensures pool { result.pool ≡ pool.entry }
         ensures records { result.records ≡ records.entry }
         ensures spares { spares_in result ≡ vec_len spares }
+        ensures lanes { lanes_of result ≡ outlets.entry.items }
         ensures next { next_of result ≡ 0 }
     {
         let layout = Layout::new(records.number());
@@ -94,18 +97,24 @@ impl<'a, X: Drop, K: Keeps<X>> Publisher<'a, X, K> {
         }
     }
 
-    /// A seat for a subscriber, who may take it in another thread, and takes part from the next `update` after that on. It receives
-    /// no record that was published before the seat was made. None where no place is free, or no further pass can be counted.
+    /// A seat for a subscriber, who may take it in another thread. Who does takes part from the next `update` on, and receives no
+    /// record that was published before the seat was made. None where no place is free, or no further pass can be counted.
     pub fn seat(&mut self) -> Option<Seat<'a, X, K>>
         ensures slots { IfSome result (λ s. slots_before s ≡ slots_of self.old) }
         ensures layout { IfSome result (λ s. layout_before s ≡ layout_of self.old) }
         ensures first { IfSome result (λ s. first_before s ≡ next_of self.old) }
+        ensures leased { IfSome result (λ s. AtLane (place_before s) (WasLetOf (receives_at s) (receives_before s))
+            (lanes_of self.old) (lanes_of self.new)) }
+        ensures others { IfSome result (λ s. EachOther (place_before s) StaysOrLost (lanes_of self.old) (lanes_of self.new)) }
+        ensures none { IfNone result (EachLane StaysOrLost (lanes_of self.old) (lanes_of self.new)) }
         ensures table { table_of self.new ≡ table_of self.old }
         ensures taking { open_in (lanes_of self.new) ≡ open_in (lanes_of self.old) }
         ensures same { IsSame self.old self.new }
         ensures next { next_of self.new ≡ next_of self.old }
     {
-        let member = self.roll.member()?;
+        let Some(member) = self.roll.member() else {
+            return None;
+        };
         let (inlet, place) = free_inlet(&mut self.outlets)?;
         Some(Seat::of(
             inlet,
@@ -117,10 +126,11 @@ impl<'a, X: Drop, K: Keeps<X>> Publisher<'a, X, K> {
         ))
     }
 
-    /// A subscriber who takes part at once: by its clause the lane of its place does, and `publish` serves the lanes that do. That the
-    /// words of this lane come to this subscriber is only tested. It is a `seat`, a `join` as this owner and an `update` in one.
-    /// Refused where no seat is to be had (`NoSeat`) and where the registry does not let the owner in (`NotLetIn`); and where the
-    /// look does not show it (`NotSeen`, which no clause rules out), and then it leaves again (by no clause).
+    /// A subscriber who takes part at once: a `seat`, a `join` and an `update` in one. The lane of its place takes part, and
+    /// `publish` serves the lanes that do. That the words of this lane come to this subscriber is only tested.
+    ///
+    /// Refused where nobody is given a lane (`NoSeat`), and where the registry does not let the owner in (`NotLetIn`). Where the
+    /// look does not show it, it leaves again (`NotSeen`), or the registry keeps it (`NotRemoved`).
     pub fn subscribe(
         &mut self,
         rt: &impl Wait,
@@ -129,6 +139,11 @@ impl<'a, X: Drop, K: Keeps<X>> Publisher<'a, X, K> {
         ensures part { IfOk result (λ s. slice_get (open_in (lanes_of self.new)) (place_at s) ≡ Some true) }
         ensures slots { IfOk result (λ s. slots_at s ≡ slots_of self.old) }
         ensures first { IfOk result (λ s. expected_at s ≡ next_of self.old) }
+        ensures layout { IfOk result (λ s. layout_at s ≡ layout_of self.old) }
+        ensures leased { IfOk result (λ s. AtLane (place_at s) (WasLetOf (receives_queue s) (receives_view s))
+            (lanes_of self.old) (lanes_of self.new)) }
+        ensures others { IfOk result (λ s. EachOther (place_at s) OthersStay (lanes_of self.old) (lanes_of self.new)) }
+        ensures refused { IfErr result (WasNotSubscribed owner self.old self.new) }
         ensures all { KeepsAllOrNone (table_of self.old) (table_of self.new) }
         ensures loans { KeepsLoans (table_of self.old) (table_of self.new) }
         ensures same { IsSame self.old self.new }
@@ -143,11 +158,19 @@ impl<'a, X: Drop, K: Keeps<X>> Publisher<'a, X, K> {
         };
         self.update(rt);
         if takes_part(&self.outlets, subscriber.place()) {
-            Ok(subscriber)
-        } else {
-            let _ = subscriber.leave(rt);
-            Err(SubscribeFailure::NotSeen)
+            return Ok(subscriber);
         }
+        match subscriber.leave(rt) {
+            Ok(_left) => return Err(SubscribeFailure::NotSeen),
+            Err(failure) => return Err(SubscribeFailure::NotRemoved(failure)),
+        }
+    }
+
+    /// Whether the lane of a subscriber's place is one of who takes part, as of the last `update`.
+    pub fn takes_part(&self, subscriber: &Subscriber<'_, X, K>) -> bool
+        ensures { IsTrue result ↔ (slice_get (open_in (lanes_of self.now)) (place_at subscriber.now) ≡ Some true) }
+    {
+        takes_part(&self.outlets, subscriber.place())
     }
 
     /// Looks who takes part, once. Who does gets what is published from now on; and where one has left, or a recovery has
@@ -173,6 +196,30 @@ impl<'a, X: Drop, K: Keeps<X>> Publisher<'a, X, K> {
         );
     }
 
+    /// Takes in what one who left had of its lane, and the publisher's end of that lane. If no pass of it was dropped it is known
+    /// then which records went out by the lane, and what became of each (`passes_on`). Nothing more goes out there, and the next
+    /// `update` takes back what he had, and frees the lane.
+    pub fn rejoin(&mut self, left: Left<'_>)
+        requires { IsOfLane left self.old }
+        ensures taken_in { AtLane (place_left left.entry) (λ old new. IsTrue (has_end old) → WasTakenIn (receives_left left.entry) old new)
+            (lanes_of self.old) (lanes_of self.new) }
+        ensures others { EachOther (place_left left.entry) (λ old new. new ≡ old) (lanes_of self.old) (lanes_of self.new) }
+        ensures taking { open_in (lanes_of self.new) ≡ slice_set (open_in (lanes_of self.old)) (place_left left.entry) false }
+        ensures table { table_of self.new ≡ table_of self.old }
+        ensures same { IsSame self.old self.new }
+        ensures next { next_of self.new ≡ next_of self.old }
+    {
+        let (submission, place) = left.into_received();
+        rejoin_at(&mut self.outlets, place as usize, submission);
+    }
+
+    /// Tells a caller's proof what became of the records that went out by a lane. From where the lane is let until its passes are
+    /// taken in (`rejoin`), a beginning of them was received or came back unread, each once, and both in order. What went out
+    /// later still waits then. It does nothing.
+    pub fn passes_on(&self)
+        ensures { LanesPassOn }
+    {}
+
     /// Takes an owner out who is dead, and then as `update`.
     pub fn recover(&mut self, rt: &impl Wait, dead: OwnerId)
         ensures recovered { HasRecovered dead (roll_of self.old) (roll_of self.new) }
@@ -188,16 +235,12 @@ impl<'a, X: Drop, K: Keeps<X>> Publisher<'a, X, K> {
         self.update(rt);
     }
 
-    /// A free slot, which the publisher alone holds, with a record to write. Refused as follows:
+    /// A free slot, which the publisher alone holds, with a record to write. `NoRecord`: none is left to write, and nothing
+    /// changes. `NoSlot`: each slot is out, or the pool is locked (the clause says only that nothing changes). `StillRead`:
+    /// somebody still reads the slot, who has it not. The slot stays out, so that the next loan gets another, and `reclaim` tries
+    /// it again.
     ///
-    /// - where no record is left to write (`NoRecord`), and then nothing changes. One record more than there are slots is enough
-    ///   for one loan at a time, and one more for each further loan in hand, as long as no loan is dropped: a dropped loan drops
-    ///   its record and what lay in its slot (by no clause);
-    /// - where each slot is out, or the pool is locked (`NoSlot`; by no clause, which says only that nothing changes);
-    /// - where somebody still reads the slot, who has it not: a reading that was forgotten, or a sample that another than its
-    ///   subscriber reads (`StillRead`). The slot stays out, so that the next loan gets another; `reclaim` tries it again.
-    ///
-    /// A load and at most one compare-exchange on the slot, and the steps of `acquire_raw_index`.
+    /// A load, at most one compare-exchange, and the steps of `acquire_raw_index`.
     pub fn loan(&mut self, rt: &impl Wait) -> Result<Loan<'a, X, K>, LoanFailure>
         ensures within { IfOk result (λ l. loaned l < slots_of self.old) }
         ensures free { IfOk result
@@ -208,6 +251,7 @@ impl<'a, X: Drop, K: Keeps<X>> Publisher<'a, X, K> {
         ensures spares { IfOk result (λ l. spares_in self.new + 1 ≡ spares_in self.old) }
         ensures refused { IfErr result (IsTakenFor (spares_in self.old) (table_of self.old) (table_of self.new)) }
         ensures taking { open_in (lanes_of self.new) ≡ open_in (lanes_of self.old) }
+        ensures lanes { lanes_of self.new ≡ lanes_of self.old }
         ensures same { IsSame self.old self.new }
         ensures next { next_of self.new ≡ next_of self.old }
     {
@@ -227,14 +271,11 @@ impl<'a, X: Drop, K: Keeps<X>> Publisher<'a, X, K> {
         Ok(Loan::of(slot, value, writing))
     }
 
-    /// Publishes a record, which keeps its rule with the number that comes next, to each who takes part and has it not: how many
-    /// gained it. Its slot is on loan no more, and nobody gains another. The oldest record of one who is too slow comes back. The
-    /// numbers rise by one with each record.
+    /// Publishes a record, which keeps its rule with the next number. It goes to each who takes part and has it not: how many
+    /// gained it. The slot is on loan no more. Who is too slow loses its oldest record. After the last of 2^64 / p numbers (p: the
+    /// slots, up to a power of two) each loan is given up: 0.
     ///
-    /// A number and a slot go into one word, so there are 2^64 numbers divided by the slots rounded up to a power of two (at least
-    /// 2). From the one past the last nothing is published any more: each loan is given up, 0.
-    ///
-    /// One step on the slot, a push for each who takes part, and a release where nobody gained it.
+    /// One step on the slot, a push for each, and a release where nobody gained it.
     pub fn publish(&mut self, loan: Loan<'a, X, K>) -> usize
         requires fits { K.holds (next_of self.old) loan.value }
         ensures served { HasNumber self.old (loaned loan.entry)
@@ -252,6 +293,7 @@ impl<'a, X: Drop, K: Keeps<X>> Publisher<'a, X, K> {
         ensures same { IsSame self.old self.new }
         ensures next { HasNumber self.old (loaned loan.entry) → next_of self.new ≡ next_of self.old + 1 }
         ensures last { ¬ HasNumber self.old (loaned loan.entry) → (result ≡ 0) × (next_of self.new ≡ next_of self.old) }
+        ensures unsent { ¬ HasNumber self.old (loaned loan.entry) → lanes_of self.new ≡ lanes_of self.old }
     {
         let slot = loan.slot();
         let number = self.next;
@@ -273,6 +315,7 @@ impl<'a, X: Drop, K: Keeps<X>> Publisher<'a, X, K> {
         ensures gone { ¬ IsLoaned (table_of self.new) (loaned loan.entry) }
         ensures changes { ChangesAt (loaned loan.entry) publisher (table_of self.old) (table_of self.new) }
         ensures taking { open_in (lanes_of self.new) ≡ open_in (lanes_of self.old) }
+        ensures lanes { lanes_of self.new ≡ lanes_of self.old }
         ensures same { IsSame self.old self.new }
         ensures next { next_of self.new ≡ next_of self.old }
     {
@@ -283,9 +326,9 @@ impl<'a, X: Drop, K: Keeps<X>> Publisher<'a, X, K> {
         self.pool.put_back(slot as u64, Holder::publisher());
     }
 
-    /// Tries a slot again that stayed out, since it was `StillRead` or its loan was dropped: it is left empty, and it is free. Refused
-    /// where the publisher does not hold it (`NotHeld`), and where its word says that somebody reads it still or (its loan is in
-    /// hand) writes it (`InUse`); then nothing changes. A load, at most one compare-exchange and one further step on the slot, and a
+    /// Tries a slot again that was `StillRead`, or whose loan was dropped. It is left empty, and it is free. Refused where the
+    /// publisher does not hold it (`NotHeld`), and where its word says that somebody reads it still or (its loan is in hand)
+    /// writes it (`InUse`); then nothing changes. A load, at most one compare-exchange and one further step on the slot, and a
     /// release.
     pub fn reclaim(&mut self, slot: u32) -> Result<Emptied, ReclaimFailure>
         ensures had { IfOk result (λ e. IsLoaned (table_of self.old) slot) }
@@ -294,6 +337,7 @@ impl<'a, X: Drop, K: Keeps<X>> Publisher<'a, X, K> {
         ensures changes { ChangesAt slot publisher (table_of self.old) (table_of self.new) }
         ensures refused { IfErr result (λ e. IsKept slot self.old e × (table_of self.new ≡ table_of self.old)) }
         ensures taking { open_in (lanes_of self.new) ≡ open_in (lanes_of self.old) }
+        ensures lanes { lanes_of self.new ≡ lanes_of self.old }
         ensures same { IsSame self.old self.new }
         ensures next { next_of self.new ≡ next_of self.old }
     {
@@ -331,13 +375,14 @@ impl<'a, X: Drop, K: Keeps<X>> Publisher<'a, X, K> {
         self.pool.is_free()
     }
 
-    /// How many slots are not free: at least those that somebody holds, at most all, and just those where nobody else has a
-    /// share of the pool.
+    /// How many slots are not free. They are at least those that somebody holds, at most all, and just those where nobody else
+    /// has a share of the pool.
     pub fn borrowed(&mut self) -> usize
         ensures table { table_of self.new ≡ table_of self.old }
         ensures least { held_number (table_of self.old) ≤ result }
         ensures most { result ≤ slots_of self.old }
         ensures whole { IsAll (share_in self.old) → result ≡ held_number (table_of self.old) }
+        ensures lanes { lanes_of self.new ≡ lanes_of self.old }
         ensures same { IsSame self.old self.new }
         ensures next { next_of self.new ≡ next_of self.old }
     {

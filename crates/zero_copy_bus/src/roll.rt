@@ -1,5 +1,5 @@
-//! Who takes part in a bus: a container with a record for each subscriber, which is the place of its lane, at an index of
-//! its owner's.
+//! Who takes part in a bus. A container has a record for each subscriber, which is the place of its lane, at an index of its
+//! owner's.
 ghost use Rattle.std.specs.Prelude.{◌≡◌, ◌↔◌, ℕ, None, Some, IsSome, IsTrue, IsFalse, OnOk};
 ghost use Rattle.lock_free.specs.Container.Handles.{container_in, knows};
 ghost use Rattle.lock_free.specs.Container.Names.{container_id, container_of, container_refusal, unnumbered, IsPassOf, IsStateOf};

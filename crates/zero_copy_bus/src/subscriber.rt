@@ -1,5 +1,5 @@
 //! The end of a bus that receives records and reads them.
-ghost use Rattle.std.specs.Prelude.{◌≡◌, ◌<◌, IsTrue, IsFalse, IfOk, IfErr, IfSome, IfNone};
+ghost use Rattle.std.specs.Prelude.{◌≡◌, ◌<◌, IsTrue, IsFalse, IfOk, IfErr, IfSome, IfNone, List, ℕ};
 ghost use Rattle.lock_free.specs.Container.Contracts.{WasNotAdded};
 ghost use Rattle.lock_free.specs.Queues.Item.TheVariants.{Index};
 ghost use Rattle.lock_free.specs.Queues.Contracts.{HasReleased, PopOldest, PushDone};
@@ -44,8 +44,9 @@ impl<'a, X: Drop, K: Keeps<X>> Drop for Seat<'a, X, K> {
 }
 
 impl<'a, X: Drop, K: Keeps<X>> Seat<'a, X, K> {
+    ghost use Rattle.lock_free.specs.Queues.Rings.{consumer_queue, consumer_view};
     ghost use Rattle.zero_copy_bus.specs.Ends.{code_before, expected_at, first_before, layout_at, layout_before, members_before, place_at};
-    ghost use Rattle.zero_copy_bus.specs.Ends.{place_before, slots_at, slots_before, IsLetIn};
+    ghost use Rattle.zero_copy_bus.specs.Ends.{place_before, receives_at, receives_before, receives_queue, receives_view, slots_at, slots_before, IsLetIn};
 
     pub(crate) fn of(
         inlet: Inlet<'a>,
@@ -60,6 +61,7 @@ impl<'a, X: Drop, K: Keeps<X>> Seat<'a, X, K> {
         ensures layout { layout_before result ≡ layout }
         ensures first { first_before result ≡ first }
         ensures place { place_before result ≡ place }
+        ensures receives { (receives_at result ≡ consumer_queue inlet.entry.receives) × (receives_before result ≡ consumer_view inlet.entry.receives) }
     {
         Seat {
             inlet,
@@ -82,6 +84,8 @@ impl<'a, X: Drop, K: Keeps<X>> Seat<'a, X, K> {
         ensures layout { IfOk result (λ s. layout_at s ≡ layout_before self.entry) }
         ensures first { IfOk result (λ s. expected_at s ≡ first_before self.entry) }
         ensures at { IfOk result (λ s. place_at s ≡ place_before self.entry) }
+        ensures receives { IfOk result
+            (λ s. (receives_queue s ≡ receives_at self.entry) × (receives_view s ≡ receives_before self.entry)) }
         ensures back { IfErr result (λ e. slots_before e.1 ≡ slots_before self.entry) }
         ensures place { IfErr result (λ e. place_before e.1 ≡ place_before self.entry) }
         ensures refused { IfErr result (λ e. WasNotAdded (place_before self.entry) owner e.0
@@ -171,11 +175,12 @@ impl<'a, X: Drop, K: Keeps<X>> Drop for Subscriber<'a, X, K> {
     }
 }
 
-/// What a subscriber that left had of the lane and of the registry.
+/// What a subscriber that left had of its lane and of the registry. The publisher takes in the pass of what it received (`rejoin`).
 pub struct Left<'a> {
     pub members: Handle<'a, u64>,
     pub submission: overflow::Pass,
     pub completion: index_queue::Pass,
+    place: u64,
 }
 
 impl<'a> Drop for Left<'a> {
@@ -184,16 +189,35 @@ impl<'a> Drop for Left<'a> {
             members: _members,
             submission: _submission,
             completion: _completion,
+            place: _,
         } = self;
     }
 }
 
-impl<'a, X: Drop, K: Keeps<X>> Subscriber<'a, X, K> {
-    ghost use Rattle.zero_copy_bus.specs.Ends.{expected_at, layout_at, members_left, members_view, number_of, numbers_of, place_at};
-    ghost use Rattle.zero_copy_bus.specs.Ends.{received, receives_left, receives_view, record_of, returns_left, returns_view, slots_at};
-    ghost use Rattle.zero_copy_bus.specs.Ends.{word_at, IsUnread, ReceivedNone, TookNoneBack};
+impl<'a> Left<'a> {
+    ghost use Rattle.zero_copy_bus.specs.Ends.{place_left};
 
-    /// The oldest record that waits, whose number is above that of each record that it received before, and not below that of the
+    /// The pass of the queue that it received from, and the place of its lane.
+    pub(crate) fn into_received(self) -> (overflow::Pass, u64)
+        ensures pass { result.0 ≡ self.entry.submission }
+        ensures place { result.1 ≡ place_left self.entry }
+    {
+        let Self {
+            members: _members,
+            submission,
+            completion: _completion,
+            place,
+        } = self;
+        (submission, place)
+    }
+}
+
+impl<'a, X: Drop, K: Keeps<X>> Subscriber<'a, X, K> {
+    ghost use Rattle.zero_copy_bus.specs.Ends.{expected_at, layout_at, members_left, members_view, number_of, numbers_of, place_at, place_left};
+    ghost use Rattle.zero_copy_bus.specs.Ends.{queue_left, received, receives_left, receives_queue, receives_view, record_of, returns_left};
+    ghost use Rattle.zero_copy_bus.specs.Ends.{returns_view, slots_at, word_at, HasHad, HasLeft, IsUnread, ReceivedNone, TookNoneBack};
+
+    /// The oldest record that waits. Its number is above that of each record that it received before, and not below that of the
     /// first one that was published after it got its seat. None where none waits, or where what came is no such record, and is
     /// gone. The steps of `pop`.
     pub fn receive(&mut self, rt: &impl Wait) -> Option<Sample>
@@ -202,9 +226,12 @@ impl<'a, X: Drop, K: Keeps<X>> Subscriber<'a, X, K> {
         ensures oldest { IfSome result
             (λ s. PopOldest (Index (word_at self.old s)) (receives_view self.old) (receives_view self.new)) }
         ensures none { IfNone result (ReceivedNone self.old self.new) }
-        ensures same { (slots_at self.new ≡ slots_at self.old) × (layout_at self.new ≡ layout_at self.old) }
+        ensures had { (came : List ℕ) × HasHad came (numbers_of result) self.old self.new }
+        ensures same { (slots_at self.new ≡ slots_at self.old) × (layout_at self.new ≡ layout_at self.old) × (place_at self.new ≡ place_at self.old) }
     {
-        let word = self.inlet.receives.pop(rt)?;
+        let Some(word) = self.inlet.receives.pop(rt) else {
+            return None;
+        };
         let (number, slot) = self.layout.parts(word);
         if slot >= self.layout.places() {
             return None;
@@ -216,22 +243,20 @@ impl<'a, X: Drop, K: Keeps<X>> Subscriber<'a, X, K> {
         Some(Sample { number, slot })
     }
 
-    /// The number from which on it takes records: that of the first one that was published after it got its seat, or one more than
-    /// that of the record that it received last.
+    /// The number from which on it takes records. That is the one of the first record that was published after it got its seat,
+    /// or one more than that of the record that it received last.
     pub fn expected(&self) -> u64
         ensures { result ≡ expected_at self.now }
     {
         self.expected
     }
 
-    /// Reads a record that was received, where it lies: the value that was laid there with the number of the sample, which keeps
-    /// its rule. As long as it is read, this subscriber receives and gives back nothing and is not dropped, since the reading
-    /// borrows it. Refused where the slot is (`Slot`): there is none, or its word says that it is empty or written, or that
-    /// 2^30 - 1 read it already; and where a value of another number lies there (`Other`: by its clause that number is another; that
-    /// it lies there, by no clause). Of a sample in hand here the first is ruled out by clauses (`within` of `receive`), and the others by tests alone.
+    /// Reads a record that was received, where it lies. It keeps its rule with the number of the sample. As long as it is read,
+    /// this subscriber calls nothing else and is not dropped. Refused where the slot is (`Slot`), and where a value of another
+    /// number lies there (`Other`, only tested).
     ///
-    /// A load and a compare-exchange, again for each time that another subscriber comes to the slot or leaves it in between; and
-    /// a subtraction as the reading is dropped. A reading that is forgotten keeps its slot for good (`StillRead`).
+    /// A load and a compare-exchange, again for each other reader that comes or leaves in between. A reading that is forgotten
+    /// keeps its slot for good (`StillRead`).
     pub fn read(&self, sample: &Sample) -> Result<Reading<'_, X, K>, ReadFailure>
         ensures published { IfOk result (λ r. (number_in r ≡ number_of sample.now) × (slot_in r ≡ received sample.now)) }
         ensures refused { IfErr result (IsUnread self.now sample.now) }
@@ -248,15 +273,15 @@ impl<'a, X: Drop, K: Keeps<X>> Subscriber<'a, X, K> {
         }
     }
 
-    /// Gives a record back: true, since there is room for each slot (by no clause); false only where the queue is full, or at
-    /// its last position.
+    /// Gives a record back. True, since there is room for each slot (by no clause). False only where the queue is full, or at its
+    /// last position.
     pub fn give_back(&mut self, sample: Sample) -> bool
         ensures given { IsTrue result
             → PushDone (Index (received sample)) (returns_view self.old) (returns_view self.new) }
         ensures full { IsFalse result → TookNoneBack (received sample) self.old self.new }
         ensures expected { expected_at self.new ≡ expected_at self.old }
-        ensures receives { receives_view self.new ≡ receives_view self.old }
-        ensures same { (slots_at self.new ≡ slots_at self.old) × (layout_at self.new ≡ layout_at self.old) }
+        ensures receives { (receives_queue self.new ≡ receives_queue self.old) × (receives_view self.new ≡ receives_view self.old) }
+        ensures same { (slots_at self.new ≡ slots_at self.old) × (layout_at self.new ≡ layout_at self.old) × (place_at self.new ≡ place_at self.old) }
     {
         let Sample { number: _, slot } = sample;
         self.inlet.returns.push(slot as u64)
@@ -269,6 +294,7 @@ impl<'a, X: Drop, K: Keeps<X>> Subscriber<'a, X, K> {
             (λ l. WasFreed (record_of self.entry).index (record_of self.entry).owner (members_view self.entry) (members_left l)) }
         ensures received { IfOk result (λ l. HasReleased roles.Consumer (receives_view self.entry) (receives_left l)) }
         ensures returned { IfOk result (λ l. HasReleased roles.Producer (returns_view self.entry) (returns_left l)) }
+        ensures left { IfOk result (HasLeft self.entry) }
     {
         let Subscriber {
             inlet,
@@ -277,7 +303,7 @@ impl<'a, X: Drop, K: Keeps<X>> Subscriber<'a, X, K> {
             expected: _,
             mut members,
             record,
-            place: _,
+            place,
         } = self;
         members.remove(rt, record, ReleaseMode::Default)?;
         let (submission, completion) = inlet.release();
@@ -285,7 +311,15 @@ impl<'a, X: Drop, K: Keeps<X>> Subscriber<'a, X, K> {
             members,
             submission,
             completion,
+            place,
         })
+    }
+
+    /// How many records wait for it at most, as the bus was made.
+    pub fn room(&self) -> usize
+        ensures { result ≡ (receives_queue self.now).capacity }
+    {
+        self.inlet.receives.capacity()
     }
 
     /// The place of its lane.

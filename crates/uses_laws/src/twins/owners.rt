@@ -1,11 +1,11 @@
 //! The same of a robust index set.
-ghost use Rattle.std.specs.Prelude.{◌≡◌, false};
+ghost use Rattle.std.specs.Prelude.{◌≡◌, ◌+◌, false};
 ghost use Rattle.lock_free.specs.CallbackProgression.TheVariants.{Continue};
 ghost use Rattle.lock_free.specs.IndexReading.{is_locked as has_lock};
 ghost use Rattle.lock_free.specs.Robust.Callable.{TakesFreed, TakesQuestions};
 ghost use Rattle.lock_free.specs.Robust.Contracts.{HasLooked, HasRecovered, HasSearched};
 ghost use Rattle.lock_free.specs.Robust.Handles.{knows};
-ghost use Rattle.lock_free.specs.RobustUniqueIndexSet.{capacity_of, history, IsPassOf, view};
+ghost use Rattle.lock_free.specs.RobustUniqueIndexSet.{capacity_of, history, IsPassOf, LeavesPass, view};
 ghost use Rattle.threaded.specs.Callable.{TakesPlaces};
 
 use lock_free::mpmc::robust_unique_index_set::{Handle, OwnerId, Pass, RobustUniqueIndexSet};
@@ -20,7 +20,7 @@ pub fn is_locked(handle: &mut Handle<'_>) -> bool
     handle.is_locked()
 }
 
-/// A find calls its closure as the history says.
+/// A find calls its closure as the history says. It looks at the lock and at each index, and no more.
 pub fn find<F: FnMut(usize) -> CallbackProgression>(
     set: &RobustUniqueIndexSet,
     owner: OwnerId,
@@ -29,6 +29,7 @@ pub fn find<F: FnMut(usize) -> CallbackProgression>(
 ) -> usize
     requires pass { IsPassOf set.now pass.old }
     requires indices { TakesPlaces F.pre (λ p x q. F.step p x Continue q) (capacity_of set.now) visit.old }
+    ensures same { LeavesPass (capacity_of set.now + 1) pass.old pass.new }
     ensures found { HasSearched (λ p x a q. F.step p x a q) (capacity_of set.now) owner visit.old result visit.new
         (view pass.old) (view pass.new) }
 {

@@ -2,8 +2,9 @@ use Rattle.std.proofs.Common.{◌≡◌, ◌+◌, [], ◌∷◌, ◌++◌, Ok, E
 use Rattle.std.specs.Prelude.{Result}
 use Rattle.std.specs.Result.{is_err, is_ok}
 use Rattle.zero_copy_bus.specs.Holders.{bit_of}
-use Rattle.zero_copy_bus.specs.Outlets.{holder_of, holders_in, open_in, HaveTheirPlaces, NobodyTakesPart}
+use Rattle.zero_copy_bus.specs.Outlets.{holder_of, holders_in, open_in, AllNew, HaveTheirPlaces, NobodyTakesPart}
 use Rattle.zero_copy_bus.proofs.LaneLemmas.{closed_more, placed_more}
+use Rattle.zero_copy_bus.proofs.LanesStay.{new_more}
 use Rattle.zero_copy_bus.proofs.bus.make_outlets.Goals as goal
 
 is_fine : {A E : Type 0} (r : Result A E) → is_err r ≡ false → is_ok r ≡ true
@@ -27,4 +28,5 @@ loop-place-preserved c =
       many = more ∙ ap (λ n. n + 1) was.many;
       placed = subst (λ xs. HaveTheirPlaces (holders_in xs)) (sym items) (placed_more lanes lane was.placed bit);
       closed = subst (λ xs. NobodyTakesPart (open_in xs)) (sym items) (closed_more lanes lane was.closed c.in-Some-outlet.ensures.closed);
+      fresh = subst AllNew (sym items) (new_more lanes lane was.fresh c.in-Some-outlet.ensures.fresh);
     }

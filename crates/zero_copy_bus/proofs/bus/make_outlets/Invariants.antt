@@ -1,5 +1,5 @@
 use Rattle.std.proofs.Common.{◌≡◌, vec_len}
-use Rattle.zero_copy_bus.specs.Outlets.{holders_in, open_in, HaveTheirPlaces, NobodyTakesPart}
+use Rattle.zero_copy_bus.specs.Outlets.{holders_in, open_in, AllNew, HaveTheirPlaces, NobodyTakesPart}
 use Rattle.zero_copy_bus.proofs.bus.make_outlets.Given as given
 
 abbrev pub invariant-loop-place : given.invariant-loop-place
@@ -8,4 +8,5 @@ invariant-loop-place l =
       many : vec_len l.outlets ≡ l.place;
       placed : HaveTheirPlaces (holders_in l.outlets.items);
       closed : NobodyTakesPart (open_in l.outlets.items);
+      fresh : AllNew l.outlets.items;
     }

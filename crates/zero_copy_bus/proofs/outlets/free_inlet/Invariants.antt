@@ -1,5 +1,6 @@
 use Rattle.std.proofs.Common.{◌≡◌, vec_len}
-use Rattle.zero_copy_bus.specs.Outlets.{holders_in, open_in}
+use Rattle.zero_copy_bus.specs.Outlets.{holders_in, open_in, StaysOrLost}
+use Rattle.zero_copy_bus.proofs.LaneLemmas.{DoneTo}
 use Rattle.zero_copy_bus.proofs.outlets.free_inlet.Given as given
 
 abbrev pub invariant-loop-place : given.invariant-loop-place
@@ -8,4 +9,5 @@ invariant-loop-place l =
       end : l.place-end ≡ vec_len l.outlets;
       holders : holders_in l.outlets.items ≡ holders_in l.fn.outlets.items;
       taking : open_in l.outlets.items ≡ open_in l.fn.outlets.items;
+      done : DoneTo StaysOrLost l.place l.fn.outlets.items l.outlets.items;
     }

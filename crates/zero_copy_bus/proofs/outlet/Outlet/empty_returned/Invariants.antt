@@ -9,5 +9,6 @@ invariant-loop l =
       holder : holder_of l.self ≡ holder_of l.fn.self;
       queue : waits_queue l.self ≡ waits_queue l.fn.self;
       waits : waits_view l.self ≡ waits_view l.fn.self;
+      end : l.self.sends ≡ l.fn.self.sends;
       since : IsBeginning (takes_view l.fn.self).seen (takes_view l.self).seen;
     }

@@ -1,34 +1,54 @@
-use Rattle.std.proofs.Common.{◌≡◌, ◌↔◌, inr, Bool, IsTrue, List, sym, ap, subst, ◌∙◌}
+use Rattle.std.proofs.Common.{◌≡◌, ◌↔◌, ◌&&◌, inr, Bool, true, false, true≢false, IsTrue, List, sym, ap, subst, ◌∙◌, ⊎_elim}
+use Rattle.std.proofs.lemmas.Bool.{and_parts}
 use Rattle.std.specs.Int.{bit_at}
 use Rattle.zero_copy_bus.specs.declared.holders.Holders.{Holders}
 use Rattle.zero_copy_bus.specs.declared.outlet.Outlet.{Outlet}
-use Rattle.zero_copy_bus.specs.declared.outlet.Tenancy.TheVariants.{Free, Closed, Open}
 use Rattle.zero_copy_bus.specs.declared.roll.Roll.{Roll}
 use Rattle.zero_copy_bus.specs.Books.{HasNone, holders_at}
-use Rattle.zero_copy_bus.specs.Outlets.{holder_of, is_open, place_of, FoundEmpty, IsFree, IsSettled}
+use Rattle.zero_copy_bus.specs.Outlets.{has_end, holder_of, is_lost, is_open, lets, place_of, FoundEmpty, IsFree, IsSettled, SamePasses}
 use Rattle.zero_copy_bus.specs.Rolls.{IsShown}
 use Rattle.zero_copy_bus.proofs.outlet.Outlet.settle_by.Goals as goal
 use Rattle.zero_copy_bus.proofs.outlet.Outlet.settle_by.Goals.{in-Closed, in-Open+else-not-has_changed}
 
 -- a lane that was not free, settled by whether the roll shows its place
-settled : (roll : Roll) (before after : List Holders) (old new : Outlet) (takes : Bool) → (IsFree old → ⊥) → is_open new ≡ takes
+settled : (roll : Roll) (before after : List Holders) (old new : Outlet) (takes : Bool) → lets old.tenancy ≡ true
+    → is_open new ≡ (takes && has_end old)
     → (IsTrue takes ↔ IsShown roll (place_of old))
+    → (IsTrue takes → SamePasses old new)
+    → new.sends ≡ old.sends → is_lost new.tenancy ≡ false
     → (IsFree new → HasNone (holder_of old) after × FoundEmpty old new)
     → ((IsFree new → ⊥) → after ≡ before) → IsSettled roll before after old new
-settled roll before after old new takes leased taking shown free kept =
+settled roll before after old new takes is_let taking shown same end not_lost free kept =
     record {
-      takes = (λ takes_part. (leased, shown.0 (sym taking ∙ takes_part)), λ part. taking ∙ shown.1 part.1);
+      takes = (
+        λ on. (let both = and_parts takes (has_end old) (sym taking ∙ on) in (ap (λ b. b && has_end old) is_let ∙ both.1, shown.0 both.0)),
+        λ part.
+            taking
+            ∙ (ap (λ b. b && has_end old) (shown.1 part.1) ∙ (and_parts (lets old.tenancy) (has_end old) part.0).1),
+      );
+      passes = λ on. same (and_parts takes (has_end old) (sym taking ∙ on)).0;
+      end = end;
+      lost = λ is. absurd (true≢false (sym is ∙ not_lost));
+      still =
+          λ none.
+          ⊎_elim (λ is. absurd (leased is))
+          (λ is. absurd (true≢false (sym is_let ∙ ap lets is))) none;
       free = λ none. inr (free none);
       kept = λ stays slot. ap (λ (table : List Holders). bit_at (holders_at table slot).bits (holder_of old).bit) (kept (λ none. leased (stays none)));
     }
+  where
+    leased : IsFree old → ⊥
+    leased is = true≢false (sym is_let ∙ ap lets is)
 
 pub returns-clause-settled : goal.returns-clause-settled
 returns-clause-settled g c =
-    settled c.args.roll.now _ _ c.args.self.now c.settle.new.self c.has.result leased c.settle.ensures.taking
-    (subst (λ n. IsTrue c.has.result ↔ IsShown c.args.roll.now n) c.place.ensures c.has.ensures) c.settle.ensures.free c.settle.ensures.kept
+    settled c.args.roll.now _ _ c.args.self.now c.settle.new.self c.has.result is_let c.settle.ensures.taking
+    (subst (λ n. IsTrue c.has.result ↔ IsShown c.args.roll.now n) c.place.ensures c.has.ensures) c.settle.ensures.passes
+    c.settle.ensures.end c.settle.ensures.lost
+    c.settle.ensures.free c.settle.ensures.kept
   where
-    leased : IsFree c.args.self.now → ⊥
-    leased none = elim c.match-self.branch [
-      | in-Closed w ↦ (let no : Free ≡ Closed = sym none ∙ w.in-Closed.is in absurd (cc))
-      | in-Open+else-not-has_changed w ↦ (let no : Free ≡ Open = sym none ∙ w.in-Open.is in absurd (cc))
+    is_let : lets c.args.self.now.tenancy ≡ true
+    is_let = elim c.match-self.branch [
+      | in-Closed w ↦ ap lets w.in-Closed.is
+      | in-Open+else-not-has_changed w ↦ ap lets w.in-Open.is
     ]

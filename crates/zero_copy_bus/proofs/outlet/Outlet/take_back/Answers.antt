@@ -22,12 +22,13 @@ loop-preserved c =
       others = keeps_both holder _ _ _ was.others (changes_keep _ holder _ _ back.changes);
       gains = gains_both _ _ _ was.gains back.gains;
       same = same_both _ _ _ was.same back.same;
+      passes = record { sends = was.passes.sends; waits = was.passes.waits };
     }
 
 pub returns-after-loop-clause-taken : goal.returns-after-loop-clause-taken
 returns-after-loop-clause-taken c =
     so_full (slots_of c.args.pool.now) c.loop.counter (table_of c.args.pool.now) (table_of c.loop.pool) c.args.self.now
-    c.loop.self c.loop.self c.loop.invariant.so (omega arith)
+    c.loop.self c.loop.self c.loop.invariant.so (omega arith) c.loop.invariant.passes
 
 pub returns-after-loop-clause-loans : goal.returns-after-loop-clause-loans
 returns-after-loop-clause-loans c = keeps_loans c.args.self.now.holder _ _ c.args.self.now.subscribes c.loop.invariant.others
@@ -36,6 +37,7 @@ pub returns-in_default-clause-taken : goal.returns-in_default-clause-taken
 returns-in_default-clause-taken c =
     so_empty (slots_of c.args.pool.now) c.loop.counter (table_of c.args.pool.now) (table_of c.loop.pool) c.args.self.now
     c.loop.self _ c.loop.invariant.so c.in_default.ensures.empty
+    (record { sends = c.loop.invariant.passes.sends; waits = c.loop.invariant.passes.waits })
 
 pub returns-in_default-clause-loans : goal.returns-in_default-clause-loans
 returns-in_default-clause-loans c = keeps_loans c.args.self.now.holder _ _ c.args.self.now.subscribes c.loop.invariant.others

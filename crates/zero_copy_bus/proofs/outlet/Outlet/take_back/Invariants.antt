@@ -1,6 +1,6 @@
 use Rattle.std.proofs.Common.{◌≡◌}
 use Rattle.zero_copy_bus.specs.Books.{GainsNone, KeepsOthers}
-use Rattle.zero_copy_bus.specs.Outlets.{holder_of, is_open, takes_view}
+use Rattle.zero_copy_bus.specs.Outlets.{holder_of, is_open, takes_view, SamePasses}
 use Rattle.zero_copy_bus.specs.Pools.{table_of, IsSame}
 use Rattle.zero_copy_bus.proofs.OutletLemmas.{TakenSo}
 use Rattle.zero_copy_bus.proofs.outlet.Outlet.take_back.Given as given
@@ -14,4 +14,5 @@ invariant-loop l =
       others : KeepsOthers (holder_of l.fn.self) (table_of l.fn.pool) (table_of l.pool);
       gains : GainsNone (table_of l.fn.pool) (table_of l.pool);
       same : IsSame l.fn.pool l.pool;
+      passes : SamePasses l.fn.self l.self;
     }

@@ -1,8 +1,7 @@
-use Rattle.std.proofs.Common.{◌≡◌, ℕ, sym, subst, ◌∙◌}
+use Rattle.std.proofs.Common.{◌≡◌, sym, subst, ◌∙◌}
 use Rattle.zero_copy_bus.specs.Books.{ChangesAt}
 use Rattle.zero_copy_bus.specs.Ends.{next_of, room_of}
-use Rattle.zero_copy_bus.specs.Holders.{publisher}
-use Rattle.zero_copy_bus.specs.Outlets.{AreShown, EachLane, HaveTheirPlaces, IsServed}
+use Rattle.zero_copy_bus.specs.Outlets.{AreShown, HaveTheirPlaces}
 use Rattle.zero_copy_bus.specs.Pools.{table_of}
 use Rattle.zero_copy_bus.proofs.OutletLemmas.{number_of_all, rest_after, served_of}
 use Rattle.zero_copy_slots.specs.Slots.{laid_number, laid_slot}

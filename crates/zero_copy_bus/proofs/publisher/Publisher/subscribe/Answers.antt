@@ -1,6 +1,9 @@
-use Rattle.std.proofs.Common.{subst}
+use Rattle.std.proofs.Common.{◌≡◌, true≢false, sym, subst, ◌∙◌}
+use Rattle.std.specs.Prelude.{slice_get, Some, true}
 use Rattle.zero_copy_bus.specs.Books.{KeepsAllOrNone, KeepsLoans}
-use Rattle.zero_copy_bus.specs.Ends.{table_of}
+use Rattle.zero_copy_bus.specs.Ends.{lanes_of, place_before, receives_at, receives_before, roll_of, table_of}
+use Rattle.zero_copy_bus.specs.Outlets.{open_in, EachOther, OthersStay}
+use Rattle.zero_copy_bus.proofs.Leases.{let_after, moved, others_after}
 use Rattle.zero_copy_bus.proofs.publisher.Publisher.subscribe.Goals as goal
 
 pub returns-then-takes_part-clause-all : goal.returns-then-takes_part-clause-all
@@ -11,10 +14,58 @@ pub returns-then-takes_part-clause-loans : goal.returns-then-takes_part-clause-l
 returns-then-takes_part-clause-loans g c =
     subst (λ t. KeepsLoans t (table_of c.update.new.self)) c.seat.ensures.table c.update.ensures.loans
 
-pub returns-else-takes_part-clause-all : goal.returns-else-takes_part-clause-all
-returns-else-takes_part-clause-all g c =
-    subst (λ t. KeepsAllOrNone t (table_of c.update.new.self)) c.seat.ensures.table c.update.ensures.all
+pub returns-then-takes_part-clause-part : goal.returns-then-takes_part-clause-part
+returns-then-takes_part-clause-part g c =
+    subst (λ k. slice_get (open_in (lanes_of c.update.new.self)) k ≡ Some true) c.place.ensures (c.takes_part.ensures.0 c.if-takes_part.true)
 
-pub returns-else-takes_part-clause-loans : goal.returns-else-takes_part-clause-loans
-returns-else-takes_part-clause-loans g c =
-    subst (λ t. KeepsLoans t (table_of c.update.new.self)) c.seat.ensures.table c.update.ensures.loans
+pub returns-then-takes_part-clause-leased : goal.returns-then-takes_part-clause-leased
+returns-then-takes_part-clause-leased g c =
+    let seat = c.in-Some.seat in
+    moved _ (place_before seat) _ (receives_at seat) _ (receives_before seat) _ _ c.in-Ok.ensures.at c.in-Ok.ensures.receives.0
+    c.in-Ok.ensures.receives.1
+    (let_after (roll_of c.update.new.self) (table_of c.seat.new.self) (table_of c.update.new.self) (place_before seat)
+    (lanes_of c.args.self.now) (lanes_of c.seat.new.self) (lanes_of c.update.new.self) c.update.ensures.settled (receives_at seat)
+    (receives_before seat) c.in-Some.ensures.leased
+    (subst (λ k. slice_get (open_in (lanes_of c.update.new.self)) k ≡ Some true) (c.place.ensures ∙ c.in-Ok.ensures.at)
+    (c.takes_part.ensures.0 c.if-takes_part.true)))
+
+pub returns-then-takes_part-clause-others : goal.returns-then-takes_part-clause-others
+returns-then-takes_part-clause-others g c =
+    subst (λ k. EachOther k OthersStay (lanes_of c.args.self.now) (lanes_of c.update.new.self)) (sym c.in-Ok.ensures.at)
+    (others_after (roll_of c.update.new.self) (table_of c.seat.new.self) (table_of c.update.new.self) (place_before c.in-Some.seat)
+    (lanes_of c.args.self.now) (lanes_of c.seat.new.self) (lanes_of c.update.new.self) c.update.ensures.settled c.in-Some.ensures.others)
+
+pub returns-in-Ok-leave-clause-all : goal.returns-in-Ok-leave-clause-all
+returns-in-Ok-leave-clause-all g c = subst (λ t. KeepsAllOrNone t (table_of c.update.new.self)) c.seat.ensures.table c.update.ensures.all
+
+pub returns-in-Ok-leave-clause-loans : goal.returns-in-Ok-leave-clause-loans
+returns-in-Ok-leave-clause-loans g c = subst (λ t. KeepsLoans t (table_of c.update.new.self)) c.seat.ensures.table c.update.ensures.loans
+
+pub returns-in-Err-leave-clause-all : goal.returns-in-Err-leave-clause-all
+returns-in-Err-leave-clause-all g c = subst (λ t. KeepsAllOrNone t (table_of c.update.new.self)) c.seat.ensures.table c.update.ensures.all
+
+pub returns-in-Err-leave-clause-loans : goal.returns-in-Err-leave-clause-loans
+returns-in-Err-leave-clause-loans g c = subst (λ t. KeepsLoans t (table_of c.update.new.self)) c.seat.ensures.table c.update.ensures.loans
+
+pub returns-in-Ok-leave-clause-refused : goal.returns-in-Ok-leave-clause-refused
+returns-in-Ok-leave-clause-refused g c = (
+  c.in-Ok.subscriber,
+  c.in-Ok-leave._left,
+  λ is.
+      true≢false
+      (sym (c.takes_part.ensures.1
+      (subst (λ k. slice_get (open_in (lanes_of c.update.new.self)) k ≡ Some true) (sym c.place.ensures) is))
+      ∙ c.if-takes_part.false),
+  c.in-Ok-leave.ensures.removed,
+  c.in-Ok-leave.ensures.left,
+)
+
+pub returns-in-Err-leave-clause-refused : goal.returns-in-Err-leave-clause-refused
+returns-in-Err-leave-clause-refused g c = (
+  c.in-Ok.subscriber,
+  λ is.
+      true≢false
+      (sym (c.takes_part.ensures.1
+      (subst (λ k. slice_get (open_in (lanes_of c.update.new.self)) k ≡ Some true) (sym c.place.ensures) is))
+      ∙ c.if-takes_part.false),
+)

@@ -1,0 +1,67 @@
+-- What the laws of ends and loads say of two moments of a pass.
+use Rattle.std.proofs.Common.{◌≤◌, ℕ, ◌+◌, arith}
+use Rattle.model.specs.declared.event.Start.{Start}
+use Rattle.model.specs.declared.turn.Kind.{Kind}
+use Rattle.model.specs.Loads.{begun, load}
+use Rattle.model.specs.LockFree.{Bound}
+use Rattle.lock_free.specs.Coding.{Coding}
+use Rattle.lock_free.specs.History.{Continues, Knows}
+use Rattle.lock_free.specs.HistoryView.View.{View}
+use Rattle.headline_threads.specs.Ends.{AreBelow, BeginSuch, PassesEnd, PassesKeepEnding, KnownKeepsEnding}
+use Rattle.headline_threads.specs.Ends.{PassesEndLoad, KnownEndsLoad, KnownAsksLoad, PassesRest}
+use Rattle.headline_threads.specs.Ends.{PassesEndOf, PassesKeepEndingOf, KnownKeepsEndingOf}
+use Rattle.headline_threads.specs.Ends.{PassesEndLoadOf, KnownEndsLoadOf, KnownAsksLoadOf, PassesRestOf}
+use Rattle.uses_laws.specs.Runs.{EndsWithin}
+
+-- the laws of a kind, by a bound
+pub record Laws (T : Type 0) (kind : Kind) (bound : Bound) : Type 0 where
+  pub ends : PassesEnd T kind bound
+  pub keep : PassesKeepEnding T kind bound
+  pub known : KnownKeepsEnding T kind bound
+  pub between : PassesEndLoad T kind bound
+  pub load : KnownEndsLoad T kind bound
+  pub asks : KnownAsksLoad T kind bound
+  pub rest : PassesRest T kind bound
+
+-- and those of passes that have seen no call begin but such ones
+pub record LawsOf (T : Type 0) (kind : Kind) (Such : Start T → Type 0) (bound : Bound) : Type 0 where
+  pub ends : PassesEndOf T kind Such bound
+  pub keep : PassesKeepEndingOf T kind Such bound
+  pub known : KnownKeepsEndingOf T kind Such bound
+  pub between : PassesEndLoadOf T kind Such bound
+  pub load : KnownEndsLoadOf T kind Such bound
+  pub asks : KnownAsksLoadOf T kind Such bound
+  pub rest : PassesRestOf T kind Such bound
+
+more_aside : (asked few aside load : ℕ) → few ≤ aside → asked ≤ few + load → asked ≤ aside + load
+more_aside asked few aside load less most = omega arith
+
+module _ {T : Type 0} (code : Coding T) (kind : Kind) (capacity : ℕ) (bound : Bound) (aside : ℕ) (old new : View T)
+    (knows : Knows code kind capacity old) (later : Continues code kind capacity old new) (few : new.aside ≤ aside) where
+  pub ends_within : Laws T kind bound → (n : ℕ) → AreBelow n new.seen
+      → EndsWithin code kind capacity (bound n capacity code.size) aside old new later
+  ends_within laws n below =
+      record {
+        ends_one = laws.ends code capacity old new knows later n below;
+        ends_since = laws.keep code capacity old new knows later n below;
+        ends_all = laws.known code capacity new later.knows n below;
+        load_since = laws.between code capacity old new knows later n below;
+        load_all = laws.load code capacity new later.knows n below;
+        asked = more_aside new.asked new.aside aside (load (bound n capacity code.size) (begun new.seen)) few
+            (laws.asks code capacity new later.knows n below);
+        rests = laws.rest code capacity old new knows later n below;
+      }
+
+  pub ends_within_of : (Such : Start T → Type 0) → LawsOf T kind Such bound → (n : ℕ) → AreBelow n new.seen → BeginSuch Such new.seen
+      → EndsWithin code kind capacity (bound n capacity code.size) aside old new later
+  ends_within_of Such laws n below such =
+      record {
+        ends_one = laws.ends code capacity old new knows later n below such;
+        ends_since = laws.keep code capacity old new knows later n below such;
+        ends_all = laws.known code capacity new later.knows n below such;
+        load_since = laws.between code capacity old new knows later n below such;
+        load_all = laws.load code capacity new later.knows n below such;
+        asked = more_aside new.asked new.aside aside (load (bound n capacity code.size) (begun new.seen)) few
+            (laws.asks code capacity new later.knows n below such);
+        rests = laws.rest code capacity old new knows later n below such;
+      }

@@ -1,0 +1,20 @@
+use Rattle.std.proofs.Common.{◌≡◌, Ok, sym, subst}
+use Rattle.lock_free.specs.GrantLaws.{times_freed}
+use Rattle.lock_free.specs.Robust.Contracts.{HasTaken}
+use Rattle.lock_free.specs.RobustUniqueIndexSet.{history, set_of, share, view}
+use Rattle.lock_free.specs.Shares.{IsAll}
+use Rattle.uses_laws.proofs.Full.{never_freed}
+use Rattle.uses_laws.proofs.leases.lease_apart.Goals as goal
+
+pub returns : goal.returns
+returns g c index is never =
+    let old = view c.args.pass.now in
+    let after = c.acquire-leased.new.pass in
+    let new = view after in
+    let same = c.acquire-leased.ensures.same in
+    let whole : IsAll (share after) = subst IsAll (sym same.goes.share) c.requires.whole in
+    let taken : HasTaken c.args.owner (Ok index) old new =
+    subst (λ r. HasTaken c.args.owner r old new) is c.acquire-leased.ensures.taken in
+    let none : times_freed index (history after) ≡ 0 = never_freed c.args.owner index old new taken (same.goes.all whole) index never in
+    c.set_indices_are_held_by_one.ensures index (set_of after).capacity (history after) c.history.ensures.history
+    (c.indices_never_freed_are_freed_right.ensures index (history after) none)

@@ -1,0 +1,54 @@
+use Rattle.std.proofs.Common.{ℕ, ◌+◌, ap, subst, ◌∙◌}
+use Rattle.threaded.specs.Sets.{SetId}
+use Rattle.laws_container.specs.LockFree.{room_container_bound}
+use Rattle.model.specs.declared.turn.Kind.TheVariants.{Container}
+use Rattle.model.specs.LockFree.{IsDefault, default_container_bound}
+use Rattle.lock_free.specs.Coding.{Coding}
+use Rattle.lock_free.specs.Container.Names.{capacity_of, code_of, view}
+use Rattle.lock_free.specs.Container.Steps.{to_settle}
+use Rattle.lock_free.specs.History.{Continues, Knows}
+use Rattle.uses_laws.proofs.Running.{Laws, LawsOf, ends_within, ends_within_of}
+use Rattle.uses_laws.proofs.runs.add_within.Goals as goal
+
+pub returns : goal.returns
+returns g c =
+    let old = view c.args.pass.now in
+    let new = view c.add-added.new.pass in
+    let code : Coding ℕ = code_of c.args.pass.now in
+    let capacity = capacity_of c.args.container.now in
+    let same = c.add-added.ensures.same in
+    let knows : Knows code Container capacity old =
+    subst (λ m. Knows code Container m old) (ap (λ (z : SetId). z.capacity) c.requires) c.history.ensures.run in
+    let after : Knows code Container capacity new =
+    subst (λ m. Knows code Container m new) (ap (λ (z : SetId). z.capacity) (same.container ∙ c.requires)) c.history-2.ensures.run in
+    let later : Continues code Container capacity old new = record { first = same.goes.first; knows = after } in
+    let ending = c.owners_keep_ending.ensures in
+    let loads = c.owners_end_loads.ensures in
+    let laws : Laws ℕ Container room_container_bound =
+    record {
+      ends = ending.container;
+      keep = ending.container_keep;
+      known = ending.container_known;
+      between = loads.container_between;
+      load = loads.container_load;
+      asks = loads.container_asks;
+      rest = loads.container_rest;
+    }
+    in
+    let by_default : LawsOf ℕ Container IsDefault default_container_bound =
+    record {
+      ends = ending.container_by_default;
+      keep = ending.container_keep_by_default;
+      known = ending.container_known_by_default;
+      between = loads.container_between_by_default;
+      load = loads.container_load_by_default;
+      asks = loads.container_asks_by_default;
+      rest = loads.container_rest_by_default;
+    }
+    in
+    let most = old.aside + (1 + to_settle old) in
+    record {
+      later = later;
+      within = ends_within code Container capacity room_container_bound most old new knows later same.aside laws;
+      fewer = ends_within_of code Container capacity default_container_bound most old new knows later same.aside IsDefault by_default;
+    }

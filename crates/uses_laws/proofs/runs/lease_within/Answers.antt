@@ -1,0 +1,50 @@
+use Rattle.std.proofs.Common.{ℕ, ◌+◌, ap, subst, ◌∙◌}
+use Rattle.threaded.specs.Sets.{SetId}
+use Rattle.model.specs.declared.turn.Kind.TheVariants.{Robust}
+use Rattle.model.specs.LockFree.{IsDefault, default_bound, room_bound}
+use Rattle.lock_free.specs.Coding.{one_word}
+use Rattle.lock_free.specs.History.{Continues, Knows}
+use Rattle.lock_free.specs.RobustUniqueIndexSet.{capacity_of, view}
+use Rattle.uses_laws.proofs.Running.{Laws, LawsOf, ends_within, ends_within_of}
+use Rattle.uses_laws.proofs.runs.lease_within.Goals as goal
+
+pub returns : goal.returns
+returns g c =
+    let old = view c.args.pass.now in
+    let new = view c.acquire-leased.new.pass in
+    let capacity = capacity_of c.args.pool.now in
+    let same = c.acquire-leased.ensures.same in
+    let knows : Knows one_word Robust capacity old =
+    subst (λ m. Knows one_word Robust m old) (ap (λ (z : SetId). z.capacity) c.requires) c.history.ensures.run in
+    let after : Knows one_word Robust capacity new =
+    subst (λ m. Knows one_word Robust m new) (ap (λ (z : SetId). z.capacity) (same.set ∙ c.requires)) c.history-2.ensures.run in
+    let later : Continues one_word Robust capacity old new = record { first = same.goes.first; knows = after } in
+    let ending = c.owners_keep_ending.ensures in
+    let loads = c.owners_end_loads.ensures in
+    let laws : Laws ℕ Robust room_bound =
+    record {
+      ends = ending.robust;
+      keep = ending.robust_keep;
+      known = ending.robust_known;
+      between = loads.robust_between;
+      load = loads.robust_load;
+      asks = loads.robust_asks;
+      rest = loads.robust_rest;
+    }
+    in
+    let by_default : LawsOf ℕ Robust IsDefault default_bound =
+    record {
+      ends = ending.robust_by_default;
+      keep = ending.robust_keep_by_default;
+      known = ending.robust_known_by_default;
+      between = loads.robust_between_by_default;
+      load = loads.robust_load_by_default;
+      asks = loads.robust_asks_by_default;
+      rest = loads.robust_rest_by_default;
+    }
+    in
+    record {
+      later = later;
+      within = ends_within one_word Robust capacity room_bound (old.aside + 1) old new knows later same.aside laws;
+      fewer = ends_within_of one_word Robust capacity default_bound (old.aside + 1) old new knows later same.aside IsDefault by_default;
+    }

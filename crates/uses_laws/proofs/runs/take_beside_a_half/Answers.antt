@@ -1,0 +1,51 @@
+use Rattle.std.proofs.Common.{◌≡◌, ◌≤◌, ℕ, ◌+◌, ap, subst, ◌∙◌, arith}
+use Rattle.model.specs.declared.turn.Kind.TheVariants.{Indices}
+use Rattle.model.specs.LockFree.{Bound, stretch}
+use Rattle.lock_free.specs.Coding.{one_word}
+use Rattle.lock_free.specs.History.{Continues, Knows}
+use Rattle.lock_free.specs.UniqueIndexSet.{SetId, capacity_of, set_id, set_of, view}
+use Rattle.uses_laws.proofs.Running.{Laws, ends_within}
+use Rattle.uses_laws.proofs.runs.take_beside_a_half.Goals as goal
+
+same_size : {one other : SetId} → one ≡ other → one.capacity ≡ other.capacity
+same_size e = ap (λ (z : SetId). z.capacity) e
+
+pub returns : goal.returns
+returns g c =
+    let old = view c.args.pass.now in
+    let left = view c.split.new.self in
+    let right = view c.in_ok-other.other in
+    let taken = view c.acquire_raw_index-taken.new.pass in
+    let new = view c.join.new.self in
+    let capacity = capacity_of c.args.set.now in
+    let call = c.acquire_raw_index-taken.ensures in
+    let cut = c.in_ok-other.ensures.cut in
+    let joined = c.join.ensures.same.joined in
+    let was : set_of c.args.pass.now ≡ set_id c.args.set.now = c.requires in
+    let knows : Knows one_word Indices capacity old = subst (λ m. Knows one_word Indices m old) (same_size was) c.history.ensures.run in
+    let between : Knows one_word Indices capacity taken =
+    subst (λ m. Knows one_word Indices m taken) (same_size (call.same.set ∙ (c.split.ensures.set ∙ was))) c.history-2.ensures.run in
+    let after : Knows one_word Indices capacity new =
+    subst (λ m. Knows one_word Indices m new) (same_size (c.join.ensures.same.set ∙ (call.same.set ∙ (c.split.ensures.set ∙ was)))) c.history-3.ensures.run in
+    let run = c.runs_go_on.ensures in
+    let one : Continues one_word Indices capacity old left = (run.splits one_word Indices capacity old left right cut knows).0 in
+    let two : Continues one_word Indices capacity left taken = record { first = call.same.first; knows = between } in
+    let three : Continues one_word Indices capacity taken new = (run.joins one_word Indices capacity taken right new joined after).0 in
+    let later : Continues one_word Indices capacity old new =
+    run.calls one_word Indices capacity old taken new (run.calls one_word Indices capacity old left taken one two) three in
+    let bound : Bound = λ n capacity size. stretch n 1 (capacity + 4) in
+    let laws : Laws ℕ Indices bound =
+    record {
+      ends = c.passes_keep_ending.ensures.ends Indices;
+      keep = c.passes_keep_ending.ensures.keep Indices;
+      known = c.passes_keep_ending.ensures.known Indices;
+      between = c.passes_end_loads.ensures.between Indices;
+      load = c.passes_end_loads.ensures.known Indices;
+      asks = c.passes_end_loads.ensures.asks Indices;
+      rest = c.passes_end_loads.ensures.rest Indices;
+    }
+    in
+    let mine = call.same.aside in
+    let most = c.join.ensures.steps in
+    let few : new.aside ≤ old.aside + 4 = omega arith in
+    record { later = later; within = ends_within one_word Indices capacity bound (old.aside + 4) old new knows later few laws }

@@ -1,0 +1,28 @@
+use Rattle.std.proofs.Common.{IfOk, ap, subst, ◌∙◌}
+use Rattle.lock_free.specs.Coding.{one_word}
+use Rattle.lock_free.specs.IndexLaws.{IsSound}
+use Rattle.lock_free.specs.Unique.Contracts.{HasAcquired}
+use Rattle.lock_free.specs.UniqueIndexSet.{SetId, history, set_of, view}
+use Rattle.uses_laws.proofs.Firsts.{holds_first}
+use Rattle.uses_laws.proofs.sole.take_first.Goals as goal
+
+pub returns-clause-sole : goal.returns-clause-sole
+returns-clause-sole g c index is =
+    let old = view c.args.pass.now in
+    let after = c.acquire_raw_index-taken.new.pass in
+    let new = view after in
+    let got : HasAcquired index old new =
+    subst (λ r. IfOk r (λ i. HasAcquired i old new)) is c.acquire_raw_index-taken.ensures.acquired in
+    let by = got.taken.by in (
+      by,
+      got.taken.mine,
+      c.holders_are_sole.ensures one_word (set_of after).capacity (history after) c.history.ensures.history by index
+          (holds_first by index old new got.taken.called c.requires.fresh),
+    )
+
+pub returns-clause-sound : goal.returns-clause-sound
+returns-clause-sound g c =
+    let after = c.acquire_raw_index-taken.new.pass in
+    let size = ap (λ (z : SetId). z.capacity) (c.acquire_raw_index-taken.ensures.same.set ∙ c.requires.pass) in
+    subst (λ n. IsSound n (history after)) size
+    (c.index_histories_are_sound.ensures one_word (set_of after).capacity (history after) c.history.ensures.history)

@@ -1,0 +1,36 @@
+-- Both ends of a queue that one pass was parted into.
+use Rattle.std.specs.Prelude.{◌≡◌, ◌≤◌, ◌+◌, ℕ, true, List, [], ◌∷◌, ◌++◌}
+use Rattle.model.specs.declared.event.Answer.TheVariants.{Truth}
+use Rattle.model.specs.declared.event.Event.{Event}
+use Rattle.model.specs.declared.event.Event.TheVariants.{Begun, Finished}
+use Rattle.model.specs.declared.event.Start.TheVariants.{Queues}
+use Rattle.steps.specs.declared.queues.roles.Role.{Role}
+use Rattle.steps.specs.declared.queues.roles.Role.TheVariants as roles
+use Rattle.history.specs.Roles.{acquire_start}
+use Rattle.lock_free.specs.History.{AreFirst, IsBeginning}
+use Rattle.lock_free.specs.HistoryView.View.{View}
+use Rattle.lock_free.specs.Shares.{half_of}
+
+module _ {T : Type 0} where
+  -- the party asks for the role, and gets it
+  abbrev pub role_taken : ℕ → Role → List (Event T)
+  role_taken by role =
+      Begun by (Queues (acquire_start role)) ∷ Finished by (Queues (acquire_start role)) (Truth true) ∷ []
+
+  -- this end has half of the share, and goes on from what the pass had seen and from the run that it knew
+  pub record IsHalf (old new : View T) : Type 0 where
+    pub share : new.share ≡ half_of old.share
+    pub since : IsBeginning old.seen new.seen
+    pub first : AreFirst old.turns new.turns
+
+  -- Each end has half of the pass. Beside what the pass had made each has made one call, which took its role. Together they
+  -- have asked for at most three operations more, all of which may be aside.
+  pub record HasParted (old producer consumer : View T) : Type 0 where
+    pub producing : IsHalf old producer
+    pub consuming : IsHalf old consumer
+    pub by : ℕ
+    pub then_by : ℕ
+    pub produces : producer.made ≡ old.made ++ role_taken by roles.Producer
+    pub consumes : consumer.made ≡ role_taken then_by roles.Consumer
+    pub asked : producer.asked + consumer.asked ≤ old.asked + 3
+    pub aside : producer.aside + consumer.aside ≤ old.aside + 3

@@ -1,0 +1,45 @@
+-- The run that a pass knew goes on to the one that it knows, and how many steps that takes.
+use Rattle.std.specs.Prelude.{◌≡◌, ◌≤◌, ◌<◌, ℕ, ◌+◌, ◌-◌, List, length}
+use Rattle.model.specs.declared.turn.Kind.{Kind}
+use Rattle.model.specs.declared.turn.Turn.{Turn}
+use Rattle.model.specs.Fair.{turns_of, StepsInEach, RestsInOne}
+use Rattle.model.specs.Loads.{begun, load}
+use Rattle.model.specs.LockFree.{AreWithinEnds, Bound, IsDefault, ends, steps_in}
+use Rattle.model.specs.World.{opening}
+use Rattle.lock_free.specs.Coding.{Coding}
+use Rattle.lock_free.specs.History.{Continues, run_of}
+use Rattle.lock_free.specs.HistoryView.View.{View}
+use Rattle.headline_threads.specs.Ends.{AreBelow, BeginSuch, steps_between}
+
+module _ {T : Type 0} where
+  -- Of all steps that the table took, and of those that it took since, by a bound: how many there are at most where so many
+  -- calls have ended, and where so many have begun. All that the pass has asked for is at most so much too, beside so many
+  -- operations aside. Cut what the table did since into more rounds than that, and a party that took a step in each had
+  -- no call under way as one of them began.
+  pub record EndsWithin (code : Coding T) (kind : Kind) (capacity bound aside : ℕ) (old new : View T)
+      (later : Continues code kind capacity old new) : Type 0 where
+    pub ends_one : bound < steps_between code kind capacity old new later → ends old.seen < ends new.seen
+    pub ends_since : AreWithinEnds bound (steps_between code kind capacity old new later) (ends old.seen) (ends new.seen)
+    pub ends_all : AreWithinEnds bound (steps_in (opening code kind capacity 0) new.turns) 0 (ends new.seen)
+    pub load_since : steps_between code kind capacity old new later ≤ load bound (begun new.seen - ends old.seen)
+    pub load_all : steps_in (opening code kind capacity 0) new.turns ≤ load bound (begun new.seen)
+    pub asked : new.asked ≤ aside + load bound (begun new.seen)
+    pub rests : (rounds : List (List (Turn T))) → later.first.rest ≡ turns_of rounds
+        → (p : ℕ) → StepsInEach p (run_of code kind capacity old.turns) rounds
+        → load bound (begun new.seen - ends old.seen) < length rounds
+        → RestsInOne p (run_of code kind capacity old.turns) rounds
+
+  -- It goes on, and where all calls that the pass has seen are of parties below n the bound is that of n parties.
+  pub record GoesOn (code : Coding T) (kind : Kind) (capacity : ℕ) (bound : Bound) (aside : ℕ) (old new : View T) : Type 0 where
+    pub later : Continues code kind capacity old new
+    pub within : (n : ℕ) → AreBelow n new.seen
+        → EndsWithin code kind capacity (bound n capacity code.size) aside old new later
+
+  -- The same by two bounds: the smaller one holds where the pass has seen no call begin that may lock.
+  pub record OwnersGoOn (code : Coding T) (kind : Kind) (capacity : ℕ) (bound by_default : Bound) (aside : ℕ)
+      (old new : View T) : Type 0 where
+    pub later : Continues code kind capacity old new
+    pub within : (n : ℕ) → AreBelow n new.seen
+        → EndsWithin code kind capacity (bound n capacity code.size) aside old new later
+    pub fewer : (n : ℕ) → AreBelow n new.seen → BeginSuch IsDefault new.seen
+        → EndsWithin code kind capacity (by_default n capacity code.size) aside old new later

@@ -1,0 +1,364 @@
+-- What each call adds to what was sent and received, and what both come to once they are joined.
+use Rattle.std.proofs.Common.{◌≡◌, inl, inr, ◌+◌, ◌-◌, ◌≤◌, ℕ, Bool, true, false, not, Option, Some, None, IfSome}
+use Rattle.std.proofs.Common.{IfNone, List, [], ◌∷◌, ◌++◌, length, drop, take, sum_by}
+use Rattle.std.proofs.Common.{refl, sym, ap, subst, ◌∙◌, arith, length-append, append-nil, true≢false}
+use Rattle.std.proofs.lemmas.List.{drop_all, drop-append-le}
+use Rattle.std.proofs.lemmas.List.Concat.{flat_map-append}
+use Rattle.std.proofs.lemmas.List.Sums.{sum_by-append}
+use Rattle.model.specs.declared.event.Item.{Item}
+use Rattle.model.specs.declared.event.Item.TheVariants.{Value, Index}
+use Rattle.model.specs.declared.families.queues.QueueKind.TheVariants as queues
+use Rattle.model.specs.declared.turn.Kind.TheVariants as kinds
+use Rattle.model.specs.Coding.{Coding}
+use Rattle.model.specs.Families.Queues.Reading.{publishes, hands_out, published, handed_out, waiting}
+use Rattle.threaded.specs.declared.share.Share.{Share}
+use Rattle.threaded.specs.Shares.{IsAll, both_of}
+use Rattle.history.specs.declared.view.View.{View}
+use Rattle.history.specs.History.{IsHistory}
+use Rattle.history.specs.Passes.{Goes, HasSplit, HasJoined, MissesNothing}
+use Rattle.history.specs.Views.{first_view}
+use Rattle.steps.specs.declared.queues.roles.Role.{Role}
+use Rattle.lock_free_queues.specs.Queues.Sums.{puts, gets, HasDone}
+use Rattle.lock_free_queues.proofs.Queues.Facts.{listed_always}
+use Rattle.lock_free_queues.specs.Queues.Contracts.{PushDone, PushRefused, PopDone, PopEmpty, HasAcquired, HasReleased}
+use Rattle.lock_free_queues.proofs.Queues.Sums.{whole_counted, done_pushed, done_refused, done_popped, done_none, done_acquired, done_released}
+use Rattle.lock_free_queues.proofs.Queues.Whole.{none_more}
+use Rattle.uses_streams.specs.declared.element.Element.{Element}
+use Rattle.uses_streams.specs.declared.element.Element.TheVariants as elements
+use Rattle.uses_streams.specs.Ends.{arrival_of, arrived, is_end, IfNothing, IfValue}
+use Rattle.uses_streams.specs.Streams.{last_ones, values_in, has_end, ends_once, has_values, pushed_by, popped_by}
+use Rattle.uses_streams.specs.Streams.{OnlyPushes, OnlyPops, HasHalf, IsFreshHalf, CameUpTo}
+
+-- ---- the last ones of a list
+
+module _ {A : Type 0} where
+  pub last_none : (n : ℕ) (xs : List A) → n ≡ 0 → last_ones n xs ≡ []
+  last_none n xs none = drop_all (length xs - n) xs (omega arith)
+
+  pub last_push : (k n : ℕ) (xs ys : List A) (x : A) → k ≤ length xs → n ≡ k + 1 → ys ≡ xs ++ x ∷ []
+      → last_ones n ys ≡ last_ones k xs ++ x ∷ []
+  last_push k n xs ys x few more is =
+      let long = length-append xs (x ∷ []) in
+      let same : length (xs ++ x ∷ []) - n ≡ length xs - k = omega arith in
+      ap (last_ones n) is ∙ (ap (λ i. drop i (xs ++ x ∷ [])) same ∙ drop-append-le (length xs - k) xs (x ∷ []) (omega arith))
+
+  pub last_same : (k n : ℕ) (xs ys : List A) → n ≡ k → ys ≡ xs → last_ones n ys ≡ last_ones k xs
+  last_same k n xs ys same is = ap (last_ones n) is ∙ ap (λ i. last_ones i xs) same
+
+  pub last_all : (n : ℕ) (xs : List A) → n ≡ length xs → last_ones n xs ≡ xs
+  last_all n xs all = (let none : length xs - n ≡ 0 = omega arith in ap (λ i. drop i xs) none)
+
+-- ---- values and the end
+
+module _ {T : Type 0} where
+  pub begins : (xs ys : List (Item (Element T))) → values_in xs ≡ take (length (values_in xs)) (values_in (xs ++ ys))
+  begins [] ys = refl
+  begins (Value (elements.Value x) ∷ xs) ys = ap (λ ws. x ∷ ws) (begins xs ys)
+  begins (Value elements.End ∷ xs) ys = refl
+  begins (Index i ∷ xs) ys = refl
+
+  pub end_stays : (xs ys : List (Item (Element T))) → has_end xs ≡ true
+      → (values_in (xs ++ ys) ≡ values_in xs) × (has_end (xs ++ ys) ≡ true)
+  end_stays [] ys e = absurd (true≢false (sym e))
+  end_stays (Value (elements.Value x) ∷ xs) ys e = (let rest = end_stays xs ys e in (ap (λ ws. x ∷ ws) rest.0, rest.1))
+  end_stays (Value elements.End ∷ xs) ys e = (refl, refl)
+  end_stays (Index i ∷ xs) ys e = absurd (true≢false (sym e))
+
+  pub one_value : (xs : List (Item (Element T))) (x : T) → has_values xs ≡ true
+      → (values_in (xs ++ Value (elements.Value x) ∷ []) ≡ values_in xs ++ x ∷ [])
+      × (has_values (xs ++ Value (elements.Value x) ∷ []) ≡ true) × (has_end (xs ++ Value (elements.Value x) ∷ []) ≡ false)
+  one_value [] x e = (refl, refl, refl)
+  one_value (Value (elements.Value y) ∷ xs) x e = (let rest = one_value xs x e in (ap (λ ws. y ∷ ws) rest.0, rest.1, rest.2))
+  one_value (Value elements.End ∷ xs) x e = absurd (true≢false (sym e))
+  one_value (Index i ∷ xs) x e = absurd (true≢false (sym e))
+
+  pub one_end : (xs : List (Item (Element T))) → has_values xs ≡ true
+      → (values_in (xs ++ Value elements.End ∷ []) ≡ values_in xs)
+      × (has_values (xs ++ Value elements.End ∷ []) ≡ false) × (has_end (xs ++ Value elements.End ∷ []) ≡ true)
+      × (ends_once (xs ++ Value elements.End ∷ []) ≡ true)
+  one_end [] e = (refl, refl, refl, refl)
+  one_end (Value (elements.Value y) ∷ xs) e = (let rest = one_end xs e in (ap (λ ws. y ∷ ws) rest.0, rest.1, rest.2, rest.3))
+  one_end (Value elements.End ∷ xs) e = absurd (true≢false (sym e))
+  one_end (Index i ∷ xs) e = absurd (true≢false (sym e))
+
+  pub none_ended : (xs : List (Item (Element T))) → has_values xs ≡ true → has_end xs ≡ false
+  none_ended [] e = refl
+  none_ended (Value (elements.Value y) ∷ xs) e = none_ended xs e
+  none_ended (Value elements.End ∷ xs) e = absurd (true≢false (sym e))
+  none_ended (Index i ∷ xs) e = refl
+
+  -- ---- each call, by what it adds
+
+  still_half : (v w : View (Element T)) → Goes v w → HasHalf v → HasHalf w
+  still_half v w goes h = (ap (λ (s : Share). s.part) goes.share ∙ h.0, ap (λ (s : Share). s.parts) goes.share ∙ h.1)
+
+  module _ (v w : View (Element T)) (goes : Goes v w) where
+    pushed_more : (item : Item (Element T)) → OnlyPushes v → HasDone 1 0 v w → published w.seen ≡ published v.seen ++ item ∷ []
+        → OnlyPushes w × (pushed_by w ≡ pushed_by v ++ item ∷ [])
+    pushed_more item h done list =
+        let p = done.puts_more in
+        let g = done.gets_more in
+        let few = h.1 in
+        let none = h.2 in
+        let long = ap length list in
+        let both = length-append (published v.seen) (item ∷ []) in (
+          (still_half v w goes h.0, omega arith, omega arith),
+          last_push (sum_by puts v.made) (sum_by puts w.made) (published v.seen) (published w.seen) item few p list,
+        )
+
+    pushed_same : OnlyPushes v → HasDone 0 0 v w → published w.seen ≡ published v.seen → OnlyPushes w × (pushed_by w ≡ pushed_by v)
+    pushed_same h done list =
+        let p = done.puts_more in
+        let g = done.gets_more in
+        let few = h.1 in
+        let none = h.2 in
+        let long = ap length list in (
+          (still_half v w goes h.0, omega arith, omega arith),
+          last_same (sum_by puts v.made) (sum_by puts w.made) (published v.seen) (published w.seen) (omega arith) list,
+        )
+
+    popped_more : (item : Item (Element T)) → OnlyPops v → HasDone 0 1 v w → handed_out w.seen ≡ handed_out v.seen ++ item ∷ []
+        → OnlyPops w × (popped_by w ≡ popped_by v ++ item ∷ [])
+    popped_more item h done list =
+        let p = done.puts_more in
+        let g = done.gets_more in
+        let few = h.1 in
+        let none = h.2 in
+        let long = ap length list in
+        let both = length-append (handed_out v.seen) (item ∷ []) in (
+          (still_half v w goes h.0, omega arith, omega arith),
+          last_push (sum_by gets v.made) (sum_by gets w.made) (handed_out v.seen) (handed_out w.seen) item few g list,
+        )
+
+    popped_same : OnlyPops v → HasDone 0 0 v w → handed_out w.seen ≡ handed_out v.seen → OnlyPops w × (popped_by w ≡ popped_by v)
+    popped_same h done list =
+        let p = done.puts_more in
+        let g = done.gets_more in
+        let few = h.1 in
+        let none = h.2 in
+        let long = ap length list in (
+          (still_half v w goes h.0, omega arith, omega arith),
+          last_same (sum_by gets v.made) (sum_by gets w.made) (handed_out v.seen) (handed_out w.seen) (omega arith) list,
+        )
+
+    -- ---- who pushes
+
+    pub begins_pushing : (role : Role) → IsFreshHalf v → HasAcquired role true v w → OnlyPushes w × (pushed_by w ≡ [])
+    begins_pushing role h acquired =
+        let done = done_acquired v w role true acquired in
+        let p = done.puts_more in
+        let g = done.gets_more in
+        let none_put = h.1 in
+        let none_got = h.2 in
+        ((still_half v w goes h.0, omega arith, omega arith), last_none (sum_by puts w.made) (published w.seen) (omega arith))
+
+    pub pushes_value : (x : T) → OnlyPushes v → has_values (pushed_by v) ≡ true → PushDone (Value (elements.Value x)) v w
+        → OnlyPushes w × (has_values (pushed_by w) ≡ true) × (values_in (pushed_by w) ≡ values_in (pushed_by v) ++ x ∷ [])
+    pushes_value x h going pushed =
+        let more = pushed_more (Value (elements.Value x)) h (done_pushed v w (Value (elements.Value x)) pushed.0) pushed.1.list in
+        let one = one_value (pushed_by v) x going in
+        (more.0, ap has_values more.1 ∙ one.1, ap values_in more.1 ∙ one.0)
+
+    pub pushes_end : OnlyPushes v → has_values (pushed_by v) ≡ true → PushDone (Value elements.End) v w
+        → OnlyPushes w × (values_in (pushed_by w) ≡ values_in (pushed_by v)) × (has_end (pushed_by w) ≡ true)
+        × (ends_once (pushed_by w) ≡ true)
+    pushes_end h going pushed =
+        let more = pushed_more (Value elements.End) h (done_pushed v w (Value elements.End) pushed.0) pushed.1.list in
+        let one = one_end (pushed_by v) going in
+        (more.0, ap values_in more.1 ∙ one.0, ap has_end more.1 ∙ one.2, ap ends_once more.1 ∙ one.3)
+
+    none_published : (capacity : ℕ) (item : Item (Element T)) → PushRefused capacity item v w → published w.seen ≡ published v.seen
+    none_published capacity item (inl h) = h.1.list
+    none_published capacity item (inr h) = h.list
+
+    pub pushes_none : (capacity : ℕ) (item : Item (Element T)) → OnlyPushes v → PushRefused capacity item v w
+        → OnlyPushes w × (pushed_by w ≡ pushed_by v)
+    pushes_none capacity item h full = pushed_same h (done_refused v w item capacity full) (none_published capacity item full)
+
+    -- by what the push answered
+    pub pushes_either : (x : T) (capacity : ℕ) (taken : Bool) → OnlyPushes v → has_values (pushed_by v) ≡ true
+        → (taken ≡ true → PushDone (Value (elements.Value x)) v w) → (taken ≡ false → PushRefused capacity (Value (elements.Value x)) v w)
+        → OnlyPushes w × (has_values (pushed_by w) ≡ true)
+    pushes_either x capacity true h going pushed full = (let one = pushes_value x h going (pushed refl) in (one.0, one.1))
+    pushes_either x capacity false h going pushed full =
+        (let none = pushes_none capacity (Value (elements.Value x)) h (full refl) in (none.0, ap has_values none.1 ∙ going))
+
+    pub stops_pushing : (role : Role) → OnlyPushes v → HasReleased role v w → published w.seen ≡ published v.seen
+        → OnlyPushes w × (pushed_by w ≡ pushed_by v)
+    stops_pushing role h released list = pushed_same h (done_released v w role released) list
+
+    -- ---- who pops
+
+    pub begins_popping : (role : Role) → IsFreshHalf v → HasAcquired role true v w → OnlyPops w × (popped_by w ≡ [])
+    begins_popping role h acquired =
+        let done = done_acquired v w role true acquired in
+        let p = done.puts_more in
+        let g = done.gets_more in
+        let none_put = h.1 in
+        let none_got = h.2 in
+        ((still_half v w goes h.0, omega arith, omega arith), last_none (sum_by gets w.made) (handed_out w.seen) (omega arith))
+
+    pub pops_one : (item : Item (Element T)) → OnlyPops v → PopDone item v w → OnlyPops w × (popped_by w ≡ popped_by v ++ item ∷ [])
+    pops_one item h popped = popped_more item h (done_popped v w item popped.0) popped.1.list
+
+    pub pops_none : OnlyPops v → PopEmpty v w → OnlyPops w × (popped_by w ≡ popped_by v)
+    pops_none h empty = popped_same h (done_none v w empty.0) empty.1.list
+
+    pub stops_popping : (role : Role) → OnlyPops v → HasReleased role v w → handed_out w.seen ≡ handed_out v.seen
+        → OnlyPops w × (popped_by w ≡ popped_by v)
+    stops_popping role h released list = popped_same h (done_released v w role released) list
+
+    -- by what the pop answered, of a receiver to which no end came
+    pub receives_value : (x : T) (ended : Bool) → ended ≡ false → OnlyPops v → CameUpTo ended (popped_by v)
+        → PopDone (Value (elements.Value x)) v w
+        → OnlyPops w × CameUpTo ended (popped_by w) × (values_in (popped_by w) ≡ values_in (popped_by v) ++ x ∷ [])
+        × (has_end (popped_by w) ≡ false)
+    receives_value x ended off h came popped =
+        let more = pops_one (Value (elements.Value x)) h popped in
+        let one = one_value (popped_by v) x (came.0 ∙ ap not off) in (
+          more.0,
+          (ap has_values more.1 ∙ (one.1 ∙ ap not (sym off)), ap has_end more.1 ∙ (one.2 ∙ sym off)),
+          ap values_in more.1 ∙ one.0,
+          ap has_end more.1 ∙ one.2,
+        )
+
+    pub receives_end : (ended : Bool) → ended ≡ false → OnlyPops v → CameUpTo ended (popped_by v) → PopDone (Value elements.End) v w
+        → OnlyPops w × CameUpTo true (popped_by w) × (values_in (popped_by w) ≡ values_in (popped_by v) ++ [])
+        × (has_end (popped_by w) ≡ true)
+    receives_end ended off h came popped =
+        let more = pops_one (Value elements.End) h popped in
+        let one = one_end (popped_by v) (came.0 ∙ ap not off) in (
+          more.0,
+          (ap has_values more.1 ∙ one.1, ap has_end more.1 ∙ one.2),
+          ap values_in more.1 ∙ (one.0 ∙ sym (append-nil (values_in (popped_by v)))),
+          ap has_end more.1 ∙ one.2,
+        )
+
+    pub receives_nothing : (ended : Bool) → ended ≡ false → OnlyPops v → CameUpTo ended (popped_by v) → PopEmpty v w
+        → OnlyPops w × CameUpTo ended (popped_by w) × (values_in (popped_by w) ≡ values_in (popped_by v) ++ [])
+        × (has_end (popped_by w) ≡ false)
+    receives_nothing ended off h came empty =
+        let none = pops_none h empty in (
+          none.0,
+          (ap has_values none.1 ∙ came.0, ap has_end none.1 ∙ came.1),
+          ap values_in none.1 ∙ sym (append-nil (values_in (popped_by v))),
+          ap has_end none.1 ∙ (came.1 ∙ off),
+        )
+
+  -- ---- by what a pop has found, where no end had come
+
+  pub receives : (v w : View (Element T)) → Goes v w → (found : Option (Element T)) (ended : Bool) → ended ≡ false → OnlyPops v
+      → CameUpTo ended (popped_by v) → IfSome found (λ x. PopDone (Value x) v w) → IfNone found (PopEmpty v w)
+      → OnlyPops w × CameUpTo (is_end (arrival_of found)) (popped_by w)
+      × (values_in (popped_by w) ≡ values_in (popped_by v) ++ arrived (arrival_of found))
+      × (has_end (popped_by w) ≡ is_end (arrival_of found))
+  receives v w goes None ended off h came popped empty =
+      let none = receives_nothing v w goes ended off h came empty in
+      (none.0, (none.1.0 ∙ ap not off, none.1.1 ∙ off), none.2, none.3)
+  receives v w goes (Some (elements.Value x)) ended off h came popped empty =
+      let one = receives_value v w goes x ended off h came popped in
+      (one.0, (one.1.0 ∙ ap not off, one.1.1 ∙ off), one.2, one.3)
+  receives v w goes (Some elements.End) ended off h came popped empty = receives_end v w goes ended off h came popped
+
+  pub found_nothing : (v w : View (Element T)) (found : Option (Element T)) → IfNone found (PopEmpty v w)
+      → IfNothing (arrival_of found) (PopEmpty v w)
+  found_nothing v w None empty = empty
+  found_nothing v w (Some (elements.Value x)) empty = tt
+  found_nothing v w (Some elements.End) empty = tt
+
+  pub found_value : (v w : View (Element T)) (found : Option (Element T)) → IfSome found (λ x. PopDone (Value x) v w)
+      → IfValue (arrival_of found) (λ x. PopDone (Value (elements.Value x)) v w)
+  found_value v w None popped = tt
+  found_value v w (Some (elements.Value x)) popped = popped
+  found_value v w (Some elements.End) popped = tt
+
+  -- ---- the end, and then the role is given back
+
+  pub finishes : (v w u : View (Element T)) (role : Role) → OnlyPushes v → has_values (pushed_by v) ≡ true → Goes v w
+      → PushDone (Value elements.End) v w → Goes w u → HasReleased role w u → published u.seen ≡ published w.seen
+      → OnlyPushes u × (values_in (pushed_by u) ≡ values_in (pushed_by v)) × (has_end (pushed_by u) ≡ true)
+      × (ends_once (pushed_by u) ≡ true)
+  finishes v w u role h going goes pushed on released list =
+      let ended = pushes_end v w goes h going pushed in
+      let left = stops_pushing w u on role ended.0 released list in
+      (left.0, ap values_in left.1 ∙ ended.1, ap has_end left.1 ∙ ended.2, ap ends_once left.1 ∙ ended.3)
+
+  -- ---- a first pass that is split
+
+  pub halves_fresh : (n : ℕ) (first left right : View (Element T)) → first ≡ first_view n → HasSplit first left right
+      → IsFreshHalf left × IsFreshHalf right
+  halves_fresh n first left right opens cut =
+      let made : left.made ≡ [] = cut.made ∙ ap (λ (t : View (Element T)). t.made) opens in
+      let part : first.share.part ≡ 1 = ap (λ (t : View (Element T)). t.share.part) opens in
+      let parts : first.share.parts ≡ 1 = ap (λ (t : View (Element T)). t.share.parts) opens in
+      let one = ap (λ (s : Share). s.part) cut.share in
+      let two = ap (λ (s : Share). s.parts) cut.share in
+      let three = ap (λ (s : Share). s.part) cut.right_share in
+      let four = ap (λ (s : Share). s.parts) cut.right_share in (
+        ((omega arith, omega arith), ap (sum_by puts) made, ap (sum_by gets) made),
+        ((omega arith, omega arith), ap (sum_by puts) cut.right_made, ap (sum_by gets) cut.right_made),
+      )
+
+  -- ---- both ends together
+
+  halves_are_all : (v w : View (Element T)) → HasHalf v → HasHalf w → IsAll (both_of v.share w.share)
+  halves_are_all v w h g =
+      subst IsAll (λ i. both_of (record { part = sym h.0 i; parts = sym h.1 i }) (record { part = sym g.0 i; parts = sym g.1 i })) refl
+
+  -- what the sender pushed is what the receiver popped, and what waits
+  together : (code : Coding (Element T)) (capacity : ℕ) (mine theirs new : View (Element T)) → OnlyPushes mine → OnlyPops theirs
+      → HasJoined mine theirs new → MissesNothing new → IsHistory code kinds.Queue capacity new.seen
+      → pushed_by mine ≡ popped_by theirs ++ waiting new.seen
+  together code capacity mine theirs new pushes pops h missing history =
+      let whole : IsAll new.share = subst IsAll (sym h.share) (halves_are_all mine theirs pushes.0 pops.0) in
+      let counted = whole_counted new whole missing in
+      let put : sum_by puts new.made ≡ sum_by puts mine.made + sum_by puts theirs.made = ap (sum_by puts) h.made ∙ sum_by-append puts mine.made theirs.made in
+      let got : sum_by gets new.made ≡ sum_by gets mine.made + sum_by gets theirs.made = ap (sum_by gets) h.made ∙ sum_by-append gets mine.made theirs.made in
+      let p = counted.0 in
+      let q = counted.1 in
+      let few_put = pushes.1 in
+      let none_got = pushes.2 in
+      let few_got = pops.1 in
+      let none_put = pops.2 in
+      let list : published new.seen ≡ published mine.seen ++ published h.ours.rest = ap published h.ours.is ∙ flat_map-append publishes mine.seen h.ours.rest in
+      let taken : handed_out new.seen ≡ handed_out theirs.seen ++ handed_out h.others.rest =
+      ap handed_out h.others.is ∙ flat_map-append hands_out theirs.seen h.others.rest in
+      let a = ap length list in
+      let b = length-append (published mine.seen) (published h.ours.rest) in
+      let c = ap length taken in
+      let d = length-append (handed_out theirs.seen) (handed_out h.others.rest) in
+      let all_put : sum_by puts mine.made ≡ length (published mine.seen) = omega arith in
+      let all_got : sum_by gets theirs.made ≡ length (handed_out theirs.seen) = omega arith in
+      let same : published new.seen ≡ published mine.seen = none_more (published mine.seen) (published h.ours.rest) (published new.seen) list (omega arith) in
+      let took : handed_out new.seen ≡ handed_out theirs.seen =
+      none_more (handed_out theirs.seen) (handed_out h.others.rest) (handed_out new.seen) taken (omega arith) in
+      let book = (listed_always code capacity new.seen queues.Queue history new.seen [] (sym (append-nil new.seen))).book in
+      last_all (sum_by puts mine.made) (published mine.seen) all_put
+      ∙ (sym same
+      ∙ (book
+      ∙ (ap (λ xs. xs ++ waiting new.seen) took
+      ∙ ap (λ xs. xs ++ waiting new.seen) (sym (last_all (sum_by gets theirs.made) (handed_out theirs.seen) all_got)))))
+
+  module _ (code : Coding (Element T)) (capacity : ℕ) (mine theirs new came : View (Element T)) (same : came ≡ theirs) (pushes : OnlyPushes mine)
+      (pops : OnlyPops theirs) (h : HasJoined mine came new) (missing : MissesNothing new) (history : IsHistory code kinds.Queue capacity new.seen) where
+    joined : HasJoined mine theirs new
+    joined = subst (λ v. HasJoined mine v new) same h
+
+    pub joined_whole : IsAll new.share
+    joined_whole = subst IsAll (sym joined.share) (halves_are_all mine theirs pushes.0 pops.0)
+
+    pub joined_begins : values_in (popped_by theirs) ≡ take (length (values_in (popped_by theirs))) (values_in (pushed_by mine))
+    joined_begins =
+        begins (popped_by theirs) (waiting new.seen)
+        ∙ ap (λ xs. take (length (values_in (popped_by theirs))) (values_in xs))
+        (sym (together code capacity mine theirs new pushes pops joined missing history))
+
+    pub joined_all : has_end (popped_by theirs) ≡ true → values_in (popped_by theirs) ≡ values_in (pushed_by mine)
+    joined_all ended =
+        sym (end_stays (popped_by theirs) (waiting new.seen) ended).0
+        ∙ ap values_in (sym (together code capacity mine theirs new pushes pops joined missing history))
+
+    pub joined_ends : has_end (popped_by theirs) ≡ true → has_end (pushed_by mine) ≡ true
+    joined_ends ended =
+        ap has_end (together code capacity mine theirs new pushes pops joined missing history)
+        ∙ (end_stays (popped_by theirs) (waiting new.seen) ended).1

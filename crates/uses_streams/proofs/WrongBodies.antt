@@ -1,0 +1,148 @@
+-- What a wrong body of a call would leave or answer, and the clause that refuses it. A name says what the body does.
+use Rattle.std.proofs.Common.{◌≡◌, ◌≢◌, ℕ, Bool, true, false, Some, None, List, [], ◌∷◌, ◌++◌, length}
+use Rattle.std.proofs.Common.{refl, sym, ap, ◌∙◌, arith, length-append, append-nil, true≢false}
+use Rattle.std.proofs.lemmas.List.{append_cancel_left}
+use Rattle.model.specs.declared.event.Event.{Event}
+use Rattle.model.specs.declared.event.Event.TheVariants.{Published, HandedOut}
+use Rattle.model.specs.declared.event.Item.{Item}
+use Rattle.model.specs.declared.event.Item.TheVariants.{Value}
+use Rattle.history.specs.declared.view.View.{View}
+use Rattle.history.specs.Passes.{Goes}
+use Rattle.history.specs.Views.{first_view}
+use Rattle.steps.specs.declared.queues.roles.Role.{Role}
+use Rattle.steps.specs.declared.words.Words.{Ghosts}
+use Rattle.lock_free_queues.specs.Queues.Contracts.{PushDone, PushRefused, PopDone, PopEmpty, HasReleased}
+use Rattle.model.specs.Families.Queues.Reading.{published}
+use Rattle.uses_streams.specs.declared.element.Element.{Element}
+use Rattle.uses_streams.specs.declared.element.Element.TheVariants as elements
+use Rattle.uses_streams.specs.Streams.{values_in, has_end, has_values, pushed_by, popped_by, OnlyPushes, OnlyPops, CameUpTo}
+use Rattle.uses_streams.specs.declared.ends.values.Values.{Values}
+use Rattle.uses_streams.specs.Values.{GivesNext, given_so_far, has_given_all}
+use Rattle.uses_streams.proofs.Streams.{pushes_value, pushes_none, stops_pushing, none_ended, receives_value, receives_end, receives_nothing}
+
+-- a list is not itself with one more
+one_more : {A : Type 0} (xs : List A) (x : A) → xs ≡ xs ++ x ∷ [] → ⊥
+one_more xs x is = (let long = ap length is in let both = length-append xs (x ∷ []) in absurd (omega arith))
+
+-- the first of a list, or else this
+abbrev head : {A : Type 0} → A → List A → A
+head z [] = z
+head z (x ∷ xs) = x
+
+module _ {T : Type 0} (v w : View (Element T)) (goes : Goes v w) where
+  -- ---- `send`
+
+  -- it answers true where the push was refused
+  pub send_says_true_of_a_refusal : (x : T) (capacity : ℕ) → OnlyPushes v → PushRefused capacity (Value (elements.Value x)) v w
+      → values_in (pushed_by w) ≡ values_in (pushed_by v) ++ x ∷ [] → ⊥
+  send_says_true_of_a_refusal x capacity h full says =
+      one_more (values_in (pushed_by v)) x
+      (sym (ap values_in (pushes_none v w goes capacity (Value (elements.Value x)) h full).1) ∙ says)
+
+  -- it answers false where it pushed
+  pub send_says_false_of_a_push : (x : T) → OnlyPushes v → has_values (pushed_by v) ≡ true → PushDone (Value (elements.Value x)) v w
+      → values_in (pushed_by w) ≡ values_in (pushed_by v) → ⊥
+  send_says_false_of_a_push x h going pushed says =
+      one_more (values_in (pushed_by v)) x (sym says ∙ (pushes_value v w goes x h going pushed).2)
+
+  -- it pushes another value
+  pub send_sends_another : (x y : T) → y ≢ x → OnlyPushes v → has_values (pushed_by v) ≡ true → PushDone (Value (elements.Value y)) v w
+      → values_in (pushed_by w) ≡ values_in (pushed_by v) ++ x ∷ [] → ⊥
+  send_sends_another x y other h going pushed says =
+      other (ap (head y) (append_cancel_left (values_in (pushed_by v)) (y ∷ []) (x ∷ []) (sym (pushes_value v w goes y h going pushed).2 ∙ says)))
+
+  -- ---- `finish`
+
+  -- it gives the role back, and writes no end
+  pub finish_writes_no_end : (role : Role) → OnlyPushes v → has_values (pushed_by v) ≡ true → HasReleased role v w
+      → published w.seen ≡ published v.seen → has_end (pushed_by w) ≡ true → ⊥
+  finish_writes_no_end role h going released list says =
+      let left = (stops_pushing v w goes role h released list).1 in
+      true≢false (sym says ∙ (ap has_end left ∙ none_ended (pushed_by v) going))
+
+  -- it says that it finished where the end was refused
+  pub finish_says_so_of_a_refusal : (capacity : ℕ) → OnlyPushes v → has_values (pushed_by v) ≡ true
+      → PushRefused capacity (Value elements.End) v w → has_end (pushed_by w) ≡ true → ⊥
+  finish_says_so_of_a_refusal capacity h going full says =
+      let same = (pushes_none v w goes capacity (Value elements.End) h full).1 in
+      true≢false (sym says ∙ (ap has_end same ∙ none_ended (pushed_by v) going))
+
+  -- ---- `receive`
+
+  -- it answers the end where the queue is empty
+  pub receive_ends_an_empty_queue : OnlyPops v → CameUpTo false (popped_by v) → PopEmpty v w → has_end (popped_by w) ≡ true → ⊥
+  receive_ends_an_empty_queue h came empty says =
+      true≢false (sym says ∙ (receives_nothing v w goes false refl h came empty).3)
+
+  -- it answers the end where it popped a value
+  pub receive_ends_at_a_value : (x : T) → OnlyPops v → CameUpTo false (popped_by v) → PopDone (Value (elements.Value x)) v w
+      → has_end (popped_by w) ≡ true → ⊥
+  receive_ends_at_a_value x h came popped says =
+      true≢false (sym says ∙ (receives_value v w goes x false refl h came popped).3)
+
+  -- it pops a value, and answers nothing
+  pub receive_drops_a_value : (x : T) → OnlyPops v → CameUpTo false (popped_by v) → PopDone (Value (elements.Value x)) v w
+      → values_in (popped_by w) ≡ values_in (popped_by v) ++ [] → ⊥
+  receive_drops_a_value x h came popped says =
+      one_more (values_in (popped_by v)) x
+      (sym (append-nil (values_in (popped_by v))) ∙ (sym says ∙ (receives_value v w goes x false refl h came popped).2))
+
+  -- it pops the end, and answers nothing
+  pub receive_drops_the_end : OnlyPops v → CameUpTo false (popped_by v) → PopDone (Value elements.End) v w
+      → has_end (popped_by w) ≡ false → ⊥
+  receive_drops_the_end h came popped says = true≢false (sym (receives_end v w goes false refl h came popped).3 ∙ says)
+
+-- ---- `next` of `Values`
+
+module _ {T R : Type 0} {words : Ghosts (Element T)} (s t : Values T R words) where
+  -- it gives a value that did not come
+  pub next_gives_what_did_not_come : (x : T) → GivesNext s (Some x) t → given_so_far t ≡ given_so_far s → ⊥
+  next_gives_what_did_not_come x next none = one_more (given_so_far s) x (sym none ∙ next.1)
+
+  -- it gives another value
+  pub next_gives_another : (x y : T) → y ≢ x → GivesNext s (Some x) t → given_so_far t ≡ given_so_far s ++ y ∷ [] → ⊥
+  next_gives_another x y other next came =
+      other (ap (head y) (append_cancel_left (given_so_far s) (y ∷ []) (x ∷ []) (sym came ∙ next.1)))
+
+  -- it drops a value, and gives the one after it
+  pub next_drops_a_value : (x y : T) → GivesNext s (Some x) t → given_so_far t ≡ given_so_far s ++ y ∷ x ∷ [] → ⊥
+  next_drops_a_value x y next came =
+      let long = ap length (sym came ∙ next.1) in
+      let two = length-append (given_so_far s) (y ∷ x ∷ []) in
+      let one = length-append (given_so_far s) (x ∷ []) in
+      absurd (omega arith)
+
+  -- it ends before the end came
+  pub next_ends_early : GivesNext s None t → has_given_all t ≡ false → ⊥
+  next_ends_early next more = true≢false (sym next.1.1 ∙ more)
+
+-- ---- `join`: its law is of no constants
+
+-- half of a queue's share, with these events, all of its own
+abbrev half_with : List (Event (Element ℕ)) → View (Element ℕ)
+half_with events =
+    record (first_view 4) { share = record { part = 1; parts = 2 }; seen = events; made = events }
+
+abbrev seven : Item (Element ℕ)
+seven = Value (elements.Value 7)
+
+differ : (xs : List ℕ) → [] ≡ xs → 7 ∷ [] ≡ xs → ⊥
+differ xs none one = (let long = ap length (none ∙ sym one) in absurd (omega arith))
+
+-- one list for whatever was pushed
+pub join_knows_what_was_sent : (xs : List ℕ) → ((v : View (Element ℕ)) → OnlyPushes v → values_in (pushed_by v) ≡ xs) → ⊥
+join_knows_what_was_sent xs same =
+    differ xs (same (half_with []) ((refl, refl), omega arith, refl))
+    (same (half_with (Published 0 seven ∷ [])) ((refl, refl), omega arith, refl))
+
+-- one for whatever was popped
+pub join_knows_what_was_received : (xs : List ℕ) → ((v : View (Element ℕ)) → OnlyPops v → values_in (popped_by v) ≡ xs) → ⊥
+join_knows_what_was_received xs same =
+    differ xs (same (half_with []) ((refl, refl), omega arith, refl))
+    (same (half_with (HandedOut 0 seven ∷ [])) ((refl, refl), omega arith, refl))
+
+-- one answer for whether the end was sent
+pub join_knows_whether_it_ended : (b : Bool) → ((v : View (Element ℕ)) → OnlyPushes v → has_end (pushed_by v) ≡ b) → ⊥
+join_knows_whether_it_ended b same =
+    true≢false (same (half_with (Published 0 (Value elements.End) ∷ [])) ((refl, refl), omega arith, refl)
+    ∙ sym (same (half_with []) ((refl, refl), omega arith, refl)))

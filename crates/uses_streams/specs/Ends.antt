@@ -1,0 +1,88 @@
+-- What clauses see of the ends of a stream.
+use Rattle.std.specs.Prelude.{Bool, true, false, Option, Some, None, List, [], ◌∷◌}
+use Rattle.history.specs.declared.view.View.{View}
+use Rattle.lock_free_queues.specs.Queues.Rings.{QueueId, producer_queue, consumer_queue, queue_of, producer_view, consumer_view, view}
+use Rattle.steps.specs.declared.words.Words.{Ghosts}
+use Rattle.uses_streams.specs.declared.element.Element.{Element}
+use Rattle.uses_streams.specs.declared.element.Element.TheVariants as elements
+use Rattle.uses_streams.specs.declared.ends.Arrival.{Arrival}
+use Rattle.uses_streams.specs.declared.ends.Arrival.TheVariants as arrivals
+use Rattle.uses_streams.specs.declared.ends.Sender.{Sender}
+use Rattle.uses_streams.specs.declared.ends.Receiver.{Receiver}
+use Rattle.uses_streams.specs.declared.ends.Sent.{Sent}
+use Rattle.uses_streams.specs.declared.ends.Received.{Received}
+use Rattle.uses_streams.specs.Streams.{values_in, has_end, ends_once, pushed_by, popped_by}
+
+module _ {T : Type 0} where
+  -- what a pop has found
+  abbrev pub arrival_of : Option (Element T) → Arrival T
+  arrival_of None = arrivals.Nothing
+  arrival_of (Some (elements.Value x)) = arrivals.Value x
+  arrival_of (Some elements.End) = arrivals.End
+
+  -- the value that came, if one did
+  abbrev pub arrived : Arrival T → List T
+  arrived (arrivals.Value x) = x ∷ []
+  arrived arrival = []
+
+  abbrev pub is_end : Arrival T → Bool
+  is_end arrivals.End = true
+  is_end arrival = false
+
+  -- this holds where nothing came
+  abbrev pub IfNothing : Arrival T → Type 0 → Type 0
+  IfNothing arrivals.Nothing P = P
+  IfNothing arrival P = Unit {0}
+
+  -- and this of the value, where one came
+  abbrev pub IfValue : Arrival T → (T → Type 0) → Type 0
+  IfValue (arrivals.Value x) P = P x
+  IfValue arrival P = Unit {0}
+
+  module _ {words : Ghosts (Element T)} where
+    -- what is known of the queue's history
+    abbrev pub sender_view : Sender T words → View (Element T)
+    sender_view s = producer_view s.producer
+
+    abbrev pub receiver_view : Receiver T words → View (Element T)
+    receiver_view r = consumer_view r.consumer
+
+    -- the queue of a stream
+    abbrev pub sender_queue : Sender T words → QueueId
+    sender_queue s = producer_queue s.producer
+
+    abbrev pub receiver_queue : Receiver T words → QueueId
+    receiver_queue r = consumer_queue r.consumer
+
+    abbrev pub sent_queue : Sent T words → QueueId
+    sent_queue s = queue_of s.pass
+
+    abbrev pub received_queue : Received T words → QueueId
+    received_queue r = queue_of r.pass
+
+    -- the values that were sent so far, and received
+    abbrev pub sent_so_far : Sender T words → List T
+    sent_so_far s = values_in (pushed_by (producer_view s.producer))
+
+    abbrev pub received_so_far : Receiver T words → List T
+    received_so_far r = values_in (popped_by (consumer_view r.consumer))
+
+    abbrev pub sent : Sent T words → List T
+    sent s = values_in (pushed_by (view s.pass))
+
+    abbrev pub received : Received T words → List T
+    received r = values_in (popped_by (view r.pass))
+
+    -- the end was sent, and came
+    abbrev pub has_finished : Sent T words → Bool
+    has_finished s = has_end (pushed_by (view s.pass))
+
+    -- the end was sent once, and nothing after it
+    abbrev pub has_finished_once : Sent T words → Bool
+    has_finished_once s = ends_once (pushed_by (view s.pass))
+
+    abbrev pub is_at_end : Receiver T words → Bool
+    is_at_end r = has_end (popped_by (consumer_view r.consumer))
+
+    abbrev pub has_ended : Received T words → Bool
+    has_ended r = has_end (popped_by (view r.pass))

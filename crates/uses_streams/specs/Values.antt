@@ -1,0 +1,28 @@
+-- What clauses see of the values that a receiver waits for.
+use Rattle.std.specs.Prelude.{◌≡◌, ℕ, Bool, true, Option, MatchOption, List, [], ◌∷◌, ◌++◌}
+use Rattle.std.specs.Sync.Forever.{forever_left}
+use Rattle.lock_free_queues.specs.Queues.Rings.{QueueId}
+use Rattle.steps.specs.declared.words.Words.{Ghosts}
+use Rattle.uses_streams.specs.declared.element.Element.{Element}
+use Rattle.uses_streams.specs.declared.ends.values.Values.{Values}
+use Rattle.uses_streams.specs.Ends.{receiver_queue, received_so_far, is_at_end}
+
+module _ {T R : Type 0} {words : Ghosts (Element T)} where
+  abbrev pub values_queue : Values T R words → QueueId
+  values_queue s = receiver_queue s.receiver
+
+  abbrev pub given_so_far : Values T R words → List T
+  given_so_far s = received_so_far s.receiver
+
+  abbrev pub has_given_all : Values T R words → Bool
+  has_given_all s = is_at_end s.receiver
+
+  -- the turns of its loop that are left
+  abbrev pub turns_left : Values T R words → ℕ
+  turns_left s = forever_left s.turns
+
+  -- it gave the next value, or none at the end, of the same queue
+  abbrev pub GivesNext : Values T R words → Option T → Values T R words → Type 0
+  GivesNext s result t =
+      (values_queue t ≡ values_queue s) × MatchOption result ((given_so_far t ≡ given_so_far s) × (has_given_all t ≡ true))
+      (λ x. given_so_far t ≡ given_so_far s ++ x ∷ [])

@@ -1,0 +1,296 @@
+-- For clients: what became of the records that went out to one subscriber, from its coming until its passes were taken in.
+use Rattle.std.proofs.Common.{◌≡◌, ◌≢◌, ◌&&◌, ℕ, zero, suc, ◌+◌, ◌-◌, ◌^◌, ◌<◌, ◌≤◌, true, true≢false, List, [], ◌∷◌, length, take}
+use Rattle.std.proofs.Common.{refl, sym, ap, subst, ◌∙◌, inl, inr, arith}
+use Rattle.std.proofs.lemmas.Bool.{and_parts}
+use Rattle.std.specs.Prelude.{Some, slice_get, IsTrue}
+use Rattle.history.specs.Views.{first_view}
+use Rattle.lock_free.specs.Queues.Rings.{QueueId, queue_of, view}
+use Rattle.lock_free_queues.specs.Queues.Merges.{Merges}
+use Rattle.zero_copy_bus.specs.declared.outlet.Outlet.{Outlet}
+use Rattle.zero_copy_bus.specs.declared.outlet.Tenancy.TheVariants.{Free, Lost}
+use Rattle.zero_copy_bus.specs.declared.publisher.Publisher.{Publisher}
+use Rattle.zero_copy_bus.specs.declared.subscriber.Left.{Left}
+use Rattle.zero_copy_bus.specs.declared.subscriber.Subscriber.{Subscriber}
+use Rattle.zero_copy_bus.specs.Ends.{expected_at, lanes_of, layout_at, layout_of, next_of, place_at, place_left, receives_left, receives_queue, receives_view}
+use Rattle.zero_copy_bus.specs.Ends.{shape_of, HasHad, HasLeft, IsOfLane, IsSame}
+use Rattle.zero_copy_bus.specs.Outlets.{has_end, holder_of, holders_in, is_open, open_in, opens, waits_queue, AllNew, AtLane, EachOther, IsFree, IsNew}
+use Rattle.zero_copy_bus.specs.Outlets.{OthersStay, StaysOrLost, WasLet, WasLetOf, WasTakenIn}
+use Rattle.zero_copy_bus.specs.Relays.{HasGoneOut, HasHeard, HasPublished, LanesPassOn}
+use Rattle.zero_copy_bus.specs.Sequences.{Delivers, Rises}
+use Rattle.zero_copy_bus.proofs.LaneLemmas.{get_map, map_got}
+use Rattle.zero_copy_bus.proofs.Published.{out_none, out_then}
+use Rattle.zero_copy_bus.proofs.Rising.{all_delivered}
+use Rattle.zero_copy_loans.specs.Numbers.{IsPassedOn, ReceivesOn}
+use Rattle.zero_copy_loans.specs.declared.words.Layout.{Layout}
+use Rattle.zero_copy_slots.specs.declared.Keeps.{Ghosts}
+
+-- ---- numbers that rise
+
+abbrev none : List ℕ
+none = []
+
+rises_from : (a b c : ℕ) (xs : List ℕ) → a ≤ b → Rises b xs c → (d : ℕ) × Rises a xs d
+rises_from a b c [] le h = (a, refl)
+rises_from a b c (x ∷ xs) le h = let first = h.0 in (c, (omega arith, h.1))
+
+-- so do the first ones of them, and some of them
+take_rises : (a b k : ℕ) (xs : List ℕ) → Rises a xs b → (c : ℕ) × Rises a (take k xs) c
+take_rises a b zero xs h = (a, refl)
+take_rises a b (suc k) [] h = (a, refl)
+take_rises a b (suc k) (x ∷ xs) h = let rest = take_rises (x + 1) b k xs h.1 in (rest.0, (h.0, rest.1))
+
+merges_rise : (a b : ℕ) (xs ys zs : List ℕ) → Merges xs ys zs → Rises a zs b → (c : ℕ) × Rises a xs c
+merges_rise a b xs ys [] h rise = (a, subst (λ l. Rises a l a) (sym h.0) refl)
+merges_rise a b xs ys (z ∷ zs) (inl h) rise =
+    let rest = merges_rise (z + 1) b h.0 ys zs h.2 rise.1 in (rest.0, subst (λ l. Rises a l rest.0) (sym h.1) (rise.0, rest.1))
+merges_rise a b xs ys (z ∷ zs) (inr h) rise =
+    let rest = merges_rise (z + 1) b xs h.0 zs h.2 rise.1 in
+    let first = rise.0 in
+    rises_from a (z + 1) rest.0 xs (omega arith) rest.1
+
+long : (a b : ℕ) (xs : List ℕ) → Rises a xs b → length xs + a ≤ b
+long a b [] h = omega arith
+long a b (x ∷ xs) h = let rest = long (x + 1) b xs h.1 in let first = h.0 in omega arith
+
+-- ---- one lane
+
+one_there : {A : Type 0} (xs : List A) (k : ℕ) (x y : A) → slice_get xs k ≡ Some x → slice_get xs k ≡ Some y → x ≡ y
+one_there xs k x y p q = let same : Some x ≡ Some y = sym p ∙ q in cc
+
+-- who takes part has the publisher's end, and not a lane that is free
+open_end : (lane : Outlet) → is_open lane ≡ true → has_end lane ≡ true
+open_end lane on = (and_parts (opens lane.tenancy) (has_end lane) on).1
+
+open_taken : (lane : Outlet) → is_open lane ≡ true → IsFree lane → ⊥
+open_taken lane on free = true≢false (sym on ∙ ap (λ t. opens t && has_end lane) free)
+
+open_there : (lanes : List Outlet) (place : ℕ) (lane : Outlet) → slice_get (open_in lanes) place ≡ Some true → slice_get lanes place ≡ Some lane
+    → is_open lane ≡ true
+open_there lanes place lane on is =
+    let part = map_got is_open lanes place true on in
+    ap is_open (one_there lanes place lane part.0 is part.1) ∙ part.2
+
+-- a lane that nobody has had, and then another one was let
+pub new_still : (but place : ℕ) (olds news : List Outlet) (lane : Outlet) → AllNew olds → holders_in news ≡ holders_in olds
+    → EachOther but OthersStay olds news → place ≢ but → slice_get news place ≡ Some lane → IsFree lane → IsNew lane
+new_still but place olds news lane new same others ne is free =
+    go (subst (λ (o : Outlet). StaysOrLost was.0 o) (one_there news place it.0 lane it.1 is) (it.2.free fresh.free))
+  where
+    was : (old : Outlet) × (slice_get olds place ≡ Some old) × (holder_of old ≡ holder_of lane)
+    was = map_got holder_of olds place (holder_of lane) (ap (λ hs. slice_get hs place) (sym same) ∙ get_map holder_of news place lane is)
+
+    fresh : IsNew was.0
+    fresh = new place was.0 was.1
+
+    it : (now : Outlet) × (slice_get news place ≡ Some now) × OthersStay was.0 now
+    it = others place was.0 ne was.1
+
+    go : StaysOrLost was.0 lane → IsNew lane
+    go (inl still) =
+        record {
+          free = free;
+          none = still.passes.sends ∙ fresh.none;
+          first = ap view still.passes.waits ∙ (fresh.first ∙ ap (λ (q : QueueId). first_view q.capacity) (ap queue_of (sym still.passes.waits)));
+        }
+    go (inr lost) = let not : Free ≡ Lost = sym free ∙ lost in absurd (cc)
+
+-- ---- the ends of a bus
+
+module _ {X K : Type 0} {rule : Ghosts K X} where
+  -- The lane of this subscriber was new as it was let to it, as it was then, and these records have gone out since.
+  pub record HasLane (s : Subscriber X K rule) (from : ℕ) (p : Publisher X K rule) : Type 0 where
+    pub first : Outlet
+    pub leased : Outlet
+    pub last : Outlet
+    pub fresh : IsNew first
+    pub queue : receives_queue s ≡ waits_queue first
+    pub lets : WasLet (receives_view s) first leased
+    pub out : HasGoneOut (layout_of p) from (next_of p) leased last
+    pub there : slice_get (lanes_of p) (place_at s) ≡ Some last
+    pub on : is_open last ≡ true
+    pub layout : layout_at s ≡ layout_of p
+
+  -- it has subscribed
+  pub lane_let : (p q : Publisher X K rule) (s : Subscriber X K rule)
+      → (let_at : AtLane (place_at s) (WasLetOf (receives_queue s) (receives_view s)) (lanes_of p) (lanes_of q)) → IsNew let_at.0
+      → slice_get (open_in (lanes_of q)) (place_at s) ≡ Some true → layout_at s ≡ layout_of p → layout_of q ≡ layout_of p
+      → HasLane s (next_of q) q
+  lane_let p q s let_at new on its layout =
+      record {
+        first = let_at.0;
+        leased = let_at.1;
+        last = let_at.1;
+        fresh = new;
+        queue = let_at.4.0;
+        lets = let_at.4.1;
+        out = out_none (layout_of q) (next_of q) (next_of q) let_at.1 let_at.1 (omega arith) (record { sends = refl; waits = refl });
+        there = let_at.3;
+        on = open_there (lanes_of q) (place_at s) let_at.1 on let_at.3;
+        layout = its ∙ sym layout;
+      }
+
+  -- the next one has another lane, which was as new
+  pub lane_differs : (from : ℕ) (p q : Publisher X K rule) (s t : Subscriber X K rule) → HasLane s from p
+      → AtLane (place_at t) (WasLetOf (receives_queue t) (receives_view t)) (lanes_of p) (lanes_of q)
+      → place_at t ≢ place_at s
+  lane_differs from p q s t h let_at e =
+      open_taken let_at.0
+      (ap is_open (one_there (lanes_of p) (place_at s) let_at.0 h.last (subst (λ k. slice_get (lanes_of p) k ≡ Some let_at.0) e let_at.2) h.there) ∙ h.on)
+      let_at.4.1.free
+
+  -- and then it still takes part
+  pub lane_stays : (from : ℕ) (p q : Publisher X K rule) (s t : Subscriber X K rule) → HasLane s from p
+      → EachOther (place_at t) OthersStay (lanes_of p) (lanes_of q) → place_at t ≢ place_at s
+      → slice_get (open_in (lanes_of q)) (place_at s) ≡ Some true → layout_of q ≡ layout_of p → next_of q ≡ next_of p
+      → HasLane s from q
+  lane_stays from p q s t h others ne on layout next =
+      record {
+        first = h.first;
+        leased = h.leased;
+        last = it.0;
+        fresh = h.fresh;
+        queue = h.queue;
+        lets = h.lets;
+        out =
+            subst (λ (l : Layout). HasGoneOut l from (next_of q) h.leased it.0) (sym layout)
+            (out_then (layout_of p) from (next_of p) (next_of q) h.leased h.last it.0 h.out
+            (out_none (layout_of p) (next_of p) (next_of q) h.last it.0 (omega arith) (it.2.taking h.on still)));
+        there = it.1;
+        on = still;
+        layout = h.layout ∙ sym layout;
+      }
+    where
+      it : (now : Outlet) × (slice_get (lanes_of q) (place_at s) ≡ Some now) × OthersStay h.last now
+      it = others (place_at s) h.last (λ e. ne (sym e)) h.there
+
+      still : is_open it.0 ≡ true
+      still = open_there (lanes_of q) (place_at s) it.0 on it.1
+
+  -- one has subscribed
+  pub record HasSubscribed (p q : Publisher X K rule) (s : Subscriber X K rule) : Type 0 where
+    pub leased : AtLane (place_at s) (WasLetOf (receives_queue s) (receives_view s)) (lanes_of p) (lanes_of q)
+    pub others : EachOther (place_at s) OthersStay (lanes_of p) (lanes_of q)
+    pub part : slice_get (open_in (lanes_of q)) (place_at s) ≡ Some true
+    pub layout : layout_at s ≡ layout_of p
+    pub next : next_of q ≡ next_of p
+    pub same : IsSame p q
+
+  -- the first, and the next
+  pub lane_first : (p q : Publisher X K rule) (s : Subscriber X K rule) → AllNew (lanes_of p) → HasSubscribed p q s → HasLane s (next_of q) q
+  lane_first p q s new h = lane_let p q s h.leased (new (place_at s) h.leased.0 h.leased.2) h.part h.layout h.same.layout
+
+  pub lane_next : (o p q : Publisher X K rule) (s t : Subscriber X K rule) → AllNew (lanes_of o) → HasSubscribed o p s → HasSubscribed p q t
+      → HasLane t (next_of q) q
+  lane_next o p q s t new h k =
+      lane_let p q t k.leased
+      (new_still (place_at s) (place_at t) (lanes_of o) (lanes_of p) k.leased.0 new h.same.lanes h.others
+      (lane_differs (next_of p) p q s t (lane_first o p s new h) k.leased) k.leased.2 k.leased.4.1.free)
+      k.part k.layout k.same.layout
+
+  pub lane_both : (from : ℕ) (p q : Publisher X K rule) (s t : Subscriber X K rule) → HasLane s from p → HasSubscribed p q t
+      → slice_get (open_in (lanes_of q)) (place_at s) ≡ Some true
+      → HasLane s from q
+  lane_both from p q s t h k on = lane_stays from p q s t h k.others (lane_differs from p q s t h k.leased) on k.same.layout k.next
+
+  -- records are published
+  pub lane_out : (from : ℕ) (p q : Publisher X K rule) (s : Subscriber X K rule) → HasLane s from p → HasPublished p q → HasLane s from q
+  lane_out from p q s h out =
+      record {
+        first = h.first;
+        leased = h.leased;
+        last = it.0;
+        fresh = h.fresh;
+        queue = h.queue;
+        lets = h.lets;
+        out =
+            subst (λ (l : Layout). HasGoneOut l from (next_of q) h.leased it.0) (sym out.layout)
+            (out_then (layout_of p) from (next_of p) (next_of q) h.leased h.last it.0 h.out it.2);
+        there = it.1;
+        on =
+            open_there (lanes_of q) (place_at s) it.0
+            (ap (λ bs. slice_get bs (place_at s)) out.taking
+            ∙ (get_map is_open (lanes_of p) (place_at s) h.last h.there ∙ ap Some h.on)) it.1;
+        layout = h.layout ∙ sym out.layout;
+      }
+    where
+      it : (now : Outlet) × (slice_get (lanes_of q) (place_at s) ≡ Some now) × HasGoneOut (layout_of p) (next_of p) (next_of q) h.last now
+      it = out.lanes (place_at s) h.last h.there
+
+  -- the passes of another lane are taken in
+  pub lane_kept : (from but : ℕ) (p q : Publisher X K rule) (s : Subscriber X K rule) → HasLane s from p
+      → EachOther but (λ old new. new ≡ old) (lanes_of p) (lanes_of q) → place_at s ≢ but → layout_of q ≡ layout_of p
+      → next_of q ≡ next_of p
+      → HasLane s from q
+  lane_kept from but p q s h others ne layout next =
+      let it = others (place_at s) h.last ne h.there in
+      record {
+        first = h.first;
+        leased = h.leased;
+        last = h.last;
+        fresh = h.fresh;
+        queue = h.queue;
+        lets = h.lets;
+        out =
+            subst (λ (l : Layout). HasGoneOut l from (next_of q) h.leased h.last) (sym layout)
+            (subst (λ n. HasGoneOut (layout_of p) from n h.leased h.last) (sym next) h.out);
+        there = it.1 ∙ ap Some it.2;
+        on = h.on;
+        layout = h.layout ∙ sym layout;
+      }
+
+  -- who leaves had an end of it
+  pub lane_left : (from : ℕ) (p : Publisher X K rule) (s t : Subscriber X K rule) (left : Left) (came numbers : List ℕ) → HasLane s from p
+      → HasHad came numbers s t → HasLeft t left → IsOfLane left p
+  lane_left from p s t left came numbers h had gone = (
+    h.last,
+    subst (λ k. slice_get (lanes_of p) k ≡ Some h.last) (sym (gone.place ∙ had.place)) h.there,
+    gone.queue ∙ (had.queue ∙ (h.queue ∙ (sym h.lets.queue ∙ sym (ap queue_of h.out.sent.waits)))),
+  )
+
+  -- and its passes are taken in
+  pub heard : LanesPassOn → (from : ℕ) (p q : Publisher X K rule) (s t : Subscriber X K rule) (left : Left) (came numbers : List ℕ)
+      → HasLane s from p → expected_at s ≡ from → HasHad came numbers s t → HasLeft t left
+      → AtLane (place_left left) (λ old new. IsTrue (has_end old) → WasTakenIn (receives_left left) old new) (lanes_of p) (lanes_of q)
+      → 0 < (receives_queue s).capacity → next_of p < 2 ^ 64 - 1 → HasHeard from (next_of p) numbers
+  heard law from p q s t left came numbers h first had gone taken some few =
+      record {
+        sent = h.out.numbers;
+        back = h.out.back;
+        among = h.out.among;
+        passed_on = subst (λ ns. IsPassedOn h.out.numbers ns h.out.back) (sym every) passed;
+      }
+    where
+      same : taken.0 ≡ h.last
+      same =
+          one_there (lanes_of p) (place_at s) taken.0 h.last
+          (subst (λ k. slice_get (lanes_of p) k ≡ Some taken.0) (gone.place ∙ had.place) taken.2) h.there
+
+      ends : WasTakenIn (receives_left left) h.last taken.1
+      ends = subst (λ (o : Outlet). IsTrue (has_end o) → WasTakenIn (receives_left left) o taken.1) same taken.4 (open_end h.last h.on)
+
+      got : ReceivesOn (shape_of (layout_of p) (waits_queue h.first)) came (receives_view s) (receives_view t)
+      got =
+          subst (λ (q : QueueId). ReceivesOn (shape_of (layout_of p) q) came (receives_view s) (receives_view t)) h.queue
+          (subst (λ (l : Layout). ReceivesOn (shape_of l (receives_queue s)) came (receives_view s) (receives_view t)) h.layout (had.receives some))
+
+      fits : length none + length h.out.numbers < 2 ^ 64 - 1
+      fits =
+          let many = long from h.out.among.next h.out.numbers h.out.among.rise in
+          let below = h.out.among.below in
+          omega arith
+
+      passed : IsPassedOn h.out.numbers came h.out.back
+      passed =
+          law.tells (layout_of p) h.out.numbers h.out.back came taken.1
+          (law.goes_on (layout_of p) [] [] [] h.out.numbers h.out.back came h.first h.leased h.last taken.1 (receives_view s) (receives_view t)
+          (receives_left left) (law.begins (layout_of p) h.first h.fresh) h.lets h.out.sent got gone.goes gone.released ends
+          (subst (λ (q : QueueId). 0 < q.capacity) h.queue some) fits)
+
+      rise : (c : ℕ) × Rises from came c
+      rise =
+          let firsts = take_rises from h.out.among.next (length came + length h.out.back) h.out.numbers h.out.among.rise in
+          merges_rise from firsts.0 came h.out.back (take (length came + length h.out.back) h.out.numbers) passed.merged firsts.1
+
+      every : numbers ≡ came
+      every =
+          all_delivered from rise.0 (expected_at t) came numbers (subst (λ n. Delivers n came numbers (expected_at t)) first had.delivers) rise.1

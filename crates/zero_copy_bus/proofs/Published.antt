@@ -1,0 +1,228 @@
+-- For clients: what goes out by a lane, one call after the other.
+use Rattle.std.proofs.Common.{◌≡◌, ◌⊎◌, ℕ, ◌+◌, ◌/◌, ◌%◌, ◌^◌, ◌<◌, ◌≤◌, Bool, true, false, true≢false, List, [], ◌∷◌, ◌++◌}
+use Rattle.std.proofs.Common.{refl, sym, ap, subst, ◌∙◌, inl, inr, ⊎_elim, arith}
+use Rattle.std.proofs.lemmas.Bool.{cases_eq, cases_lt}
+use Rattle.std.proofs.lemmas.Nat.{div-add-mod', mod_below}
+use Rattle.std.specs.Int.{bit_at}
+use Rattle.std.specs.Prelude.{Option, Some, None, slice_get}
+use Rattle.lock_free.specs.Queues.Overflowing.{PushHandedBack}
+use Rattle.lock_free.specs.Queues.Rings.{QueueId, queue_of}
+use Rattle.zero_copy_bus.specs.declared.holders.Holder.{Holder}
+use Rattle.zero_copy_bus.specs.declared.holders.Holders.{Holders}
+use Rattle.zero_copy_bus.specs.declared.outlet.Outlet.{Outlet}
+use Rattle.zero_copy_bus.specs.declared.publisher.Publisher.{Publisher}
+use Rattle.zero_copy_bus.specs.Books.{holders_at, CanSend}
+use Rattle.zero_copy_bus.specs.Ends.{lanes_of, layout_of, next_of, room_of, shape_of, slots_of, table_of, HasNumber}
+use Rattle.zero_copy_bus.specs.Holders.{publisher}
+use Rattle.zero_copy_bus.specs.Outlets.{holder_of, is_open, open_in, sends_view, waits_queue, EachLane, HasPushed, IsSent, IsServed, IsTakenBack, SamePasses}
+use Rattle.zero_copy_bus.specs.Relays.{AreAmong, HasGoneOut, HasPublished}
+use Rattle.zero_copy_bus.proofs.Leases.{same_sends}
+use Rattle.zero_copy_bus.proofs.Rising.{rises_then}
+use Rattle.zero_copy_loans.specs.Numbers.{SendsOn}
+use Rattle.zero_copy_loans.specs.Words.{word_of, IsWord}
+use Rattle.zero_copy_loans.specs.declared.words.Layout.{Layout}
+use Rattle.zero_copy_loans.proofs.Numbers.{sends_back, sends_one, sends_still, sends_then}
+use Rattle.zero_copy_slots.specs.declared.Keeps.{Ghosts}
+
+-- ---- numbers
+
+pub among_none : (from to : ℕ) → from ≤ to → AreAmong from to []
+among_none from to le = record { next = from; rise = refl; below = le }
+
+among_from : (m b c : ℕ) (ys : List ℕ) → m ≤ b → AreAmong b c ys → AreAmong m c ys
+among_from m b c [] le h = let is : h.next ≡ b = h.rise in let below = h.below in among_none m c (omega arith)
+among_from m b c (y ∷ ys) le h = let first = h.rise.0 in record { next = h.next; rise = (omega arith, h.rise.1); below = h.below }
+
+among_then : (a b c : ℕ) (xs ys : List ℕ) → AreAmong a b xs → AreAmong b c ys → AreAmong a c (xs ++ ys)
+among_then a b c xs ys h k =
+    let more = among_from h.next b c ys h.below k in
+    record { next = more.next; rise = rises_then a h.next more.next xs ys h.rise more.rise; below = more.below }
+
+-- ---- one lane
+
+-- nothing goes out
+pub out_none : (layout : Layout) (from to : ℕ) (old new : Outlet) → from ≤ to → SamePasses old new → HasGoneOut layout from to old new
+out_none layout from to old new le same =
+    record {
+      numbers = [];
+      back = [];
+      sent =
+          record {
+            waits = same.waits;
+            sends = λ some. sends_still (shape_of layout (waits_queue old)) (sends_view old) (sends_view new) (same_sends old new same);
+          };
+      among = among_none from to le;
+    }
+
+can_send : (b : Bool) (table : List Holders) (slot : ℕ) (holder : Holder)
+    → ((b ≡ true) × CanSend table slot holder) ⊎ (((b ≡ true) × CanSend table slot holder) → ⊥)
+can_send false table slot holder = inr (λ x. true≢false (sym x.0))
+can_send true table slot holder =
+    ⊎_elim
+    (λ on.
+    ⊎_elim (λ has. inr (λ x. x.1.1 has)) (λ lacks. inl (refl, (on, lacks))) (cases_eq (bit_at (holders_at table slot).bits holder.bit) 1))
+    (λ off. inr (λ x. off x.1.0)) (cases_eq (bit_at (holders_at table slot).bits publisher.bit) 1)
+
+-- a record is served
+pub out_one : (layout : Layout) (number slot : ℕ) (before after : List Holders) (old new : Outlet) → IsWord layout.room layout.places number slot
+    → IsServed layout.room number slot before after old new → HasGoneOut layout number (number + 1) old new
+out_one layout number slot before after old new word served =
+    ⊎_elim (λ x. (let s = served.sent x.0 x.1 in sent s s.back s.pushed))
+    (λ no. out_none layout number (number + 1) old new (omega arith) (record { sends = served.idle no; waits = served.waits }))
+    (can_send (is_open old) before slot (holder_of old))
+  where
+    within : slot < layout.room
+    within = let places = layout.fits in let lt = word.0 in omega arith
+
+    some_room : 0 < layout.room
+    some_room = let least = layout.some in omega arith
+
+    one : AreAmong number (number + 1) (number ∷ [])
+    one = record { next = number + 1; rise = (omega arith, refl); below = omega arith }
+
+    sent : IsSent layout.room number slot before after old new → (back : Option ℕ) → HasPushed (word_of layout.room number slot) back old new
+        → HasGoneOut layout number (number + 1) old new
+    sent s None pushed =
+        record {
+          numbers = number ∷ [];
+          back = [];
+          sent =
+              record {
+                waits = served.waits;
+                sends =
+                    λ some.
+                    sends_one (shape_of layout (waits_queue old)) (waits_queue old).capacity some (sends_view old) (sends_view new)
+                    (s.goes some) number slot word.0 within pushed;
+              };
+          among = one;
+        }
+    sent s (Some back) pushed =
+        record {
+          numbers = number ∷ [];
+          back = (back / layout.room) ∷ [];
+          sent =
+              record {
+                waits = served.waits;
+                sends =
+                    λ some.
+                    sends_back (shape_of layout (waits_queue old)) (waits_queue old).capacity some (sends_view old) (sends_view new)
+                    (s.goes some) number slot word.0 within (back / layout.room) (back % layout.room) (mod_below back layout.room some_room)
+                    (subst
+                    (λ k. PushHandedBack (waits_queue old).capacity (word_of layout.room number slot) k (sends_view old) (sends_view new))
+                    (sym (div-add-mod' back layout.room)) pushed);
+              };
+          among = one;
+        }
+
+pub out_then : (layout : Layout) (a b c : ℕ) (old mid new : Outlet) → HasGoneOut layout a b old mid → HasGoneOut layout b c mid new
+    → HasGoneOut layout a c old new
+out_then layout a b c old mid new h k =
+    record {
+      numbers = h.numbers ++ k.numbers;
+      back = h.back ++ k.back;
+      sent = record { waits = k.sent.waits ∙ h.sent.waits; sends = both };
+      among = among_then a b c h.numbers k.numbers h.among k.among;
+    }
+  where
+    same : waits_queue mid ≡ waits_queue old
+    same = ap queue_of h.sent.waits
+
+    both : 0 < (waits_queue old).capacity
+        → SendsOn (shape_of layout (waits_queue old)) (h.numbers ++ k.numbers) (h.back ++ k.back) (sends_view old) (sends_view new)
+    both some =
+        sends_then (shape_of layout (waits_queue old)) h.numbers h.back k.numbers k.back (sends_view old) (sends_view mid) (sends_view new)
+        (h.sent.sends some)
+        (subst (λ (q : QueueId). SendsOn (shape_of layout q) k.numbers k.back (sends_view mid) (sends_view new)) same
+        (k.sent.sends (subst (λ (q : QueueId). 0 < q.capacity) (sym same) some)))
+
+-- ---- all lanes of a publisher
+
+module _ {X K : Type 0} {rule : Ghosts K X} where
+  published_by : (old new : Publisher X K rule) → layout_of new ≡ layout_of old → open_in (lanes_of new) ≡ open_in (lanes_of old)
+      → next_of new ≡ next_of old → EachLane SamePasses (lanes_of old) (lanes_of new) → HasPublished old new
+  published_by old new layout taking next each =
+      record {
+        layout = layout;
+        taking = taking;
+        later = omega arith;
+        lanes =
+            λ place lane is.
+            (let it = each place lane is in (it.0, it.1, out_none (layout_of old) (next_of old) (next_of new) lane it.0 (omega arith) it.2));
+      }
+
+  -- calls that leave the lanes as they are
+  pub published_none : (old new : Publisher X K rule) → layout_of new ≡ layout_of old → next_of new ≡ next_of old → lanes_of new ≡ lanes_of old
+      → HasPublished old new
+  published_none old new layout next same =
+      published_by old new layout (ap open_in same) next
+      (λ place lane is. (lane, subst (λ lanes. slice_get lanes place ≡ Some lane) (sym same) is, record { sends = refl; waits = refl }))
+
+  -- a collect
+  pub published_back : (old new : Publisher X K rule) → layout_of new ≡ layout_of old → next_of new ≡ next_of old
+      → open_in (lanes_of new) ≡ open_in (lanes_of old)
+      → EachLane (IsTakenBack (slots_of old) (table_of old) (table_of new)) (lanes_of old) (lanes_of new)
+      → HasPublished old new
+  published_back old new layout next taking taken =
+      published_by old new layout taking next (λ place lane is. (let it = taken place lane is in (it.0, it.1, it.2.passes)))
+
+  -- a publish
+  has_number : (p : Publisher X K rule) (slot : ℕ) → HasNumber p slot ⊎ (HasNumber p slot → ⊥)
+  has_number p slot =
+      ⊎_elim
+      (λ lt.
+      ⊎_elim (λ small. inl (lt, small)) (λ large. inr (λ x. (let small = x.1 in absurd (omega arith))))
+      (cases_lt (word_of (room_of p) (next_of p) slot) (2 ^ 64)))
+      (λ le. inr (λ x. (let lt = x.0 in absurd (omega arith)))) (cases_lt slot (slots_of p))
+
+  pub next_most : (slot : ℕ) (old new : Publisher X K rule) → (HasNumber old slot → next_of new ≡ next_of old + 1)
+      → ((HasNumber old slot → ⊥) → next_of new ≡ next_of old)
+      → next_of new ≤ next_of old + 1
+  next_most slot old new next last =
+      ⊎_elim (λ has. (let is = next has in omega arith)) (λ no. (let is = last no in omega arith)) (has_number old slot)
+
+  pub published_one : (slot : ℕ) (old new : Publisher X K rule) → layout_of new ≡ layout_of old
+      → open_in (lanes_of new) ≡ open_in (lanes_of old)
+      → (HasNumber old slot → EachLane (IsServed (room_of old) (next_of old) slot (table_of old) (table_of new)) (lanes_of old) (lanes_of new))
+      → (HasNumber old slot → next_of new ≡ next_of old + 1)
+      → ((HasNumber old slot → ⊥) → lanes_of new ≡ lanes_of old)
+      → ((HasNumber old slot → ⊥) → next_of new ≡ next_of old)
+      → HasPublished old new
+  published_one slot old new layout taking served next unsent last =
+      ⊎_elim yes (λ no. published_none old new layout (last no) (unsent no)) (has_number old slot)
+    where
+      many : slots_of old ≡ (layout_of old).places
+      many = sym (old.fits ∙ old.sized)
+
+      yes : HasNumber old slot → HasPublished old new
+      yes word =
+          record {
+            layout = layout;
+            taking = taking;
+            later = (let more = next word in omega arith);
+            lanes =
+                λ place lane is.
+                (let it = served word place lane is in (
+                  it.0,
+                  it.1,
+                  subst (λ n. HasGoneOut (layout_of old) (next_of old) n lane it.0) (sym (next word))
+                      (out_one (layout_of old) (next_of old) slot (table_of old) (table_of new) lane it.0
+                      (subst (λ n. IsWord (room_of old) n (next_of old) slot) many word) it.2),
+                ));
+          }
+
+  pub published_then : (p q r : Publisher X K rule) → HasPublished p q → HasPublished q r → HasPublished p r
+  published_then p q r h k =
+      record {
+        layout = k.layout ∙ h.layout;
+        taking = k.taking ∙ h.taking;
+        later = (let x = h.later in let y = k.later in omega arith);
+        lanes =
+            λ place lane is.
+            (let one = h.lanes place lane is in
+            let two = k.lanes place one.0 one.1 in (
+              two.0,
+              two.1,
+              out_then (layout_of p) (next_of p) (next_of q) (next_of r) lane one.0 two.0 one.2
+                  (subst (λ (l : Layout). HasGoneOut l (next_of q) (next_of r) one.0 two.0) h.layout two.2),
+            ));
+      }

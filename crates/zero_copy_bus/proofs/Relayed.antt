@@ -1,0 +1,71 @@
+-- The law of what went out by a lane: by that of the two ends of a channel.
+use Rattle.std.proofs.Common.{◌≡◌, ℕ, ◌+◌, ◌-◌, ◌^◌, ◌<◌, List, [], ◌++◌, length, sym, ap, subst, ◌∙◌, append-nil}
+use Rattle.lock_free.specs.HistoryView.View.{View}
+use Rattle.lock_free.specs.Queues.Contracts.{HasJoined, HasReleased}
+use Rattle.lock_free.specs.Queues.Role.TheVariants as roles
+use Rattle.lock_free.specs.Queues.Rings.{QueueId, queue_of, view}
+use Rattle.lock_free.specs.Passes.{Goes}
+use Rattle.zero_copy_bus.specs.declared.outlet.Outlet.{Outlet}
+use Rattle.zero_copy_bus.specs.Ends.{shape_of}
+use Rattle.zero_copy_bus.specs.Outlets.{sends_view, waits_queue, waits_view, IsNew, WasLet, WasTakenIn}
+use Rattle.zero_copy_bus.specs.Relays.{HasAllOf, HasSentOn, LanesPassOn}
+use Rattle.zero_copy_loans.specs.Numbers.{Shape, HasAll, IsPassedOn, ReceivesOn, SendsOn}
+use Rattle.zero_copy_loans.specs.declared.words.Layout.{Layout}
+use Rattle.zero_copy_loans.proofs.Numbers.{received_nothing_yet, receives_all, receives_then, sends_all, sends_then, sent_none}
+use Rattle.zero_copy_loans.proofs.Relayed.{passed_on, relays, starts_at}
+
+begins : (layout : Layout) (lane : Outlet) → IsNew lane → HasAllOf layout [] [] [] lane
+begins layout lane new =
+    record { none = new.none; all = starts_at (shape_of layout (waits_queue lane)) (waits_queue lane).capacity (waits_view lane) new.first }
+
+module _ (layout : Layout) (sent back received numbers others came : List ℕ) (first leased last after : Outlet) (theirs end left : View ℕ)
+    (known : HasAllOf layout sent back received first) (lets : WasLet theirs first leased) (out : HasSentOn layout numbers others leased last)
+    (got : ReceivesOn (shape_of layout (waits_queue first)) came theirs end) (goes : Goes end left) (released : HasReleased roles.Consumer end left)
+    (ends : WasTakenIn left last after) (some : 0 < (waits_queue first).capacity) (fits : length sent + length numbers < 2 ^ 64 - 1) where
+  abbrev s : Shape
+  s = shape_of layout (waits_queue first)
+
+  last_queue : waits_queue last ≡ waits_queue leased
+  last_queue = ap queue_of out.waits
+
+  sends : SendsOn s (numbers ++ []) (others ++ []) (sends_view leased) ends.ours.ended
+  sends =
+      sends_then s numbers others [] [] (sends_view leased) (sends_view last) ends.ours.ended
+      (subst (λ (q : QueueId). SendsOn (shape_of layout q) numbers others (sends_view leased) (sends_view last)) lets.queue
+      (out.sends (subst (λ (q : QueueId). 0 < q.capacity) (sym lets.queue) some)))
+      (sends_all s roles.Producer (sends_view last) ends.ours.ended ends.ours.goes ends.ours.released ends.ours.list)
+
+  receives : ReceivesOn s (came ++ []) theirs left
+  receives = receives_then s came [] theirs end left got (receives_all s roles.Consumer end left goes released)
+
+  joined : HasJoined (waits_view leased) ends.ours.ended ends.half
+  joined = subst (λ v. HasJoined v ends.ours.ended ends.half) (ap view out.waits) ends.ours.both
+
+  cut_of : lets.whole ≡ waits_view first
+  cut_of = lets.from known.none
+
+  all : HasAll s (sent ++ numbers) (back ++ others) (received ++ came) (waits_view after)
+  all =
+      relays s (waits_queue after).capacity sent back received numbers others came lets.whole lets.half lets.ours (waits_view leased)
+      lets.other (sends_view leased) theirs ends.ours.ended left ends.half (waits_view after) fits
+      (subst (HasAll s sent back received) (sym cut_of) known.all) lets.cut lets.again
+      (sent_none s lets.ours (sends_view leased) roles.Producer lets.begins.0 lets.begins.1)
+      (received_nothing_yet s lets.other theirs roles.Consumer lets.waits.0 lets.waits.1)
+      (subst (λ ns. SendsOn s ns others (sends_view leased) ends.ours.ended) (append-nil numbers)
+      (subst (λ ns. SendsOn s (numbers ++ []) ns (sends_view leased) ends.ours.ended) (append-nil others) sends))
+      (subst (λ ns. ReceivesOn s ns theirs left) (append-nil came) receives) joined ends.both ends.all ends.history
+
+  goes_on : HasAllOf layout (sent ++ numbers) (back ++ others) (received ++ came) after
+  goes_on =
+      record {
+        none = ends.none;
+        all =
+            subst (λ (q : QueueId). HasAll (shape_of layout q) (sent ++ numbers) (back ++ others) (received ++ came) (waits_view after))
+            (sym (ends.queue ∙ (last_queue ∙ lets.queue))) all;
+      }
+
+tells : (layout : Layout) (sent back received : List ℕ) (lane : Outlet) → HasAllOf layout sent back received lane → IsPassedOn sent received back
+tells layout sent back received lane h = passed_on (shape_of layout (waits_queue lane)) sent back received (waits_view lane) h.all
+
+pub lanes_pass_on : LanesPassOn
+lanes_pass_on = record { begins = begins; goes_on = goes_on; tells = tells }

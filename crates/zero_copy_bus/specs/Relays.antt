@@ -1,0 +1,68 @@
+-- What is known of all that went out by a lane, once its passes are taken in.
+use Rattle.std.specs.Prelude.{◌≡◌, ℕ, ◌+◌, ◌-◌, ◌^◌, ◌<◌, ◌≤◌, List, [], ◌++◌, length, None}
+use Rattle.lock_free.specs.HistoryView.View.{View}
+use Rattle.lock_free.specs.Queues.Contracts.{HasReleased}
+use Rattle.lock_free.specs.Queues.Role.TheVariants as roles
+use Rattle.lock_free.specs.Passes.{Goes}
+use Rattle.zero_copy_bus.specs.declared.outlet.Outlet.{Outlet}
+use Rattle.zero_copy_bus.specs.declared.publisher.Publisher.{Publisher}
+use Rattle.zero_copy_bus.specs.Ends.{lanes_of, layout_of, next_of, shape_of}
+use Rattle.zero_copy_bus.specs.Outlets.{open_in, sends_view, waits_queue, waits_view, EachLane, IsNew, WasLet, WasTakenIn}
+use Rattle.zero_copy_bus.specs.Sequences.{Rises}
+use Rattle.zero_copy_loans.specs.Numbers.{HasAll, IsPassedOn, ReceivesOn, SendsOn}
+use Rattle.zero_copy_loans.specs.declared.words.Layout.{Layout}
+use Rattle.zero_copy_slots.specs.declared.Keeps.{Ghosts}
+
+-- The records of these numbers went out by the lane, those came back, and its pass is as it was.
+pub record HasSentOn (layout : Layout) (numbers back : List ℕ) (old new : Outlet) : Type 0 where
+  pub waits : new.waits ≡ old.waits
+  pub sends : 0 < (waits_queue old).capacity
+      → SendsOn (shape_of layout (waits_queue old)) numbers back (sends_view old) (sends_view new)
+
+-- the lane's pass knows that just these went out by it, those came back, and these were received, and nobody has the publisher's end
+pub record HasAllOf (layout : Layout) (sent back received : List ℕ) (lane : Outlet) : Type 0 where
+  pub none : lane.sends ≡ None
+  pub all : HasAll (shape_of layout (waits_queue lane)) sent back received (waits_view lane)
+
+-- What is known of a lane from where it is let to where both ends are taken in.
+pub record LanesPassOn : Type 0 where
+  -- nothing at first
+  pub begins : (layout : Layout) (lane : Outlet) → IsNew lane → HasAllOf layout [] [] [] lane
+  -- what was known before, and what went out, came back and was received while it was let
+  pub goes_on : (layout : Layout) (sent back received numbers others came : List ℕ) (first leased last after : Outlet) (theirs end left : View ℕ)
+      → HasAllOf layout sent back received first → WasLet theirs first leased → HasSentOn layout numbers others leased last
+      → ReceivesOn (shape_of layout (waits_queue first)) came theirs end → Goes end left → HasReleased roles.Consumer end left
+      → WasTakenIn left last after → 0 < (waits_queue first).capacity → length sent + length numbers < 2 ^ 64 - 1
+      → HasAllOf layout (sent ++ numbers) (back ++ others) (received ++ came) after
+  -- so of what went out a beginning was received or came back: each record once, and both in the order in which they went out
+  pub tells : (layout : Layout) (sent back received : List ℕ) (lane : Outlet) → HasAllOf layout sent back received lane
+      → IsPassedOn sent received back
+
+-- ---- what a client adds up
+
+-- the numbers rise strictly, none is below the first one, and each is below the last one
+pub record AreAmong (from to : ℕ) (numbers : List ℕ) : Type 0 where
+  pub next : ℕ
+  pub rise : Rises from numbers next
+  pub below : next ≤ to
+
+-- records of some of the numbers from the first one up to the last one went out by the lane
+pub record HasGoneOut (layout : Layout) (from to : ℕ) (old new : Outlet) : Type 0 where
+  pub numbers : List ℕ
+  pub back : List ℕ
+  pub sent : HasSentOn layout numbers back old new
+  pub among : AreAmong from to numbers
+
+-- so by each lane of a publisher, from the number that was next up to the one that is
+pub record HasPublished {X K : Type 0} {rule : Ghosts K X} (old new : Publisher X K rule) : Type 0 where
+  pub layout : layout_of new ≡ layout_of old
+  pub taking : open_in (lanes_of new) ≡ open_in (lanes_of old)
+  pub later : next_of old ≤ next_of new
+  pub lanes : EachLane (HasGoneOut (layout_of old) (next_of old) (next_of new)) (lanes_of old) (lanes_of new)
+
+-- Of some of the numbers from the first one up to the last one a beginning was received or came back, each once, and both in order.
+pub record HasHeard (from to : ℕ) (received : List ℕ) : Type 0 where
+  pub sent : List ℕ
+  pub back : List ℕ
+  pub among : AreAmong from to sent
+  pub passed_on : IsPassedOn sent received back
