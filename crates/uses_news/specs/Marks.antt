@@ -31,8 +31,8 @@ pub record AreNewsFrom (first : ℕ) (marks : List ℕ) : Type 0 where
   pub rise : Rises first numbers next
   pub few : All (λ n. n < 100) numbers
 
--- So it is from 0 on, and of the numbers that went out to who read them a beginning was read or came back unread, each once, and both
--- in order.
+-- So it is from 0 on. That a list of numbers which went out and one of those which came back would fit (`heard`) follows from this:
+-- no lane is named.
 pub record AreNews (marks : List ℕ) : Type 0 where
   pub news : AreNewsFrom 0 marks
   pub last : ℕ
