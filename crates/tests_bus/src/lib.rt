@@ -8,6 +8,8 @@ mod lanes;
 #[cfg(test)]
 mod limit;
 #[cfg(test)]
+mod rejoins;
+#[cfg(test)]
 mod rooms;
 #[cfg(test)]
 mod threads;

@@ -1,20 +1,21 @@
 -- What is read, one block after the other, and what is known of it in the end.
 use Rattle.std.proofs.Common.{◌≡◌, ◌≢◌, ℕ, ◌<◌, ◌≤◌, true, List, [], ◌∷◌, ◌++◌, map, sym, ap, subst, append_assoc, append-nil, ◌∙◌, arith}
 use Rattle.std.proofs.lemmas.List.Elements.{All-nil, All-cons, All-append}
-use Rattle.std.specs.Prelude.{Some, slice_get, IsTrue}
+use Rattle.std.specs.Prelude.{Some, slice_get}
 use mathlib.Core.List.{map-append}
 use Rattle.zero_copy_bus.specs.declared.publisher.Publisher.{Publisher}
 use Rattle.zero_copy_bus.specs.declared.subscriber.Left.{Left}
 use Rattle.zero_copy_bus.specs.declared.subscriber.Subscriber.{Subscriber}
 use Rattle.zero_copy_bus.specs.Ends.{expected_at, lanes_of, layout_of, next_of, place_at, place_left, receives_left, receives_queue, HasHad, HasLeft, IsOfLane}
-use Rattle.zero_copy_bus.specs.Outlets.{has_end, open_in, AllNew, AtLane, EachOther, WasTakenIn}
-use Rattle.zero_copy_bus.specs.Relays.{HasHeard, HasPublished, LanesPassOn}
+use Rattle.zero_copy_bus.specs.Outlets.{open_in, AllNew, AtLane, EachOther, WasRejoined}
+use Rattle.zero_copy_bus.specs.Relays.{HasHeardAt, HasPublished, LanesPassOn}
 use Rattle.zero_copy_bus.specs.Sequences.{Rises}
-use Rattle.zero_copy_bus.proofs.Heard.{heard, lane_both, lane_differs, lane_first, lane_kept, lane_left, lane_next, lane_out, HasLane, HasSubscribed}
+use Rattle.zero_copy_bus.proofs.Heard.{heard, heard_kept, lane_both, lane_differs, lane_first, lane_kept, lane_left, lane_next, lane_out}
+use Rattle.zero_copy_bus.proofs.Heard.{HasLane, HasSubscribed}
 use Rattle.zero_copy_bus.proofs.Received.{had_then}
 use Rattle.zero_copy_bus.proofs.Rising.{delivers_rise}
 use Rattle.zero_copy_slots.specs.declared.Keeps.{Ghosts}
-use Rattle.uses_news.specs.Marks.{mark, AreNews, AreNewsFrom, HasRead}
+use Rattle.uses_news.specs.Marks.{mark, AreNewsBy, AreNewsFrom, HasRead}
 
 module _ {X K : Type 0} {rule : Ghosts K X} where
   pub reads_none : (xs came : List ℕ) (s t : Subscriber X K rule) → HasHad came [] s t → HasRead xs xs s t
@@ -66,6 +67,10 @@ module _ {X K : Type 0} {rule : Ghosts K X} where
     pub read_two : HasRead [] ys t w
 
   module _ (xs ys : List ℕ) (p0 p1 p2 p3 : Publisher X K rule) (s u t w : Subscriber X K rule) (h : HasRun xs ys p0 p1 p2 p3 s u t w) where
+    -- the two have a lane each
+    pub apart : place_at t ≢ place_at s
+    apart = lane_differs (next_of p1) p1 p2 s t (lane_first p0 p1 s h.new h.one) h.two.leased
+
     pub first_lane : HasLane s (next_of p1) p3
     first_lane = lane_out (next_of p1) p2 p3 s (lane_both (next_of p1) p1 p2 s t (lane_first p0 p1 s h.new h.one) h.two h.on) h.out
 
@@ -79,7 +84,7 @@ module _ {X K : Type 0} {rule : Ghosts K X} where
     second_lane p4 left gone others layout next =
         lane_kept (next_of p2) (place_left left) p3 p4 t (lane_out (next_of p2) p2 p3 t (lane_next p0 p1 p2 s t h.new h.one h.two) h.out)
         others
-        (λ e. lane_differs (next_of p1) p1 p2 s t (lane_first p0 p1 s h.new h.one) h.two.leased (e ∙ (gone.place ∙ h.read_one.had.place)))
+        (λ e. apart (e ∙ (gone.place ∙ h.read_one.had.place)))
         layout next
 
     pub second_left : (p4 : Publisher X K rule) (left : Left) → HasLane t (next_of p2) p4 → HasLeft w left → IsOfLane left p4
@@ -88,14 +93,20 @@ module _ {X K : Type 0} {rule : Ghosts K X} where
   -- and one of them has left
   pub are_news : LanesPassOn → (marks : List ℕ) (from : ℕ) (p q : Publisher X K rule) (s t : Subscriber X K rule) (left : Left)
       → HasLane s from p → from ≡ 0 → expected_at s ≡ from → HasRead [] marks s t → HasLeft t left
-      → AtLane (place_left left) (λ old new. IsTrue (has_end old) → WasTakenIn (receives_left left) old new) (lanes_of p) (lanes_of q)
-      → (receives_queue s).capacity ≢ 0 → next_of p ≤ 100 → AreNews marks
-  are_news law marks from p q s t left lane zero first read gone taken some hundred =
+      → AtLane (place_left left) (WasRejoined (receives_left left)) (lanes_of p) (lanes_of q)
+      → layout_of q ≡ layout_of p → next_of q ≡ next_of p
+      → (receives_queue s).capacity ≢ 0 → next_of p ≤ 100 → AreNewsBy q (place_at s) marks
+  are_news law marks from p q s t left lane zero first read gone taken layout next some hundred =
       record {
         news = news marks 0 s t (first ∙ zero) read;
-        last = next_of p;
-        hundred = hundred;
         heard =
-            subst (λ n. HasHeard n (next_of p) read.numbers) zero
-            (heard law from p q s t left read.came read.numbers lane first read.had gone taken (omega arith) (omega arith));
+            subst (λ n. HasHeardAt q (place_at s) n read.numbers) zero
+            (heard law from p q s t left read.came read.numbers lane first read.had gone taken layout next (omega arith) (omega arith));
       }
+
+  -- and then another one
+  pub news_kept : (but place : ℕ) (p q : Publisher X K rule) (marks : List ℕ) → AreNewsBy p place marks
+      → EachOther but (λ old new. new ≡ old) (lanes_of p) (lanes_of q) → place ≢ but → layout_of q ≡ layout_of p → next_of q ≡ next_of p
+      → AreNewsBy q place marks
+  news_kept but place p q marks h others ne layout next =
+      record { news = h.news; heard = heard_kept but place 0 p q h.news.numbers h.heard others ne layout next }

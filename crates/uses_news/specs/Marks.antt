@@ -1,9 +1,10 @@
 -- What the publisher makes of a number, and what a subscriber has read.
-use Rattle.std.specs.Prelude.{◌≡◌, ℕ, ◌+◌, ◌*◌, ◌<◌, ◌≤◌, List, ◌++◌, map, replicate}
+use Rattle.std.specs.Prelude.{◌≡◌, ◌≢◌, ℕ, ◌+◌, ◌*◌, ◌<◌, ◌≤◌, List, ◌++◌, map, replicate}
 use Rattle.std.specs.List.{All}
+use Rattle.zero_copy_bus.specs.declared.publisher.Publisher.{Publisher}
 use Rattle.zero_copy_bus.specs.declared.subscriber.Subscriber.{Subscriber}
 use Rattle.zero_copy_bus.specs.Ends.{HasHad}
-use Rattle.zero_copy_bus.specs.Relays.{HasHeard}
+use Rattle.zero_copy_bus.specs.Relays.{HasHeardAt}
 use Rattle.zero_copy_bus.specs.Sequences.{Rises}
 use Rattle.zero_copy_slots.specs.declared.Keeps.{Ghosts}
 
@@ -31,10 +32,12 @@ pub record AreNewsFrom (first : ℕ) (marks : List ℕ) : Type 0 where
   pub rise : Rises first numbers next
   pub few : All (λ n. n < 100) numbers
 
--- So it is from 0 on. That a list of numbers which went out and one of those which came back would fit (`heard`) follows from this:
--- no lane is named.
-pub record AreNews (marks : List ℕ) : Type 0 where
+-- They are those of the numbers that were received by the lane at a place, by which all numbers went out from 0 up to the next one. The
+-- pass of the lane knows that, and that a beginning of them was received or came back, each once, and both in order.
+pub record AreNewsBy {X K : Type 0} {rule : Ghosts K X} (p : Publisher X K rule) (place : ℕ) (marks : List ℕ) : Type 0 where
   pub news : AreNewsFrom 0 marks
-  pub last : ℕ
-  pub hundred : last ≤ 100
-  pub heard : HasHeard 0 last news.numbers
+  pub heard : HasHeardAt p place 0 news.numbers
+
+-- so it is of two lanes
+abbrev pub AreNewsByTwo : {X K : Type 0} {rule : Ghosts K X} → Publisher X K rule → List ℕ → List ℕ → Type 0
+AreNewsByTwo p one other = (here : ℕ) × (there : ℕ) × (there ≢ here) × AreNewsBy p here one × AreNewsBy p there other

@@ -1,14 +1,16 @@
 //! One thread publishes a hundred blocks of 64 KiB, each full of the mark of its number, and two others read them where they lie.
 //! Proved of what each of them reads: they are the marks of numbers that rise strictly, of the hundred, though nobody copies a block.
-//! On the way the law of a lane is used (`passes_on`). What came back by a lane no clause of this program says.
+//! Every number that was published went out to both, and of these a beginning was read or came back unread, each once, and both in
+//! order (`hear`).
 #![tactic(auto)]
 
 pub mod twins;
 
 ghost use Rattle.std.specs.Prelude.{◌≡◌, ◌<◌, ◌≤◌, [], IfSome, IsTrue, replicate};
-ghost use Rattle.zero_copy_bus.specs.Ends.{next_of, number_of};
+ghost use Rattle.zero_copy_bus.specs.Ends.{lanes_of, loaned, next_of, number_of, CanSendToAll};
+ghost use Rattle.zero_copy_bus.specs.Outlets.{AllNew};
 ghost use Rattle.zero_copy_bus.specs.Relays.{HasPublished};
-ghost use Rattle.uses_news.specs.Marks.{mark, AreNews, HasRead};
+ghost use Rattle.uses_news.specs.Marks.{mark, AreNewsByTwo, AreNewsFrom, HasRead};
 
 use lock_free::mpmc::container::OwnerId;
 use std::alloc::Global;
@@ -65,13 +67,14 @@ fn fill(block: &mut Vec<u64>, word: u64) -> bool
     true
 }
 
-/// A slot to write, as soon as there is one.
+/// A slot to write, as soon as there is one. No subscriber has it.
 fn loan_one<'a>(
     rt: &impl Wait,
     publisher: &mut Publisher<'a, Vec<u64>, Marked>,
 ) -> Option<Loan<'a, Vec<u64>, Marked>>
     ensures next { next_of publisher.new ≡ next_of publisher.old }
     ensures out { HasPublished publisher.old publisher.new }
+    ensures can { IfSome result (λ loan. CanSendToAll publisher.new (loaned loan)) }
 {
     for _ in 0..TRIES {
         publisher.collect();
@@ -201,18 +204,17 @@ fn run<R: Threads + Wait + Sync>(
     marks
 }
 
-/// The same on a new bus, until both subscribers have left. None where one of them was not seen to take part, or nothing can wait for it.
-fn relay<R: Threads + Wait + Sync>(rt: &R, alloc: Global) -> Option<(Vec<u64>, Vec<u64>)>
-    ensures one { IfSome result (λ r. AreNews r.0.items) }
-    ensures other { IfSome result (λ r. AreNews r.1.items) }
+/// The same, from where the two subscribe until both have left. None where one of them was not seen to take part, or nothing can wait
+/// for it.
+fn hear<R: Threads + Wait + Sync>(
+    rt: &R,
+    alloc: Global,
+    publisher: &mut Publisher<'_, Vec<u64>, Marked>,
+) -> Option<(Vec<u64>, Vec<u64>)>
+    requires fresh { AllNew (lanes_of publisher.old) }
+    requires first { next_of publisher.old ≡ 0 }
+    ensures { IfSome result (λ r. AreNewsByTwo publisher.new r.0.items r.1.items) }
 {
-    let records = blocks(alloc, SIZES.slots + 1)?;
-    let Ok((mut bus, pass)) = Bus::new(alloc, SIZES) else {
-        return None;
-    };
-    let Ok(mut publisher) = bus.publisher(rt, alloc, pass, records) else {
-        return None;
-    };
     let (first, second) = (OwnerId::new(1).ok()?, OwnerId::new(2).ok()?);
     let Ok(mut one) = publisher.subscribe(rt, first) else {
         return None;
@@ -229,7 +231,7 @@ fn relay<R: Threads + Wait + Sync>(rt: &R, alloc: Global) -> Option<(Vec<u64>, V
     if other.room() == 0 {
         return None;
     }
-    let marks = run(rt, alloc, &mut publisher, &mut one, &mut other)?;
+    let marks = run(rt, alloc, publisher, &mut one, &mut other)?;
     let Ok(left) = one.leave(rt) else {
         return None;
     };
@@ -239,6 +241,22 @@ fn relay<R: Threads + Wait + Sync>(rt: &R, alloc: Global) -> Option<(Vec<u64>, V
     };
     publisher.rejoin(left);
     publisher.passes_on();
+    Some(marks)
+}
+
+/// The same on a new bus.
+fn relay<R: Threads + Wait + Sync>(rt: &R, alloc: Global) -> Option<(Vec<u64>, Vec<u64>)>
+    ensures one { IfSome result (λ r. AreNewsFrom 0 r.0.items) }
+    ensures other { IfSome result (λ r. AreNewsFrom 0 r.1.items) }
+{
+    let records = blocks(alloc, SIZES.slots + 1)?;
+    let Ok((mut bus, pass)) = Bus::new(alloc, SIZES) else {
+        return None;
+    };
+    let Ok(mut publisher) = bus.publisher(rt, alloc, pass, records) else {
+        return None;
+    };
+    let marks = hear(rt, alloc, &mut publisher)?;
     Some(marks)
 }
 

@@ -1,29 +1,44 @@
 //! Calls of the bus once more, each with a clause that the program has no use for, so that the clause cannot go out of the call
 //! unnoticed. What a wrong body would leave, and the clause refuses, stands in `proofs/WrongBodies.antt` of the bus.
-ghost use Rattle.std.specs.Prelude.{◌≡◌, true, Some, slice_get, IfErr, IfOk, IfSome};
+ghost use Rattle.std.specs.Prelude.{◌≡◌, true, false, Some, slice_get, slice_set, IfErr, IfNone, IfOk, IfSome};
 ghost use Rattle.lock_free.specs.Robust.Contracts.{WasFreed};
-ghost use Rattle.zero_copy_bus.specs.Ends.{lanes_of, members_left, members_view, place_at, received, record_of, spares_in, table_of};
-ghost use Rattle.zero_copy_bus.specs.Ends.{IsTakenFor, WasNotSubscribed};
-ghost use Rattle.zero_copy_bus.specs.Outlets.{open_in};
+ghost use Rattle.zero_copy_bus.specs.Ends.{lanes_of, members_left, members_view, place_at, place_left, received, receives_left, record_of};
+ghost use Rattle.zero_copy_bus.specs.Ends.{spares_in, table_of, IsOfLane, IsTakenFor, WasKept, WasNotSubscribed};
+ghost use Rattle.zero_copy_bus.specs.Outlets.{open_in, AtLane, EachLane, StaysOrLost, WasRejoined};
 ghost use Rattle.zero_copy_slots.specs.Slots.{slot_in};
 
 use lock_free::mpmc::container::{ContainerRemoveError, OwnerId};
 use std::sync::Wait;
 use zero_copy_bus::error::{LoanFailure, SubscribeFailure};
 use zero_copy_bus::publisher::{Loan, Publisher};
-use zero_copy_bus::subscriber::{Left, Sample, Subscriber};
+use zero_copy_bus::subscriber::{Left, Sample, Seat, Subscriber};
 use zero_copy_slots::{Keeps, Reading};
 
-/// Who has subscribed takes part, and who is refused is told why.
+/// Who has subscribed takes part as this owner, and who is refused is told why.
 pub fn subscribe<'a, X: Drop, K: Keeps<X>>(
     publisher: &mut Publisher<'a, X, K>,
     rt: &impl Wait,
     owner: OwnerId,
 ) -> Result<Subscriber<'a, X, K>, SubscribeFailure>
     ensures part { IfOk result (λ s. slice_get (open_in (lanes_of publisher.new)) (place_at s) ≡ Some true) }
+    ensures owner { IfOk result (λ s. (record_of s).owner ≡ owner) }
     ensures refused { IfErr result (WasNotSubscribed owner publisher.old publisher.new) }
 {
     publisher.subscribe(rt, owner)
+}
+
+/// Where nobody gets a seat, a lane is lost at most that nobody had.
+pub fn seat<'a, X: Drop, K: Keeps<X>>(publisher: &mut Publisher<'a, X, K>) -> Option<Seat<'a, X, K>>
+    ensures none { IfNone result (EachLane StaysOrLost (lanes_of publisher.old) (lanes_of publisher.new)) }
+{
+    publisher.seat()
+}
+
+/// The lanes stay while slots are counted.
+pub fn borrowed<X: Drop, K: Keeps<X>>(publisher: &mut Publisher<'_, X, K>) -> usize
+    ensures lanes { lanes_of publisher.new ≡ lanes_of publisher.old }
+{
+    publisher.borrowed()
 }
 
 /// Where a loan is refused since there is no record, there is none.
@@ -46,7 +61,7 @@ pub fn read<'b, X: Drop, K: Keeps<X>>(
     subscriber.read(sample).ok()
 }
 
-/// Who leaves is no more in the registry.
+/// Who leaves is no more in the registry, or it is told why not.
 pub fn leave<'a, X: Drop, K: Keeps<X>>(
     subscriber: Subscriber<'a, X, K>,
     rt: &impl Wait,
@@ -54,6 +69,17 @@ pub fn leave<'a, X: Drop, K: Keeps<X>>(
     ensures removed { IfOk result
         (λ l. WasFreed (record_of subscriber.entry).index (record_of subscriber.entry).owner
         (members_view subscriber.entry) (members_left l)) }
+    ensures kept { IfErr result (WasKept subscriber.entry) }
 {
     subscriber.leave(rt)
+}
+
+/// The lane of one whose pass is taken in stays his, with what he holds and what he gave back. He takes part no more.
+pub fn rejoin<X: Drop, K: Keeps<X>>(publisher: &mut Publisher<'_, X, K>, left: Left<'_>)
+    requires { IsOfLane left publisher.old }
+    ensures taken_in { AtLane (place_left left.entry) (WasRejoined (receives_left left.entry)) (lanes_of publisher.old) (lanes_of publisher.new) }
+    ensures taking { open_in (lanes_of publisher.new) ≡ slice_set (open_in (lanes_of publisher.old)) (place_left left.entry) false }
+    ensures table { table_of publisher.new ≡ table_of publisher.old }
+{
+    publisher.rejoin(left);
 }

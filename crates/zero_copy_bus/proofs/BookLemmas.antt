@@ -6,13 +6,13 @@ use Rattle.std.proofs.lemmas.Bool.{cases_eq}
 use Rattle.std.proofs.lemmas.Bool.Decides.{nat_tests}
 use Rattle.std.proofs.lemmas.List.Sums.{sum_by-cons}
 use Rattle.std.specs.Int.{bit_at}
-use Rattle.lock_free.specs.Shares.{IsAll}
-use Rattle.lock_free.specs.HistoryView.View.{View}
-use Rattle.lock_free.specs.Unique.Held.{one_if, times, HeldBy, HoldsAll, HoldsNothing}
-use Rattle.lock_free.specs.Unique.Contracts.{HasAcquired, HasCounted}
-use Rattle.lock_free.proofs.Unique.Holding.{counted_moves}
-use Rattle.lock_free.proofs.Unique.Tables as tables
-use Rattle.lock_free.proofs.Unique.Tables.{as_number, none_if}
+use Rattle.threaded.specs.Shares.{IsAll}
+use Rattle.history.specs.declared.view.View.{View}
+use Rattle.lock_free_sets.specs.Unique.Held.{one_if, times, HeldBy, HoldsAll, HoldsNothing}
+use Rattle.lock_free_sets.specs.Unique.Contracts.{HasAcquired, HasCounted}
+use Rattle.lock_free_sets.proofs.Unique.Holding.{counted_moves}
+use Rattle.lock_free_sets.proofs.Unique.Tables as tables
+use Rattle.lock_free_sets.proofs.Unique.Tables.{as_number, none_if}
 use Rattle.zero_copy_bus.specs.declared.holders.Holder.{Holder}
 use Rattle.zero_copy_bus.specs.declared.holders.Holders.{Holders}
 use Rattle.zero_copy_bus.specs.Books.{holders_at, AllFree, ChangesAt, Exchanges, GainsNone, GainsOnly, HasNone, HasSlot, held_number}

@@ -2,20 +2,22 @@
 use Rattle.std.proofs.Common.{◌≡◌, ◌≢◌, ◌&&◌, ℕ, zero, suc, ◌+◌, ◌-◌, ◌^◌, ◌<◌, ◌≤◌, true, true≢false, List, [], ◌∷◌, length, take}
 use Rattle.std.proofs.Common.{refl, sym, ap, subst, ◌∙◌, inl, inr, arith}
 use Rattle.std.proofs.lemmas.Bool.{and_parts}
-use Rattle.std.specs.Prelude.{Some, slice_get, IsTrue}
+use Rattle.std.specs.Prelude.{Some, slice_get}
 use Rattle.history.specs.Views.{first_view}
-use Rattle.lock_free.specs.Queues.Rings.{QueueId, queue_of, view}
+use Rattle.lock_free_queues.specs.Queues.Rings.{QueueId, queue_of, view}
 use Rattle.lock_free_queues.specs.Queues.Merges.{Merges}
+use Rattle.zero_copy_bus.specs.declared.holders.Holders.{Holders}
 use Rattle.zero_copy_bus.specs.declared.outlet.Outlet.{Outlet}
 use Rattle.zero_copy_bus.specs.declared.outlet.Tenancy.TheVariants.{Free, Lost}
 use Rattle.zero_copy_bus.specs.declared.publisher.Publisher.{Publisher}
+use Rattle.zero_copy_bus.specs.declared.roll.Roll.{Roll}
 use Rattle.zero_copy_bus.specs.declared.subscriber.Left.{Left}
 use Rattle.zero_copy_bus.specs.declared.subscriber.Subscriber.{Subscriber}
 use Rattle.zero_copy_bus.specs.Ends.{expected_at, lanes_of, layout_at, layout_of, next_of, place_at, place_left, receives_left, receives_queue, receives_view}
 use Rattle.zero_copy_bus.specs.Ends.{shape_of, HasHad, HasLeft, IsOfLane, IsSame}
-use Rattle.zero_copy_bus.specs.Outlets.{has_end, holder_of, holders_in, is_open, open_in, opens, waits_queue, AllNew, AtLane, EachOther, IsFree, IsNew}
-use Rattle.zero_copy_bus.specs.Outlets.{OthersStay, StaysOrLost, WasLet, WasLetOf, WasTakenIn}
-use Rattle.zero_copy_bus.specs.Relays.{HasGoneOut, HasHeard, HasPublished, LanesPassOn}
+use Rattle.zero_copy_bus.specs.Outlets.{has_end, holder_of, holders_in, is_open, open_in, opens, waits_queue, AllNew, AtLane, EachLane}
+use Rattle.zero_copy_bus.specs.Outlets.{EachOther, IsFree, IsNew, IsSettled, OthersStay, StaysOrLost, WasLet, WasLetOf, WasRejoined, WasTakenIn}
+use Rattle.zero_copy_bus.specs.Relays.{HasAllOf, HasGoneOut, HasHeard, HasHeardAt, HasPublished, LanesPassOn}
 use Rattle.zero_copy_bus.specs.Sequences.{Delivers, Rises}
 use Rattle.zero_copy_bus.proofs.LaneLemmas.{get_map, map_got}
 use Rattle.zero_copy_bus.proofs.Published.{out_none, out_then}
@@ -92,7 +94,7 @@ new_still but place olds news lane new same others ne is free =
           none = still.passes.sends ∙ fresh.none;
           first = ap view still.passes.waits ∙ (fresh.first ∙ ap (λ (q : QueueId). first_view q.capacity) (ap queue_of (sym still.passes.waits)));
         }
-    go (inr lost) = let not : Free ≡ Lost = sym free ∙ lost in absurd (cc)
+    go (inr lost) = let not : Free ≡ Lost = sym free ∙ lost.1 in absurd (cc)
 
 -- ---- the ends of a bus
 
@@ -123,7 +125,7 @@ module _ {X K : Type 0} {rule : Ghosts K X} where
         fresh = new;
         queue = let_at.4.0;
         lets = let_at.4.1;
-        out = out_none (layout_of q) (next_of q) (next_of q) let_at.1 let_at.1 (omega arith) (record { sends = refl; waits = refl });
+        out = out_none (layout_of q) (next_of q) (next_of q) let_at.1 let_at.1 refl refl (record { sends = refl; waits = refl });
         there = let_at.3;
         on = open_there (lanes_of q) (place_at s) let_at.1 on let_at.3;
         layout = its ∙ sym layout;
@@ -154,7 +156,7 @@ module _ {X K : Type 0} {rule : Ghosts K X} where
         out =
             subst (λ (l : Layout). HasGoneOut l from (next_of q) h.leased it.0) (sym layout)
             (out_then (layout_of p) from (next_of p) (next_of q) h.leased h.last it.0 h.out
-            (out_none (layout_of p) (next_of p) (next_of q) h.last it.0 (omega arith) (it.2.taking h.on still)));
+            (out_none (layout_of p) (next_of p) (next_of q) h.last it.0 next (still ∙ sym h.on) (it.2.taking h.on still)));
         there = it.1;
         on = still;
         layout = h.layout ∙ sym layout;
@@ -247,18 +249,40 @@ module _ {X K : Type 0} {rule : Ghosts K X} where
     gone.queue ∙ (had.queue ∙ (h.queue ∙ (sym h.lets.queue ∙ sym (ap queue_of h.out.sent.waits)))),
   )
 
+  -- so it is of any lane that was let to it
+  pub left_of : (p q r : Publisher X K rule) (s t : Subscriber X K rule) (left : Left)
+      → AtLane (place_at s) (WasLetOf (receives_queue s) (receives_view s)) (lanes_of p) (lanes_of q)
+      → HasPublished q r
+      → place_at t ≡ place_at s
+      → receives_queue t ≡ receives_queue s
+      → HasLeft t left
+      → IsOfLane left r
+  left_of p q r s t left let_at out place queue gone =
+      let it = out.lanes (place_at s) let_at.1 let_at.3 in (
+        it.0,
+        subst (λ k. slice_get (lanes_of r) k ≡ Some it.0) (sym (gone.place ∙ place)) it.1,
+        gone.queue ∙ (queue ∙ (let_at.4.0 ∙ sym (ap queue_of it.2.sent.waits ∙ let_at.4.1.queue))),
+      )
+
+  -- and the publisher looked who takes part
+  pub left_settled : (roll : Roll) (before after : List Holders) (p q : Publisher X K rule) (left : Left) → IsOfLane left p
+      → EachLane (IsSettled roll before after) (lanes_of p) (lanes_of q)
+      → IsOfLane left q
+  left_settled roll before after p q left known settled =
+      let it = settled (place_left left) known.0 known.1 in (it.0, it.1, known.2 ∙ sym it.2.queue)
+
   -- and its passes are taken in
   pub heard : LanesPassOn → (from : ℕ) (p q : Publisher X K rule) (s t : Subscriber X K rule) (left : Left) (came numbers : List ℕ)
       → HasLane s from p → expected_at s ≡ from → HasHad came numbers s t → HasLeft t left
-      → AtLane (place_left left) (λ old new. IsTrue (has_end old) → WasTakenIn (receives_left left) old new) (lanes_of p) (lanes_of q)
-      → 0 < (receives_queue s).capacity → next_of p < 2 ^ 64 - 1 → HasHeard from (next_of p) numbers
-  heard law from p q s t left came numbers h first had gone taken some few =
-      record {
-        sent = h.out.numbers;
-        back = h.out.back;
-        among = h.out.among;
-        passed_on = subst (λ ns. IsPassedOn h.out.numbers ns h.out.back) (sym every) passed;
-      }
+      → AtLane (place_left left) (WasRejoined (receives_left left)) (lanes_of p) (lanes_of q)
+      → layout_of q ≡ layout_of p → next_of q ≡ next_of p
+      → 0 < (receives_queue s).capacity → next_of p < 2 ^ 64 - 1 → HasHeardAt q (place_at s) from numbers
+  heard law from p q s t left came numbers h first had gone taken layout next some few = (
+    taken.1,
+    subst (λ k. slice_get (lanes_of q) k ≡ Some taken.1) (gone.place ∙ had.place) taken.3,
+    subst (λ (l : Layout). HasHeard l from (next_of q) numbers taken.1) (sym layout)
+        (subst (λ n. HasHeard (layout_of p) from n numbers taken.1) (sym next) there),
+  )
     where
       same : taken.0 ≡ h.last
       same =
@@ -266,7 +290,7 @@ module _ {X K : Type 0} {rule : Ghosts K X} where
           (subst (λ k. slice_get (lanes_of p) k ≡ Some taken.0) (gone.place ∙ had.place) taken.2) h.there
 
       ends : WasTakenIn (receives_left left) h.last taken.1
-      ends = subst (λ (o : Outlet). IsTrue (has_end o) → WasTakenIn (receives_left left) o taken.1) same taken.4 (open_end h.last h.on)
+      ends = (subst (λ (o : Outlet). WasRejoined (receives_left left) o taken.1) same taken.4).1 (open_end h.last h.on)
 
       got : ReceivesOn (shape_of (layout_of p) (waits_queue h.first)) came (receives_view s) (receives_view t)
       got =
@@ -279,12 +303,14 @@ module _ {X K : Type 0} {rule : Ghosts K X} where
           let below = h.out.among.below in
           omega arith
 
-      passed : IsPassedOn h.out.numbers came h.out.back
-      passed =
-          law.tells (layout_of p) h.out.numbers h.out.back came taken.1
-          (law.goes_on (layout_of p) [] [] [] h.out.numbers h.out.back came h.first h.leased h.last taken.1 (receives_view s) (receives_view t)
+      knows_all : HasAllOf (layout_of p) h.out.numbers h.out.back came taken.1
+      knows_all =
+          law.goes_on (layout_of p) [] [] [] h.out.numbers h.out.back came h.first h.leased h.last taken.1 (receives_view s) (receives_view t)
           (receives_left left) (law.begins (layout_of p) h.first h.fresh) h.lets h.out.sent got gone.goes gone.released ends
-          (subst (λ (q : QueueId). 0 < q.capacity) h.queue some) fits)
+          (subst (λ (q : QueueId). 0 < q.capacity) h.queue some) fits
+
+      passed : IsPassedOn h.out.numbers came h.out.back
+      passed = law.tells (layout_of p) h.out.numbers h.out.back came taken.1 knows_all
 
       rise : (c : ℕ) × Rises from came c
       rise =
@@ -294,3 +320,28 @@ module _ {X K : Type 0} {rule : Ghosts K X} where
       every : numbers ≡ came
       every =
           all_delivered from rise.0 (expected_at t) came numbers (subst (λ n. Delivers n came numbers (expected_at t)) first had.delivers) rise.1
+
+      there : HasHeard (layout_of p) from (next_of p) numbers taken.1
+      there =
+          record {
+            sent = h.out.numbers;
+            back = h.out.back;
+            every = h.out.all (sym h.out.taking ∙ h.on);
+            all = subst (λ ns. HasAllOf (layout_of p) h.out.numbers h.out.back ns taken.1) (sym every) knows_all;
+            passed_on = subst (λ ns. IsPassedOn h.out.numbers ns h.out.back) (sym every) passed;
+          }
+
+  -- the passes of another lane are taken in
+  pub heard_kept : (but place from : ℕ) (p q : Publisher X K rule) (numbers : List ℕ) → HasHeardAt p place from numbers
+      → EachOther but (λ old new. new ≡ old) (lanes_of p) (lanes_of q)
+      → place ≢ but
+      → layout_of q ≡ layout_of p
+      → next_of q ≡ next_of p
+      → HasHeardAt q place from numbers
+  heard_kept but place from p q numbers h others ne layout next =
+      let it = others place h.0 ne h.1 in (
+        h.0,
+        it.1 ∙ ap Some it.2,
+        subst (λ (l : Layout). HasHeard l from (next_of q) numbers h.0) (sym layout)
+            (subst (λ n. HasHeard (layout_of p) from n numbers h.0) (sym next) h.2),
+      )

@@ -1,19 +1,25 @@
 -- A lane is let, and then the publisher looks who takes part.
 use Rattle.std.proofs.Common.{◌≡◌, ◌&&◌, ℕ, zero, suc, Bool, true, false, true≢false, Some, List, [], ◌∷◌, sym, ap, subst, ◌∙◌, inl, inr}
 use Rattle.std.specs.Prelude.{slice_get, slice_set}
-use Rattle.lock_free.specs.HistoryView.View.{View}
-use Rattle.lock_free.specs.Passes.{Goes}
-use Rattle.lock_free.specs.Queues.Contracts.{HasAcquired, HasSplit}
-use Rattle.lock_free.specs.Queues.Role.TheVariants as roles
-use Rattle.lock_free.specs.Queues.Rings.{QueueId, queue_of, view}
+use Rattle.history.specs.declared.view.View.{View}
+use Rattle.history.specs.Passes.{Goes}
+use Rattle.lock_free_queues.specs.Queues.Contracts.{HasAcquired, HasSplit}
+use Rattle.steps.specs.declared.queues.roles.Role.TheVariants as roles
+use Rattle.lock_free_queues.specs.Queues.Rings.{QueueId, queue_of, view}
 use Rattle.zero_copy_bus.specs.declared.holders.Holders.{Holders}
 use Rattle.zero_copy_bus.specs.declared.outlet.Outlet.{Outlet}
 use Rattle.zero_copy_bus.specs.declared.outlet.Tenancy.{Tenancy}
 use Rattle.zero_copy_bus.specs.declared.outlet.Tenancy.TheVariants.{Free, Closed, Open, Lost}
 use Rattle.zero_copy_bus.specs.declared.roll.Roll.{Roll}
+use Rattle.zero_copy_bus.specs.declared.publisher.Publisher.{Publisher}
+use Rattle.zero_copy_bus.specs.declared.subscriber.Seat.{Seat}
+use Rattle.zero_copy_bus.specs.declared.subscriber.Subscriber.{Subscriber}
+use Rattle.zero_copy_bus.specs.Ends.{lanes_of, place_at, place_before, receives_at, receives_before, receives_queue, receives_view, record_of}
+use Rattle.zero_copy_bus.specs.Ends.{roll_of, table_of, WasNotShown}
 use Rattle.zero_copy_bus.specs.Outlets.{end_view, has_end, is_let, is_open, lets, open_in, opens, sends_view, AreShown}
 use Rattle.zero_copy_bus.specs.Outlets.{AtLane, EachLane, EachOther, IsFree, IsSettled, OthersStay, SamePasses, StaysOrLost, WasLet, WasLetOf}
-use Rattle.zero_copy_bus.proofs.LaneLemmas.{map_got}
+use Rattle.zero_copy_bus.proofs.LaneLemmas.{get_map, map_got}
+use Rattle.zero_copy_slots.specs.declared.Keeps.{Ghosts}
 
 -- who takes part has the other end
 part_is_let : (t : Tenancy) (b : Bool) → (opens t && b) ≡ true → (lets t && b) ≡ true
@@ -70,6 +76,18 @@ module _ (roll : Roll) (one two : List Holders) (place : ℕ) (olds mids news : 
       let takes : is_open it.0 ≡ true = ap is_open (sym same) ∙ on.2 in
       (at.0, it.0, at.2, it.1, (at.4.0, let_still theirs at.0 at.1 it.0 (it.2.passes takes) takes at.4.1))
 
+  -- where he is not, nobody takes part there
+  pub hidden_after : (queue : QueueId) (theirs : View ℕ) → AtLane place (WasLetOf queue theirs) olds mids
+      → (slice_get (open_in news) place ≡ Some true → ⊥)
+      → slice_get (open_in news) place ≡ Some false
+  hidden_after queue theirs at off =
+      let it = each place at.1 at.3 in
+      go (is_open it.0) (get_map is_open news place it.0 it.1)
+    where
+      go : (b : Bool) → slice_get (open_in news) place ≡ Some b → slice_get (open_in news) place ≡ Some false
+      go true is = absurd (off is)
+      go false is = is
+
   -- and the others
   pub others_after : EachOther place StaysOrLost olds mids → EachOther place OthersStay olds news
   others_after others k old ne got =
@@ -81,13 +99,13 @@ module _ (roll : Roll) (one two : List Holders) (place : ℕ) (olds mids news : 
       free mid new settled (inl still) none =
           let rest = settled.still (inl (still.tenancy ∙ none)) in
           inl (record { tenancy = rest.tenancy ∙ still.tenancy; passes = both_same old mid new still.passes rest.passes })
-      free mid new settled (inr lost) none = inr ((settled.still (inr lost)).tenancy ∙ lost)
+      free mid new settled (inr lost) none = inr (none, (settled.still (inr lost.1)).tenancy ∙ lost.1)
 
       taking : (mid new : Outlet) → IsSettled roll one two mid new → StaysOrLost old mid → is_open old ≡ true → is_open new ≡ true → SamePasses old new
       taking mid new settled (inl still) was on = both_same old mid new still.passes (settled.passes on)
       taking mid new settled (inr lost) was on =
           let leased : is_let mid ≡ true = (settled.takes.0 on).0 in
-          absurd (true≢false (sym leased ∙ ap (λ t. lets t && has_end mid) lost))
+          absurd (true≢false (sym leased ∙ ap (λ t. lets t && has_end mid) lost.1))
 
 -- where one lane is closed, who takes part took part before
 pub shown_but : (roll : Roll) (taking : List Bool) (place : ℕ) → AreShown roll taking → AreShown roll (slice_set taking place false)
@@ -99,3 +117,30 @@ shown_but roll taking place shown k is = shown k (before taking place k is)
     before (x ∷ xs) zero (suc j) e = e
     before (x ∷ xs) (suc n) zero e = e
     before (x ∷ xs) (suc n) (suc j) e = before xs n j e
+
+-- who was let in is not seen to take part
+module _ {X K : Type 0} {rule : Ghosts K X} where
+  pub not_shown : (owner : ℕ) (p q r : Publisher X K rule) (seat : Seat X K rule) (s : Subscriber X K rule) → (record_of s).owner ≡ owner
+      → place_at s ≡ place_before seat
+      → receives_queue s ≡ receives_at seat
+      → receives_view s ≡ receives_before seat
+      → AtLane (place_before seat) (WasLetOf (receives_at seat) (receives_before seat)) (lanes_of p) (lanes_of q)
+      → EachOther (place_before seat) StaysOrLost (lanes_of p) (lanes_of q)
+      → table_of q ≡ table_of p
+      → EachLane (IsSettled (roll_of r) (table_of q) (table_of r)) (lanes_of q) (lanes_of r)
+      → (slice_get (open_in (lanes_of r)) (place_at s) ≡ Some true → ⊥)
+      → WasNotShown owner p r s
+  not_shown owner p q r seat s its at queue theirs leased others table settled off =
+      record {
+        its = its;
+        between = lanes_of q;
+        leased =
+            moved (place_at s) (place_before seat) (receives_queue s) (receives_at seat) (receives_view s) (receives_before seat)
+            (lanes_of p) (lanes_of q) at queue theirs leased;
+        others = subst (λ k. EachOther k StaysOrLost (lanes_of p) (lanes_of q)) (sym at) others;
+        settled = subst (λ t. EachLane (IsSettled (roll_of r) t (table_of r)) (lanes_of q) (lanes_of r)) table settled;
+        hidden =
+            subst (λ k. slice_get (open_in (lanes_of r)) k ≡ Some false) (sym at)
+            (hidden_after (roll_of r) (table_of q) (table_of r) (place_before seat) (lanes_of p) (lanes_of q) (lanes_of r) settled
+            (receives_at seat) (receives_before seat) leased (λ on. off (subst (λ k. slice_get (open_in (lanes_of r)) k ≡ Some true) (sym at) on)));
+      }

@@ -6,13 +6,13 @@ use Rattle.std.proofs.lemmas.List.{map-append}
 use Rattle.std.proofs.lemmas.List.Elements.{Contains-append_left, Contains-push, Contains-push_cases}
 use Rattle.std.specs.List.{count_by}
 use Rattle.std.specs.Prelude.{◌↔◌, Contains, IfNone, IfSome, slice_get}
-use Rattle.lock_free.specs.History.{IsBeginning}
-use Rattle.lock_free.specs.HistoryView.View.{View}
-use Rattle.lock_free.specs.Queues.Item.TheVariants.{Index}
-use Rattle.lock_free.specs.Queues.Overflowing.{PushAdded, PushHandedBack}
-use Rattle.lock_free.specs.Passes.{Goes}
-use Rattle.lock_free.specs.Queues.Reading.{handed_out}
-use Rattle.lock_free.specs.Queues.Contracts.{PopDone, PopEmpty}
+use Rattle.history.specs.History.{IsBeginning}
+use Rattle.history.specs.declared.view.View.{View}
+use Rattle.model.specs.declared.event.Item.TheVariants.{Index}
+use Rattle.lock_free_queues.specs.Queues.Overflowing.{PushAdded, PushHandedBack}
+use Rattle.history.specs.Passes.{Goes}
+use Rattle.model.specs.Families.Queues.Reading.{handed_out}
+use Rattle.lock_free_queues.specs.Queues.Contracts.{PopDone, PopEmpty}
 use Rattle.zero_copy_bus.specs.declared.holders.Holder.{Holder}
 use Rattle.zero_copy_bus.specs.declared.holders.Holders.{Holders}
 use Rattle.zero_copy_bus.specs.declared.outlet.Outlet.{Outlet}
@@ -28,7 +28,7 @@ use Rattle.zero_copy_bus.specs.Words.{slot_back}
 use Rattle.zero_copy_loans.specs.Words.{word_of}
 use Rattle.zero_copy_bus.proofs.BookLemmas.{changes_keep, had_elsewhere, has_elsewhere}
 use Rattle.zero_copy_bus.proofs.LaneLemmas.{count_more, count_same, each_more, get_map, map_got, placed_at, KeepsAbove}
-use Rattle.lock_free.proofs.HistoryKnown.{begins_further}
+use Rattle.history.proofs.Known.{begins_further}
 use Rattle.zero_copy_bus.proofs.ViewLemmas.{empty_found, found_since, out_later}
 
 -- ---- a publish
@@ -228,6 +228,7 @@ module _ (roll : Roll) (one two three : List Holders) (old new : Outlet) where
         takes = settled.takes;
         passes = settled.passes;
         end = settled.end;
+        queue = settled.queue;
         lost = settled.lost;
         still = settled.still;
         free =
@@ -241,6 +242,7 @@ module _ (roll : Roll) (one two three : List Holders) (old new : Outlet) where
         takes = settled.takes;
         passes = settled.passes;
         end = settled.end;
+        queue = settled.queue;
         lost = settled.lost;
         still = settled.still;
         free = settled.free;

@@ -3,21 +3,25 @@ use Rattle.std.proofs.Common.{◌≡◌, ◌⊎◌, ℕ, ◌+◌, ◌/◌, ◌%�
 use Rattle.std.proofs.Common.{refl, sym, ap, subst, ◌∙◌, inl, inr, ⊎_elim, arith}
 use Rattle.std.proofs.lemmas.Bool.{cases_eq, cases_lt}
 use Rattle.std.proofs.lemmas.Nat.{div-add-mod', mod_below}
+use Rattle.std.proofs.lemmas.Nat.Bits.{bit_at-zero}
 use Rattle.std.specs.Int.{bit_at}
 use Rattle.std.specs.Prelude.{Option, Some, None, slice_get}
-use Rattle.lock_free.specs.Queues.Overflowing.{PushHandedBack}
-use Rattle.lock_free.specs.Queues.Rings.{QueueId, queue_of}
+use Rattle.lock_free_queues.specs.Queues.Overflowing.{PushHandedBack}
+use Rattle.lock_free_queues.specs.Queues.Rings.{QueueId, queue_of}
 use Rattle.zero_copy_bus.specs.declared.holders.Holder.{Holder}
 use Rattle.zero_copy_bus.specs.declared.holders.Holders.{Holders}
 use Rattle.zero_copy_bus.specs.declared.outlet.Outlet.{Outlet}
 use Rattle.zero_copy_bus.specs.declared.publisher.Publisher.{Publisher}
-use Rattle.zero_copy_bus.specs.Books.{holders_at, CanSend}
-use Rattle.zero_copy_bus.specs.Ends.{lanes_of, layout_of, next_of, room_of, shape_of, slots_of, table_of, HasNumber}
-use Rattle.zero_copy_bus.specs.Holders.{publisher}
+use Rattle.zero_copy_bus.specs.Books.{holders_at, CanSend, ChangesAt, HasSlot, IsLoaned}
+use Rattle.zero_copy_bus.specs.Ends.{lanes_of, layout_of, next_of, room_of, shape_of, slots_of, table_of, CanSendToAll, HasNumber}
+use Rattle.zero_copy_bus.specs.Holders.{bit_of, is_held, publisher}
 use Rattle.zero_copy_bus.specs.Outlets.{holder_of, is_open, open_in, sends_view, waits_queue, EachLane, HasPushed, IsSent, IsServed, IsTakenBack, SamePasses}
 use Rattle.zero_copy_bus.specs.Relays.{AreAmong, HasGoneOut, HasPublished}
+use Rattle.zero_copy_bus.specs.Sequences.{AreAll}
+use Rattle.zero_copy_bus.proofs.BookLemmas.{free_is}
+use Rattle.zero_copy_bus.proofs.LaneLemmas.{get_map}
 use Rattle.zero_copy_bus.proofs.Leases.{same_sends}
-use Rattle.zero_copy_bus.proofs.Rising.{rises_then}
+use Rattle.zero_copy_bus.proofs.Rising.{all_then, rises_then}
 use Rattle.zero_copy_loans.specs.Numbers.{SendsOn}
 use Rattle.zero_copy_loans.specs.Words.{word_of, IsWord}
 use Rattle.zero_copy_loans.specs.declared.words.Layout.{Layout}
@@ -41,8 +45,9 @@ among_then a b c xs ys h k =
 -- ---- one lane
 
 -- nothing goes out
-pub out_none : (layout : Layout) (from to : ℕ) (old new : Outlet) → from ≤ to → SamePasses old new → HasGoneOut layout from to old new
-out_none layout from to old new le same =
+pub out_none : (layout : Layout) (from to : ℕ) (old new : Outlet) → to ≡ from → is_open new ≡ is_open old → SamePasses old new
+    → HasGoneOut layout from to old new
+out_none layout from to old new next taking same =
     record {
       numbers = [];
       back = [];
@@ -51,8 +56,42 @@ out_none layout from to old new le same =
             waits = same.waits;
             sends = λ some. sends_still (shape_of layout (waits_queue old)) (sends_view old) (sends_view new) (same_sends old new same);
           };
-      among = among_none from to le;
+      taking = taking;
+      among = among_none from to (omega arith);
+      all = λ on. next;
     }
+
+-- or only to others
+out_else : (layout : Layout) (number : ℕ) (old new : Outlet) → (is_open old ≡ true → ⊥) → is_open new ≡ is_open old → SamePasses old new
+    → HasGoneOut layout number (number + 1) old new
+out_else layout number old new off taking same =
+    record {
+      numbers = [];
+      back = [];
+      sent =
+          record {
+            waits = same.waits;
+            sends = λ some. sends_still (shape_of layout (waits_queue old)) (sends_view old) (sends_view new) (same_sends old new same);
+          };
+      taking = taking;
+      among = among_none number (number + 1) (omega arith);
+      all = λ on. absurd (off on);
+    }
+
+-- a slot that nobody had, and that is on loan then, can go to each
+can_go : (slot : ℕ) (before after : List Holders) (lane : Outlet) → is_held (holders_at before slot) ≡ false → ChangesAt slot publisher before after
+    → IsLoaned after slot
+    → CanSend after slot (holder_of lane)
+can_go slot before after lane free changes loaned = (loaned, lacks)
+  where
+    lacks : HasSlot after slot (holder_of lane) → ⊥
+    lacks has =
+        let bit = bit_of (holder_of lane) in
+        let here : bit_at (holders_at after slot).bits bit ≡ bit_at (holders_at before slot).bits bit =
+        changes.here bit lane.holder.within (λ e. (let own = lane.subscribes in let is : bit_of (holder_of lane) ≡ 0 = e in absurd (omega arith))) in
+        let none : bit_at (holders_at before slot).bits bit ≡ bit_at 0 bit = ap (λ (h : Holders). bit_at h.bits bit) (free_is (holders_at before slot) free) in
+        let one : 1 ≡ 0 = sym has ∙ (here ∙ (none ∙ bit_at-zero bit)) in
+        absurd (omega arith)
 
 can_send : (b : Bool) (table : List Holders) (slot : ℕ) (holder : Holder)
     → ((b ≡ true) × CanSend table slot holder) ⊎ (((b ≡ true) × CanSend table slot holder) → ⊥)
@@ -65,10 +104,12 @@ can_send true table slot holder =
 
 -- a record is served
 pub out_one : (layout : Layout) (number slot : ℕ) (before after : List Holders) (old new : Outlet) → IsWord layout.room layout.places number slot
+    → CanSend before slot (holder_of old)
+    → is_open new ≡ is_open old
     → IsServed layout.room number slot before after old new → HasGoneOut layout number (number + 1) old new
-out_one layout number slot before after old new word served =
+out_one layout number slot before after old new word can taking served =
     ⊎_elim (λ x. (let s = served.sent x.0 x.1 in sent s s.back s.pushed))
-    (λ no. out_none layout number (number + 1) old new (omega arith) (record { sends = served.idle no; waits = served.waits }))
+    (λ no. out_else layout number old new (λ on. no (on, can)) taking (record { sends = served.idle no; waits = served.waits }))
     (can_send (is_open old) before slot (holder_of old))
   where
     within : slot < layout.room
@@ -79,6 +120,9 @@ out_one layout number slot before after old new word served =
 
     one : AreAmong number (number + 1) (number ∷ [])
     one = record { next = number + 1; rise = (omega arith, refl); below = omega arith }
+
+    only : AreAll number (number + 1) (number ∷ [])
+    only = (refl, refl)
 
     sent : IsSent layout.room number slot before after old new → (back : Option ℕ) → HasPushed (word_of layout.room number slot) back old new
         → HasGoneOut layout number (number + 1) old new
@@ -94,7 +138,9 @@ out_one layout number slot before after old new word served =
                     sends_one (shape_of layout (waits_queue old)) (waits_queue old).capacity some (sends_view old) (sends_view new)
                     (s.goes some) number slot word.0 within pushed;
               };
+          taking = taking;
           among = one;
+          all = λ on. only;
         }
     sent s (Some back) pushed =
         record {
@@ -111,7 +157,9 @@ out_one layout number slot before after old new word served =
                     (λ k. PushHandedBack (waits_queue old).capacity (word_of layout.room number slot) k (sends_view old) (sends_view new))
                     (sym (div-add-mod' back layout.room)) pushed);
               };
+          taking = taking;
           among = one;
+          all = λ on. only;
         }
 
 pub out_then : (layout : Layout) (a b c : ℕ) (old mid new : Outlet) → HasGoneOut layout a b old mid → HasGoneOut layout b c mid new
@@ -121,7 +169,9 @@ out_then layout a b c old mid new h k =
       numbers = h.numbers ++ k.numbers;
       back = h.back ++ k.back;
       sent = record { waits = k.sent.waits ∙ h.sent.waits; sends = both };
+      taking = k.taking ∙ h.taking;
       among = among_then a b c h.numbers k.numbers h.among k.among;
+      all = λ on. all_then a b c h.numbers k.numbers (h.all on) (k.all (h.taking ∙ on));
     }
   where
     same : waits_queue mid ≡ waits_queue old
@@ -137,6 +187,15 @@ out_then layout a b c old mid new h k =
 
 -- ---- all lanes of a publisher
 
+same_open : (olds news : List Outlet) (place : ℕ) (old new : Outlet) → open_in news ≡ open_in olds → slice_get olds place ≡ Some old
+    → slice_get news place ≡ Some new
+    → is_open new ≡ is_open old
+same_open olds news place old new taking was is =
+    let after : slice_get (open_in news) place ≡ Some (is_open new) = get_map is_open news place new is in
+    let before : slice_get (open_in olds) place ≡ Some (is_open old) = get_map is_open olds place old was in
+    let same : Some (is_open new) ≡ Some (is_open old) = sym after ∙ (ap (λ bs. slice_get bs place) taking ∙ before) in
+    cc
+
 module _ {X K : Type 0} {rule : Ghosts K X} where
   published_by : (old new : Publisher X K rule) → layout_of new ≡ layout_of old → open_in (lanes_of new) ≡ open_in (lanes_of old)
       → next_of new ≡ next_of old → EachLane SamePasses (lanes_of old) (lanes_of new) → HasPublished old new
@@ -147,7 +206,12 @@ module _ {X K : Type 0} {rule : Ghosts K X} where
         later = omega arith;
         lanes =
             λ place lane is.
-            (let it = each place lane is in (it.0, it.1, out_none (layout_of old) (next_of old) (next_of new) lane it.0 (omega arith) it.2));
+            (let it = each place lane is in (
+              it.0,
+              it.1,
+              out_none (layout_of old) (next_of old) (next_of new) lane it.0 next
+                  (same_open (lanes_of old) (lanes_of new) place lane it.0 taking is it.1) it.2,
+            ));
       }
 
   -- calls that leave the lanes as they are
@@ -180,14 +244,21 @@ module _ {X K : Type 0} {rule : Ghosts K X} where
   next_most slot old new next last =
       ⊎_elim (λ has. (let is = next has in omega arith)) (λ no. (let is = last no in omega arith)) (has_number old slot)
 
-  pub published_one : (slot : ℕ) (old new : Publisher X K rule) → layout_of new ≡ layout_of old
+  -- a loan that was had
+  pub can_send_to_all : (slot : ℕ) (old new : Publisher X K rule) → is_held (holders_at (table_of old) slot) ≡ false
+      → ChangesAt slot publisher (table_of old) (table_of new)
+      → IsLoaned (table_of new) slot
+      → CanSendToAll new slot
+  can_send_to_all slot old new free changes loaned place lane is = can_go slot (table_of old) (table_of new) lane free changes loaned
+
+  pub published_one : (slot : ℕ) (old new : Publisher X K rule) → CanSendToAll old slot → layout_of new ≡ layout_of old
       → open_in (lanes_of new) ≡ open_in (lanes_of old)
       → (HasNumber old slot → EachLane (IsServed (room_of old) (next_of old) slot (table_of old) (table_of new)) (lanes_of old) (lanes_of new))
       → (HasNumber old slot → next_of new ≡ next_of old + 1)
       → ((HasNumber old slot → ⊥) → lanes_of new ≡ lanes_of old)
       → ((HasNumber old slot → ⊥) → next_of new ≡ next_of old)
       → HasPublished old new
-  published_one slot old new layout taking served next unsent last =
+  published_one slot old new can layout taking served next unsent last =
       ⊎_elim yes (λ no. published_none old new layout (last no) (unsent no)) (has_number old slot)
     where
       many : slots_of old ≡ (layout_of old).places
@@ -206,7 +277,8 @@ module _ {X K : Type 0} {rule : Ghosts K X} where
                   it.1,
                   subst (λ n. HasGoneOut (layout_of old) (next_of old) n lane it.0) (sym (next word))
                       (out_one (layout_of old) (next_of old) slot (table_of old) (table_of new) lane it.0
-                      (subst (λ n. IsWord (room_of old) n (next_of old) slot) many word) it.2),
+                      (subst (λ n. IsWord (room_of old) n (next_of old) slot) many word) (can place lane is)
+                      (same_open (lanes_of old) (lanes_of new) place lane it.0 taking is it.1) it.2),
                 ));
           }
 

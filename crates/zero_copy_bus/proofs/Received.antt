@@ -1,10 +1,10 @@
 -- What came to a subscriber, one call after the other.
 use Rattle.std.proofs.Common.{◌≡◌, ℕ, ◌+◌, ◌%◌, ◌<◌, ◌≤◌, List, [], ◌∷◌, ◌++◌, refl, sym, ap, subst, ◌∙◌, inl, inr}
 use Rattle.std.specs.Prelude.{Some, None}
-use Rattle.lock_free.specs.Queues.Item.TheVariants.{Index}
-use Rattle.lock_free.specs.Queues.Contracts.{HasPopped}
-use Rattle.lock_free.specs.Queues.Rings.{QueueId}
-use Rattle.lock_free.specs.Passes.{Goes}
+use Rattle.model.specs.declared.event.Item.TheVariants.{Index}
+use Rattle.lock_free_queues.specs.Queues.Contracts.{HasPopped}
+use Rattle.lock_free_queues.specs.Queues.Rings.{QueueId}
+use Rattle.history.specs.Passes.{Goes}
 use Rattle.zero_copy_bus.specs.declared.subscriber.Subscriber.{Subscriber}
 use Rattle.zero_copy_bus.specs.Ends.{expected_at, layout_at, place_at, receives_queue, receives_view, shape_of, HasHad}
 use Rattle.zero_copy_bus.specs.Sequences.{Delivers}

@@ -1,10 +1,10 @@
 -- The law of what went out by a lane: by that of the two ends of a channel.
 use Rattle.std.proofs.Common.{◌≡◌, ℕ, ◌+◌, ◌-◌, ◌^◌, ◌<◌, List, [], ◌++◌, length, sym, ap, subst, ◌∙◌, append-nil}
-use Rattle.lock_free.specs.HistoryView.View.{View}
-use Rattle.lock_free.specs.Queues.Contracts.{HasJoined, HasReleased}
-use Rattle.lock_free.specs.Queues.Role.TheVariants as roles
-use Rattle.lock_free.specs.Queues.Rings.{QueueId, queue_of, view}
-use Rattle.lock_free.specs.Passes.{Goes}
+use Rattle.history.specs.declared.view.View.{View}
+use Rattle.lock_free_queues.specs.Queues.Contracts.{HasJoined, HasReleased}
+use Rattle.steps.specs.declared.queues.roles.Role.TheVariants as roles
+use Rattle.lock_free_queues.specs.Queues.Rings.{QueueId, queue_of, view}
+use Rattle.history.specs.Passes.{Goes}
 use Rattle.zero_copy_bus.specs.declared.outlet.Outlet.{Outlet}
 use Rattle.zero_copy_bus.specs.Ends.{shape_of}
 use Rattle.zero_copy_bus.specs.Outlets.{sends_view, waits_queue, waits_view, IsNew, WasLet, WasTakenIn}

@@ -1,6 +1,6 @@
 -- Numbers that rise, one list after another.
 use Rattle.std.proofs.Common.{◌≡◌, lit<, lit≤, ℕ, ◌+◌, ◌<◌, ◌≤◌, List, [], ◌∷◌, ◌++◌, refl, sym, ap, subst, ◌∙◌, inl, inr, arith}
-use Rattle.zero_copy_bus.specs.Sequences.{Delivers, Rises}
+use Rattle.zero_copy_bus.specs.Sequences.{AreAll, Delivers, Rises}
 
 -- 0 and 1 are missed, then 4
 row : Rises 0 (2 ∷ 3 ∷ 5 ∷ []) 6
@@ -29,6 +29,23 @@ behind_last h = let other : 9 ≡ 2 + 1 = h.1 in absurd (omega arith)
 no_more_than_all : Rises 3 [] 4 → ⊥
 no_more_than_all h = let other : 4 ≡ 3 = h in absurd (omega arith)
 
+-- all of them, and none
+all_of_three : AreAll 2 5 (2 ∷ 3 ∷ 4 ∷ [])
+all_of_three = (refl, (refl, (refl, refl)))
+
+all_of_none : AreAll 7 7 []
+all_of_none = refl
+
+-- refused: one is missing, the first one is, the last one is
+one_is_missing : AreAll 2 5 (2 ∷ 4 ∷ []) → ⊥
+one_is_missing h = let other : 4 ≡ 2 + 1 = h.1.0 in absurd (omega arith)
+
+first_is_missing : AreAll 2 5 (3 ∷ 4 ∷ []) → ⊥
+first_is_missing h = let other : 3 ≡ 2 = h.0 in absurd (omega arith)
+
+last_is_missing : AreAll 2 5 (2 ∷ 3 ∷ []) → ⊥
+last_is_missing h = let other : 5 ≡ 3 + 1 = h.1.1 in absurd (omega arith)
+
 -- of three numbers that came the second is older than the first, and not delivered
 delivered : Delivers 2 (3 ∷ 2 ∷ 7 ∷ []) (3 ∷ 7 ∷ []) 8
 delivered = inr (lit≤ tt, 7 ∷ [], refl, inl (lit< tt, inr (lit≤ tt, [], refl, (refl, refl))))
@@ -53,6 +70,10 @@ delivers_rise from next (n ∷ ns) ds (inr h) = subst (λ l. Rises from l next) 
 pub rises_then : (a b c : ℕ) (xs ys : List ℕ) → Rises a xs b → Rises b ys c → Rises a (xs ++ ys) c
 rises_then a b c [] ys none more = subst (λ n. Rises n ys c) none more
 rises_then a b c (x ∷ xs) ys h more = (h.0, rises_then (x + 1) b c xs ys h.1 more)
+
+pub all_then : (a b c : ℕ) (xs ys : List ℕ) → AreAll a b xs → AreAll b c ys → AreAll a c (xs ++ ys)
+all_then a b c [] ys none more = subst (λ n. AreAll n c ys) none more
+all_then a b c (x ∷ xs) ys h more = (h.0, all_then (x + 1) b c xs ys h.1 more)
 
 -- all of them lie in between
 pub rises_on : (a b : ℕ) (xs : List ℕ) → Rises a xs b → a ≤ b

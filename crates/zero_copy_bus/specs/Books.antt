@@ -1,8 +1,8 @@
 -- The table of who holds each slot: what it says of a pass of the pool, and how it changes.
 use Rattle.std.specs.Prelude.{◌≡◌, ◌≢◌, ◌⊎◌, ◌↔◌, ℕ, ◌+◌, ◌<◌, false, Option, Some, List, sum_by, count_by, slice_index_or, if◌then◌else◌}
 use Rattle.std.specs.Int.{bit_at}
-use Rattle.lock_free.specs.HistoryHeld.{claims, frees}
-use Rattle.lock_free.specs.HistoryView.View.{View}
+use Rattle.history.specs.Held.{claims, frees}
+use Rattle.history.specs.declared.view.View.{View}
 use Rattle.zero_copy_bus.specs.declared.holders.Holder.{Holder}
 use Rattle.zero_copy_bus.specs.declared.holders.Holders.{Holders}
 use Rattle.zero_copy_bus.specs.Holders.{nobody, publisher, is_held, Has, SameBut, GainsNobody}

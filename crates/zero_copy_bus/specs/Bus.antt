@@ -1,11 +1,11 @@
 -- What clauses see of a bus, and which sizes it may have.
 use Rattle.std.specs.Prelude.{◌≡◌, ℕ, ◌-◌, ◌^◌, ◌≤◌, None}
 use Rattle.zero_copy_slots.specs.declared.Keeps.{Ghosts}
-use Rattle.lock_free.specs.Container.Names.{container_refusal}
-use Rattle.lock_free.specs.Enums.{capacity_refusal}
-use Rattle.lock_free.specs.UniqueIndexSet.{set_refusal}
-use Rattle.lock_free.specs.UniqueIndexSet as sets
-use Rattle.lock_free.specs.declared.mpmc.unique_index_set.Pass.{Pass}
+use Rattle.lock_free_owners.specs.Container.Names.{container_refusal}
+use Rattle.steps.specs.Enums.{capacity_refusal}
+use Rattle.lock_free_sets.specs.UniqueIndexSet.{set_refusal}
+use Rattle.lock_free_sets.specs.UniqueIndexSet as sets
+use Rattle.lock_free_sets.specs.declared.mpmc.unique_index_set.Pass.{Pass}
 use Rattle.zero_copy_bus.specs.declared.bus.Bus.{Bus}
 use Rattle.zero_copy_bus.specs.declared.bus.Sizes.{Sizes}
 use Rattle.zero_copy_bus.specs.Stores.{set_in}

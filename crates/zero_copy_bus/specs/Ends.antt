@@ -1,20 +1,22 @@
 -- What clauses see of the ends of a bus.
-use Rattle.std.specs.Prelude.{◌≡◌, ◌≢◌, ◌⊎◌, ℕ, ◌/◌, ◌%◌, ◌<◌, ◌≤◌, true, Ok, Option, Some, None, List, [], ◌∷◌, slice_get, vec_len}
+use Rattle.std.specs.Prelude.{◌≡◌, ◌≢◌, ◌⊎◌, ℕ, ◌/◌, ◌%◌, ◌<◌, ◌≤◌, false, Ok, Err, Option, Some, None, List, [], ◌∷◌, slice_get, vec_len}
+use Rattle.steps.specs.declared.container.enums.ContainerRemoveError.{ContainerRemoveError}
+use Rattle.steps.specs.declared.indices.enums.ReleaseMode.TheVariants.{Default}
 use Rattle.zero_copy_slots.specs.declared.Keeps.{Ghosts}
-use Rattle.lock_free.specs.Coding.{Coding}
-use Rattle.lock_free.specs.Container.Handles.{knows, pass_in}
-use Rattle.lock_free.specs.Container.Names.{code_of}
-use Rattle.lock_free.specs.Container.Contracts.{HasAdded, WasNotAdded}
-use Rattle.lock_free.specs.Robust.Contracts.{WasFreed}
-use Rattle.lock_free.specs.HistoryView.View.{View}
-use Rattle.lock_free.specs.Queues.Item.TheVariants.{Index}
-use Rattle.lock_free.specs.Passes.{Goes}
-use Rattle.lock_free.specs.Queues.Rings.{QueueId, consumer_queue, consumer_view, producer_queue, producer_view, queue_of, view}
-use Rattle.lock_free.specs.Queues.Role.TheVariants as roles
-use Rattle.lock_free.specs.Queues.Contracts.{HasReleased, PopFoundNone, PopOldest, PushRefused}
-use Rattle.lock_free.specs.Share.{Share}
-use Rattle.lock_free.specs.UniqueIndexSet.{SetId}
-use Rattle.lock_free.specs.declared.mpmc.container.ContainerHandle.{ContainerHandle}
+use Rattle.model.specs.Coding.{Coding}
+use Rattle.lock_free_owners.specs.Container.Handles.{knows, pass_in}
+use Rattle.lock_free_owners.specs.Container.Names.{code_of}
+use Rattle.lock_free_owners.specs.Container.Contracts.{HasAdded, IsRightRemove, WasNotAdded}
+use Rattle.lock_free_owners.specs.Robust.Contracts.{WasFreed}
+use Rattle.history.specs.declared.view.View.{View}
+use Rattle.model.specs.declared.event.Item.TheVariants.{Index}
+use Rattle.history.specs.Passes.{Goes}
+use Rattle.lock_free_queues.specs.Queues.Rings.{QueueId, consumer_queue, consumer_view, producer_queue, producer_view, queue_of, view}
+use Rattle.steps.specs.declared.queues.roles.Role.TheVariants as roles
+use Rattle.lock_free_queues.specs.Queues.Contracts.{HasReleased, PopFoundNone, PopOldest, PushRefused}
+use Rattle.threaded.specs.declared.share.Share.{Share}
+use Rattle.lock_free_sets.specs.UniqueIndexSet.{SetId}
+use Rattle.lock_free_owners.specs.declared.mpmc.container.ContainerHandle.{ContainerHandle}
 use Rattle.zero_copy_bus.specs.declared.error.LoanFailure.{LoanFailure}
 use Rattle.zero_copy_bus.specs.declared.error.LoanFailure.TheVariants.{NoSlot, NoRecord, StillRead}
 use Rattle.zero_copy_bus.specs.declared.error.ReclaimFailure.{ReclaimFailure}
@@ -31,9 +33,9 @@ use Rattle.zero_copy_bus.specs.declared.subscriber.Left.{Left}
 use Rattle.zero_copy_bus.specs.declared.subscriber.Sample.{Sample}
 use Rattle.zero_copy_bus.specs.declared.subscriber.Seat.{Seat}
 use Rattle.zero_copy_bus.specs.declared.subscriber.Subscriber.{Subscriber}
-use Rattle.zero_copy_bus.specs.Outlets.{holders_in, open_in, waits_queue, EachLane, StaysOrLost}
+use Rattle.zero_copy_bus.specs.Outlets.{holder_of, holders_in, open_in, waits_queue, AtLane, EachLane, EachOther, IsSettled, StaysOrLost, WasLetOf}
 use Rattle.zero_copy_bus.specs.Pools as pools
-use Rattle.zero_copy_bus.specs.Books.{ChangesAt, IsLoaned}
+use Rattle.zero_copy_bus.specs.Books.{CanSend, ChangesAt, IsLoaned}
 use Rattle.zero_copy_bus.specs.Holders.{publisher}
 use Rattle.zero_copy_bus.specs.Sequences.{Delivers}
 use Rattle.zero_copy_loans.specs.Numbers.{Shape, ReceivesOn}
@@ -137,6 +139,11 @@ module _ {X K : Type 0} {rule : Ghosts K X} where
   abbrev pub roll_of : Publisher X K rule → Roll
   roll_of p = p.roll
 
+  -- the slot is on loan, and no subscriber has it
+  abbrev pub CanSendToAll : Publisher X K rule → ℕ → Type 0
+  CanSendToAll p slot =
+      (place : ℕ) (lane : Outlet) → slice_get (lanes_of p) place ≡ Some lane → CanSend (table_of p) slot (holder_of lane)
+
   -- what one who left had was of the lane of its place
   abbrev pub IsOfLane : Left → Publisher X K rule → Type 0
   IsOfLane left p =
@@ -212,8 +219,15 @@ module _ {X K : Type 0} {rule : Ghosts K X} where
   -- the registry was given a record of the seat's place, by this owner
   abbrev pub IsLetIn : ℕ → Seat X K rule → Subscriber X K rule → Type 0
   IsLetIn owner seat s =
-      (index : ℕ) × HasAdded (record { value = place_before seat; owner = owner }) (Ok index)
+      HasAdded (record { value = place_before seat; owner = owner }) (Ok (record_of s).index)
       (members_before seat) (members_view s)
+
+  -- the registry was asked to remove its record, and keeps it: at the last step of that call its owner did not have its index
+  abbrev pub WasKept : Subscriber X K rule → ContainerRemoveError → Type 0
+  WasKept s failure =
+      (after : Subscriber X K rule) × (record_of after ≡ record_of s)
+      × IsRightRemove (record { index = (record_of s).index; owner = (record_of s).owner; mode = Default }) (Err failure)
+      (members_view s) (members_view after)
 
   -- what it knows of the queue that it receives from, and of the one by which it gives back
   abbrev pub receives_view : Subscriber X K rule → View ℕ
@@ -257,18 +271,30 @@ module _ {X K : Type 0} {rule : Ghosts K X} where
   abbrev pub TookNoneBack : ℕ → Subscriber X K rule → Subscriber X K rule → Type 0
   TookNoneBack slot old new = PushRefused (returns_queue old).capacity (Index slot) (returns_view old) (returns_view new)
 
-  -- the lane of its place is none of one who takes part
+  -- its place is that of a lane, and nobody takes part there
   abbrev pub IsHidden : Subscriber X K rule → Publisher X K rule → Type 0
-  IsHidden s p = slice_get (open_in (lanes_of p)) (place_at s) ≢ Some true
+  IsHidden s p = slice_get (open_in (lanes_of p)) (place_at s) ≡ Some false
 
-  -- why one did not subscribe: nobody was given a lane; or the registry refused one who had a seat; or one was let in whom the look
-  -- does not show, and he has left again, or the registry did not forget him
+  -- One was let in as this owner, at a lane that was let to it (`seat`). Then all lanes were settled, and it is not seen to take part
+  -- (`update`).
+  pub record WasNotShown (owner : ℕ) (old new : Publisher X K rule) (s : Subscriber X K rule) : Type 0 where
+    pub its : (record_of s).owner ≡ owner
+    pub between : List Outlet
+    pub leased : AtLane (place_at s) (WasLetOf (receives_queue s) (receives_view s)) (lanes_of old) between
+    pub others : EachOther (place_at s) StaysOrLost (lanes_of old) between
+    pub settled : EachLane (IsSettled (roll_of new) (table_of old) (table_of new)) between (lanes_of new)
+    pub hidden : IsHidden s new
+
+  -- Why one did not subscribe. Nobody was given a lane; or the registry refused one who had a seat, and the other lanes stay; or one
+  -- was let in whom the look does not show, and it has left again, or the registry keeps it.
   abbrev pub WasNotSubscribed : ℕ → Publisher X K rule → Publisher X K rule → SubscribeFailure → Type 0
   WasNotSubscribed owner old new NoSeat = EachLane StaysOrLost (lanes_of old) (lanes_of new)
   WasNotSubscribed owner old new (NotLetIn failure) =
       (seat : Seat X K rule) × (left : Seat X K rule)
+      × AtLane (place_before seat) (WasLetOf (receives_at seat) (receives_before seat)) (lanes_of old) (lanes_of new)
+      × EachOther (place_before seat) StaysOrLost (lanes_of old) (lanes_of new)
       × WasNotAdded (place_before seat) owner failure (members_before seat) (members_before left)
   WasNotSubscribed owner old new NotSeen =
-      (s : Subscriber X K rule) × (left : Left) × IsHidden s new
+      (s : Subscriber X K rule) × (left : Left) × WasNotShown owner old new s
       × WasFreed (record_of s).index (record_of s).owner (members_view s) (members_left left) × HasLeft s left
-  WasNotSubscribed owner old new (NotRemoved failure) = (s : Subscriber X K rule) × IsHidden s new
+  WasNotSubscribed owner old new (NotRemoved failure) = (s : Subscriber X K rule) × WasNotShown owner old new s × WasKept s failure

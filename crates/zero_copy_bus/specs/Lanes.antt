@@ -1,5 +1,5 @@
 -- What names the queues of a lane.
-use Rattle.lock_free.specs.Queues.Rings.{QueueId, queue_id}
+use Rattle.lock_free_queues.specs.Queues.Rings.{QueueId, queue_id}
 use Rattle.zero_copy_bus.specs.declared.lane.Lane.{Lane}
 
 abbrev pub submission_of : Lane → QueueId

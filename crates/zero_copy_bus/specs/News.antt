@@ -1,9 +1,9 @@
 -- What clauses see of news.
 use Rattle.std.specs.Prelude.{ℕ, Bool, IsFalse}
-use Rattle.lock_free.specs.Bits.Calls.{capacity_of}
-use Rattle.lock_free.specs.Bits.Handles.{knows, set_in}
-use Rattle.lock_free.specs.Bits.Contracts.{HasSet, StoodOnce}
-use Rattle.lock_free.specs.HistoryView.View.{View}
+use Rattle.lock_free_sets.specs.Bits.Calls.{capacity_of}
+use Rattle.lock_free_sets.specs.Bits.Handles.{knows, set_in}
+use Rattle.lock_free_sets.specs.Bits.Contracts.{HasSet, StoodOnce}
+use Rattle.history.specs.declared.view.View.{View}
 use Rattle.zero_copy_bus.specs.declared.news.News.{News}
 use Rattle.zero_copy_bus.specs.declared.news.Notifier.{Notifier}
 use Rattle.zero_copy_bus.specs.declared.news.Listener.{Listener}

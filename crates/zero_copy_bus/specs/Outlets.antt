@@ -3,14 +3,14 @@ use Rattle.std.specs.Prelude.{◌≡◌, ◌≢◌, ◌⊎◌, ◌↔◌, ℕ, �
 use Rattle.std.specs.Prelude.{List, ◌++◌, length, map, slice_get, Contains, IsTrue, is_some}
 use Rattle.std.specs.Int.{bit_at}
 use Rattle.history.specs.Views.{first_view}
-use Rattle.lock_free.specs.HistoryView.View.{View}
-use Rattle.lock_free.specs.Passes.{Goes, MissesNothing}
-use Rattle.lock_free.specs.Queues.Item.TheVariants.{Index}
-use Rattle.lock_free.specs.Queues.Overflowing.{HasHistory, PushAdded, PushHandedBack}
-use Rattle.lock_free.specs.Queues.Reading.{handed_out, published}
-use Rattle.lock_free.specs.Queues.Rings.{QueueId, consumer_view, producer_view, queue_of, view}
-use Rattle.lock_free.specs.Queues.Contracts.{FoundNone, HasAcquired, HasJoined, HasReleased, HasSplit}
-use Rattle.lock_free.specs.Queues.Role.TheVariants as roles
+use Rattle.history.specs.declared.view.View.{View}
+use Rattle.history.specs.Passes.{Goes, MissesNothing}
+use Rattle.model.specs.declared.event.Item.TheVariants.{Index}
+use Rattle.lock_free_queues.specs.Queues.Overflowing.{HasHistory, PushAdded, PushHandedBack}
+use Rattle.model.specs.Families.Queues.Reading.{handed_out, published}
+use Rattle.lock_free_queues.specs.Queues.Rings.{QueueId, consumer_view, producer_view, queue_of, view}
+use Rattle.lock_free_queues.specs.Queues.Contracts.{FoundNone, HasAcquired, HasJoined, HasReleased, HasSplit}
+use Rattle.steps.specs.declared.queues.roles.Role.TheVariants as roles
 use Rattle.lock_free_queues.specs.declared.spsc.ring.Producer.{Producer}
 use Rattle.lock_free_queues.specs.declared.spsc.ring.rule.Kind as kinds
 use Rattle.steps.specs.declared.words.Words.{Ghosts}
@@ -73,6 +73,13 @@ is_lost Closed = false
 is_lost Open = false
 is_lost Lost = true
 
+-- who took part does no more, and else the lane is whose it was
+abbrev pub closes : Tenancy → Tenancy
+closes Free = Free
+closes Closed = Closed
+closes Open = Closed
+closes Lost = Lost
+
 abbrev pub is_let : Outlet → Bool
 is_let lane = lets lane.tenancy && has_end lane
 
@@ -96,8 +103,9 @@ pub record IsStill (old new : Outlet) : Type 0 where
   pub tenancy : new.tenancy ≡ old.tenancy
   pub passes : SamePasses old new
 
+-- or nobody had it, and nobody gets it any more
 abbrev pub StaysOrLost : Outlet → Outlet → Type 0
-StaysOrLost old new = IsStill old new ⊎ (new.tenancy ≡ Lost)
+StaysOrLost old new = IsStill old new ⊎ IsFree old × (new.tenancy ≡ Lost)
 
 -- where nobody had the other end that is still so, and who takes part is sent from the same pass
 pub record OthersStay (old new : Outlet) : Type 0 where
@@ -155,6 +163,16 @@ pub record WasTakenIn (theirs : View ℕ) (old new : Outlet) : Type 0 where
   pub none : new.sends ≡ None
   pub all : MissesNothing (waits_view new)
   pub history : HasHistory (waits_queue new).capacity (waits_view new)
+
+-- the lane is whose it was, of the same queue, and what came back by it is as it was
+pub record IsLeftBehind (old new : Outlet) : Type 0 where
+  pub tenancy : new.tenancy ≡ closes old.tenancy
+  pub queue : waits_queue new ≡ waits_queue old
+  pub takes : new.takes ≡ old.takes
+
+-- so it is, and where the publisher had its end both ends were taken in
+abbrev pub WasRejoined : View ℕ → Outlet → Outlet → Type 0
+WasRejoined theirs old new = IsLeftBehind old new × (IsTrue (has_end old) → WasTakenIn theirs old new)
 
 -- ---- the lanes of a bus, by their places
 
@@ -247,11 +265,12 @@ pub record IsTakenBack (slots : ℕ) (before after : List Holders) (old new : Ou
 -- ---- a look at who takes part
 
 -- Who has the other end takes part where the roll shows him, and his passes are as they were. Who lost it has no slot, and both
--- queues were found empty; any other has what he had. The guard that pushes stays.
+-- queues were found empty; any other has what he had. The guard that pushes stays, and the queue.
 pub record IsSettled (roll : Roll) (before after : List Holders) (old new : Outlet) : Type 0 where
   pub takes : IsTrue (is_open new) ↔ (IsTrue (is_let old) × IsShown roll (place_of old))
   pub passes : IsTrue (is_open new) → SamePasses old new
   pub end : new.sends ≡ old.sends
+  pub queue : waits_queue new ≡ waits_queue old
   pub lost : IsTrue (is_lost new.tenancy) → IsTrue (is_lost old.tenancy)
   pub still : IsFree old ⊎ (old.tenancy ≡ Lost) → IsStill old new
   pub free : IsFree new

@@ -1,7 +1,7 @@
 -- What clauses see of a pool.
 use Rattle.std.specs.Prelude.{◌≡◌, ℕ, List}
-use Rattle.lock_free.specs.Share.{Share}
-use Rattle.lock_free.specs.UniqueIndexSet.{SetId, capacity_of, set_of, share}
+use Rattle.threaded.specs.declared.share.Share.{Share}
+use Rattle.lock_free_sets.specs.UniqueIndexSet.{SetId, capacity_of, set_of, share}
 use Rattle.zero_copy_bus.specs.declared.holders.Holders.{Holders}
 use Rattle.zero_copy_bus.specs.declared.pool.Pool.{Pool}
 

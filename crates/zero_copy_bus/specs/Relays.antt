@@ -1,14 +1,14 @@
 -- What is known of all that went out by a lane, once its passes are taken in.
-use Rattle.std.specs.Prelude.{◌≡◌, ℕ, ◌+◌, ◌-◌, ◌^◌, ◌<◌, ◌≤◌, List, [], ◌++◌, length, None}
-use Rattle.lock_free.specs.HistoryView.View.{View}
-use Rattle.lock_free.specs.Queues.Contracts.{HasReleased}
-use Rattle.lock_free.specs.Queues.Role.TheVariants as roles
-use Rattle.lock_free.specs.Passes.{Goes}
+use Rattle.std.specs.Prelude.{◌≡◌, ℕ, ◌+◌, ◌-◌, ◌^◌, ◌<◌, ◌≤◌, List, [], ◌++◌, length, slice_get, Some, None, IsTrue}
+use Rattle.history.specs.declared.view.View.{View}
+use Rattle.lock_free_queues.specs.Queues.Contracts.{HasReleased}
+use Rattle.steps.specs.declared.queues.roles.Role.TheVariants as roles
+use Rattle.history.specs.Passes.{Goes}
 use Rattle.zero_copy_bus.specs.declared.outlet.Outlet.{Outlet}
 use Rattle.zero_copy_bus.specs.declared.publisher.Publisher.{Publisher}
 use Rattle.zero_copy_bus.specs.Ends.{lanes_of, layout_of, next_of, shape_of}
-use Rattle.zero_copy_bus.specs.Outlets.{open_in, sends_view, waits_queue, waits_view, EachLane, IsNew, WasLet, WasTakenIn}
-use Rattle.zero_copy_bus.specs.Sequences.{Rises}
+use Rattle.zero_copy_bus.specs.Outlets.{is_open, open_in, sends_view, waits_queue, waits_view, EachLane, IsNew, WasLet, WasTakenIn}
+use Rattle.zero_copy_bus.specs.Sequences.{AreAll, Rises}
 use Rattle.zero_copy_loans.specs.Numbers.{HasAll, IsPassedOn, ReceivesOn, SendsOn}
 use Rattle.zero_copy_loans.specs.declared.words.Layout.{Layout}
 use Rattle.zero_copy_slots.specs.declared.Keeps.{Ghosts}
@@ -46,12 +46,15 @@ pub record AreAmong (from to : ℕ) (numbers : List ℕ) : Type 0 where
   pub rise : Rises from numbers next
   pub below : next ≤ to
 
--- records of some of the numbers from the first one up to the last one went out by the lane
+-- Records of some of the numbers from the first one up to the last one went out by the lane: of all of them where its subscriber
+-- takes part.
 pub record HasGoneOut (layout : Layout) (from to : ℕ) (old new : Outlet) : Type 0 where
   pub numbers : List ℕ
   pub back : List ℕ
   pub sent : HasSentOn layout numbers back old new
+  pub taking : is_open new ≡ is_open old
   pub among : AreAmong from to numbers
+  pub all : IsTrue (is_open old) → AreAll from to numbers
 
 -- so by each lane of a publisher, from the number that was next up to the one that is
 pub record HasPublished {X K : Type 0} {rule : Ghosts K X} (old new : Publisher X K rule) : Type 0 where
@@ -60,9 +63,16 @@ pub record HasPublished {X K : Type 0} {rule : Ghosts K X} (old new : Publisher 
   pub later : next_of old ≤ next_of new
   pub lanes : EachLane (HasGoneOut (layout_of old) (next_of old) (next_of new)) (lanes_of old) (lanes_of new)
 
--- Of some of the numbers from the first one up to the last one a beginning was received or came back, each once, and both in order.
-pub record HasHeard (from to : ℕ) (received : List ℕ) : Type 0 where
+-- Records of all numbers from the first one up to the last one went out by the lane. Its pass knows that just these did, which of them
+-- came back, and that these were received. So a beginning was received or came back, each once, and both in order.
+pub record HasHeard (layout : Layout) (from to : ℕ) (received : List ℕ) (lane : Outlet) : Type 0 where
   pub sent : List ℕ
   pub back : List ℕ
-  pub among : AreAmong from to sent
+  pub every : AreAll from to sent
+  pub all : HasAllOf layout sent back received lane
   pub passed_on : IsPassedOn sent received back
+
+-- so it is of the lane at a place, up to the number that is next
+abbrev pub HasHeardAt : {X K : Type 0} {rule : Ghosts K X} → Publisher X K rule → ℕ → ℕ → List ℕ → Type 0
+HasHeardAt p place from received =
+    (lane : Outlet) × (slice_get (lanes_of p) place ≡ Some lane) × HasHeard (layout_of p) from (next_of p) received lane

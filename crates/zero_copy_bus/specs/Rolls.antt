@@ -1,14 +1,14 @@
 -- What clauses see of the publisher's end of the registry.
 use Rattle.std.specs.Prelude.{◌≡◌, ◌≢◌, ℕ, ◌<◌, Bool, true, Some, IsFalse}
-use Rattle.lock_free.specs.Container.Handles.{container_in, knows}
-use Rattle.lock_free.specs.Container.Names.{capacity_of, IsLeft}
-use Rattle.lock_free.specs.Container.RecoverContract as recoveries
-use Rattle.lock_free.specs.Container.Contracts.{HasUpdatedState}
-use Rattle.lock_free.specs.ContainerState.{shown_at}
-use Rattle.lock_free.specs.HistoryLooks.{ShowsCopied}
-use Rattle.lock_free.specs.HistoryView.View.{View}
-use Rattle.lock_free.specs.ReleaseMode.TheVariants.{Default}
-use Rattle.lock_free.specs.ReleaseState.{ReleaseState}
+use Rattle.lock_free_owners.specs.Container.Handles.{container_in, knows}
+use Rattle.lock_free_owners.specs.Container.Names.{capacity_of, IsLeft}
+use Rattle.lock_free_owners.specs.Container.RecoverContract as recoveries
+use Rattle.lock_free_owners.specs.Container.Contracts.{HasUpdatedState}
+use Rattle.steps.specs.Container.State.{shown_at}
+use Rattle.history.specs.ContainerLooks.{ShowsCopied}
+use Rattle.history.specs.declared.view.View.{View}
+use Rattle.steps.specs.declared.indices.enums.ReleaseMode.TheVariants.{Default}
+use Rattle.steps.specs.declared.indices.enums.ReleaseState.{ReleaseState}
 use Rattle.zero_copy_bus.specs.declared.roll.Roll.{Roll}
 
 -- what the looks at the registry know of it, and what its other calls do

@@ -11,6 +11,11 @@ abbrev pub Rises : ℕ → List ℕ → ℕ → Type 0
 Rises from [] next = next ≡ from
 Rises from (n ∷ ns) next = (from ≤ n) × Rises (n + 1) ns next
 
+-- they are just those from the first one on, up to this one
+abbrev pub AreAll : ℕ → ℕ → List ℕ → Type 0
+AreAll from to [] = to ≡ from
+AreAll from to (n ∷ ns) = (n ≡ from) × AreAll (n + 1) to ns
+
 -- of the numbers that came, these were delivered: each one that is not below that which was expected then
 abbrev pub Delivers : ℕ → List ℕ → List ℕ → ℕ → Type 0
 Delivers from [] ds next = (ds ≡ []) × (next ≡ from)

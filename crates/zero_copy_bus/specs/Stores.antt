@@ -1,5 +1,5 @@
 -- What clauses see of the slots of a bus.
-use Rattle.lock_free.specs.declared.mpmc.unique_index_set.UniqueIndexSet.{UniqueIndexSet}
+use Rattle.lock_free_sets.specs.declared.mpmc.unique_index_set.UniqueIndexSet.{UniqueIndexSet}
 use Rattle.zero_copy_slots.specs.declared.Keeps.{Ghosts}
 use Rattle.zero_copy_bus.specs.declared.store.Store.{Store}
 

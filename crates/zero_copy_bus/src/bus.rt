@@ -1,9 +1,9 @@
 //! What the publisher and the subscribers of a bus share.
 ghost use Rattle.std.specs.Prelude.{◌≡◌, ◌-◌, ◌^◌, ◌<◌, None, IfOk, OnOk};
-ghost use Rattle.lock_free.specs.Enums.{capacity_refusal};
-ghost use Rattle.lock_free.specs.Shares.{all_shares};
-ghost use Rattle.lock_free.specs.Unique.Held.{HoldsNothing};
-ghost use Rattle.lock_free.specs.UniqueIndexSet.{made, set_of, share};
+ghost use Rattle.steps.specs.Enums.{capacity_refusal};
+ghost use Rattle.threaded.specs.Shares.{all_shares};
+ghost use Rattle.lock_free_sets.specs.Unique.Held.{HoldsNothing};
+ghost use Rattle.lock_free_sets.specs.UniqueIndexSet.{made, set_of, share};
 ghost use Rattle.zero_copy_bus.specs.Books.{AllFree};
 ghost use Rattle.zero_copy_bus.specs.Ends as ends;
 ghost use Rattle.zero_copy_bus.specs.Outlets.{holders_in, open_in, AllNew, HaveTheirPlaces, NobodyTakesPart};
@@ -16,7 +16,7 @@ use crate::pool::Pool;
 use crate::publisher::Publisher;
 use crate::roll::{Members, Roll};
 use crate::store::Store;
-use lock_free::mpmc::unique_index_set::Pass;
+use lock_free_sets::mpmc::unique_index_set::Pass;
 use std::alloc::Global;
 use std::sync::Wait;
 use zero_copy_slots::{Anything, Keeps};

@@ -1,6 +1,6 @@
 //! Why a bus, or an end of it, is not made.
-use lock_free::mpmc::container::{ContainerAddFailure, ContainerRemoveError};
-use lock_free::mpmc::unique_index_set_enums::{
+use lock_free_owners::mpmc::container::{ContainerAddFailure, ContainerRemoveError};
+use lock_free_sets::mpmc::unique_index_set_enums::{
     UniqueIndexCreationError, UniqueIndexSetAcquireFailure,
 };
 use thiserror::Error;

@@ -2,20 +2,20 @@
 //! slots come back by an index queue that has room for all of them.
 ghost use Rattle.std.specs.Option.{ForSome};
 ghost use Rattle.std.specs.Prelude.{◌≡◌, ◌-◌, ◌^◌, ◌<◌, false, None, IfSome, OnOk};
-ghost use Rattle.lock_free.specs.Enums.{capacity_refusal};
-ghost use Rattle.lock_free.specs.Queues.Contracts.{HasReleased};
+ghost use Rattle.steps.specs.Enums.{capacity_refusal};
+ghost use Rattle.lock_free_queues.specs.Queues.Contracts.{HasReleased};
 ghost use Rattle.history.specs.Views.{first_view};
-ghost use Rattle.lock_free.specs.Passes.{Goes};
-ghost use Rattle.lock_free.specs.Queues.Rings.{capacity_of, consumer_queue, consumer_view, producer_view, queue_of, view, IsPassOf};
-ghost use Rattle.lock_free.specs.Queues.Role.TheVariants as roles;
+ghost use Rattle.history.specs.Passes.{Goes};
+ghost use Rattle.lock_free_queues.specs.Queues.Rings.{capacity_of, consumer_queue, consumer_view, producer_view, queue_of, view, IsPassOf};
+ghost use Rattle.steps.specs.declared.queues.roles.Role.TheVariants as roles;
 ghost use Rattle.zero_copy_bus.specs.Holders.{bit_of};
 
 use crate::holders::Holder;
 use crate::outlet::Outlet;
-use lock_free::mpmc::unique_index_set_enums::UniqueIndexCreationError;
-use lock_free::spsc::index_queue::IndexQueue;
-use lock_free::spsc::safely_overflowing_index_queue::SafelyOverflowingIndexQueue;
-use lock_free::spsc::{index_queue, safely_overflowing_index_queue as overflow};
+use lock_free_queues::spsc::index_queue::IndexQueue;
+use lock_free_queues::spsc::safely_overflowing_index_queue::SafelyOverflowingIndexQueue;
+use lock_free_queues::spsc::{index_queue, safely_overflowing_index_queue as overflow};
+use lock_free_sets::mpmc::unique_index_set_enums::UniqueIndexCreationError;
 use std::alloc::Global;
 
 /// The two queues, each with a pass from which the ends get theirs. The publisher's end takes that of the first one whole.

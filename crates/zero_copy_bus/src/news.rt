@@ -1,12 +1,12 @@
 //! Which topics have news: a flag for each, which stands from a notice until a listener takes it. So who listens to many
 //! topics looks at one set of flags, and not at the queue of each.
 ghost use Rattle.std.specs.Prelude.{◌≡◌, ◌-◌, ◌^◌, ◌<◌, ◌↔◌, None, IsTrue, IsFalse, IfOk, IfSome, OnOk};
-ghost use Rattle.lock_free.specs.Bits.Calls.{IsPassOf};
-ghost use Rattle.lock_free.specs.Bits.Contracts.{AllClearOnce, HasReset};
-ghost use Rattle.lock_free.specs.Enums.{capacity_refusal};
+ghost use Rattle.lock_free_sets.specs.Bits.Calls.{IsPassOf};
+ghost use Rattle.lock_free_sets.specs.Bits.Contracts.{AllClearOnce, HasReset};
+ghost use Rattle.steps.specs.Enums.{capacity_refusal};
 
-use lock_free::mpmc::bit_set::{BitSet, Handle, Pass};
-use lock_free::mpmc::unique_index_set_enums::UniqueIndexCreationError;
+use lock_free_sets::mpmc::bit_set::{BitSet, Handle, Pass};
+use lock_free_sets::mpmc::unique_index_set_enums::UniqueIndexCreationError;
 use std::alloc::Global;
 use std::sync::Wait;
 

@@ -2,10 +2,10 @@
 ghost use Rattle.std.specs.Option.{ForSome};
 ghost use Rattle.std.specs.Prelude.{◌≡◌, ◌<◌, ◌⊎◌, ◌&&◌, true, false, None, IsTrue, IsFalse, IfNone, IfSome};
 ghost use Rattle.history.specs.Views.{first_view};
-ghost use Rattle.lock_free.specs.Passes.{Goes};
-ghost use Rattle.lock_free.specs.Queues.Overflowing.{consumer_queue, consumer_view, PushAdded, PushHandedBack};
-ghost use Rattle.lock_free.specs.Queues.Rings.{producer_queue, queue_id, queue_of, view, IsPassOf};
-ghost use Rattle.lock_free.specs.Queues.Contracts.{FoundNone};
+ghost use Rattle.history.specs.Passes.{Goes};
+ghost use Rattle.lock_free_queues.specs.Queues.Overflowing.{consumer_queue, consumer_view, PushAdded, PushHandedBack};
+ghost use Rattle.lock_free_queues.specs.Queues.Rings.{producer_queue, queue_id, queue_of, view, IsPassOf};
+ghost use Rattle.lock_free_queues.specs.Queues.Contracts.{FoundNone};
 ghost use Rattle.zero_copy_bus.specs.Books.{GainsNone, GainsOnly, HasNone, KeepsAllOrNone, KeepsLoans, KeepsOthers, KeepsSlots};
 ghost use Rattle.zero_copy_bus.specs.Holders.{bit_of};
 ghost use Rattle.zero_copy_bus.specs.Pools.{slots_of, table_of, IsSame};
@@ -17,8 +17,8 @@ use crate::holders::Holder;
 use crate::lane::Inlet;
 use crate::pool::Pool;
 use crate::roll::Roll;
-use lock_free::spsc::safely_overflowing_index_queue::SafelyOverflowingIndexQueue;
-use lock_free::spsc::{index_queue, safely_overflowing_index_queue as overflow};
+use lock_free_queues::spsc::safely_overflowing_index_queue::SafelyOverflowingIndexQueue;
+use lock_free_queues::spsc::{index_queue, safely_overflowing_index_queue as overflow};
 use std::sync::Wait;
 use zero_copy_loans::words::Layout;
 use zero_copy_slots::Laid;
@@ -67,7 +67,8 @@ impl<'a> Drop for Outlet<'a> {
 
 impl<'a> Outlet<'a> {
     ghost use Rattle.zero_copy_bus.specs.declared.outlet.Tenancy.TheVariants as tenancies;
-    ghost use Rattle.zero_copy_bus.specs.Outlets.{has_end, has_gained, holder_of, is_lost, is_open, place_of, sends_view, takes_view, waits_queue, waits_view};
+    ghost use Rattle.zero_copy_bus.specs.Outlets.{closes, has_end, has_gained, holder_of, is_lost, is_open, place_of, sends_view, takes_view};
+    ghost use Rattle.zero_copy_bus.specs.Outlets.{waits_queue, waits_view};
     ghost use Rattle.zero_copy_bus.specs.Outlets.{AreShown, FoundEmpty, IsFree, IsNew, IsServed, IsSettled, IsStill, IsTakenBack, SamePasses};
     ghost use Rattle.zero_copy_bus.specs.Outlets.{StaysOrLost, WasLet, WasEnded, WasTakenIn};
     ghost use Rattle.zero_copy_bus.specs.Rolls.{IsShown};
@@ -134,6 +135,7 @@ impl<'a> Outlet<'a> {
         ensures holder { holder_of self.new ≡ holder_of self.old }
         ensures tenancy { self.new.tenancy ≡ self.old.tenancy }
         ensures queue { waits_queue self.new ≡ waits_queue self.old }
+        ensures takes { self.new.takes ≡ self.old.takes }
         ensures none { self.new.sends ≡ None }
         ensures ended { IsTrue (has_end self.old) → WasEnded self.old (waits_view self.new) }
         ensures still { self.old.sends ≡ None → self.new.waits ≡ self.old.waits }
@@ -144,11 +146,15 @@ impl<'a> Outlet<'a> {
     }
 
     /// Takes in the pass of one who had the other end, and this end with it. Then it is known all that went out by the lane,
-    /// where no pass of it was dropped. Nothing more is sent until the lane is let again.
+    /// where no pass of it was dropped. Nothing more is sent until the lane is let again. It stays his until it is settled, and
+    /// what he gave back still waits.
     pub fn rejoin(&mut self, other: overflow::Pass)
         requires { queue_of other ≡ waits_queue self.old }
         ensures holder { holder_of self.new ≡ holder_of self.old }
         ensures closed { is_open self.new ≡ false }
+        ensures tenancy { self.new.tenancy ≡ closes self.old.tenancy }
+        ensures queue { waits_queue self.new ≡ waits_queue self.old }
+        ensures takes { self.new.takes ≡ self.old.takes }
         ensures taken_in { IsTrue (has_end self.old) → WasTakenIn (view other) self.old self.new }
     {
         self.take_in();
@@ -241,6 +247,7 @@ impl<'a> Outlet<'a> {
         ensures taking { is_open self.new ≡ (takes_part && has_end self.old) }
         ensures passes { IsTrue takes_part → SamePasses self.old self.new }
         ensures end { self.new.sends ≡ self.old.sends }
+        ensures queue { waits_queue self.new ≡ waits_queue self.old }
         ensures lost { is_lost self.new.tenancy ≡ false }
         ensures free { IsFree self.new → HasNone (holder_of self.old) (table_of pool.new) × FoundEmpty self.old self.new }
         ensures kept { ¬ IsFree self.new → table_of pool.new ≡ table_of pool.old }
@@ -295,6 +302,7 @@ impl<'a> Outlet<'a> {
         ensures none { IsTrue result → HasNone (holder_of self.old) (table_of pool.new) }
         ensures empty { IsTrue result → FoundEmpty self.old self.new }
         ensures end { self.new.sends ≡ self.old.sends }
+        ensures queue { waits_queue self.new ≡ waits_queue self.old }
         ensures others { KeepsOthers (holder_of self.old) (table_of pool.old) (table_of pool.new) }
         ensures refused { IsFalse result → table_of pool.new ≡ table_of pool.old }
         ensures pool { IsSame pool.old pool.new }

@@ -1,9 +1,9 @@
 //! The publisher's ends of all lanes, each at the place by which its subscriber is named.
 ghost use Rattle.std.specs.Prelude.{◌≡◌, ◌↔◌, true, false, Some, count_by, length, slice_get, slice_set, IfNone, IfSome, IsFalse, IsTrue};
 ghost use Rattle.zero_copy_bus.specs.Books.{GainsNone, GainsOnly, KeepsAllOrNone, KeepsLoans};
-ghost use Rattle.lock_free.specs.Queues.Rings.{consumer_queue, consumer_view, queue_of, view};
-ghost use Rattle.zero_copy_bus.specs.Outlets.{has_end, has_gained, holders_in, open_in, AreShown, AtLane, EachLane, EachOther, HaveTheirPlaces};
-ghost use Rattle.zero_copy_bus.specs.Outlets.{waits_queue, IsServed, IsSettled, IsTakenBack, KeepsRest, StaysOrLost, WasLetOf, WasTakenIn};
+ghost use Rattle.lock_free_queues.specs.Queues.Rings.{consumer_queue, consumer_view, queue_of, view};
+ghost use Rattle.zero_copy_bus.specs.Outlets.{has_gained, holders_in, open_in, AreShown, AtLane, EachLane, EachOther, HaveTheirPlaces};
+ghost use Rattle.zero_copy_bus.specs.Outlets.{waits_queue, IsServed, IsSettled, IsTakenBack, KeepsRest, StaysOrLost, WasLetOf, WasRejoined};
 ghost use Rattle.zero_copy_bus.specs.Pools.{slots_of, table_of, IsSame};
 ghost use Rattle.zero_copy_bus.specs.declared.outlet.Outlet.{Outlet};
 ghost use Rattle.zero_copy_loans.specs.Words.{IsWord};
@@ -13,7 +13,7 @@ use crate::lane::Inlet;
 use crate::outlet::Outlet;
 use crate::pool::Pool;
 use crate::roll::Roll;
-use lock_free::spsc::safely_overflowing_index_queue as overflow;
+use lock_free_queues::spsc::safely_overflowing_index_queue as overflow;
 use std::sync::Wait;
 use zero_copy_loans::words::Layout;
 use zero_copy_slots::Laid;
@@ -40,7 +40,7 @@ pub fn rejoin_at(outlets: &mut Vec<Outlet<'_>>, place: usize, other: overflow::P
     requires { (lane : Outlet) × (slice_get outlets.old.items place ≡ Some lane) × (queue_of other ≡ waits_queue lane) }
     ensures holders { holders_in outlets.new.items ≡ holders_in outlets.old.items }
     ensures closed { open_in outlets.new.items ≡ slice_set (open_in outlets.old.items) place false }
-    ensures taken_in { AtLane place (λ old new. IsTrue (has_end old) → WasTakenIn (view other) old new) outlets.old.items outlets.new.items }
+    ensures taken_in { AtLane place (WasRejoined (view other)) outlets.old.items outlets.new.items }
     ensures others { EachOther place (λ old new. new ≡ old) outlets.old.items outlets.new.items }
 {
     outlets[place].rejoin(other);

@@ -1,16 +1,16 @@
 //! The slots of a bus, and who holds each. A slot is out of the set of free indices as long as anybody holds it.
 ghost use Rattle.std.specs.Prelude.{◌≡◌, ◌<◌, ◌≤◌, ◌↔◌, true, false, length, replicate, IsTrue, IsFalse, IfOk, OnErr};
-ghost use Rattle.lock_free.specs.Shares.{IsAll};
-ghost use Rattle.lock_free.specs.Unique.Held.{HoldsNothing};
-ghost use Rattle.lock_free.specs.UniqueIndexSet.{capacity_of, made, set_of, share, view, IsPassOf};
+ghost use Rattle.threaded.specs.Shares.{IsAll};
+ghost use Rattle.lock_free_sets.specs.Unique.Held.{HoldsNothing};
+ghost use Rattle.lock_free_sets.specs.UniqueIndexSet.{capacity_of, made, set_of, share, view, IsPassOf};
 ghost use Rattle.zero_copy_bus.specs.Books.{holders_at, AllFree, CanSend, ChangesAt, Exchanges, GainsNone, GainsOnly};
 ghost use Rattle.zero_copy_bus.specs.Books.{HasNone, HasSlot, IsBookOf, KeepsOthers, held_number};
 ghost use Rattle.zero_copy_bus.specs.Holders.{is_held, nobody};
 
 use crate::error::BusError;
 use crate::holders::{Holder, Holders};
-use lock_free::mpmc::unique_index_set::{Pass, UniqueIndexSet};
-use lock_free::mpmc::unique_index_set_enums::UniqueIndexSetAcquireFailure;
+use lock_free_sets::mpmc::unique_index_set::{Pass, UniqueIndexSet};
+use lock_free_sets::mpmc::unique_index_set_enums::UniqueIndexSetAcquireFailure;
 use std::alloc::Global;
 use std::sync::Wait;
 

@@ -1,13 +1,13 @@
 //! The end of a bus that writes records and publishes them.
 ghost use Rattle.std.specs.Prelude.{◌≡◌, ◌+◌, ◌-◌, ◌^◌, ◌<◌, ◌≤◌, ◌↔◌, Bool, true};
 ghost use Rattle.std.specs.Prelude.{false, Some, count_by, slice_get, slice_set, vec_len, IsTrue, IsFalse, IfOk, IfErr, IfNone, IfSome};
-ghost use Rattle.lock_free.specs.Shares.{IsAll};
-ghost use Rattle.lock_free.specs.UniqueIndexSet.{set_of, share};
+ghost use Rattle.threaded.specs.Shares.{IsAll};
+ghost use Rattle.lock_free_sets.specs.UniqueIndexSet.{set_of, share};
 ghost use Rattle.zero_copy_bus.specs.Books.{holders_at, AllFree, ChangesAt, GainsNone, GainsOnly, IsLoaned};
 ghost use Rattle.zero_copy_bus.specs.Books.{KeepsAllOrNone, KeepsLoans, KeepsLoansBut, held_number};
 ghost use Rattle.zero_copy_bus.specs.Holders.{is_held, publisher};
-ghost use Rattle.zero_copy_bus.specs.Outlets.{has_end, has_gained, holders_in, open_in, AreShown, AtLane, EachLane, EachOther, HaveTheirPlaces};
-ghost use Rattle.zero_copy_bus.specs.Outlets.{IsServed, IsSettled, IsTakenBack, KeepsRest, NobodyTakesPart, OthersStay, StaysOrLost, WasLetOf, WasTakenIn};
+ghost use Rattle.zero_copy_bus.specs.Outlets.{has_gained, holders_in, open_in, AreShown, AtLane, EachLane, EachOther, HaveTheirPlaces};
+ghost use Rattle.zero_copy_bus.specs.Outlets.{IsServed, IsSettled, IsTakenBack, KeepsRest, NobodyTakesPart, OthersStay, StaysOrLost, WasLetOf, WasRejoined};
 ghost use Rattle.zero_copy_bus.specs.Pools as pools;
 ghost use Rattle.zero_copy_bus.specs.Rolls.{HasLooked, HasRecovered};
 ghost use Rattle.zero_copy_slots.specs.Slots.{slots_in};
@@ -20,8 +20,8 @@ use crate::outlets::{free_inlet, rejoin_at, send_to_all, settle_all, take_all_ba
 use crate::pool::Pool;
 use crate::roll::Roll;
 use crate::subscriber::{Left, Seat, Subscriber};
-use lock_free::mpmc::container::OwnerId;
-use lock_free::mpmc::unique_index_set::Pass;
+use lock_free_owners::mpmc::container::OwnerId;
+use lock_free_sets::mpmc::unique_index_set::Pass;
 use std::sync::Wait;
 use zero_copy_loans::words::Layout;
 use zero_copy_slots::{Anything, Keeps, Slots};
@@ -65,7 +65,7 @@ impl<'a, X: Drop, K: Keeps<X>> Drop for Publisher<'a, X, K> {
 impl<'a, X: Drop, K: Keeps<X>> Publisher<'a, X, K> {
     ghost use Rattle.zero_copy_bus.specs.Ends.{emptied, expected_at, first_before, lanes_of, layout_at, layout_before, layout_of, loaned, next_of, place_at};
     ghost use Rattle.zero_copy_bus.specs.Ends.{place_before, roll_of, room_of, set_in, share_in, slots_at, slots_before, slots_of, spares_in, table_of};
-    ghost use Rattle.zero_copy_bus.specs.Ends.{place_left, receives_at, receives_before, receives_left, receives_queue, receives_view};
+    ghost use Rattle.zero_copy_bus.specs.Ends.{place_left, receives_at, receives_before, receives_left, receives_queue, receives_view, record_of};
     ghost use Rattle.zero_copy_bus.specs.Relays.{LanesPassOn};
     ghost use Rattle.zero_copy_bus.specs.Ends.{HasNumber, IsKept, IsOfLane, IsSame, IsTakenFor, WasNotSubscribed};
 
@@ -98,7 +98,8 @@ impl<'a, X: Drop, K: Keeps<X>> Publisher<'a, X, K> {
     }
 
     /// A seat for a subscriber, who may take it in another thread. Who does takes part from the next `update` on, and receives no
-    /// record that was published before the seat was made. None where no place is free, or no further pass can be counted.
+    /// record that was published before the seat was made. None where no place is free, or no further pass can be counted. A lane
+    /// may be lost then, and nobody gets it any more.
     pub fn seat(&mut self) -> Option<Seat<'a, X, K>>
         ensures slots { IfSome result (λ s. slots_before s ≡ slots_of self.old) }
         ensures layout { IfSome result (λ s. layout_before s ≡ layout_of self.old) }
@@ -127,16 +128,17 @@ impl<'a, X: Drop, K: Keeps<X>> Publisher<'a, X, K> {
     }
 
     /// A subscriber who takes part at once: a `seat`, a `join` and an `update` in one. The lane of its place takes part, and
-    /// `publish` serves the lanes that do. That the words of this lane come to this subscriber is only tested.
+    /// `publish` serves the lanes that do. It receives from the queue of that lane (`leased`).
     ///
     /// Refused where nobody is given a lane (`NoSeat`), and where the registry does not let the owner in (`NotLetIn`). Where the
-    /// look does not show it, it leaves again (`NotSeen`), or the registry keeps it (`NotRemoved`).
+    /// look does not show it, it leaves again (`NotSeen`), or its owner does not have its record any more (`NotRemoved`).
     pub fn subscribe(
         &mut self,
         rt: &impl Wait,
         owner: OwnerId,
     ) -> Result<Subscriber<'a, X, K>, SubscribeFailure>
         ensures part { IfOk result (λ s. slice_get (open_in (lanes_of self.new)) (place_at s) ≡ Some true) }
+        ensures owner { IfOk result (λ s. (record_of s).owner ≡ owner) }
         ensures slots { IfOk result (λ s. slots_at s ≡ slots_of self.old) }
         ensures first { IfOk result (λ s. expected_at s ≡ next_of self.old) }
         ensures layout { IfOk result (λ s. layout_at s ≡ layout_of self.old) }
@@ -154,7 +156,7 @@ impl<'a, X: Drop, K: Keeps<X>> Publisher<'a, X, K> {
         };
         let subscriber = match seat.join(rt, owner) {
             Ok(subscriber) => subscriber,
-            Err((failure, _)) => return Err(SubscribeFailure::NotLetIn(failure)),
+            Err((failure, _seat)) => return Err(SubscribeFailure::NotLetIn(failure)),
         };
         self.update(rt);
         if takes_part(&self.outlets, subscriber.place()) {
@@ -196,13 +198,15 @@ impl<'a, X: Drop, K: Keeps<X>> Publisher<'a, X, K> {
         );
     }
 
-    /// Takes in what one who left had of its lane, and the publisher's end of that lane. If no pass of it was dropped it is known
-    /// then which records went out by the lane, and what became of each (`passes_on`). Nothing more goes out there, and the next
-    /// `update` takes back what he had, and frees the lane.
+    /// Takes in the pass of one who left, of the queue by which records went out to him, and the publisher's end of that queue. If
+    /// no pass of it was dropped it is known then which records went out by the lane, and what became of each (`passes_on`). What
+    /// he had of the registry and of the queue by which he gave slots back is dropped, so nobody has the whole share of those.
+    ///
+    /// Nothing more goes out there, also not to another who got the lane since. The lane stays whose it was, and the table as it
+    /// is. The next `update` takes back what he had, and frees the lane.
     pub fn rejoin(&mut self, left: Left<'_>)
         requires { IsOfLane left self.old }
-        ensures taken_in { AtLane (place_left left.entry) (λ old new. IsTrue (has_end old) → WasTakenIn (receives_left left.entry) old new)
-            (lanes_of self.old) (lanes_of self.new) }
+        ensures taken_in { AtLane (place_left left.entry) (WasRejoined (receives_left left.entry)) (lanes_of self.old) (lanes_of self.new) }
         ensures others { EachOther (place_left left.entry) (λ old new. new ≡ old) (lanes_of self.old) (lanes_of self.new) }
         ensures taking { open_in (lanes_of self.new) ≡ slice_set (open_in (lanes_of self.old)) (place_left left.entry) false }
         ensures table { table_of self.new ≡ table_of self.old }
@@ -213,9 +217,9 @@ impl<'a, X: Drop, K: Keeps<X>> Publisher<'a, X, K> {
         rejoin_at(&mut self.outlets, place as usize, submission);
     }
 
-    /// Tells a caller's proof what became of the records that went out by a lane. From where the lane is let until its passes are
-    /// taken in (`rejoin`), a beginning of them was received or came back unread, each once, and both in order. What went out
-    /// later still waits then. It does nothing.
+    /// Tells a caller's proof what became of the records that went out by a lane. From where a lane is let for the first time until
+    /// its passes are taken in (`rejoin`), with no `update` in between that did not show its subscriber, a beginning of them was
+    /// received or came back unread, each once, and both in order. What went out later still waits then. It does nothing.
     pub fn passes_on(&self)
         ensures { LanesPassOn }
     {}

@@ -1,11 +1,11 @@
 //! Who takes part in a bus. A container has a record for each subscriber, which is the place of its lane, at an index of its
 //! owner's.
 ghost use Rattle.std.specs.Prelude.{◌≡◌, ◌↔◌, ℕ, None, Some, IsSome, IsTrue, IsFalse, OnOk};
-ghost use Rattle.lock_free.specs.Container.Handles.{container_in, knows};
-ghost use Rattle.lock_free.specs.Container.Names.{container_id, container_of, container_refusal, unnumbered, IsPassOf, IsStateOf};
+ghost use Rattle.lock_free_owners.specs.Container.Handles.{container_in, knows};
+ghost use Rattle.lock_free_owners.specs.Container.Names.{container_id, container_of, container_refusal, unnumbered, IsPassOf, IsStateOf};
 
-use lock_free::mpmc::container::{Container, ContainerState, Handle, OwnerId, Pass};
-use lock_free::mpmc::unique_index_set_enums::{ReleaseMode, UniqueIndexCreationError};
+use lock_free_owners::mpmc::container::{Container, ContainerState, Handle, OwnerId, Pass};
+use lock_free_sets::mpmc::unique_index_set_enums::{ReleaseMode, UniqueIndexCreationError};
 use std::alloc::Global;
 use std::sync::Wait;
 

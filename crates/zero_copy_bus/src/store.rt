@@ -1,12 +1,12 @@
 //! The slots of a bus: which are free, and the records that lie in them.
 ghost use Rattle.std.specs.Prelude.{◌≡◌, None, IfOk, OnOk};
-ghost use Rattle.lock_free.specs.Shares.{all_shares};
-ghost use Rattle.lock_free.specs.Unique.Held.{HoldsNothing};
-ghost use Rattle.lock_free.specs.UniqueIndexSet.{capacity_of, made, set_refusal, share, IsPassOf};
+ghost use Rattle.threaded.specs.Shares.{all_shares};
+ghost use Rattle.lock_free_sets.specs.Unique.Held.{HoldsNothing};
+ghost use Rattle.lock_free_sets.specs.UniqueIndexSet.{capacity_of, made, set_refusal, share, IsPassOf};
 ghost use Rattle.zero_copy_slots.specs.Slots.{slots_in};
 
 use crate::error::BusError;
-use lock_free::mpmc::unique_index_set::{Pass, UniqueIndexSet};
+use lock_free_sets::mpmc::unique_index_set::{Pass, UniqueIndexSet};
 use std::alloc::Global;
 use zero_copy_slots::{Anything, Keeps, Slots};
 

@@ -1,19 +1,21 @@
 //! The end of a bus that receives records and reads them.
 ghost use Rattle.std.specs.Prelude.{◌≡◌, ◌<◌, IsTrue, IsFalse, IfOk, IfErr, IfSome, IfNone, List, ℕ};
-ghost use Rattle.lock_free.specs.Container.Contracts.{WasNotAdded};
-ghost use Rattle.lock_free.specs.Queues.Item.TheVariants.{Index};
-ghost use Rattle.lock_free.specs.Queues.Contracts.{HasReleased, PopOldest, PushDone};
-ghost use Rattle.lock_free.specs.Queues.Role.TheVariants as roles;
-ghost use Rattle.lock_free.specs.Robust.Contracts.{WasFreed};
+ghost use Rattle.lock_free_owners.specs.Container.Contracts.{WasNotAdded};
+ghost use Rattle.lock_free_owners.specs.Container.Handles.{container_in};
+ghost use Rattle.lock_free_owners.specs.Container.Names.{IsOwn};
+ghost use Rattle.model.specs.declared.event.Item.TheVariants.{Index};
+ghost use Rattle.lock_free_queues.specs.Queues.Contracts.{HasReleased, PopOldest, PushDone};
+ghost use Rattle.steps.specs.declared.queues.roles.Role.TheVariants as roles;
+ghost use Rattle.lock_free_owners.specs.Robust.Contracts.{WasFreed};
 ghost use Rattle.zero_copy_bus.specs.Sequences.{Rises};
 ghost use Rattle.zero_copy_slots.specs.Slots.{number_in, slot_in, slots_in};
 
 use crate::lane::Inlet;
-use lock_free::mpmc::container::{
+use lock_free_owners::mpmc::container::{
     ContainerAddFailure, ContainerHandle, ContainerRemoveError, Handle, OwnerId,
 };
-use lock_free::mpmc::unique_index_set_enums::ReleaseMode;
-use lock_free::spsc::{index_queue, safely_overflowing_index_queue as overflow};
+use lock_free_queues::spsc::{index_queue, safely_overflowing_index_queue as overflow};
+use lock_free_sets::mpmc::unique_index_set_enums::ReleaseMode;
 use std::sync::Wait;
 use zero_copy_loans::error::ReadFailure;
 use zero_copy_loans::words::Layout;
@@ -44,9 +46,10 @@ impl<'a, X: Drop, K: Keeps<X>> Drop for Seat<'a, X, K> {
 }
 
 impl<'a, X: Drop, K: Keeps<X>> Seat<'a, X, K> {
-    ghost use Rattle.lock_free.specs.Queues.Rings.{consumer_queue, consumer_view};
+    ghost use Rattle.lock_free_queues.specs.Queues.Rings.{consumer_queue, consumer_view};
     ghost use Rattle.zero_copy_bus.specs.Ends.{code_before, expected_at, first_before, layout_at, layout_before, members_before, place_at};
-    ghost use Rattle.zero_copy_bus.specs.Ends.{place_before, receives_at, receives_before, receives_queue, receives_view, slots_at, slots_before, IsLetIn};
+    ghost use Rattle.zero_copy_bus.specs.Ends.{place_before, receives_at, receives_before, receives_queue, receives_view, record_of};
+    ghost use Rattle.zero_copy_bus.specs.Ends.{slots_at, slots_before, IsLetIn};
 
     pub(crate) fn of(
         inlet: Inlet<'a>,
@@ -80,6 +83,7 @@ impl<'a, X: Drop, K: Keeps<X>> Seat<'a, X, K> {
         owner: OwnerId,
     ) -> Result<Subscriber<'a, X, K>, (ContainerAddFailure, Seat<'a, X, K>)>
         ensures joined { IfOk result (IsLetIn owner self.entry) }
+        ensures owner { IfOk result (λ s. (record_of s).owner ≡ owner) }
         ensures slots { IfOk result (λ s. slots_at s ≡ slots_before self.entry) }
         ensures layout { IfOk result (λ s. layout_at s ≡ layout_before self.entry) }
         ensures first { IfOk result (λ s. expected_at s ≡ first_before self.entry) }
@@ -159,6 +163,7 @@ pub struct Subscriber<'a, X: Drop, K: Keeps<X> = Anything> {
     record: ContainerHandle,
     place: u64,
     ghost fits: { layout.places ≡ slots_in records.now },
+    ghost own: { IsOwn (container_in members) «record» },
 }
 
 impl<'a, X: Drop, K: Keeps<X>> Drop for Subscriber<'a, X, K> {
@@ -175,7 +180,8 @@ impl<'a, X: Drop, K: Keeps<X>> Drop for Subscriber<'a, X, K> {
     }
 }
 
-/// What a subscriber that left had of its lane and of the registry. The publisher takes in the pass of what it received (`rejoin`).
+/// What a subscriber that left had: of the registry, of the queue that it received from, and of the one by which it gave slots
+/// back. `rejoin` takes in the second alone.
 pub struct Left<'a> {
     pub members: Handle<'a, u64>,
     pub submission: overflow::Pass,
@@ -215,7 +221,7 @@ impl<'a> Left<'a> {
 impl<'a, X: Drop, K: Keeps<X>> Subscriber<'a, X, K> {
     ghost use Rattle.zero_copy_bus.specs.Ends.{expected_at, layout_at, members_left, members_view, number_of, numbers_of, place_at, place_left};
     ghost use Rattle.zero_copy_bus.specs.Ends.{queue_left, received, receives_left, receives_queue, receives_view, record_of, returns_left};
-    ghost use Rattle.zero_copy_bus.specs.Ends.{returns_view, slots_at, word_at, HasHad, HasLeft, IsUnread, ReceivedNone, TookNoneBack};
+    ghost use Rattle.zero_copy_bus.specs.Ends.{returns_view, slots_at, word_at, HasHad, HasLeft, IsUnread, ReceivedNone, TookNoneBack, WasKept};
 
     /// The oldest record that waits. Its number is above that of each record that it received before, and not below that of the
     /// first one that was published after it got its seat. None where none waits, or where what came is no such record, and is
@@ -288,13 +294,15 @@ impl<'a, X: Drop, K: Keeps<X>> Subscriber<'a, X, K> {
     }
 
     /// Takes part no more: its record is out of the registry, and both roles of its lane are free. What it had comes back once the
-    /// publisher looks who takes part (`update`).
+    /// publisher looks who takes part (`update`). Refused where its owner does not have the record any more, as after a `recover`
+    /// of this owner. The subscriber is gone then, too.
     pub fn leave(self, rt: &impl Wait) -> Result<Left<'a>, ContainerRemoveError>
         ensures removed { IfOk result
             (λ l. WasFreed (record_of self.entry).index (record_of self.entry).owner (members_view self.entry) (members_left l)) }
         ensures received { IfOk result (λ l. HasReleased roles.Consumer (receives_view self.entry) (receives_left l)) }
         ensures returned { IfOk result (λ l. HasReleased roles.Producer (returns_view self.entry) (returns_left l)) }
         ensures left { IfOk result (HasLeft self.entry) }
+        ensures kept { IfErr result (WasKept self.entry) }
     {
         let Subscriber {
             inlet,
@@ -305,7 +313,10 @@ impl<'a, X: Drop, K: Keeps<X>> Subscriber<'a, X, K> {
             record,
             place,
         } = self;
-        members.remove(rt, record, ReleaseMode::Default)?;
+        match members.remove(rt, record, ReleaseMode::Default) {
+            Ok(_) => {}
+            Err(failure) => return Err(failure),
+        }
         let (submission, completion) = inlet.release();
         Ok(Left {
             members,

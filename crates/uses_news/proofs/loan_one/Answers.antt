@@ -1,6 +1,11 @@
 use Rattle.std.proofs.Common.{refl, ◌∙◌}
-use Rattle.zero_copy_bus.proofs.Published.{published_back, published_none, published_then}
+use Rattle.zero_copy_bus.specs.Ends.{loaned}
+use Rattle.zero_copy_bus.proofs.Published.{can_send_to_all, published_back, published_none, published_then}
 use Rattle.uses_news.proofs.loan_one.Goals as goal
+
+pub returns-in-Ok-clause-can : goal.returns-in-Ok-clause-can
+returns-in-Ok-clause-can g c =
+    can_send_to_all (loaned c.in-Ok.loan) c.collect.new.self c.loan.new.self c.in-Ok.ensures.free c.in-Ok.ensures.changes c.in-Ok.ensures.loaned
 
 pub loop-init : goal.loop-init
 loop-init g c = record { next = refl; out = published_none _ _ refl refl refl }

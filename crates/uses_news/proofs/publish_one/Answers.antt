@@ -22,7 +22,8 @@ pub returns-clause-out : goal.returns-clause-out
 returns-clause-out g c =
     let sent = c.publish.ensures in
     published_then _ _ _ c.loan_one.ensures.out
-    (published_one _ c.loan_one.new.publisher c.publish.new.self sent.same.layout sent.taking sent.served sent.next sent.unsent (λ no. (sent.last no).1))
+    (published_one _ c.loan_one.new.publisher c.publish.new.self c.in_ok-loan.ensures.can sent.same.layout
+    sent.taking sent.served sent.next sent.unsent (λ no. (sent.last no).1))
 
 pub returns-clause-few : goal.returns-clause-few
 returns-clause-few g c before =

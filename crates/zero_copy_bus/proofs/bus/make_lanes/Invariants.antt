@@ -1,5 +1,5 @@
 use Rattle.std.proofs.Common.{◌≡◌, ◌-◌, ◌^◌, ◌<◌, None}
-use Rattle.lock_free.specs.Enums.{capacity_refusal}
+use Rattle.steps.specs.Enums.{capacity_refusal}
 use Rattle.zero_copy_bus.proofs.bus.make_lanes.Given as given
 
 abbrev pub invariant-loop : given.invariant-loop

@@ -1,5 +1,5 @@
 use Rattle.std.proofs.Common.{◌<◌, ap, subst, sym}
-use Rattle.lock_free.specs.Queues.Overflowing.{QueueId, consumer_queue, consumer_view}
+use Rattle.lock_free_queues.specs.Queues.Overflowing.{QueueId, consumer_queue, consumer_view}
 use Rattle.zero_copy_bus.proofs.ViewLemmas.{found_since}
 use Rattle.zero_copy_bus.proofs.outlet.empty.Goals as goal
 

@@ -1,6 +1,6 @@
 use Rattle.std.proofs.Common.{◌≡◌}
-use Rattle.lock_free.specs.History.{IsBeginning}
-use Rattle.lock_free.specs.Queues.Overflowing.{consumer_queue, consumer_view}
+use Rattle.history.specs.History.{IsBeginning}
+use Rattle.lock_free_queues.specs.Queues.Overflowing.{consumer_queue, consumer_view}
 use Rattle.zero_copy_bus.proofs.outlet.empty.Given as given
 
 abbrev pub invariant-loop : given.invariant-loop

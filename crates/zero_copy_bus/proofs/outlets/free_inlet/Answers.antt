@@ -1,5 +1,5 @@
 use Rattle.std.proofs.Common.{arith, rules, ◌∙◌}
-use Rattle.lock_free.specs.Queues.Rings.{consumer_queue, consumer_view}
+use Rattle.lock_free_queues.specs.Queues.Rings.{consumer_queue, consumer_view}
 use Rattle.zero_copy_bus.specs.Outlets.{holder_of, is_open, StaysOrLost, WasLetOf}
 use Rattle.zero_copy_bus.proofs.LaneLemmas.{done_all, get_is, map_set}
 use Rattle.zero_copy_bus.proofs.LanesStay.{at_lane, done_next, each_other, stays}

@@ -1,6 +1,6 @@
-use Rattle.std.specs.Prelude.{false, IsTrue}
-use Rattle.lock_free.specs.Queues.Rings.{view}
-use Rattle.zero_copy_bus.specs.Outlets.{has_end, holder_of, is_open, WasTakenIn}
+use Rattle.std.specs.Prelude.{false}
+use Rattle.lock_free_queues.specs.Queues.Rings.{view}
+use Rattle.zero_copy_bus.specs.Outlets.{holder_of, is_open, WasRejoined}
 use Rattle.zero_copy_bus.proofs.LaneLemmas.{get_is, got_within, map_set}
 use Rattle.zero_copy_bus.proofs.LanesStay.{at_place, but_place, map_at}
 use Rattle.zero_copy_bus.proofs.outlets.rejoin_at.Goals as goal
@@ -22,7 +22,10 @@ returns-clause-taken_in c =
     let olds = c.args.outlets.now.items in
     let is = get_is olds c.args.place c.index_mut.result.now (got_within olds c.args.place c.requires.0 c.requires.1) c.index_mut.ensures.value in
     at_place olds c.args.place c.index_mut.result.now c.rejoin.new.self is
-    (λ old new. IsTrue (has_end old) → WasTakenIn (view c.args.other) old new) c.rejoin.ensures.taken_in
+    (WasRejoined (view c.args.other)) (
+      record { tenancy = c.rejoin.ensures.tenancy; queue = c.rejoin.ensures.queue; takes = c.rejoin.ensures.takes },
+      c.rejoin.ensures.taken_in,
+    )
 
 pub returns-clause-others : goal.returns-clause-others
 returns-clause-others c =

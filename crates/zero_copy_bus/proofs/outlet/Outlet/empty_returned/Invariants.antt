@@ -1,5 +1,5 @@
 use Rattle.std.proofs.Common.{◌≡◌}
-use Rattle.lock_free.specs.History.{IsBeginning}
+use Rattle.history.specs.History.{IsBeginning}
 use Rattle.zero_copy_bus.specs.Outlets.{holder_of, takes_view, waits_queue, waits_view}
 use Rattle.zero_copy_bus.proofs.outlet.Outlet.empty_returned.Given as given
 

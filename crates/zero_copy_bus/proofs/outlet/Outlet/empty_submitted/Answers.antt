@@ -1,7 +1,7 @@
 use Rattle.std.proofs.Common.{◌<◌, ◌∙◌, sym, subst}
-use Rattle.lock_free.specs.History.{IsBeginning}
-use Rattle.lock_free.proofs.HistoryKnown.{begins_further}
-use Rattle.lock_free.specs.Queues.Rings.{QueueId, consumer_view, view}
+use Rattle.history.specs.History.{IsBeginning}
+use Rattle.history.proofs.Known.{begins_further}
+use Rattle.lock_free_queues.specs.Queues.Rings.{QueueId, consumer_view, view}
 use Rattle.zero_copy_bus.proofs.ViewLemmas.{found_further}
 use Rattle.zero_copy_bus.proofs.outlet.Outlet.empty_submitted.Goals as goal
 

@@ -1,5 +1,5 @@
 use Rattle.std.proofs.Common.{refl, ap, ◌∙◌}
-use Rattle.lock_free.specs.Queues.Rings.{view}
+use Rattle.lock_free_queues.specs.Queues.Rings.{view}
 use Rattle.zero_copy_bus.specs.Outlets.{waits_view}
 use Rattle.zero_copy_bus.proofs.outlet.Outlet.inlet.Goals as goal
 

@@ -5,7 +5,7 @@ use Rattle.zero_copy_bus.specs.declared.holders.Holders.{Holders}
 use Rattle.zero_copy_bus.specs.declared.outlet.Outlet.{Outlet}
 use Rattle.zero_copy_bus.specs.declared.roll.Roll.{Roll}
 use Rattle.zero_copy_bus.specs.Books.{HasNone, holders_at}
-use Rattle.zero_copy_bus.specs.Outlets.{has_end, holder_of, is_lost, is_open, lets, place_of, FoundEmpty, IsFree, IsSettled, SamePasses}
+use Rattle.zero_copy_bus.specs.Outlets.{has_end, holder_of, is_lost, is_open, lets, place_of, waits_queue, FoundEmpty, IsFree, IsSettled, SamePasses}
 use Rattle.zero_copy_bus.specs.Rolls.{IsShown}
 use Rattle.zero_copy_bus.proofs.outlet.Outlet.settle_by.Goals as goal
 use Rattle.zero_copy_bus.proofs.outlet.Outlet.settle_by.Goals.{in-Closed, in-Open+else-not-has_changed}
@@ -15,10 +15,10 @@ settled : (roll : Roll) (before after : List Holders) (old new : Outlet) (takes 
     → is_open new ≡ (takes && has_end old)
     → (IsTrue takes ↔ IsShown roll (place_of old))
     → (IsTrue takes → SamePasses old new)
-    → new.sends ≡ old.sends → is_lost new.tenancy ≡ false
+    → new.sends ≡ old.sends → waits_queue new ≡ waits_queue old → is_lost new.tenancy ≡ false
     → (IsFree new → HasNone (holder_of old) after × FoundEmpty old new)
     → ((IsFree new → ⊥) → after ≡ before) → IsSettled roll before after old new
-settled roll before after old new takes is_let taking shown same end not_lost free kept =
+settled roll before after old new takes is_let taking shown same end queue not_lost free kept =
     record {
       takes = (
         λ on. (let both = and_parts takes (has_end old) (sym taking ∙ on) in (ap (λ b. b && has_end old) is_let ∙ both.1, shown.0 both.0)),
@@ -28,6 +28,7 @@ settled roll before after old new takes is_let taking shown same end not_lost fr
       );
       passes = λ on. same (and_parts takes (has_end old) (sym taking ∙ on)).0;
       end = end;
+      queue = queue;
       lost = λ is. absurd (true≢false (sym is ∙ not_lost));
       still =
           λ none.
@@ -44,7 +45,7 @@ pub returns-clause-settled : goal.returns-clause-settled
 returns-clause-settled g c =
     settled c.args.roll.now _ _ c.args.self.now c.settle.new.self c.has.result is_let c.settle.ensures.taking
     (subst (λ n. IsTrue c.has.result ↔ IsShown c.args.roll.now n) c.place.ensures c.has.ensures) c.settle.ensures.passes
-    c.settle.ensures.end c.settle.ensures.lost
+    c.settle.ensures.end c.settle.ensures.queue c.settle.ensures.lost
     c.settle.ensures.free c.settle.ensures.kept
   where
     is_let : lets c.args.self.now.tenancy ≡ true

@@ -1,5 +1,5 @@
 use Rattle.std.proofs.Common.{arith}
-use Rattle.lock_free.specs.Queues.Rings.{consumer_view}
+use Rattle.lock_free_queues.specs.Queues.Rings.{consumer_view}
 use Rattle.zero_copy_bus.specs.Outlets.{takes_view}
 use Rattle.zero_copy_bus.specs.Pools.{slots_of, table_of}
 use Rattle.zero_copy_bus.proofs.BookLemmas.{changes_keep, gains_both, keeps_both, keeps_loans}

@@ -1,5 +1,5 @@
 use Rattle.std.proofs.Common.{◌≤◌, sym, subst}
-use Rattle.lock_free.specs.Shares.{IsAll}
+use Rattle.threaded.specs.Shares.{IsAll}
 use Rattle.zero_copy_bus.proofs.BookLemmas.{all_are_held, as_many, held_from, holds_all, is_counted}
 use Rattle.zero_copy_bus.proofs.pool.Pool.borrowed.Goals as goal
 

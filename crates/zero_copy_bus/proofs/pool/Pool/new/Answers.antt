@@ -1,5 +1,5 @@
 use Rattle.std.proofs.Common.{◌≡◌, replicate, rules, sym, subst}
-use Rattle.lock_free.specs.UniqueIndexSet.{view}
+use Rattle.lock_free_sets.specs.UniqueIndexSet.{view}
 use Rattle.zero_copy_bus.specs.Books.{IsBookOf}
 use Rattle.zero_copy_bus.specs.Holders.{nobody}
 use Rattle.zero_copy_bus.proofs.BookLemmas.{book_opens}

@@ -1,9 +1,9 @@
 use Rattle.std.proofs.Common.{◌≡◌, ℕ, sym, ap, subst, ◌∙◌}
-use Rattle.std.specs.Prelude.{slice_get, Some, IsTrue}
-use Rattle.lock_free.specs.HistoryView.View.{View}
-use Rattle.lock_free.specs.Queues.Rings.{queue_of, view}
+use Rattle.std.specs.Prelude.{slice_get, Some}
+use Rattle.history.specs.declared.view.View.{View}
+use Rattle.lock_free_queues.specs.Queues.Rings.{queue_of, view}
 use Rattle.zero_copy_bus.specs.Ends.{receives_left}
-use Rattle.zero_copy_bus.specs.Outlets.{has_end, AreShown, AtLane, EachOther, HaveTheirPlaces, WasTakenIn}
+use Rattle.zero_copy_bus.specs.Outlets.{AreShown, AtLane, EachOther, HaveTheirPlaces, WasRejoined}
 use Rattle.zero_copy_bus.proofs.Leases.{shown_but}
 use Rattle.zero_copy_bus.proofs.publisher.Publisher.rejoin.Goals as goal
 
@@ -30,9 +30,8 @@ returns-clause-taken_in g c =
     let it = c.into_received-submission in
     let olds = c.args.self.now.outlets.items in
     let news = c.rejoin_at.new.outlets.items in
-    subst (λ k. AtLane k (λ old new. IsTrue (has_end old) → WasTakenIn (receives_left c.args.left) old new) olds news) it.ensures.place
-    (subst (λ (v : View ℕ). AtLane it.result.1 (λ old new. IsTrue (has_end old) → WasTakenIn v old new) olds news) (ap view it.ensures.pass)
-    c.rejoin_at.ensures.taken_in)
+    subst (λ k. AtLane k (WasRejoined (receives_left c.args.left)) olds news) it.ensures.place
+    (subst (λ (v : View ℕ). AtLane it.result.1 (WasRejoined v) olds news) (ap view it.ensures.pass) c.rejoin_at.ensures.taken_in)
 
 pub returns-clause-others : goal.returns-clause-others
 returns-clause-others g c =

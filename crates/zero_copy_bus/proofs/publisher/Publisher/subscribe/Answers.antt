@@ -3,7 +3,7 @@ use Rattle.std.specs.Prelude.{slice_get, Some, true}
 use Rattle.zero_copy_bus.specs.Books.{KeepsAllOrNone, KeepsLoans}
 use Rattle.zero_copy_bus.specs.Ends.{lanes_of, place_before, receives_at, receives_before, roll_of, table_of}
 use Rattle.zero_copy_bus.specs.Outlets.{open_in, EachOther, OthersStay}
-use Rattle.zero_copy_bus.proofs.Leases.{let_after, moved, others_after}
+use Rattle.zero_copy_bus.proofs.Leases.{let_after, moved, not_shown, others_after}
 use Rattle.zero_copy_bus.proofs.publisher.Publisher.subscribe.Goals as goal
 
 pub returns-then-takes_part-clause-all : goal.returns-then-takes_part-clause-all
@@ -47,15 +47,22 @@ returns-in-Err-leave-clause-all g c = subst (λ t. KeepsAllOrNone t (table_of c.
 pub returns-in-Err-leave-clause-loans : goal.returns-in-Err-leave-clause-loans
 returns-in-Err-leave-clause-loans g c = subst (λ t. KeepsLoans t (table_of c.update.new.self)) c.seat.ensures.table c.update.ensures.loans
 
+pub returns-in-Err-clause-refused : goal.returns-in-Err-clause-refused
+returns-in-Err-clause-refused g c =
+    (c.in-Some.seat, c.in-Err._seat, c.in-Some.ensures.leased, c.in-Some.ensures.others, c.in-Err.ensures.refused)
+
 pub returns-in-Ok-leave-clause-refused : goal.returns-in-Ok-leave-clause-refused
 returns-in-Ok-leave-clause-refused g c = (
   c.in-Ok.subscriber,
   c.in-Ok-leave._left,
-  λ is.
+  not_shown c.args.owner c.args.self.now c.seat.new.self c.update.new.self c.in-Some.seat c.in-Ok.subscriber c.in-Ok.ensures.owner
+      c.in-Ok.ensures.at c.in-Ok.ensures.receives.0 c.in-Ok.ensures.receives.1 c.in-Some.ensures.leased c.in-Some.ensures.others
+      c.seat.ensures.table c.update.ensures.settled
+      (λ is.
       true≢false
       (sym (c.takes_part.ensures.1
       (subst (λ k. slice_get (open_in (lanes_of c.update.new.self)) k ≡ Some true) (sym c.place.ensures) is))
-      ∙ c.if-takes_part.false),
+      ∙ c.if-takes_part.false)),
   c.in-Ok-leave.ensures.removed,
   c.in-Ok-leave.ensures.left,
 )
@@ -63,9 +70,13 @@ returns-in-Ok-leave-clause-refused g c = (
 pub returns-in-Err-leave-clause-refused : goal.returns-in-Err-leave-clause-refused
 returns-in-Err-leave-clause-refused g c = (
   c.in-Ok.subscriber,
-  λ is.
+  not_shown c.args.owner c.args.self.now c.seat.new.self c.update.new.self c.in-Some.seat c.in-Ok.subscriber c.in-Ok.ensures.owner
+      c.in-Ok.ensures.at c.in-Ok.ensures.receives.0 c.in-Ok.ensures.receives.1 c.in-Some.ensures.leased c.in-Some.ensures.others
+      c.seat.ensures.table c.update.ensures.settled
+      (λ is.
       true≢false
       (sym (c.takes_part.ensures.1
       (subst (λ k. slice_get (open_in (lanes_of c.update.new.self)) k ≡ Some true) (sym c.place.ensures) is))
-      ∙ c.if-takes_part.false),
+      ∙ c.if-takes_part.false)),
+  c.in-Err-leave.ensures.kept,
 )

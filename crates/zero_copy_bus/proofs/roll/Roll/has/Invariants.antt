@@ -1,5 +1,5 @@
 use Rattle.std.proofs.Common.{◌≢◌, ℕ, ◌<◌, Some}
-use Rattle.lock_free.specs.ContainerState.{shown_at}
+use Rattle.steps.specs.Container.State.{shown_at}
 use Rattle.zero_copy_bus.proofs.roll.Roll.has.Given as given
 
 abbrev pub invariant-loop-index : given.invariant-loop-index
