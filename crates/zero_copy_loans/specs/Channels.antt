@@ -1,12 +1,12 @@
 -- What clauses see of a channel: its parts, how many places it has, and what is known of all that went through it.
 use Rattle.std.specs.Prelude.{◌≡◌, ◌≤◌, ℕ, ◌+◌, List}
-use Rattle.lock_free.specs.HistoryView.View.{View}
-use Rattle.lock_free.specs.Queues.Contracts.{HasJoined, HasSplit}
-use Rattle.lock_free.specs.Queues.Overflowing.{HasHistory, MissesNothing}
-use Rattle.lock_free.specs.Queues.Rings.{QueueId, queue_id, queue_of, view}
-use Rattle.lock_free.specs.UniqueIndexSet as sets
-use Rattle.lock_free.specs.UniqueIndexSet.{capacity_of, IsPassOf}
-use Rattle.lock_free.specs.declared.mpmc.unique_index_set.UniqueIndexSet.{UniqueIndexSet}
+use Rattle.history.specs.declared.view.View.{View}
+use Rattle.lock_free_queues.specs.Queues.Contracts.{HasJoined, HasSplit}
+use Rattle.lock_free_queues.specs.Queues.Overflowing.{HasHistory, MissesNothing}
+use Rattle.lock_free_queues.specs.Queues.Rings.{QueueId, queue_id, queue_of, view}
+use Rattle.lock_free_sets.specs.UniqueIndexSet as sets
+use Rattle.lock_free_sets.specs.UniqueIndexSet.{capacity_of, IsPassOf}
+use Rattle.lock_free_sets.specs.declared.mpmc.unique_index_set.UniqueIndexSet.{UniqueIndexSet}
 use Rattle.zero_copy_loans.specs.declared.channel.Channel.{Channel}
 use Rattle.zero_copy_loans.specs.declared.receiver.ReceiverParts.{ReceiverParts}
 use Rattle.zero_copy_loans.specs.declared.sender.SenderParts.{SenderParts}

@@ -1,18 +1,18 @@
 -- What clauses see of the ends of a channel.
 use Rattle.std.specs.Prelude.{◌≡◌, ◌≢◌, ◌⊎◌, ℕ, ◌+◌, ◌%◌, ◌^◌, ◌<◌, ◌≤◌, Option, Some, None, List, [], ◌∷◌, slice_set, vec_len}
 use Rattle.std.specs.List.{range_with_len}
-use Rattle.lock_free.specs.HistoryView.View.{View}
-use Rattle.lock_free.specs.Loan.Places.{place_at}
-use Rattle.lock_free.specs.Loan.Sender as loans
-use Rattle.lock_free.specs.declared.spsc.loan.places.Place.{Place}
-use Rattle.lock_free.specs.declared.spsc.loan.places.Place.TheVariants.{Free, Loaned}
-use Rattle.lock_free.specs.Queues.Item.TheVariants.{Index}
-use Rattle.lock_free.specs.Queues.Rings.{QueueId, consumer_queue, consumer_view, producer_queue, producer_view, queue_of, view}
-use Rattle.lock_free.specs.Queues.Overflowing.{PushHandedBack}
-use Rattle.lock_free.specs.Queues.Contracts.{PopFoundNone, PopOldest, PushRefused}
-use Rattle.lock_free.specs.Unique.Contracts.{WasRefused}
-use Rattle.lock_free.specs.UniqueIndexSet.{set_of}
-use Rattle.lock_free.specs.declared.spsc.loan.LoanSender.{LoanSender}
+use Rattle.history.specs.declared.view.View.{View}
+use Rattle.lock_free_loans.specs.Loan.Places.{place_at}
+use Rattle.lock_free_loans.specs.Loan.Sender as loans
+use Rattle.lock_free_loans.specs.declared.spsc.loan.places.Place.{Place}
+use Rattle.lock_free_loans.specs.declared.spsc.loan.places.Place.TheVariants.{Free, Loaned}
+use Rattle.model.specs.declared.event.Item.TheVariants.{Index}
+use Rattle.lock_free_queues.specs.Queues.Rings.{QueueId, consumer_queue, consumer_view, producer_queue, producer_view, queue_of, view}
+use Rattle.lock_free_queues.specs.Queues.Overflowing.{PushHandedBack}
+use Rattle.lock_free_queues.specs.Queues.Contracts.{PopFoundNone, PopOldest, PushRefused}
+use Rattle.lock_free_sets.specs.Unique.Contracts.{WasRefused}
+use Rattle.lock_free_sets.specs.UniqueIndexSet.{set_of}
+use Rattle.lock_free_loans.specs.declared.spsc.loan.LoanSender.{LoanSender}
 use Rattle.zero_copy_loans.specs.declared.error.LoanFailure.{LoanFailure}
 use Rattle.zero_copy_loans.specs.declared.error.LoanFailure.TheVariants.{NoPlace, NoValue, StillRead}
 use Rattle.zero_copy_loans.specs.declared.error.ReadFailure.{ReadFailure}
@@ -122,11 +122,12 @@ module _ {X K : Type 0} {rule : Ghosts K X} where
       × (back.number ≡ next_of old) × (back.place ≡ place)
       × (sends_view new ≡ sends_view old) × (next_of new ≡ next_of old)
 
-  -- what the queue handed back: the oldest that waited, or its own where the queue takes none; or there is no such number, and
-  -- nothing was sent
+  -- what the queue handed back, by its number and place: the oldest that waited, or its own where the queue takes none; or there is
+  -- no such number, and nothing was sent
   abbrev pub HandsBack : ℕ → Back → Sender X K rule → Sender X K rule → Type 0
   HandsBack place back old new =
-      PushHandedBack (sends_queue old).capacity (word_next old place) (word_of (layout_of old).room back.number back.place)
+      (back.place < (layout_of old).room)
+      × PushHandedBack (sends_queue old).capacity (word_next old place) (word_of (layout_of old).room back.number back.place)
       (sends_view old) (sends_view new)
       ⊎ IsUnsent place back old new
 

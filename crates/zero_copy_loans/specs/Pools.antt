@@ -1,7 +1,7 @@
 -- What clauses see of a pool, of who takes buffers of it, and of a buffer.
 use Rattle.std.specs.Prelude.{◌≡◌, ℕ, ◌*◌, ◌<◌, Option, Some, None, IsSome, MatchOption}
 use Rattle.threaded.specs.declared.share.Share.{Share}
-use Rattle.lock_free.specs.UniqueIndexSet.{capacity_of, share, value_of}
+use Rattle.lock_free_sets.specs.UniqueIndexSet.{capacity_of, share, value_of}
 use Rattle.zero_copy_loans.specs.declared.error.PoolFailure.{PoolFailure}
 use Rattle.zero_copy_loans.specs.declared.error.PoolFailure.TheVariants.{InUse, NoPass, NoPlace}
 use Rattle.zero_copy_loans.specs.declared.pool.Buffer.{Buffer}

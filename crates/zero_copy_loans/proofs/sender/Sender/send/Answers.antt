@@ -15,8 +15,11 @@ returns-in_err-back-clause-sends g c has =
 
 pub returns-clause-handed_back : goal.returns-clause-handed_back
 returns-clause-handed_back g c =
-    inl (handed_back _ c.word-word.result _ c.in_ok-back.back _ _ _ _ (search rules) c.parts-number.ensures.is c.settle.ensures.queues.0
-    c.in_ok-back.ensures.handed_back)
+    inl (
+      c.parts-number.ensures.within,
+      handed_back _ c.word-word.result _ c.in_ok-back.back _ _ _ _ (search rules) c.parts-number.ensures.is c.settle.ensures.queues.0
+          c.in_ok-back.ensures.handed_back,
+    )
 
 pub returns-clause-sends : goal.returns-clause-sends
 returns-clause-sends g c has =
