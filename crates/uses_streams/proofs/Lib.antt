@@ -1,3 +1,4 @@
 pub mod Streams
+pub mod Tries
 pub mod Worked
 pub mod WrongBodies

@@ -1,7 +1,7 @@
 -- What each call adds to what was sent and received, and what both come to once they are joined.
 use Rattle.std.proofs.Common.{◌≡◌, inl, inr, ◌+◌, ◌-◌, ◌≤◌, ℕ, Bool, true, false, not, Option, Some, None, IfSome}
 use Rattle.std.proofs.Common.{IfNone, List, [], ◌∷◌, ◌++◌, length, drop, take, sum_by}
-use Rattle.std.proofs.Common.{refl, sym, ap, subst, ◌∙◌, arith, length-append, append-nil, true≢false}
+use Rattle.std.proofs.Common.{refl, sym, ap, subst, ◌∙◌, arith, length-append, append-nil, append_assoc, true≢false}
 use Rattle.std.proofs.lemmas.List.{drop_all, drop-append-le}
 use Rattle.std.proofs.lemmas.List.Concat.{flat_map-append}
 use Rattle.std.proofs.lemmas.List.Sums.{sum_by-append}
@@ -25,7 +25,7 @@ use Rattle.lock_free_queues.proofs.Queues.Sums.{whole_counted, done_pushed, done
 use Rattle.lock_free_queues.proofs.Queues.Whole.{none_more}
 use Rattle.uses_streams.specs.declared.element.Element.{Element}
 use Rattle.uses_streams.specs.declared.element.Element.TheVariants as elements
-use Rattle.uses_streams.specs.Ends.{arrival_of, arrived, is_end, IfNothing, IfValue}
+use Rattle.uses_streams.specs.Ends.{arrival_of, arrived, is_end, IfNothing, IfValue, GainAlike}
 use Rattle.uses_streams.specs.Streams.{last_ones, values_in, has_end, ends_once, has_values, pushed_by, popped_by}
 use Rattle.uses_streams.specs.Streams.{OnlyPushes, OnlyPops, HasHalf, IsFreshHalf, CameUpTo}
 
@@ -47,6 +47,25 @@ module _ {A : Type 0} where
 
   pub last_all : (n : ℕ) (xs : List A) → n ≡ length xs → last_ones n xs ≡ xs
   last_all n xs all = (let none : length xs - n ≡ 0 = omega arith in ap (λ i. drop i xs) none)
+
+-- ---- lists that grow alike
+
+module _ {A : Type 0} where
+  pub gain_none : (xs ys : List A) → GainAlike xs xs ys ys
+  gain_none xs ys = ([], sym (append-nil xs), sym (append-nil ys))
+
+  module _ (xs more_xs most_xs ys more_ys most_ys : List A) (so_far : GainAlike xs more_xs ys more_ys) where
+    -- (the second list is the same until it grows)
+    pub gain_more : (x : A) (kept_ys : List A) → most_xs ≡ more_xs ++ x ∷ [] → kept_ys ≡ more_ys → most_ys ≡ kept_ys ++ x ∷ []
+        → GainAlike xs most_xs ys most_ys
+    gain_more x kept_ys is kept are = (
+      so_far.0 ++ x ∷ [],
+      is ∙ (ap (λ zs. zs ++ x ∷ []) so_far.1 ∙ append_assoc xs so_far.0 (x ∷ [])),
+      are ∙ (ap (λ zs. zs ++ x ∷ []) (kept ∙ so_far.2) ∙ append_assoc ys so_far.0 (x ∷ [])),
+    )
+
+    pub gain_same : most_xs ≡ more_xs → most_ys ≡ more_ys → GainAlike xs most_xs ys most_ys
+    gain_same is are = (so_far.0, is ∙ so_far.1, are ∙ so_far.2)
 
 -- ---- values and the end
 

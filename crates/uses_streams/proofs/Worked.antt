@@ -1,5 +1,5 @@
 -- Worked rows of the definitions that the contracts cite.
-use Rattle.std.proofs.Common.{◌≡◌, ℕ, true, false, Some, None, List, [], ◌∷◌, refl}
+use Rattle.std.proofs.Common.{◌≡◌, ℕ, suc, true, false, Some, None, List, [], ◌∷◌, refl, arith}
 use Rattle.model.specs.declared.event.Event.TheVariants.{Published, HandedOut}
 use Rattle.model.specs.declared.event.Item.{Item}
 use Rattle.model.specs.declared.event.Item.TheVariants.{Value, Index}
@@ -9,8 +9,9 @@ use Rattle.uses_streams.specs.declared.element.Element.{Element}
 use Rattle.uses_streams.specs.declared.element.Element.TheVariants as elements
 use Rattle.uses_streams.specs.declared.ends.Arrival.TheVariants as arrivals
 use Rattle.uses_streams.specs.Elements.{words_of_element, element_of}
-use Rattle.uses_streams.specs.Ends.{arrival_of, arrived, is_end, IfNothing, IfValue}
+use Rattle.uses_streams.specs.Ends.{arrival_of, arrived, is_end, IfNothing, IfValue, GainAlike}
 use Rattle.uses_streams.specs.Streams.{last_ones, values_in, has_end, ends_once, has_values, pushed_by, popped_by, CameUpTo}
+use Rattle.uses_streams.specs.Tries.{Times}
 
 abbrev three : Item (Element ℕ)
 three = Value (elements.Value 3)
@@ -145,3 +146,25 @@ it_is_not_said_where_nothing_came = tt
 
 nor_at_the_end : IfValue {T = ℕ} arrivals.End (λ x. ⊥)
 nor_at_the_end = tt
+
+-- ---- lists that grow alike
+
+both_gain_two : GainAlike {T = ℕ} (3 ∷ []) (3 ∷ 4 ∷ 5 ∷ []) [] (4 ∷ 5 ∷ [])
+both_gain_two = (4 ∷ 5 ∷ [], refl, refl)
+
+none_gains : GainAlike {T = ℕ} (3 ∷ []) (3 ∷ []) [] []
+none_gains = ([], refl, refl)
+
+-- ---- tries
+
+abbrev next : ℕ → ℕ → Type 0
+next m n = n ≡ suc m
+
+no_step : Times 0 next 4 4
+no_step = refl
+
+two_steps : Times 2 next 4 6
+two_steps = (5, (4, refl, refl), refl)
+
+two_steps_are_not_three : Times 2 next 4 7 → ⊥
+two_steps_are_not_three h = (let one = h.1.1 in let two = h.1.2 in let three = h.2 in absurd (omega arith))

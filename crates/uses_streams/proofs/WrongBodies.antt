@@ -1,6 +1,6 @@
 -- What a wrong body of a call would leave or answer, and the clause that refuses it. A name says what the body does.
-use Rattle.std.proofs.Common.{◌≡◌, ◌≢◌, ℕ, Bool, true, false, Some, None, List, [], ◌∷◌, ◌++◌, length}
-use Rattle.std.proofs.Common.{refl, sym, ap, ◌∙◌, arith, length-append, append-nil, true≢false}
+use Rattle.std.proofs.Common.{◌≡◌, ◌≢◌, ◌+◌, ℕ, Bool, true, false, Some, None, List, [], ◌∷◌, ◌++◌, length}
+use Rattle.std.proofs.Common.{refl, sym, ap, subst, ◌∙◌, arith, length-append, append-nil, true≢false}
 use Rattle.std.proofs.lemmas.List.{append_cancel_left}
 use Rattle.model.specs.declared.event.Event.{Event}
 use Rattle.model.specs.declared.event.Event.TheVariants.{Published, HandedOut}
@@ -17,6 +17,8 @@ use Rattle.uses_streams.specs.declared.element.Element.{Element}
 use Rattle.uses_streams.specs.declared.element.Element.TheVariants as elements
 use Rattle.uses_streams.specs.Streams.{values_in, has_end, has_values, pushed_by, popped_by, OnlyPushes, OnlyPops, CameUpTo}
 use Rattle.uses_streams.specs.declared.ends.values.Values.{Values}
+use Rattle.uses_streams.specs.Ends.{GainAlike}
+use Rattle.uses_streams.specs.Tries.{WereRefused, WereEmpty, WasPushedWithin, WasPoppedWithin}
 use Rattle.uses_streams.specs.Values.{GivesNext, given_so_far, has_given_all}
 use Rattle.uses_streams.proofs.Streams.{pushes_value, pushes_none, stops_pushing, none_ended, receives_value, receives_end, receives_nothing}
 
@@ -115,6 +117,75 @@ module _ {T R : Type 0} {words : Ghosts (Element T)} (s t : Values T R words) wh
   -- it ends before the end came
   pub next_ends_early : GivesNext s None t → has_given_all t ≡ false → ⊥
   next_ends_early next more = true≢false (sym next.1.1 ∙ more)
+
+-- ---- calls with a limit of tries
+
+module _ {T : Type 0} (v w : View (Element T)) where
+  module _ (capacity : ℕ) (item : Item (Element T)) where
+    -- `send_within` pushes where no try is allowed
+    pub send_within_pushes_without_a_try : WasPushedWithin 0 capacity item v w → ⊥
+    send_within_pushes_without_a_try h = (let few = h.few in absurd (omega arith))
+
+    -- it was refused before, though one try is allowed: that push is the first
+    pub one_try_is_the_first : WasPushedWithin 1 capacity item v w → PushDone item v w
+    one_try_is_the_first h =
+        let few = h.few in
+        let none : h.refused ≡ 0 = omega arith in
+        subst (λ u. PushDone item u w) (subst (λ n. WereRefused n capacity item v h.last) none h.before) h.pushed
+
+    -- it goes on after a refusal, though one try is allowed
+    pub one_try_is_refused_once : WereRefused 1 capacity item v w → PushRefused capacity item v w
+    one_try_is_refused_once h = subst (λ u. PushRefused capacity item u w) h.1 h.2
+
+  -- a pop that finds nothing makes three events
+  pub finds_nothing : PopEmpty v w → length w.made ≡ length v.made + 3
+  finds_nothing empty = ap length empty.0.called.made ∙ length-append v.made _
+
+  -- `receive_within` takes out a value where no try is allowed
+  pub receive_within_pops_without_a_try : (item : Item (Element T)) → WasPoppedWithin 0 item v w → ⊥
+  receive_within_pops_without_a_try item h = (let few = h.few in absurd (omega arith))
+
+  -- it found the queue empty before, though one try is allowed: that pop is the first
+  pub one_try_pops_first : (item : Item (Element T)) → WasPoppedWithin 1 item v w → PopDone item v w
+  one_try_pops_first item h =
+      let few = h.few in
+      let none : h.empty ≡ 0 = omega arith in
+      subst (λ u. PopDone item u w) (subst (λ n. WereEmpty n v h.last) none h.before) h.popped
+
+module _ {T : Type 0} (v w : View (Element T)) where
+  -- it pops once where two tries are allowed
+  pub receive_within_gives_up_early : WereEmpty 2 v w → length w.made ≡ length v.made + 3 → ⊥
+  receive_within_gives_up_early h once =
+      let first = finds_nothing h.1.0 h.0 h.1.2 in
+      let second = finds_nothing h.0 w h.2 in
+      let same = ap (λ (u : View (Element T)). length u.made) h.1.1 in
+      absurd (omega arith)
+
+  -- it pops twice where one is
+  pub receive_within_pops_on : WereEmpty 1 v w → length w.made ≡ length v.made + 6 → ⊥
+  receive_within_pops_on h twice =
+      let first = finds_nothing h.0 w h.2 in
+      let same = ap (λ (u : View (Element T)). length u.made) h.1 in
+      absurd (omega arith)
+
+-- ---- `receive_all`
+
+-- it drops a value that came
+pub receive_all_drops_a_value : {A : Type 0} (xs ys : List A) (x : A) → GainAlike xs (xs ++ x ∷ []) ys ys → ⊥
+receive_all_drops_a_value xs ys x h =
+    let a = ap length h.1 in
+    let b = ap length h.2 in
+    let c = length-append xs (x ∷ []) in
+    let d = length-append xs h.0 in
+    let e = length-append ys h.0 in
+    absurd (omega arith)
+
+-- it puts another value into the vector
+pub receive_all_puts_another : {A : Type 0} (xs ys : List A) (x y : A) → y ≢ x → GainAlike xs (xs ++ x ∷ []) ys (ys ++ y ∷ []) → ⊥
+receive_all_puts_another xs ys x y other h =
+    let came = append_cancel_left xs (x ∷ []) h.0 h.1 in
+    let put = append_cancel_left ys (y ∷ []) h.0 h.2 in
+    other (ap (head y) (put ∙ sym came))
 
 -- ---- `join`: its law is of no constants
 

@@ -1,5 +1,5 @@
 -- What clauses see of the ends of a stream.
-use Rattle.std.specs.Prelude.{Bool, true, false, Option, Some, None, List, [], ◌∷◌}
+use Rattle.std.specs.Prelude.{◌≡◌, ℕ, Bool, true, false, Option, Some, None, List, [], ◌∷◌, ◌++◌}
 use Rattle.history.specs.declared.view.View.{View}
 use Rattle.lock_free_queues.specs.Queues.Rings.{QueueId, producer_queue, consumer_queue, queue_of, producer_view, consumer_view, view}
 use Rattle.steps.specs.declared.words.Words.{Ghosts}
@@ -39,6 +39,10 @@ module _ {T : Type 0} where
   IfValue (arrivals.Value x) P = P x
   IfValue arrival P = Unit {0}
 
+  -- both lists have grown by the same values at their end
+  abbrev pub GainAlike : List T → List T → List T → List T → Type 0
+  GainAlike xs more_xs ys more_ys = (gained : List T) × (more_xs ≡ xs ++ gained) × (more_ys ≡ ys ++ gained)
+
   module _ {words : Ghosts (Element T)} where
     -- what is known of the queue's history
     abbrev pub sender_view : Sender T words → View (Element T)
@@ -46,6 +50,19 @@ module _ {T : Type 0} where
 
     abbrev pub receiver_view : Receiver T words → View (Element T)
     receiver_view r = consumer_view r.consumer
+
+    abbrev pub sent_view : Sent T words → View (Element T)
+    sent_view s = view s.pass
+
+    abbrev pub received_view : Received T words → View (Element T)
+    received_view r = view r.pass
+
+    -- how many words an element of the stream has
+    abbrev pub sender_words : Sender T words → ℕ
+    sender_words s = words.WORDS
+
+    abbrev pub receiver_words : Receiver T words → ℕ
+    receiver_words r = words.WORDS
 
     -- the queue of a stream
     abbrev pub sender_queue : Sender T words → QueueId

@@ -1,4 +1,5 @@
-//! What no clause says: that calls succeed where there is room, at five capacities, and what a dropped sender leaves.
+//! What no clause says: that calls succeed at five capacities, what a dropped sender leaves at three, and that roles come back. And
+//! each other public call once.
 use crate::element::Element;
 use crate::ends::{Arrival, Receiver, Sender, halves};
 use lock_free_queues::spsc::queue::Queue;
@@ -65,6 +66,81 @@ fn send_and_leave(alloc: Global) -> Option<[Arrival<u64>; 2]> {
     Some([receiver.receive(), receiver.receive()])
 }
 
+/// Sends one value and the end, receives both, and joins the ends: whether the pass gets each role again.
+fn send_and_join(alloc: Global) -> Option<[bool; 2]> {
+    let (queue, pass) = Queue::<Element<u64>, 2>::new(alloc).ok()?;
+    let (mine, other) = halves::<u64, 2>(pass)?;
+    let mut sender = Sender::new(&queue, mine)?;
+    let mut receiver = Receiver::new(&queue, other)?;
+    if !sender.send(7) {
+        return None;
+    }
+    let Ok(sent) = sender.finish() else {
+        return None;
+    };
+    let came = [receiver.receive(), receiver.receive()];
+    let Ok(producer) = queue.acquire_producer(sent.join(receiver.leave())) else {
+        return None;
+    };
+    let is_free = queue.acquire_consumer(producer.release()).is_ok();
+    Some([came == [Arrival::Value(7), Arrival::End], is_free])
+}
+
+/// Begins to send and to receive while another has the role: whether it is refused.
+fn begin_beside_another(alloc: Global) -> Option<[bool; 2]> {
+    let (queue, pass) = Queue::<Element<u64>, 2>::new(alloc).ok()?;
+    let (mine, other) = halves::<u64, 2>(pass)?;
+    let _sender = Sender::new(&queue, mine)?;
+    let no_sender = Sender::new(&queue, other).is_none();
+    let (queue, pass) = Queue::<Element<u64>, 2>::new(alloc).ok()?;
+    let (mine, other) = halves::<u64, 2>(pass)?;
+    let _receiver = Receiver::new(&queue, mine)?;
+    let no_receiver = Receiver::new(&queue, other).is_none();
+    Some([no_sender, no_receiver])
+}
+
+/// Fills a stream of two places, and empties it, by calls with a limit of tries: whether each answered as it should.
+fn try_so_often(alloc: Global) -> Option<[bool; 3]> {
+    let (queue, pass) = Queue::<Element<u64>, 2>::new(alloc).ok()?;
+    let (mine, other) = halves::<u64, 2>(pass)?;
+    let mut sender = Sender::new(&queue, mine)?;
+    let mut receiver = Receiver::new(&queue, other)?;
+    let mut at_first = receiver.receive_within(3) == Arrival::Nothing;
+    at_first &= !sender.send_within(5, 0);
+    at_first &= sender.send_within(6, 1) && sender.send_within(7, 3);
+    let mut full = !sender.send_within(8, 3);
+    let Err(sender) = sender.finish_within(3) else {
+        return None;
+    };
+    full &= receiver.receive_within(0) == Arrival::Nothing;
+    full &= receiver.receive_within(1) == Arrival::Value(6);
+    let Ok(_sent) = sender.finish_within(1) else {
+        return None;
+    };
+    let mut in_the_end = receiver.receive_within(3) == Arrival::Value(7);
+    in_the_end &= receiver.receive_within(1) == Arrival::End;
+    in_the_end &= receiver.receive_within(0) == Arrival::End;
+    Some([at_first, full, in_the_end])
+}
+
+/// Sends four numbers and the end, receives one, one more by an iterator, and then the rest: whether all came.
+fn receive_in_parts(rt: &impl Wait, alloc: Global) -> Option<[bool; 3]> {
+    let (queue, pass) = Queue::<Element<u64>, 5>::new(alloc).ok()?;
+    let (mine, other) = halves::<u64, 5>(pass)?;
+    let mut sender = Sender::new(&queue, mine)?;
+    let mut receiver = Receiver::new(&queue, other)?;
+    sender.send_all(rt, &[2, 3, 5, 7]);
+    let _sent = sender.finish_waiting(rt);
+    let first = receiver.receive_waiting(rt) == Some(2);
+    let mut values = receiver.values(rt);
+    let second = values.next() == Some(3);
+    let mut receiver = values.into_receiver();
+    let mut came = Vec::from_array(alloc, [1]).ok()?;
+    receiver.receive_all(rt, &mut came).ok()?;
+    receiver.receive_all(rt, &mut came).ok()?;
+    Some([first, second, came.as_slice() == [1, 5, 7].as_slice()])
+}
+
 /// Sends the numbers below `count`, each as soon as there is room, and then the end.
 fn send(rt: &impl Wait, sender: Sender<'_, u64>, count: u64) {
     let mut sender = sender;
@@ -129,6 +205,31 @@ fn a_dropped_sender_ends_the_stream_where_there_is_room(rt: HostRuntime) -> Resu
 #[test]
 fn who_leaves_sends_no_end(rt: HostRuntime) -> Result<(), Fail> {
     assert!(rt; send_and_leave(rt.alloc()) == Some([Arrival::Value(7), Arrival::Nothing]));
+    Ok(())
+}
+
+#[test]
+fn the_pass_of_both_ends_gets_each_role_again(rt: HostRuntime) -> Result<(), Fail> {
+    assert!(rt; send_and_join(rt.alloc()) == Some([true; 2]));
+    Ok(())
+}
+
+#[test]
+fn each_role_has_one_holder(rt: HostRuntime) -> Result<(), Fail> {
+    assert!(rt; begin_beside_another(rt.alloc()) == Some([true; 2]));
+    Ok(())
+}
+
+#[test]
+fn calls_give_up_after_their_tries(rt: HostRuntime) -> Result<(), Fail> {
+    assert!(rt; try_so_often(rt.alloc()) == Some([true; 3]));
+    Ok(())
+}
+
+#[test]
+fn a_stream_is_received_in_parts(rt: HostRuntime) -> Result<(), Fail> {
+    let alloc = rt.alloc();
+    assert!(rt; receive_in_parts(&rt, alloc) == Some([true; 3]));
     Ok(())
 }
 

@@ -1,6 +1,8 @@
 //! Sends numbers from one thread to another, which receives until the end. Proved: what came is what was sent.
 #![tactic(auto)]
 
+pub mod twins;
+
 ghost use Rattle.std.specs.Prelude.{◌≡◌, true, [], IfSome};
 ghost use Rattle.lock_free_queues.specs.Queues.Values.{queue_id, inner, view, IsPassOf};
 ghost use Rattle.uses_streams.specs.Ends.{sent_queue, received_queue, sent, received, has_ended};
@@ -29,9 +31,7 @@ fn send(rt: &impl Wait, stream: &Stream, half: Half, numbers: &[u64]) -> Option<
     ensures sent { IfSome result (λ s. sent s ≡ numbers.now) }
 {
     let mut sender = Sender::new(stream, half)?;
-    for number in numbers {
-        sender.send_waiting(rt, *number);
-    }
+    sender.send_all(rt, numbers);
     Some(sender.finish_waiting(rt))
 }
 
@@ -51,20 +51,17 @@ fn receive(
 {
     let mut came = room;
     let mut receiver = Receiver::new(stream, half)?;
-    for _ in rt.forever() {
-        match receiver.receive_waiting(rt) {
-            Some(number) => came.push(number).ok()?,
-            None => return Some((receiver.leave(), came)),
-        }
-    }
-    unreachable!()
+    receiver.receive_all(rt, &mut came).ok()?;
+    Some((receiver.leave(), came))
 }
 
-/// Sends the numbers from one thread to another: what came. None where there is no memory, or no further pass.
+/// Sends the numbers from one thread to another: what came. None where there is no memory, or no further pass. Where no second
+/// thread can be made it sends before it receives, and waits for good if the numbers and the end have no room together.
 fn transfer<R: Threads + Wait + Sync>(rt: &R, alloc: Global, numbers: &[u64]) -> Option<Vec<u64>>
     ensures { IfSome result (λ came. came.items ≡ numbers.now) }
 {
-    let room = Vec::with_capacity(alloc, numbers.len()).ok()?;
+    // (room for one more, which `receive_all` makes before the end comes, too)
+    let room = Vec::with_capacity(alloc, numbers.len() + 1).ok()?;
     let (stream, pass) = Stream::new(alloc).ok()?;
     let (mine, other) = halves::<u64, 4>(pass)?;
     let shared = &stream;

@@ -3,10 +3,12 @@ ghost use Rattle.std.specs.Prelude.{◌≡◌, ◌++◌, ◌∷◌, [], ◌+◌,
 ghost use Rattle.std.specs.Prelude.{IsTrue, IsFalse, IfOk, IfErr, IfSome, IfNone};
 ghost use Rattle.model.specs.declared.event.Item.TheVariants.{Value};
 ghost use Rattle.threaded.specs.Shares.{IsAll};
+ghost use Rattle.history.specs.Steps.{TakesAtMost};
 ghost use Rattle.history.specs.Views.{first_view};
 ghost use Rattle.lock_free_queues.specs.Queues.Contracts.{PushDone, PushRefused, PopDone, PopEmpty};
 ghost use Rattle.lock_free_queues.specs.Queues.Values.{queue_of, queue_id, inner, view, IsPassOf};
-ghost use Rattle.uses_streams.specs.Ends.{arrival_of, arrived, is_end, IfNothing, IfValue, sender_view, receiver_view};
+ghost use Rattle.uses_streams.specs.Ends.{arrival_of, arrived, is_end, IfNothing, IfValue};
+ghost use Rattle.uses_streams.specs.Ends.{sender_view, receiver_view, sent_view, received_view, sender_words, receiver_words};
 ghost use Rattle.uses_streams.specs.Ends.{sender_queue, receiver_queue, sent_queue, received_queue};
 ghost use Rattle.uses_streams.specs.Ends.{sent_so_far, received_so_far, sent, received};
 ghost use Rattle.uses_streams.specs.Ends.{has_finished, has_finished_once, is_at_end, has_ended};
@@ -54,7 +56,7 @@ where
     }
 
     /// Sends a value and returns true. Or returns false where the queue is full or its write position is at its end, and then
-    /// nothing was sent.
+    /// nothing was sent. At most 3 atomic steps and one for each word of an element.
     pub fn send(&mut self, value: T) -> bool
         ensures queue { sender_queue self.new ≡ sender_queue self.old }
         ensures sent { IsTrue result → sent_so_far self.new ≡ sent_so_far self.old ++ value ∷ [] }
@@ -62,12 +64,13 @@ where
         ensures same { IsFalse result → sent_so_far self.new ≡ sent_so_far self.old }
         ensures full { IsFalse result → PushRefused (sender_queue self.old).capacity (Value (Element.Value value))
             (sender_view self.old) (sender_view self.new) }
+        ensures steps { TakesAtMost (3 + sender_words self.old) (sender_view self.old) (sender_view self.new) }
     {
         self.producer.push(&Element::Value(value))
     }
 
     /// Sends the end, once and after all values, and gives the role back. Where the queue is full, or its write position at its
-    /// end, the sender comes back, to try again.
+    /// end, the sender comes back, to try again. The steps of `send`, and one more where it gives the role back.
     pub fn finish(self) -> Result<Sent<T>, Sender<'a, T>>
         ensures queue { IfOk result (λ s. sent_queue s ≡ sender_queue self.entry) }
         ensures sent { IfOk result (λ s. sent s ≡ sent_so_far self.entry) }
@@ -77,6 +80,8 @@ where
         ensures same { IfErr result (λ s. sent_so_far s ≡ sent_so_far self.entry) }
         ensures full { IfErr result (λ s. PushRefused (sender_queue self.entry).capacity (Value Element.End)
             (sender_view self.entry) (sender_view s)) }
+        ensures steps { IfOk result (λ s. TakesAtMost (4 + sender_words self.entry) (sender_view self.entry) (sent_view s)) }
+        ensures tried { IfErr result (λ s. TakesAtMost (3 + sender_words self.entry) (sender_view self.entry) (sender_view s)) }
     {
         let Sender { mut producer } = self;
         if producer.push(&Element::End) {
@@ -87,11 +92,12 @@ where
         }
     }
 
-    /// Leaves the stream without an end, and gives the role back.
+    /// Leaves the stream without an end, and gives the role back. At most one atomic step.
     pub fn leave(self) -> Sent<T>
         ensures queue { sent_queue result ≡ sender_queue self.entry }
         ensures sent { sent result ≡ sent_so_far self.entry }
         ensures finished { has_finished result ≡ false }
+        ensures steps { TakesAtMost 1 (sender_view self.entry) (sent_view result) }
     {
         let Sender { producer } = self;
         let pass = producer.release();
@@ -147,7 +153,7 @@ where
     }
 
     /// Receives the next value, or the end, or nothing where the queue is empty. Once the end came it comes again, and nothing
-    /// is popped any more.
+    /// is popped any more. At most 3 atomic steps and one for each word of an element.
     pub fn receive(&mut self) -> Arrival<T>
         ensures queue { receiver_queue self.new ≡ receiver_queue self.old }
         ensures received { received_so_far self.new ≡ received_so_far self.old ++ arrived result }
@@ -156,6 +162,7 @@ where
         ensures still { is_at_end self.old ≡ true → receiver_view self.new ≡ receiver_view self.old }
         ensures popped { IfValue result (λ x. PopDone (Value (Element.Value x)) (receiver_view self.old) (receiver_view self.new)) }
         ensures nothing { IfNothing result (PopEmpty (receiver_view self.old) (receiver_view self.new)) }
+        ensures steps { TakesAtMost (3 + receiver_words self.old) (receiver_view self.old) (receiver_view self.new) }
     {
         if self.ended {
             return Arrival::End;
@@ -165,11 +172,12 @@ where
         arrival
     }
 
-    /// Leaves the stream, and gives the role back.
+    /// Leaves the stream, and gives the role back. At most one atomic step.
     pub fn leave(self) -> Received<T>
         ensures queue { received_queue result ≡ receiver_queue self.entry }
         ensures received { received result ≡ received_so_far self.entry }
         ensures end { has_ended result ≡ is_at_end self.entry }
+        ensures steps { TakesAtMost 1 (receiver_view self.entry) (received_view result) }
     {
         let Receiver { consumer, ended: _ } = self;
         let pass = consumer.release();

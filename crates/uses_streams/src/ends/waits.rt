@@ -1,10 +1,11 @@
 //! The calls that wait: between two tries others get a turn.
-ghost use Rattle.std.specs.Prelude.{◌≡◌, ◌++◌, ◌∷◌, [], true, is_none, IfSome, IfNone};
-ghost use Rattle.uses_streams.specs.Ends.{sender_queue, receiver_queue, sent_queue};
+ghost use Rattle.std.specs.Prelude.{◌≡◌, ◌++◌, ◌∷◌, [], true, is_none, IfSome, IfNone, OnOk};
+ghost use Rattle.uses_streams.specs.Ends.{sender_queue, receiver_queue, sent_queue, GainAlike};
 ghost use Rattle.uses_streams.specs.Ends.{sent_so_far, received_so_far, sent, has_finished, has_finished_once, is_at_end};
 
 use super::{Arrival, Receiver, Sender, Sent};
 use crate::element::Element;
+use std::alloc::AllocError;
 use std::sync::Wait;
 use std::thread;
 use steps::words::Words;
@@ -26,6 +27,16 @@ where
             thread::yield_now();
         }
         unreachable!()
+    }
+
+    /// Sends all values of a slice in order, each as soon as there is room. It waits as `send_waiting` does.
+    pub fn send_all(&mut self, rt: &impl Wait, values: &[T])
+        ensures queue { sender_queue self.new ≡ sender_queue self.old }
+        ensures sent { sent_so_far self.new ≡ sent_so_far self.old ++ values.now }
+    {
+        for value in values {
+            self.send_waiting(rt, *value);
+        }
     }
 
     /// Sends the end as soon as there is room, once and after all values. It waits for good where the queue has no places or its
@@ -64,6 +75,24 @@ where
                 Arrival::Value(value) => return Some(value),
                 Arrival::End => return None,
                 Arrival::Nothing => thread::yield_now(),
+            }
+        }
+        unreachable!()
+    }
+
+    /// Receives into a vector all values until the end, each as soon as it is there. Before each one it makes room for it. Err where
+    /// there is no memory for that, and then all that was received is in the vector, so a later call can go on. Where no value
+    /// comes and no end it waits for good.
+    pub fn receive_all(&mut self, rt: &impl Wait, values: &mut Vec<T>) -> Result<(), AllocError>
+        ensures queue { receiver_queue self.new ≡ receiver_queue self.old }
+        ensures came { GainAlike (received_so_far self.old) (received_so_far self.new) values.old.items values.new.items }
+        ensures end { OnOk result (is_at_end self.new ≡ true) }
+    {
+        for _ in rt.forever() {
+            values.reserve(1)?;
+            match self.receive_waiting(rt) {
+                Some(value) => values.push_reserved(value),
+                None => return Ok(()),
             }
         }
         unreachable!()
