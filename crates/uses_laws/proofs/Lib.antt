@@ -10,6 +10,7 @@ pub mod Whole
 pub mod Running
 pub mod Parting
 pub mod Firsts
+pub mod Worked
 pub mod WrongBodies
 pub mod WrongHistories
 pub mod Moments
@@ -17,3 +18,4 @@ pub mod WrongAnswers
 pub mod WrongContainerAnswers
 pub mod WrongRests
 pub mod WrongStretches
+pub mod WrongLoads

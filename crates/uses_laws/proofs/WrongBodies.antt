@@ -38,8 +38,8 @@ use Rattle.lock_free.specs.Loan.Contracts.{InTurn, HasFreed, HasPoppedOne, HasEm
 use Rattle.lock_free.specs.Loan.Places.{is_sent, place_at, returned}
 use Rattle.lock_free.specs.Loan.Sender.{IsAsideOnce, pass_view}
 use Rattle.lock_free.specs.Passes.{HasSplit, HasJoined}
-use Rattle.lock_free.specs.declared.spsc.loan.places.Place.{Place}
-use Rattle.lock_free.specs.declared.spsc.loan.places.Place.TheVariants.{Free, Loaned, Sent}
+use Rattle.lock_free.specs.Place.{Place}
+use Rattle.lock_free.specs.Place.TheVariants.{Free, Loaned, Sent}
 use Rattle.lock_free.specs.QueueEnds.Held.{Held as QueueHeld}
 use Rattle.lock_free.specs.QueueEnds.rule.Kind as QueueKind
 use Rattle.lock_free.specs.QueueEnds.rule.RingRule.{RingRule}

@@ -1,6 +1,7 @@
 -- What the contracts of this crate speak of.
 pub mod Acts
 pub mod Ending
+pub mod Events
 pub mod Order
 pub mod Page
 pub mod Leases

@@ -1,11 +1,14 @@
 //! A pool of indices that can be told to be full. An acquire answers `OutOfIndices` also where the set's counter is at its
 //! end, so by itself the answer tells nothing of the indices. In a history of few changes it does, and who has the whole
 //! right to know counts the changes by what he made.
-ghost use Rattle.std.specs.Prelude.{◌≡◌, ℕ, Err, Ok};
+ghost use Rattle.std.specs.Prelude.{◌≡◌, ℕ, Err, None, Ok};
 ghost use Rattle.steps.specs.declared.indices.enums.UniqueIndexSetAcquireFailure.TheVariants.{OutOfIndices};
+ghost use Rattle.model.specs.Families.Indices.Robust.Reading.{holder_of};
+ghost use Rattle.lock_free.specs.Event.TheVariants.{Granted};
 ghost use Rattle.lock_free.specs.RobustUniqueIndexSet.{history, made, set_of, share, view, IsPassOf};
 ghost use Rattle.lock_free.specs.Shares.{IsAll};
-ghost use Rattle.lock_free.specs.GrantLaws.{times_freed, IsHeldByOne};
+ghost use Rattle.lock_free.specs.GrantLaws.{times_freed};
+ghost use Rattle.uses_laws.specs.Events.{Whenever};
 ghost use Rattle.uses_laws.specs.Leases.{IsYoung, WasFull};
 
 use lock_free::laws::owners;
@@ -31,8 +34,9 @@ pub fn lease(
     pool.acquire(rt, owner, pass)
 }
 
-/// Leases an index to the owner. If nobody has given it back before, and no recovery has freed it, it was granted where nobody
-/// held it, whatever became of other indices and of their owners. Who has the whole right to know counts that by what he made.
+/// Leases an index to the owner. If nobody has given it back before, and no recovery has freed it, it was granted only where
+/// nobody held it, whatever became of other indices and of their owners. Who has the whole right to know counts that by what he
+/// made.
 pub fn lease_apart(
     rt: &impl Wait,
     pool: &RobustUniqueIndexSet,
@@ -42,7 +46,7 @@ pub fn lease_apart(
     requires pass { IsPassOf pool.now pass.old }
     requires whole { IsAll (share pass.old) }
     ensures { (index : ℕ) → result ≡ Ok index → times_freed index (made pass.old) ≡ 0
-        → IsHeldByOne index (history pass.new) }
+        → (by other : ℕ) → Whenever (history pass.new) (Granted by index other) (λ before. holder_of index before ≡ None) }
 {
     owners::set_indices_are_held_by_one();
     owners::indices_never_freed_are_freed_right::<u64>();

@@ -53,7 +53,7 @@ pub fn take_beside_a_half(
 }
 
 /// Takes an index for the owner. All steps that threads took at the set meanwhile, and from its opening on, are bounded by the
-/// calls that have ended, and by those that have begun, as far as the pass knows. The bound is of practice where it has seen no
+/// calls that have ended, and by those that have begun, as far as the pass knows. The smaller bound holds where it has seen no
 /// call begin that may lock (`fewer`). One operation of its own at most was no step of the call.
 pub fn lease_within(
     rt: &impl Wait,

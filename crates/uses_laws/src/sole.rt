@@ -1,14 +1,15 @@
 //! Who holds an index knows that nobody else does. Who holds all indices of a set, and has joined all other threads, knows
 //! that nobody else holds one, and who has seen the lock knows that nobody does.
 
-ghost use Rattle.std.specs.Prelude.{◌≡◌, ◌≤◌, ◌+◌, ◌++◌, ℕ, true, Ok, Some, None, List, [], length, sum_by, IsTrue};
+ghost use Rattle.std.specs.Prelude.{◌≡◌, ◌<◌, ◌≤◌, ◌+◌, ◌++◌, ℕ, true, false, Ok, Some, None, List, [], length, sum_by, IsTrue};
 ghost use Rattle.history.specs.Held.{claims};
 ghost use Rattle.lock_free.specs.Event.{Event};
-ghost use Rattle.lock_free.specs.IndexLaws as index_laws;
+ghost use Rattle.lock_free.specs.Event.TheVariants.{Claimed};
 ghost use Rattle.lock_free.specs.IndexReading.{holder_of, is_locked};
 ghost use Rattle.lock_free.specs.Shares.{both_of, IsAll};
 ghost use Rattle.lock_free.specs.Unique.Held.{HeldBy, HoldsNothing, IsSound};
 ghost use Rattle.lock_free.specs.UniqueIndexSet.{capacity_of, history, IsPassOf, made, share, view};
+ghost use Rattle.uses_laws.specs.Events.{Whenever};
 
 use lock_free::laws::indices::{
     holders_are_sole, index_histories_are_sound, indices_are_conserved, locks_are_final,
@@ -35,7 +36,7 @@ pub fn take_in(set: &UniqueIndexSet, mine: &mut Pass, other: Pass)
 }
 
 /// Takes an index with a pass that has seen nothing before. The pass is its only holder then, beside whatever others have
-/// done meanwhile, and all calls of all threads that it has seen have kept to the set's promises.
+/// done meanwhile. Whoever claimed an index, as far as it has seen, claimed one that nobody held, while the set was not locked.
 pub fn take_first(
     rt: &impl Wait,
     set: &UniqueIndexSet,
@@ -45,7 +46,8 @@ pub fn take_first(
     requires fresh { history pass.old ≡ [] }
     ensures sole { (index : ℕ) → result ≡ Ok index
         → (by : ℕ) × ((view pass.new).party ≡ Some by) × (holder_of index (history pass.new) ≡ Some by) }
-    ensures sound { index_laws.IsSound (capacity_of set.now) (history pass.new) }
+    ensures claimed { (by index : ℕ) → Whenever (history pass.new) (Claimed by index)
+        (λ before. (index < capacity_of set.now) × (holder_of index before ≡ None) × (is_locked before ≡ false)) }
 {
     holders_are_sole::<u64>();
     index_histories_are_sound::<u64>();

@@ -13,6 +13,9 @@ use lock_free::words::Words;
 pub mod containers;
 pub mod histories;
 pub mod owners;
+pub mod queues;
+pub mod shares;
+pub mod values;
 
 /// A loan that is given up is given back to the set.
 pub fn give_up(sender: &mut LoanSender<'_>, index: u32)

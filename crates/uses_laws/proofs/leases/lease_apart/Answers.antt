@@ -1,4 +1,5 @@
-use Rattle.std.proofs.Common.{◌≡◌, Ok, sym, subst}
+use Rattle.std.proofs.Common.{◌≡◌, Ok, refl, sym, subst}
+use Rattle.lock_free.specs.Event.TheVariants.{Granted}
 use Rattle.lock_free.specs.GrantLaws.{times_freed}
 use Rattle.lock_free.specs.Robust.Contracts.{HasTaken}
 use Rattle.lock_free.specs.RobustUniqueIndexSet.{history, set_of, share, view}
@@ -7,7 +8,7 @@ use Rattle.uses_laws.proofs.Full.{never_freed}
 use Rattle.uses_laws.proofs.leases.lease_apart.Goals as goal
 
 pub returns : goal.returns
-returns g c index is never =
+returns g c index is never by other before rest at =
     let old = view c.args.pass.now in
     let after = c.acquire-leased.new.pass in
     let new = view after in
@@ -17,4 +18,4 @@ returns g c index is never =
     subst (λ r. HasTaken c.args.owner r old new) is c.acquire-leased.ensures.taken in
     let none : times_freed index (history after) ≡ 0 = never_freed c.args.owner index old new taken (same.goes.all whole) index never in
     c.set_indices_are_held_by_one.ensures index (set_of after).capacity (history after) c.history.ensures.history
-    (c.indices_never_freed_are_freed_right.ensures index (history after) none)
+    (c.indices_never_freed_are_freed_right.ensures index (history after) none) before rest (Granted by index other) at refl

@@ -1,6 +1,7 @@
-use Rattle.std.proofs.Common.{IfOk, ap, subst, ◌∙◌}
+use Rattle.std.proofs.Common.{◌≡◌, ◌<◌, IfOk, None, false, ap, subst, ◌∙◌}
 use Rattle.lock_free.specs.Coding.{one_word}
-use Rattle.lock_free.specs.IndexLaws.{IsSound}
+use Rattle.lock_free.specs.Event.TheVariants.{Claimed}
+use Rattle.lock_free.specs.IndexReading.{holder_of, is_locked}
 use Rattle.lock_free.specs.Unique.Contracts.{HasAcquired}
 use Rattle.lock_free.specs.UniqueIndexSet.{SetId, history, set_of, view}
 use Rattle.uses_laws.proofs.Firsts.{holds_first}
@@ -20,9 +21,10 @@ returns-clause-sole g c index is =
           (holds_first by index old new got.taken.called c.requires.fresh),
     )
 
-pub returns-clause-sound : goal.returns-clause-sound
-returns-clause-sound g c =
-    let after = c.acquire_raw_index-taken.new.pass in
+pub returns-clause-claimed : goal.returns-clause-claimed
+returns-clause-claimed g c by index before after is =
+    let new = c.acquire_raw_index-taken.new.pass in
     let size = ap (λ (z : SetId). z.capacity) (c.acquire_raw_index-taken.ensures.same.set ∙ c.requires.pass) in
-    subst (λ n. IsSound n (history after)) size
-    (c.index_histories_are_sound.ensures one_word (set_of after).capacity (history after) c.history.ensures.history)
+    let sound = c.index_histories_are_sound.ensures one_word (set_of new).capacity (history new) c.history.ensures.history in
+    subst (λ n. (index < n) × (holder_of index before ≡ None) × (is_locked before ≡ false)) size
+    (sound.holds before after (Claimed by index) is)

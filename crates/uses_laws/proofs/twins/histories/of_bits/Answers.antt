@@ -1,11 +1,17 @@
+use Rattle.model.specs.declared.event.Event.TheVariants.{Set, Cleared}
 use Rattle.lock_free.specs.Coding.{one_word}
 use Rattle.lock_free.specs.Sets.Calls.{history, set_of}
 use Rattle.uses_laws.proofs.twins.histories.of_bits.Goals as goal
 
-pub returns-clause-turns : goal.returns-clause-turns
-returns-clause-turns c =
+pub returns-clause-set : goal.returns-clause-set
+returns-clause-set c p bit before after is =
     let pass = c.args.pass.now in
-    c.bits_change_in_turn.ensures one_word (set_of pass).capacity (history pass) c.history.ensures.history
+    c.bits_change_in_turn.ensures one_word (set_of pass).capacity (history pass) c.history.ensures.history before after (Set p bit) is
+
+pub returns-clause-cleared : goal.returns-clause-cleared
+returns-clause-cleared c p bit before after is =
+    let pass = c.args.pass.now in
+    c.bits_change_in_turn.ensures one_word (set_of pass).capacity (history pass) c.history.ensures.history before after (Cleared p bit) is
 
 pub returns-clause-answers : goal.returns-clause-answers
 returns-clause-answers c =

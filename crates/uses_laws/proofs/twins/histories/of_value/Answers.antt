@@ -1,6 +1,21 @@
+use Rattle.model.specs.declared.event.Event.TheVariants.{Acted, Finished}
+use Rattle.model.specs.declared.event.Start.TheVariants.{Atomic}
+use Rattle.model.specs.declared.families.atomic.AtomicStart.TheVariants.{AcquireProducer, Load, Store}
 use Rattle.lock_free.specs.Coding.{one_word}
 use Rattle.lock_free.specs.Value.Calls.{view}
 use Rattle.uses_laws.proofs.twins.histories.of_value.Goals as goal
 
-pub returns : goal.returns
-returns c = c.histories_are_sound.ensures one_word (view c.args.pass.now).seen c.history.ensures.history
+pub returns-clause-loaded : goal.returns-clause-loaded
+returns-clause-loaded c p answer before after is =
+    let sound = c.histories_are_sound.ensures one_word (view c.args.pass.now).seen c.history.ensures.history in
+    sound.answers before after (Acted p (Atomic Load) answer) is
+
+pub returns-clause-acquired : goal.returns-clause-acquired
+returns-clause-acquired c p answer before after is =
+    let sound = c.histories_are_sound.ensures one_word (view c.args.pass.now).seen c.history.ensures.history in
+    sound.roles before after (Finished p (Atomic AcquireProducer) answer) is
+
+pub returns-clause-stored : goal.returns-clause-stored
+returns-clause-stored c p x answer before after is =
+    let sound = c.histories_are_sound.ensures one_word (view c.args.pass.now).seen c.history.ensures.history in
+    sound.producers before after (Acted p (Atomic (Store x)) answer) is

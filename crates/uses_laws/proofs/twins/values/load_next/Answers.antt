@@ -1,0 +1,13 @@
+use Rattle.std.proofs.Common.{◌+◌, length}
+use Rattle.lock_free.specs.Value.Calls.{view}
+use Rattle.lock_free.specs.Value.Contracts.{HasLoaded}
+use Rattle.lock_free.specs.Value.Stored.{stored}
+use Rattle.uses_laws.proofs.twins.values.load_next.Goals as goal
+
+pub returns : goal.returns
+returns g c =
+    let old = view c.args.pass.now in
+    let new = view c.load.new.pass in
+    let has : HasLoaded c.load.result old new = c.load.ensures.loaded in
+    let rises = c.versions_rise.ensures.loaded c.load.result old new has in
+    (has.by, length (stored has.before) + 1, rises.0, rises.2)
