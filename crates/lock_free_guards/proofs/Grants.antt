@@ -1,0 +1,31 @@
+-- To whom an index was granted it is held for him by what the pass made.
+use Rattle.std.proofs.Common.{◌≡◌, ℕ, ◌==◌, true, Ok, List, [], ◌∷◌, ◌++◌, refl, ap, ◌∙◌, arith}
+use Rattle.std.proofs.lemmas.Bool.Decides.{nat_tests}
+use Rattle.std.proofs.lemmas.List.Sums.{fold-append}
+use Rattle.model.specs.declared.event.Answer.TheVariants.{Index}
+use Rattle.model.specs.declared.event.Event.{Event}
+use Rattle.model.specs.declared.event.Event.TheVariants.{Begun, Filled, Granted, Finished}
+use Rattle.model.specs.declared.event.Start.TheVariants.{Robust}
+use Rattle.model.specs.declared.families.indices.robust.RobustStart.TheVariants.{Acquire}
+use Rattle.model.specs.Families.Indices.Robust.Reading.{holder_after, holder_of}
+use Rattle.history.specs.declared.view.View.{View}
+use Rattle.lock_free_owners.specs.Robust.Contracts.{HasTaken, WasFilled, WasGranted}
+use Rattle.lock_free_guards.specs.Held.{HoldsFor}
+use Rattle.lock_free_guards.specs.Acquired.{HasAcquired}
+
+module _ (owner index : ℕ) (v w : View ℕ) (h : HasTaken owner (Ok index) v w) where
+  pub granted_holds : HoldsFor owner index w.made
+  granted_holds =
+      let p = h.by in
+      let more : List (Event ℕ) =
+      Begun p (Robust (Acquire owner)) ∷ (Filled p index owner ∷ Granted p index owner ∷ Finished p (Robust (Acquire owner)) (Index index) ∷ []) in
+      let made : w.made ≡ v.made ++ more =
+      h.called.made
+      ∙ ap (λ (es : List (Event ℕ)). v.made ++ Begun p (Robust (Acquire owner)) ∷ (es ++ Finished p (Robust (Acquire owner)) (Index index) ∷ []))
+      h.tells.1
+      in
+      let it : (index == index) ≡ true = grind (arith, nat_tests) in
+      ap (holder_of index) made ∙ (fold-append (holder_after index) _ v.made more ∙ rw it refl)
+
+  pub acquired : WasFilled index owner v w → WasGranted index owner v w → HasAcquired owner index v w
+  acquired filled granted = record { taken = h; filled = filled; granted = granted; holds = granted_holds }

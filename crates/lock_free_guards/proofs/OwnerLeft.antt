@@ -1,0 +1,219 @@
+-- What a recovery of one owner's indices leaves to him.
+use Rattle.std.proofs.Common.{◌≡◌, ◌≢◌, ◌⊎◌, inl, inr, ⊎_elim, ℕ, ◌==◌, true, Some, List, [], ◌∷◌, ◌++◌, fold}
+use Rattle.std.proofs.Common.{refl, sym, ap, ap₂, subst, ◌∙◌, arith, append-nil, append_assoc, true≢false}
+use Rattle.std.specs.List.{All}
+use Rattle.std.proofs.lemmas.Bool.Decides.{nat_tests}
+use Rattle.std.proofs.lemmas.List.{same_from_push}
+use Rattle.std.proofs.lemmas.List.Concat.{flat_map-append}
+use Rattle.std.proofs.lemmas.List.Elements.{All-head, All-tail}
+use Rattle.std.proofs.lemmas.List.Sums.{fold-append}
+use Rattle.steps.specs.declared.indices.enums.ReleaseMode.{ReleaseMode}
+use Rattle.steps.specs.declared.indices.enums.ReleaseState.{ReleaseState}
+use Rattle.steps.specs.declared.indices.enums.ReleaseState.TheVariants as states
+use Rattle.model.specs.declared.event.Answer.TheVariants.{State}
+use Rattle.model.specs.declared.event.Event.{Event}
+use Rattle.model.specs.declared.event.Event.TheVariants.{Begun, FreedOf, Asked, Told, Locked, Finished}
+use Rattle.model.specs.declared.event.Start.{Start}
+use Rattle.model.specs.declared.event.Start.TheVariants.{Robust}
+use Rattle.model.specs.declared.families.indices.robust.RobustStart.TheVariants.{Recover}
+use Rattle.model.specs.Families.Indices.Robust.Promises.{HeldThroughout, StillToFree}
+use Rattle.model.specs.Families.Indices.Robust.Reading.{SetAct, Frees, Asks, Yes, Locks, IsOneOf, filled_of, set_act, set_acts, set_acts_of, wrote_in}
+use Rattle.model.specs.Reading.{Open, Span, own_after, span_of}
+use Rattle.laws_robust.specs.Gone.{HasRecoveredBy, IsHonest, Word}
+use Rattle.history.specs.Robust.{Came, HasAsked, WasTold, HasFreed, HasLocked, Visit, wrote_to, wrote_of, wrote_by}
+use Rattle.history.specs.declared.view.View.{View}
+use Rattle.history.proofs.CallsIn.{span_since}
+use Rattle.lock_free_owners.specs.Robust.Callable.{was_told}
+use Rattle.lock_free_owners.specs.Robust.Contracts.{IsRightRecovery}
+use Rattle.lock_free_guards.specs.Recovered.{IsToldFor, HasRecoveredOwner, LeavesNone, IsRightOwnerRecovery}
+
+-- ---- one of a list
+
+module _ {A : Type 0} (x : A) where
+  none_here : (before after : List A) → ◌≡◌ {A = List A} [] (before ++ x ∷ after) → ⊥
+  none_here [] after is = absurd (cc)
+  none_here (y ∷ before) after is = absurd (cc)
+
+  not_there : IsOneOf x [] → ⊥
+  not_there h = none_here h.before h.after h.is
+
+  either_at : (xs ys before after : List A) → xs ++ ys ≡ before ++ x ∷ after → IsOneOf x xs ⊎ IsOneOf x ys
+  either_at [] ys before after is = inr (record { before = before; after = after; is = is })
+  either_at (y ∷ xs) ys [] after is =
+      (let same : y ≡ x = cc in inl (record { before = []; after = xs; is = ap (λ (z : A). z ∷ xs) same }))
+  either_at (y ∷ xs) ys (z ∷ before) after is =
+      let first : y ≡ z = cc in
+      let rest : xs ++ ys ≡ before ++ x ∷ after = cc in
+      ⊎_elim
+      (λ (h : IsOneOf x xs). inl (record { before = y ∷ h.before; after = h.after; is = ap (λ (zs : List A). y ∷ zs) h.is }))
+      (λ (h : IsOneOf x ys). inr h)
+      (either_at xs ys before after rest)
+
+  either : (xs ys : List A) → IsOneOf x (xs ++ ys) → IsOneOf x xs ⊎ IsOneOf x ys
+  either xs ys h = either_at xs ys h.before h.after h.is
+
+  in_front : (xs ys : List A) → IsOneOf x xs → IsOneOf x (xs ++ ys)
+  in_front xs ys h =
+      record { before = h.before; after = h.after ++ ys; is = ap (λ (zs : List A). zs ++ ys) h.is ∙ append_assoc h.before (x ∷ h.after) ys }
+
+  behind : (xs ys : List A) → IsOneOf x ys → IsOneOf x (xs ++ ys)
+  behind xs ys h =
+      record { before = xs ++ h.before; after = h.after; is = ap (λ (zs : List A). xs ++ zs) h.is ∙ sym (append_assoc xs h.before (x ∷ h.after)) }
+
+  -- it is the first one, or one of the others
+  first_or : (y : A) (xs : List A) → IsOneOf x (y ∷ xs) → (y ≡ x) ⊎ IsOneOf x xs
+  first_or y xs h = go h.before h.is
+    where
+      go : (before : List A) → y ∷ xs ≡ before ++ x ∷ h.after → (y ≡ x) ⊎ IsOneOf x xs
+      go [] is = (let same : y ≡ x = cc in inl same)
+      go (z ∷ before) is = (let rest : xs ≡ before ++ x ∷ h.after = cc in inr (record { before = before; after = h.after; is = rest }))
+
+-- ---- it said yes about each index of the owner that it asked about
+
+module _ (p index owner : ℕ) where
+  abbrev Question : List SetAct → Type 0
+  Question acts = IsOneOf (Asks index owner) acts
+
+  abbrev Answer : List SetAct → Type 0
+  Answer acts = IsOneOf (Yes index owner) acts
+
+  yes_next : (i o : ℕ) (rest : List SetAct) → (Question rest → ⊥) → Question (Asks i o ∷ Yes i o ∷ rest) → Answer (Asks i o ∷ Yes i o ∷ rest)
+  yes_next i o rest no_more h =
+      ⊎_elim
+      (λ (e : Asks i o ≡ Asks index owner). (
+      let same : i ≡ index = cc in
+      let his : o ≡ owner = cc in
+      record { before = Asks i o ∷ []; after = rest; is = ap₂ (λ (k n : ℕ). Asks i o ∷ Yes k n ∷ rest) same his }))
+      (λ (more : Question (Yes i o ∷ rest)). absurd (⊎_elim (λ (e : Yes i o ≡ Asks index owner). differ i o e) no_more
+      (first_or (Asks index owner) (Yes i o) rest more)))
+      (first_or (Asks index owner) (Asks i o) (Yes i o ∷ rest) h)
+    where
+      differ : (k n : ℕ) → Yes k n ≡ Asks index owner → ⊥
+      differ k n e = absurd (cc)
+
+  frees_none : (i o : ℕ) (rest : List SetAct) → (Question rest → ⊥) → Question (Frees i o ∷ rest) → ⊥
+  frees_none i o rest no_more h =
+      ⊎_elim (λ (e : Frees i o ≡ Asks index owner). differ e) no_more (first_or (Asks index owner) (Frees i o) rest h)
+    where
+      differ : Frees i o ≡ Asks index owner → ⊥
+      differ e = absurd (cc)
+
+  locks_none : Question (Locks ∷ []) → ⊥
+  locks_none h = ⊎_elim (λ (e : Locks ≡ Asks index owner). differ e) (not_there (Asks index owner)) (first_or (Asks index owner) Locks [] h)
+    where
+      differ : Locks ≡ Asks index owner → ⊥
+      differ e = absurd (cc)
+
+  yes_one : (i o : ℕ) (came : Came) → was_told came ≡ (o == owner) → Question (set_acts (wrote_to {T = ℕ} p i o came))
+      → Answer (set_acts (wrote_to {T = ℕ} p i o came))
+  yes_one i o HasAsked told h =
+      ⊎_elim
+      (λ (e : Asks i o ≡ Asks index owner). (
+      let his : o ≡ owner = cc in
+      let it : (o == owner) ≡ true = grind (arith, nat_tests) in
+      absurd (true≢false (sym it ∙ sym told))))
+      (λ (none : Question []). absurd (not_there (Asks index owner) none))
+      (first_or (Asks index owner) (Asks i o) [] h)
+  yes_one i o WasTold told h = yes_next i o [] (not_there (Asks index owner)) h
+  yes_one i o HasFreed told h = yes_next i o (Frees i o ∷ []) (frees_none i o [] (not_there (Asks index owner))) h
+  yes_one i o HasLocked told h = yes_next i o (Frees i o ∷ Locks ∷ []) (frees_none i o (Locks ∷ []) locks_none) h
+
+  abbrev acts : List Visit → List SetAct
+  acts visits = set_acts (wrote_by {T = ℕ} p visits)
+
+  acts_more : (v : Visit) (visits : List Visit) → acts (v ∷ visits) ≡ set_acts (wrote_of {T = ℕ} p v) ++ acts visits
+  acts_more v visits = flat_map-append set_act (wrote_of {T = ℕ} p v) (wrote_by {T = ℕ} p visits)
+
+  says_yes : (visits : List Visit) → All (IsToldFor owner) visits → Question (acts visits) → Answer (acts visits)
+  says_yes [] all h = absurd (not_there (Asks index owner) h)
+  says_yes (v ∷ visits) all h =
+      subst Answer (sym (acts_more v visits))
+      (⊎_elim
+      (λ (here : Question (set_acts (wrote_of {T = ℕ} p v))). in_front (Yes index owner) (set_acts (wrote_of {T = ℕ} p v)) (acts visits)
+      (yes_one v.index v.owner v.came (All-head (IsToldFor owner) v visits all) here))
+      (λ (later : Question (acts visits)). behind (Yes index owner) (set_acts (wrote_of {T = ℕ} p v)) (acts visits)
+      (says_yes visits (All-tail (IsToldFor owner) v visits all) later))
+      (either (Asks index owner) (set_acts (wrote_of {T = ℕ} p v)) (acts visits) (subst Question (acts_more v visits) h)))
+
+-- ---- what stands before its end
+
+module _ {A : Type 0} (xs : List A) (a b c d : A) where
+  two_more : (xs ++ a ∷ []) ++ b ∷ [] ≡ xs ++ a ∷ b ∷ []
+  two_more = append_assoc xs (a ∷ []) (b ∷ [])
+
+  three_more : ((xs ++ a ∷ []) ++ b ∷ []) ++ c ∷ [] ≡ xs ++ a ∷ b ∷ c ∷ []
+  three_more = ap (λ (ys : List A). ys ++ c ∷ []) two_more ∙ append_assoc xs (a ∷ b ∷ []) (c ∷ [])
+
+  four_more : (((xs ++ a ∷ []) ++ b ∷ []) ++ c ∷ []) ++ d ∷ [] ≡ xs ++ a ∷ b ∷ c ∷ d ∷ []
+  four_more = ap (λ (ys : List A). ys ++ d ∷ []) three_more ∙ append_assoc xs (a ∷ b ∷ c ∷ []) (d ∷ [])
+
+module _ (p : ℕ) (start : Start ℕ) where
+  grows_one : (es : List (Event ℕ)) (index owner : ℕ) (came : Came)
+      → fold own_after (Open start es) (wrote_to p index owner came) ≡ Open start (es ++ wrote_to p index owner came)
+  grows_one es index owner HasAsked = refl
+  grows_one es index owner WasTold = ap (Open start) (two_more es (Asked p index owner) (Told p index owner) (Locked p) (Locked p))
+  grows_one es index owner HasFreed =
+      ap (Open start) (three_more es (Asked p index owner) (Told p index owner) (FreedOf p index owner) (Locked p))
+  grows_one es index owner HasLocked =
+      ap (Open start) (four_more es (Asked p index owner) (Told p index owner) (FreedOf p index owner) (Locked p))
+
+  grows : (es : List (Event ℕ)) (visits : List Visit) → fold own_after (Open start es) (wrote_by p visits) ≡ Open start (es ++ wrote_by p visits)
+  grows es [] = ap (Open start) (sym (append-nil es))
+  grows es (v ∷ visits) =
+      fold-append own_after (Open start es) (wrote_of p v) (wrote_by p visits)
+      ∙ (ap (λ (s : Span ℕ). fold own_after s (wrote_by p visits)) (grows_one es v.index v.owner v.came)
+      ∙ (grows (es ++ wrote_of p v) visits ∙ ap (Open start) (append_assoc es (wrote_of p v) (wrote_by p visits))))
+
+module _ (owner : ℕ) (mode : ReleaseMode) (state : ReleaseState) (v w : View ℕ) (h : HasRecoveredOwner owner mode state v w) (q : ℕ)
+    (before : List (Event ℕ)) (is : w.seen ≡ before ++ Finished q (Robust (Recover mode)) (State state) ∷ []) where
+  abbrev start : Start ℕ
+  start = Robust (Recover mode)
+
+  ends : (before ≡ (v.seen ++ h.called.others) ++ Begun h.by start ∷ h.called.during) × (Finished q start (State state) ≡ Finished h.by start (State state))
+  ends =
+      same_from_push before ((v.seen ++ h.called.others) ++ Begun h.by start ∷ h.called.during) _ _
+      (sym is
+      ∙ (h.called.is ∙ sym (append_assoc (v.seen ++ h.called.others) (Begun h.by start ∷ h.called.during) (Finished h.by start (State state) ∷ []))))
+
+  by_it : q ≡ h.by
+  by_it = (let same : Finished q start (State state) ≡ Finished h.by start (State state) = ends.1 in cc)
+
+  spans : span_of h.by before ≡ Open start (wrote_by h.by h.visits)
+  spans =
+      ap (span_of h.by) ends.0
+      ∙ (span_since h.by start (v.seen ++ h.called.others) h.called.during
+      ∙ (ap (fold own_after (Open start [])) h.called.during_own ∙ grows h.by start [] h.visits))
+
+  has_done : set_acts_of q before ≡ set_acts (wrote_by {T = ℕ} h.by h.visits)
+  has_done = ap (λ (n : ℕ). set_acts_of n before) by_it ∙ ap (λ (s : Span ℕ). set_acts (wrote_in s)) spans
+
+  pub leaves_none : HasRecoveredBy Word q before → LeavesNone owner q before
+  leaves_none right = record { told = told; freed = λ honest index his. freed_or_his index his (gone_too honest index his); gone = gone_too }
+    where
+      told : (index : ℕ) → HeldThroughout q (StillToFree q owner index) before → IsOneOf (Yes index owner) (set_acts_of q before)
+      told index his =
+          subst (IsOneOf (Yes index owner)) (sym has_done)
+          (says_yes h.by index owner h.visits h.told (subst (IsOneOf (Asks index owner)) has_done (right.asked index owner his)))
+
+      gone_too : IsHonest before → (index : ℕ) → HeldThroughout q (StillToFree q owner index) before → filled_of index before ≢ Some owner
+      gone_too honest index his = right.gone honest index owner (told index his)
+
+      freed_or_his : (index : ℕ) → HeldThroughout q (StillToFree q owner index) before → filled_of index before ≢ Some owner
+          → IsOneOf (Frees index owner) (set_acts_of q before)
+      freed_or_his index his none =
+          ⊎_elim
+          (λ (still : filled_of index before ≡ Some owner). absurd (none still))
+          (λ (freed : IsOneOf (Frees index owner) (set_acts_of q before)). freed)
+          (his before [] (sym (append-nil before)) tt)
+
+pub owner_answered : (owner : ℕ) (mode : ReleaseMode) (state : ReleaseState) (v w : View ℕ) → HasRecoveredOwner owner mode state v w
+    → IsRightRecovery mode state v w → IsRightOwnerRecovery owner mode state v w
+owner_answered owner mode states.Locked v w h a = record { by = a.by; before = a.before; is = a.is; since = a.since; right = a.right }
+owner_answered owner mode states.Unlocked v w h a =
+    record {
+      by = a.by;
+      before = a.before;
+      is = a.is;
+      since = a.since;
+      right = (a.right.0, leaves_none owner mode states.Unlocked v w h a.by a.before a.is a.right.1);
+    }

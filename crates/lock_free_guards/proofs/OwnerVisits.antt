@@ -1,0 +1,106 @@
+-- The visits of a recovery that is told to free the indices of one owner alone: what its closures said and counted, and what
+-- it freed.
+use Rattle.std.proofs.Common.{◌≡◌, ◌≢◌, ℕ, ◌+◌, ◌==◌, Bool, true, false, List, [], ◌∷◌, length, sum_by, if◌then◌else◌}
+use Rattle.std.proofs.Common.{refl, sym, ap, ◌∙◌, arith}
+use Rattle.std.specs.List.{All, FoldsTo}
+use Rattle.std.proofs.lemmas.Bool.Decides.{nat_tests}
+use Rattle.std.proofs.lemmas.List.Elements.{All-nil, All-cons, All-head, All-tail}
+use Rattle.std.proofs.lemmas.List.Sums.{sum_by-append}
+use Rattle.steps.specs.declared.indices.enums.ReleaseMode.{ReleaseMode}
+use Rattle.steps.specs.declared.indices.enums.ReleaseState.{ReleaseState}
+use Rattle.model.specs.declared.event.Answer.TheVariants.{State}
+use Rattle.model.specs.declared.event.Start.TheVariants.{Robust}
+use Rattle.model.specs.declared.families.indices.robust.RobustStart.TheVariants.{Recover}
+use Rattle.history.specs.Robust.{Came, HasAsked, WasTold, HasFreed, HasLocked, Visit, visit, wrote_to, wrote_of, wrote_by}
+use Rattle.history.specs.declared.view.View.{View}
+use Rattle.lock_free_owners.specs.Robust.Callable.{asks, freed_of, questions_of, was_freed, was_told}
+use Rattle.lock_free_owners.specs.Robust.Contracts.{HasRecovered}
+use Rattle.lock_free_sets.proofs.Sums.{sum_made}
+use Rattle.lock_free_guards.specs.Held.{frees_of, number_freed}
+use Rattle.lock_free_guards.specs.Recovered.{IsToldFor, HasRecoveredOwner}
+
+-- ---- what the first closure said
+
+module _ {F : Type 0} (step : F → ℕ → ℕ → Bool → F → Type 0) (named : F → ℕ) (owner : ℕ)
+    (says : (p : F) (o i : ℕ) (b : Bool) (q : F) → step p o i b q → (named q ≡ named p) × (b ≡ (o == named p))) where
+  told_for : (f last : F) (visits : List Visit) → named f ≡ owner → FoldsTo (asks step) f (questions_of visits) last → All (IsToldFor owner) visits
+  told_for f last [] is h = All-nil (IsToldFor owner)
+  told_for f last (v ∷ visits) is h =
+      let here = says f v.owner v.index (was_told v.came) h.0 h.1 in
+      All-cons (IsToldFor owner) v visits (here.1 ∙ ap (λ n. v.owner == n) is) (told_for h.0 last visits (here.0 ∙ is) h.2)
+
+  pub recovers_owner : {S : Type 0} (tell : S → ℕ → ℕ → S → Type 0) (mode : ReleaseMode) (state : ReleaseState) (f last : F) (s s_last : S) (v w : View ℕ)
+      → named f ≡ owner → HasRecovered step tell mode state f s last s_last v w → HasRecoveredOwner owner mode state v w
+  recovers_owner tell mode state f last s s_last v w is h =
+      record {
+        by = h.by;
+        mine = h.mine;
+        visits = h.visits;
+        ascend = h.ascend;
+        told = told_for f last h.visits is h.visited.asked;
+        called = h.called;
+        nothing = h.nothing;
+      }
+
+-- ---- what it freed
+
+freed_more : (index owner : ℕ) (came : Came) (visits : List Visit)
+    → length (freed_of (visit index owner came ∷ visits)) ≡ (if was_freed came then 1 else 0) + length (freed_of visits)
+freed_more index owner HasAsked visits = omega arith
+freed_more index owner WasTold visits = omega arith
+freed_more index owner HasFreed visits = omega arith
+freed_more index owner HasLocked visits = omega arith
+
+module _ (owner p : ℕ) where
+  one_of_owner : (index o : ℕ) (came : Came) → was_told came ≡ (o == owner)
+      → sum_by (frees_of owner) (wrote_to p index o came) ≡ (if was_freed came then 1 else 0)
+  one_of_owner index o HasAsked told = refl
+  one_of_owner index o WasTold told = refl
+  one_of_owner index o HasFreed told = (let it : (o == owner) ≡ true = sym told in rw it refl)
+  one_of_owner index o HasLocked told = (let it : (o == owner) ≡ true = sym told in rw it refl)
+
+  all_of_owner : (visits : List Visit) → All (IsToldFor owner) visits → sum_by (frees_of owner) (wrote_by p visits) ≡ length (freed_of visits)
+  all_of_owner [] all = refl
+  all_of_owner (v ∷ visits) all =
+      let here = one_of_owner v.index v.owner v.came (All-head (IsToldFor owner) v visits all) in
+      let rest = all_of_owner visits (All-tail (IsToldFor owner) v visits all) in
+      let both = sum_by-append (frees_of owner) (wrote_of p v) (wrote_by p visits) in
+      let long = freed_more v.index v.owner v.came visits in
+      omega arith
+
+  module _ (other : ℕ) (apart : other ≢ owner) where
+    is_another : (o : ℕ) → true ≡ (o == owner) → (o == other) ≡ false
+    is_another o told = grind (arith, nat_tests)
+
+    none_of_other : (index o : ℕ) (came : Came) → was_told came ≡ (o == owner) → sum_by (frees_of other) (wrote_to p index o came) ≡ 0
+    none_of_other index o HasAsked told = refl
+    none_of_other index o WasTold told = refl
+    none_of_other index o HasFreed told = (let it = is_another o told in rw it refl)
+    none_of_other index o HasLocked told = (let it = is_another o told in rw it refl)
+
+    none_of_others : (visits : List Visit) → All (IsToldFor owner) visits → sum_by (frees_of other) (wrote_by p visits) ≡ 0
+    none_of_others [] all = refl
+    none_of_others (v ∷ visits) all =
+        let here = none_of_other v.index v.owner v.came (All-head (IsToldFor owner) v visits all) in
+        let rest = none_of_others visits (All-tail (IsToldFor owner) v visits all) in
+        let both = sum_by-append (frees_of other) (wrote_of p v) (wrote_by p visits) in
+        omega arith
+
+-- as many of his as the second closure was told of
+pub freed_his : {F S : Type 0} (step : F → ℕ → ℕ → Bool → F → Type 0) (named : F → ℕ) (owner : ℕ)
+    → ((p : F) (o i : ℕ) (b : Bool) (q : F) → step p o i b q → (named q ≡ named p) × (b ≡ (o == named p)))
+    → (tell : S → ℕ → ℕ → S → Type 0) (mode : ReleaseMode) (state : ReleaseState) (f last : F) (s s_last : S) (v w : View ℕ) → named f ≡ owner
+    → (h : HasRecovered step tell mode state f s last s_last v w)
+    → number_freed owner w.made ≡ number_freed owner v.made + length (freed_of h.visits)
+freed_his step named owner says tell mode state f last s s_last v w is h =
+    let made = sum_made (frees_of owner) h.by (Robust (Recover mode)) (State state) (wrote_by h.by h.visits) v w h.called in
+    let wrote = all_of_owner owner h.by h.visits (told_for step named owner says f last h.visits is h.visited.asked) in
+    omega arith
+
+-- and none of another
+pub freed_no_other : (owner : ℕ) (mode : ReleaseMode) (state : ReleaseState) (v w : View ℕ) → HasRecoveredOwner owner mode state v w → (o : ℕ)
+    → o ≢ owner → number_freed o w.made ≡ number_freed o v.made
+freed_no_other owner mode state v w h o apart =
+    let made = sum_made (frees_of o) h.by (Robust (Recover mode)) (State state) (wrote_by h.by h.visits) v w h.called in
+    let wrote = none_of_others owner h.by o apart h.visits h.told in
+    omega arith

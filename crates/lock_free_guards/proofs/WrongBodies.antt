@@ -1,0 +1,143 @@
+-- What a wrong body of a call would leave or answer, and the clause that refuses it. A name says what the body does.
+use Rattle.std.proofs.Common.{◌≡◌, ◌≢◌, ℕ, ◌+◌, ◌-◌, ◌*◌, ◌<◌, ◌==◌, true, false, Ok, Err, Option, Some, List, [], ◌∷◌, ◌++◌, length, flat_map}
+use Rattle.std.proofs.Common.{refl, sym, ap, ◌∙◌, arith, length-append, true≢false}
+use Rattle.std.proofs.lemmas.Bool.Decides.{nat_tests}
+use Rattle.std.proofs.lemmas.List.{append_cancel_left, same_from_push}
+use Rattle.steps.specs.Indices.Robust.Release.{Released}
+use Rattle.steps.specs.declared.indices.enums.ReleaseState.{ReleaseState}
+use Rattle.steps.specs.declared.indices.enums.RobustUniqueIndexSetReleaseError.{RobustUniqueIndexSetReleaseError}
+use Rattle.steps.specs.declared.indices.enums.UniqueIndexSetAcquireFailure.TheVariants.{IsLocked, OutOfIndices}
+use Rattle.steps.specs.declared.indices.robust.release.GiveBack.{GiveBack}
+use Rattle.model.specs.declared.event.Answer.{Answer}
+use Rattle.model.specs.declared.event.Event.{Event}
+use Rattle.model.specs.declared.event.Event.TheVariants.{Begun, Finished}
+use Rattle.model.specs.declared.event.Start.{Start}
+use Rattle.model.specs.declared.event.Start.TheVariants.{Indices}
+use Rattle.model.specs.declared.families.indices.IndexStart.TheVariants.{Acquire}
+use Rattle.model.specs.Families.Indices.Reading.{is_locked}
+use Rattle.history.specs.History.{Called}
+use Rattle.history.specs.Robust.{visit, HasFreed}
+use Rattle.history.specs.declared.view.View.{View}
+use Rattle.lock_free_owners.specs.Robust.Contracts.{HasGiven}
+use Rattle.lock_free_sets.specs.Unique.Contracts as unique
+use Rattle.lock_free_guards.specs.Acquired.{HasAcquired, HasFailed}
+use Rattle.lock_free_guards.specs.Held.{HoldsFor, number_freed}
+use Rattle.lock_free_guards.specs.Recovered.{IsToldFor}
+use Rattle.lock_free_guards.specs.Tries.{refused_by, EndsTries, EndsAtLimit}
+use Rattle.lock_free_guards.proofs.Trying.{unlocked_before}
+
+module _ (p : ℕ) (start : Start ℕ) (one : Answer ℕ) (wrote : List (Event ℕ)) (v w : View ℕ) (c : Called p start one wrote v w) where
+  -- what a call makes
+  makes : length w.made ≡ length v.made + (2 + length wrote)
+  makes =
+      let all = length-append v.made (Begun p start ∷ (wrote ++ Finished p start one ∷ [])) in
+      let last = length-append wrote (Finished p start one ∷ []) in
+      let same = ap length c.made in
+      omega arith
+
+  no_call : w.made ≡ v.made → ⊥
+  no_call none = (let long = makes in let same = ap length none in absurd (omega arith))
+
+  -- it gives one answer
+  one_answer : (q : ℕ) (other : Answer ℕ) (written : List (Event ℕ)) → Called q start other written v w → Finished p start one ≡ Finished q start other
+  one_answer q other written d =
+      let is = append_cancel_left v.made _ _ (sym c.made ∙ d.made) in
+      let rest : wrote ++ Finished p start one ∷ [] ≡ written ++ Finished q start other ∷ [] = cc in
+      (same_from_push _ _ _ _ rest).1
+
+-- ---- `acquire` for an owner
+
+module _ (owner : ℕ) (v w : View ℕ) where
+  -- its guard is of another index than that which it was granted
+  pub acquire_guards_another_index : (index other : ℕ) → other ≢ index → HasAcquired owner index v w → HasAcquired owner other v w → ⊥
+  acquire_guards_another_index index other apart right wrong =
+      let e = one_answer _ _ _ _ v w right.taken.called _ _ _ wrong.taken.called in
+      let same : other ≡ index = cc in
+      apart same
+
+  -- its guard is for another owner
+  pub acquire_guards_for_another : (index other : ℕ) → other ≢ owner → HasAcquired owner index v w → HoldsFor other index w.made → ⊥
+  acquire_guards_for_another index other apart right wrong =
+      let e : ◌≡◌ {A = Option ℕ} (Some other) (Some owner) = sym wrong ∙ right.holds in
+      let same : other ≡ owner = cc in
+      apart same
+
+  -- it makes a guard, and calls nothing
+  pub acquire_calls_nothing : (index : ℕ) → w.made ≡ v.made → HasAcquired owner index v w → ⊥
+  acquire_calls_nothing index none wrong = no_call _ _ _ _ v w wrong.taken.called none
+
+  -- it answers that a locked set is full
+  pub acquire_says_full_of_a_locked_set : is_locked v.seen ≡ true → HasFailed owner OutOfIndices v w → ⊥
+  acquire_says_full_of_a_locked_set shut wrong = true≢false (sym shut ∙ wrong.refused.unlocked refl)
+
+  -- it answers that a full set is locked
+  pub acquire_says_locked_of_an_open_set : is_locked w.seen ≡ false → HasFailed owner IsLocked v w → ⊥
+  acquire_says_locked_of_an_open_set free wrong = true≢false (sym (wrong.refused.locked refl) ∙ free)
+
+-- ---- `release`
+
+module _ (given : GiveBack) (v w : View ℕ) where
+  -- it does nothing
+  pub release_does_nothing : (answer : Released) → w.made ≡ v.made → HasGiven given answer v w → ⊥
+  release_does_nothing answer none wrong = no_call _ _ _ _ v w wrong.called none
+
+  -- it gives the index back, and answers that it is another's
+  pub release_denies_what_it_did : (state : ReleaseState) (failure : RobustUniqueIndexSetReleaseError) → HasGiven given (Ok state) v w
+      → HasGiven given (Err failure) v w → ⊥
+  release_denies_what_it_did state failure right wrong =
+      let e = one_answer _ _ _ _ v w right.called _ _ _ wrong.called in
+      absurd (cc)
+
+-- ---- `recover_owner`
+
+module _ (owner : ℕ) (v w : View ℕ) where
+  -- it frees some of another owner
+  pub recover_owner_frees_anothers : (other number : ℕ) → 0 < number → number_freed other w.made ≡ number_freed other v.made + number
+      → number_freed other w.made ≡ number_freed other v.made → ⊥
+  recover_owner_frees_anothers other number some right wrong = absurd (omega arith)
+
+  -- it counts all that it came to, those of others too
+  pub recover_owner_counts_all : (his others : ℕ) → 0 < others → number_freed owner w.made ≡ number_freed owner v.made + his
+      → number_freed owner w.made ≡ number_freed owner v.made + (his + others) → ⊥
+  recover_owner_counts_all his others some right wrong = absurd (omega arith)
+
+  -- it counts none
+  pub recover_owner_counts_none : (his : ℕ) → 0 < his → number_freed owner w.made ≡ number_freed owner v.made + his
+      → number_freed owner w.made ≡ number_freed owner v.made + 0 → ⊥
+  recover_owner_counts_none his some right wrong = absurd (omega arith)
+
+-- it says yes about whatever it comes to
+pub recover_owner_says_yes_of_all : (owner index other : ℕ) → other ≢ owner → IsToldFor owner (visit index other HasFreed) → ⊥
+recover_owner_says_yes_of_all owner index other apart told =
+    let no : (other == owner) ≡ false = grind (arith, nat_tests) in
+    true≢false (told ∙ no)
+
+-- ---- acquires that wait
+
+two_each : (start : Start ℕ) (ps : List ℕ) → length (flat_map (refused_by start) ps) ≡ 2 * length ps
+two_each start [] = refl
+two_each start (p ∷ ps) = let rest = two_each start ps in omega arith
+
+-- how much so many tries make, of which the last finds none left
+ends_long : (n : ℕ) (u w : View ℕ) → EndsTries n (Indices Acquire) (unique.WasRefused OutOfIndices) u w → length w.made ≡ length u.made + 2 * (n + 1)
+ends_long n u w h =
+    let last = makes _ _ _ _ h.begun w h.last.taken.called in
+    let before = ap length h.tried.made in
+    let all = length-append u.made (flat_map (refused_by (Indices Acquire)) h.tried.parties) in
+    let each = two_each (Indices Acquire) h.tried.parties in
+    let many = h.tried.so_many in
+    omega arith
+
+module _ (u w : View ℕ) where
+  -- it gives up before the limit
+  pub acquire_gives_up_early : (tries number : ℕ) → number < tries - 1 → EndsTries number (Indices Acquire) (unique.WasRefused OutOfIndices) u w
+      → EndsAtLimit (Indices Acquire) (unique.WasRefused OutOfIndices) tries u w → ⊥
+  acquire_gives_up_early tries number early right wrong =
+      let a = ends_long number u w right in
+      let b = ends_long (tries - 1) u w wrong in
+      absurd (omega arith)
+
+  -- it answers that a locked set is full
+  pub acquire_waits_at_a_lock : (n : ℕ) → is_locked u.seen ≡ true → EndsTries n (Indices Acquire) (unique.WasRefused OutOfIndices) u w → ⊥
+  acquire_waits_at_a_lock n shut wrong =
+      true≢false (sym shut ∙ unlocked_before (Indices Acquire) n u wrong.begun wrong.tried (wrong.last.unlocked refl))

@@ -1,0 +1,8 @@
+use Rattle.lock_free_owners.specs.RobustUniqueIndexSet.{view}
+use Rattle.lock_free_guards.proofs.Grants.{acquired}
+use Rattle.lock_free_guards.proofs.robust_index.RobustIndex.acquire.Goals as goal
+
+pub returns-in-Ok-clause-acquired : goal.returns-in-Ok-clause-acquired
+returns-in-Ok-clause-acquired g c =
+    let took = c.in-Ok.ensures in
+    acquired c.args.owner c.in-Ok.index (view c.args.pass) (view c.acquire.new.pass) took.taken took.filled took.granted

@@ -1,0 +1,8 @@
+use Rattle.std.proofs.Common.{◌<◌, ap, subst, sym}
+use Rattle.threaded.specs.Sets.{SetId}
+use Rattle.lock_free_guards.proofs.robust_index.RobustIndex.value.Goals as goal
+
+pub returns-clause-below : goal.returns-clause-below
+returns-clause-below g c =
+    let i = c.args.self.now in
+    subst (λ n. i.index < n) (sym (ap (λ (z : SetId). z.capacity) i.of)) i.within

@@ -1,0 +1,10 @@
+-- What a pass of a unique index set holds beside what it held.
+use Rattle.std.specs.Prelude.{ℕ, List, [], ◌∷◌, ◌++◌}
+use Rattle.model.specs.declared.event.Event.{Event}
+use Rattle.lock_free_sets.specs.Unique.Held.{HeldBy}
+
+abbrev pub HoldsMore : ℕ → List (Event ℕ) → List (Event ℕ) → Type 0
+HoldsMore index old new = (is : List ℕ) → HeldBy is old → HeldBy (is ++ index ∷ []) new
+
+abbrev pub HoldsTheSame : List (Event ℕ) → List (Event ℕ) → Type 0
+HoldsTheSame old new = (is : List ℕ) → HeldBy is old → HeldBy is new

@@ -1,0 +1,8 @@
+//! Guards of indices that have owners, and acquires that wait. An index of a robust unique index set is given back as its
+//! guard is dropped (no clause says so), and those of one owner are recovered by a call without closures. An acquire of
+//! either index set can wait for an index, for good or for so many tries.
+#![tactic(auto)]
+
+pub mod owner_recovery;
+pub mod robust_index;
+pub mod unique_index;
