@@ -21,6 +21,7 @@ lock_free: history lock_free_sp model steps
 zero_copy_slots: counted_slot
 zero_copy_loans: zero_copy_slots lock_free
 zero_copy_bus: zero_copy_slots lock_free thiserror
+uses_streams: model
 tests_calls: steps
 """
 FILES = {
@@ -39,6 +40,7 @@ FILES = {
     "crates/zero_copy_slots/src/lib.rt": "pub const SLOTS: u64 = 1;\n",
     "crates/zero_copy_loans/src/lib.rt": "use zero_copy_slots::SLOTS;\n",
     "crates/zero_copy_bus/src/lib.rt": "use zero_copy_slots::SLOTS;\n",
+    "crates/uses_streams/src/lib.rt": "use model::most;\n",
     "crates/tests_calls/src/lib.rt": "//! Tests.\n",
     "docs/FIELD.md": "# Field\n\n[PROVED](PROVED.md), [SPEED](keeping/SPEED.md), ![a run](run.svg) and [rust](https://rust-lang.org).\n",
     "docs/PROVED.md": "# Proved\n\n[CALLING](../crates/lock_free/CALLING.md) and [SCHEDULE](SCHEDULE.md).\n",

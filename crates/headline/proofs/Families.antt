@@ -43,12 +43,12 @@ use Rattle.model.specs.Promises.Families.{promise_of}
 use Rattle.model.specs.Reading.{Each, moments, Span, Never, Open, Ended, span_of}
 use Rattle.model.specs.Turns.{IsReached}
 use Rattle.model.specs.World.{Trace}
-use Rattle.laws_container.proofs.Everything.{shown}
+use Rattle.laws_container.proofs.AllRuns.{shown}
 use Rattle.laws_container.proofs.Sound.{reached_sound}
 use Rattle.laws_turns.specs.Others.{queue_in}
 use Rattle.laws_turns.proofs.Counting as counting
 use Rattle.laws_turns.proofs.Locking as locking
-use Rattle.laws_turns.proofs.Meeting as meeting
+use Rattle.laws_turns.proofs.UpdateAnswers as meeting
 use Rattle.laws_turns.proofs.Queue as submission
 use Rattle.laws_turns.proofs.Waiting as waiting
 use Rattle.headline.specs.Holders.{Takes, claims, fills, grants, loans, holders, NoTwoHold, NoneOnceLocked, IsRelease, MayFree}

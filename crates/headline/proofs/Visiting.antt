@@ -28,7 +28,7 @@ use Rattle.model.specs.World.{Trace}
 use Rattle.model.proofs.Moments.{held_later}
 use Rattle.model.proofs.Readings.{AreRight, Each-append, Each-nil}
 use Rattle.model.proofs.Reached.{kept_by_runs, reached_more, turn_making}
-use Rattle.laws_container.proofs.Everything.{container_keeps}
+use Rattle.laws_container.proofs.AllRuns.{container_keeps}
 use Rattle.headline.specs.Headline.{IsVisit}
 use Rattle.headline.specs.Moments.{Follows, call_in}
 

@@ -26,9 +26,9 @@ use Rattle.headline_whole.proofs.Law.{Reading, Law}
 use Rattle.headline_whole.proofs.Lists.{list_answers}
 use Rattle.headline_whole.proofs.Moments.{value_answers}
 use Rattle.headline_whole.proofs.Owners as owners
-use Rattle.headline_whole.proofs.Plainly as plainly
+use Rattle.headline_whole.proofs.WithoutQuestions as plainly
 use Rattle.headline_whole.proofs.Runs.{Rests, Goes, no_flight}
-use Rattle.headline_whole.proofs.Talks.{talking}
+use Rattle.headline_whole.proofs.SoloCalls.{talking}
 use Rattle.headline_whole.proofs.Turns.{answers_whole, stands_whole}
 
 module _ {T : Type 0} (t : Trace T) (r : IsReached t) where

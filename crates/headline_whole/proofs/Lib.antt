@@ -15,13 +15,13 @@ pub mod MapQuestions
 pub mod Maps
 pub mod Moments
 pub mod Owners
-pub mod Plainly
 pub mod Replies
 pub mod Runs
 pub mod Sequential
+pub mod SoloCalls
 pub mod Sweeps
-pub mod Talks
 pub mod Told
 pub mod Turns
 pub mod Views
+pub mod WithoutQuestions
 pub mod Worked

@@ -32,7 +32,7 @@ use Rattle.headline_whole.specs.Objects.{is_list_call, whole_list}
 use Rattle.headline_whole.specs.Whole.{RunsWhole, AnswersAs}
 use Rattle.headline_whole.proofs.Courses.{NoneEnds}
 use Rattle.headline_whole.proofs.Moments.{no_call, now, still_now, mourned, quiet_now, once_ended, acted, answers_then}
-use Rattle.headline_whole.proofs.Plainly.{HasAnswered}
+use Rattle.headline_whole.proofs.WithoutQuestions.{HasAnswered}
 use Rattle.headline_whole.proofs.Sequential.{of_parties, whole_call, ReadsEffects, reads_same, reads_call, open_shut, rests}
 
 not_zero : {A : Type 0} (less : ℕ) → suc less ≡ 0 → A

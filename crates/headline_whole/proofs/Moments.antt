@@ -18,7 +18,7 @@ use Rattle.model.specs.World.{Trace}
 use Rattle.model.proofs.Replays.{standing_more}
 use Rattle.headline_whole.specs.Whole.{RunsWhole, AnswersAs}
 use Rattle.headline_whole.proofs.Courses.{NoneEnds}
-use Rattle.headline_whole.proofs.Plainly.{HasAnswered, still_answered, once_more}
+use Rattle.headline_whole.proofs.WithoutQuestions.{HasAnswered, still_answered, once_more}
 use Rattle.headline_whole.proofs.Sequential.{of_parties, whole_call, ReadsEffects, reads_same, reads_call, rests}
 
 module _ {T State : Type 0} where

@@ -35,7 +35,7 @@ use Rattle.laws_robust.proofs.Opening.{admitted_is}
 use Rattle.model.proofs.Reached.{kept_by}
 use Rattle.laws_container.specs.Open.{steps_for_gone}
 use Rattle.laws_container.proofs.Core.{change_at, count_at}
-use Rattle.laws_container.proofs.Everything.{shown}
+use Rattle.laws_container.proofs.AllRuns.{shown}
 use Rattle.laws_container.proofs.Honest.{turn_honest}
 use Rattle.laws_container.proofs.Invariant.{family_by}
 use Rattle.laws_container.proofs.Kept.{contained}

@@ -77,7 +77,7 @@ use Rattle.model.specs.Families.Indices.Robust.Reading.{SetAct}
 use Rattle.model.specs.Families.Queues.Calls.{as_it_is}
 use Rattle.model.specs.Step.{as_call}
 use Rattle.model.specs.Turns.{old_of, words_after}
-use Rattle.laws_container.proofs.Standing.{At, place_is}
+use Rattle.laws_container.proofs.CallProgress.{At, place_is}
 use Rattle.history_laws.specs.Containers.{rise, rises}
 
 -- ---- what a call may still add

@@ -32,7 +32,7 @@ use Rattle.laws_robust.proofs.Gone.{gone_less}
 use Rattle.laws_container.specs.Gone.{AsksBy, acts_for_gone}
 use Rattle.laws_container.specs.Open.{is_for_gone, steps_for_gone}
 use Rattle.laws_container.proofs.Invariant.{family_by, FlightAt}
-use Rattle.laws_container.proofs.Standing.{At}
+use Rattle.laws_container.proofs.CallProgress.{At}
 use Rattle.history_laws.specs.Containers.{is_for, is_acting, BeginsRight, IsFaithful}
 use Rattle.lock_free_owners.proofs.Worn.ContainerWorn.{Sound, terms}
 use Rattle.laws_robust.proofs.Counter.{tested}

@@ -116,7 +116,7 @@ module _ {T : Type 0} (K : SetOutline T) where
       some_first : (start : BitsStart) (flight : Flight T)
           → first_of K.kind c (Bits start) registries.Nothing ≡ Some flight
           → (mine : BitsFlight) × (flight ≡ flights.Bits mine) × (first K.kind c start ≡ Some mine)
-      some_first x0 x1 x2 = grind arith
+      some_first = grind arith
 
       begin_shows : (start : Start T) (flight : Flight T) → first_of K.kind c start registries.Nothing ≡ Some flight
           → first_row ((begin_of K.kind c start).rows registries.Nothing p) ≡ None
@@ -146,7 +146,7 @@ module _ {T : Type 0} (K : SetOutline T) where
     told : (at : BitsStart → BitsFlight → Type 0) (p : ℕ) (start : Start T) (flight : Flight T) → FlightAt at start flight
         → (z : Coding T) (words : List ℕ) (beside : Option (ℕ × ℕ)) (answer : ℕ)
         → (step_of z words beside p start flight answer registries.Nothing).after ≡ goes_of z p flight answer registries.Nothing
-    told x0 x1 x2 x3 x4 x5 x6 x7 = grind arith
+    told = grind arith
 
   -- ---- every run
 

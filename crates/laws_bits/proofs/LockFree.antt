@@ -89,7 +89,7 @@ next_most words c (resetting.ExchangesElement start passed found) = one_of _ 1 (
 next_most words c (resetting.StoresPosition place) = omega arith
 
 next_few : (c : ℕ) (stage : ResetNextStage) → next_pays stage ≤ max 1 (elements c - 1)
-next_few x0 x1 = grind arith
+next_few = grind arith
 
 -- ---- where a call stands
 
@@ -320,28 +320,28 @@ module _ {T : Type 0} where
   module _ (code : Coding T) (c : ℕ) where
     stays : (words : List ℕ) (beside : Option (ℕ × ℕ)) (p : ℕ) (start : Start T) (flight : Flight T) (old : ℕ) (kept : Registry T)
         → Kept kept → Kept (step_of code words beside p start flight old kept).kept
-    stays x0 x1 x2 x3 x4 x5 x6 x7 = grind arith
+    stays = grind arith
 
     told : (stands : BitsFlight → Type 0) (words : List ℕ) (beside : Option (ℕ × ℕ)) (p : ℕ) (start : Start T) (flight : Flight T) (old : ℕ)
         (kept : Registry T)
         → FlightStands stands start flight → Kept kept
         → ((step_of code words beside p start flight old kept).after ≡ after_of code flight old)
         × (goes_of code p flight old kept ≡ after_of code flight old)
-    told x0 x1 x2 x3 x4 x5 x6 x7 x8 x9 = grind arith
+    told = grind arith
 
     dies : (kept : Registry T) (owner : ℕ) → Kept kept → Kept (kept_after_death kept owner)
-    dies x0 x1 x2 = grind arith
+    dies = grind arith
 
     bits_begin : (start : Start T) (kept : Registry T) (flight : Flight T) → Kept kept → first_of Bits c start kept ≡ Some flight
         → FlightStands (BitsStand c) start flight × ((p : ℕ) → Kept (kept_after_begin code c start p kept))
-    bits_begin x0 x1 x2 x3 x4 = grind arith
+    bits_begin = grind arith
 
     bits_go : (start : Start T) (flight : Flight T) (old : ℕ) → FlightStands (BitsStand c) start flight
         → OwnAfter bits_outline code c start (after_of code flight old)
-    bits_go x0 x1 x2 x3 = grind arith
+    bits_go = grind arith
 
     bits_ask : (start : Start T) (flight : Flight T) → FlightStands (BitsStand c) start flight → is_question (want_of code flight) ≡ false
-    bits_ask x0 x1 x2 = grind arith
+    bits_ask = grind arith
 
     bits_laws : TableLaws bits_outline code c
     bits_laws =
@@ -360,14 +360,14 @@ module _ {T : Type 0} where
 
     counts_begin : (start : Start T) (kept : Registry T) (flight : Flight T) → Kept kept → first_of Counts c start kept ≡ Some flight
         → FlightStands (CountsStand c) start flight × ((p : ℕ) → Kept (kept_after_begin code c start p kept))
-    counts_begin x0 x1 x2 x3 x4 = grind arith
+    counts_begin = grind arith
 
     counts_go : (start : Start T) (flight : Flight T) (old : ℕ) → FlightStands (CountsStand c) start flight
         → OwnAfter counts_outline code c start (after_of code flight old)
-    counts_go x0 x1 x2 x3 = grind arith
+    counts_go = grind arith
 
     counts_ask : (start : Start T) (flight : Flight T) → FlightStands (CountsStand c) start flight → is_question (want_of code flight) ≡ false
-    counts_ask x0 x1 x2 = grind arith
+    counts_ask = grind arith
 
     counts_laws : TableLaws counts_outline code c
     counts_laws =

@@ -34,4 +34,4 @@ failed_leaves words w found new t =
 -- one that finds the value writes the new one
 pub done_writes : (words : List ℕ) (w found new : ℕ) → (get_or words w 0 == found) ≡ true
     → words_after words (Some (record { word = w; op = Exchange found new })) ≡ set words w new
-done_writes x0 x1 x2 x3 x4 = grind arith
+done_writes = grind arith

@@ -27,7 +27,7 @@ use Rattle.laws_container.proofs.Sets.{leaves_behind, settles}
 use Rattle.laws_container.proofs.Stages.{IsHere, all, done, sees_now, then_sees, StepOf, Leads, none_lengthens}
 use Rattle.laws_container.proofs.Stages.{party_then, since_then, changes_then, backs_then, acts_more, goes_on}
 use Rattle.laws_container.proofs.Stages.{goes_calmly, ends, was_well_formed, was_well_formed_calmly}
-use Rattle.laws_container.proofs.Standing.{add_at, add_number, AddAt, IsGranted, MayHaveHidden}
+use Rattle.laws_container.proofs.CallProgress.{add_at, add_number, AddAt, IsGranted, MayHaveHidden}
 use Rattle.laws_container.proofs.Steps.{loads, stores_word, hides, places as places_it, misplaces, ends_counted}
 use Rattle.laws_container.proofs.Turns.{WellFormed, add_owes, count_in}
 use Rattle.laws_container.proofs.Writers.{IsWriter, one_writer}

@@ -27,7 +27,7 @@ use Rattle.laws_container.proofs.Effects.{OwesStill}
 use Rattle.laws_container.proofs.Invariant.{Scene, Inv, ActsFor, before, after, of_set, inv_of_set}
 use Rattle.laws_container.proofs.SetSteps.{rest_set, wide_set, fills, grants}
 use Rattle.laws_container.proofs.Stages.{IsHere, all, done, Leads, none_lengthens, StepOf, party_then, goes_on, goes_calmly, ends, owes_none, was_well_formed}
-use Rattle.laws_container.proofs.Standing.{add_at}
+use Rattle.laws_container.proofs.CallProgress.{add_at}
 use Rattle.laws_container.proofs.Steps.{loads, ends_calmly}
 use Rattle.laws_container.proofs.Turns.{WellFormed}
 

@@ -21,9 +21,9 @@ use Rattle.laws_container.proofs.AskedWrites.{goes_right}
 use Rattle.laws_container.proofs.Invariant.{family_by}
 use Rattle.laws_container.proofs.Sound.{MayGoOn, Shown}
 use Rattle.laws_container.proofs.Stages.{any_call}
-use Rattle.laws_container.proofs.Standing.{find_at, recover_at, At}
-use Rattle.laws_container.proofs.Tells.{counts_up_to}
-use Rattle.laws_container.specs.Tells.{StoppedIf, FindsUpToIf}
+use Rattle.laws_container.proofs.CallProgress.{find_at, recover_at, At}
+use Rattle.laws_container.proofs.FindCoverage.{counts_up_to}
+use Rattle.laws_container.specs.ConditionalPromises.{StoppedIf, FindsUpToIf}
 use Rattle.laws_container.proofs.Allowed.{IsAllowed}
 use Rattle.laws_container.proofs.WellFormed.{IsWellFormedSoFar}
 use Rattle.laws_container.proofs.Terms.{Terms}

@@ -12,10 +12,10 @@ use Rattle.laws_container.proofs.Invariant.{family_by}
 use Rattle.laws_container.proofs.LooksTell.{container_is, ends_last}
 use Rattle.laws_container.proofs.Sound.{MayGoOn, Shown}
 use Rattle.laws_container.proofs.Stages.{any_call}
-use Rattle.laws_container.proofs.Standing.{find_at, At}
-use Rattle.laws_container.proofs.Tells.{counts_all}
+use Rattle.laws_container.proofs.CallProgress.{find_at, At}
+use Rattle.laws_container.proofs.FindCoverage.{counts_all}
 use Rattle.laws_container.proofs.Written.{all_effects}
-use Rattle.laws_container.specs.Tells.{CountsIf, FindsAllIf}
+use Rattle.laws_container.specs.ConditionalPromises.{CountsIf, FindsAllIf}
 use Rattle.laws_container.proofs.Allowed.{IsAllowed}
 use Rattle.laws_container.proofs.WellFormed.{IsWellFormedSoFar}
 use Rattle.laws_container.proofs.Terms.{Terms}

@@ -24,7 +24,7 @@ use Rattle.laws_container.proofs.Knows.{Knows}
 use Rattle.laws_container.proofs.LooksTell.{no_end}
 use Rattle.laws_container.proofs.Sound.{MayGoOn, Shown, kept_now, is_there, begins_own}
 use Rattle.laws_container.proofs.Stages.{any_call}
-use Rattle.laws_container.proofs.Standing.{At}
+use Rattle.laws_container.proofs.CallProgress.{At}
 use Rattle.laws_container.proofs.Terms.{Terms}
 use Rattle.laws_container.proofs.Allowed.{IsAllowed}
 

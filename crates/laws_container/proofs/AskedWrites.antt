@@ -11,7 +11,7 @@ use Rattle.laws_container.proofs.AskedTurn.{GoesOn}
 use Rattle.laws_container.proofs.Invariant.{family_by, view, wrote_of}
 use Rattle.laws_container.proofs.Knows.{View, Knows}
 use Rattle.laws_container.proofs.Sound.{MayGoOn, Shown as Proved}
-use Rattle.laws_container.proofs.Standing.{At}
+use Rattle.laws_container.proofs.CallProgress.{At}
 use Rattle.laws_container.proofs.Terms.{Terms}
 
 module _ {T : Type 0} (code : Coding T) (c : ℕ) (t : Trace T) (turn : Turn T) (q : ℕ) where

@@ -22,9 +22,9 @@ use Rattle.laws_container.proofs.Left.{left_after, left_of}
 use Rattle.laws_container.proofs.WellFormed.{well_formed_before}
 use Rattle.laws_container.proofs.Replaces.{replace_begun}
 use Rattle.laws_container.proofs.Opening.{shows_same}
-use Rattle.laws_container.proofs.Sights.{Rests, rests_later}
+use Rattle.laws_container.proofs.StateInvariant.{Rests, rests_later}
 use Rattle.laws_container.proofs.Sound.{MayRecover, first_party, Begins}
-use Rattle.laws_container.proofs.Standing.{At}
+use Rattle.laws_container.proofs.CallProgress.{At}
 use Rattle.laws_container.proofs.Turns.{Now, WellFormed, Owing, owes, Passes}
 
 none_of : {X : Type 0} {A : Type 0} (one : X) (done before after : List X) → done ≡ [] → done ≡ before ++ one ∷ after → A

@@ -11,9 +11,9 @@ use Rattle.model.proofs.Frame as frame
 use Rattle.laws_robust.proofs.Kept.{count_most, lock_most}
 use Rattle.laws_container.proofs.Invariant.{ContainerNow, family}
 use Rattle.laws_container.proofs.Knows.{View, Knows}
-use Rattle.laws_container.proofs.Standing.{add_number, remove_number, replace_number, find_number, for_back, for_index}
-use Rattle.laws_container.proofs.Standing.{recover_number, look_number, number_of, AddAt, RemoveAt, ReplaceAt, FindAt}
-use Rattle.laws_container.proofs.Standing.{RecoverAt, LookAt, At}
+use Rattle.laws_container.proofs.CallProgress.{add_number, remove_number, replace_number, find_number, for_back, for_index}
+use Rattle.laws_container.proofs.CallProgress.{recover_number, look_number, number_of, AddAt, RemoveAt, ReplaceAt, FindAt}
+use Rattle.laws_container.proofs.CallProgress.{RecoverAt, LookAt, At}
 
 -- ---- how many steps a call has taken
 

@@ -26,7 +26,7 @@ use Rattle.laws_container.proofs.Knows.{Knows}
 use Rattle.laws_container.proofs.SetStays.{moves, ends_there}
 use Rattle.laws_container.proofs.Stages.{NoReplace, IsHere, all, done, sees_now, StepOf, Leads, none_lengthens}
 use Rattle.laws_container.proofs.Stages.{party_then, backs_then, goes_calmly, ends, owes_none, was_well_formed}
-use Rattle.laws_container.proofs.Standing.{count_at, lock_at, At}
+use Rattle.laws_container.proofs.CallProgress.{count_at, lock_at, At}
 use Rattle.laws_container.proofs.Turns.{WellFormed}
 
 -- the call of each kind of count

@@ -11,7 +11,7 @@ use Rattle.laws_container.proofs.Invariant.{Elements, moment, view}
 use Rattle.laws_container.proofs.KeepingReads.{still_knows}
 use Rattle.laws_container.proofs.Left.{left_after, left_of}
 use Rattle.laws_container.proofs.WellFormed.{stands_less}
-use Rattle.laws_container.proofs.Sights.{rests_later}
+use Rattle.laws_container.proofs.StateInvariant.{rests_later}
 use Rattle.laws_container.proofs.Sound.{Dies}
 use Rattle.laws_container.proofs.Terms.{Terms}
 use Rattle.laws_container.proofs.Turns.{Now, WellFormed, Passes, Leaves}

@@ -21,7 +21,7 @@ use Rattle.laws_container.proofs.Silent.{silently}
 use Rattle.laws_container.proofs.Stages.{IsHere, all, done, sees_now, StepOf, AnswerOf, Leads}
 use Rattle.laws_container.proofs.Stages.{acts_more, goes_on}
 use Rattle.laws_container.proofs.Stages.{owes_none, was_well_formed}
-use Rattle.laws_container.proofs.Standing.{find_at, find_number, FindAt}
+use Rattle.laws_container.proofs.CallProgress.{find_at, find_number, FindAt}
 use Rattle.laws_container.proofs.Turns.{count_in}
 use Rattle.laws_container.proofs.Finds.{below_more, cell_step, comes_to_next, count_step, ends_there, found_past}
 use Rattle.laws_container.proofs.Finds.{has_last, has_more, seen_more, then_at, word_step}

@@ -24,12 +24,12 @@ use Rattle.laws_container.proofs.Core.{count_at}
 use Rattle.laws_container.proofs.Copies.{copying_first, copying_more}
 use Rattle.laws_container.proofs.Invariant.{Scene, Inv, AreAllRight, before, of_set, inv_of_set, view}
 use Rattle.laws_container.proofs.Knows.{View, IsPaid, HasFoundBelow, Finds, Steady, Copying, FindKnows, IsLong, Knows}
-use Rattle.laws_container.proofs.Sights.{StoodThere}
+use Rattle.laws_container.proofs.StateInvariant.{StoodThere}
 use Rattle.laws_container.proofs.Silent.{silently}
 use Rattle.laws_container.proofs.Stages.{IsHere, all, done, sees_now, StepOf, Leads, none_lengthens}
 use Rattle.laws_container.proofs.Stages.{party_then, since_then, changes_then, backs_then}
 use Rattle.laws_container.proofs.Stages.{goes_calmly, ends, owes_none, was_well_formed, was_well_formed_calmly}
-use Rattle.laws_container.proofs.Standing.{find_at, find_number, AreBelow, FindAt}
+use Rattle.laws_container.proofs.CallProgress.{find_at, find_number, AreBelow, FindAt}
 use Rattle.laws_container.proofs.Turns.{WellFormed, count_in, datum_in}
 use Rattle.laws_container.proofs.Writing.{even_is, odd_is}
 

@@ -23,7 +23,7 @@ use Rattle.laws_container.proofs.Left.{left_of}
 use Rattle.laws_container.proofs.Sets.{leaves_behind}
 use Rattle.laws_container.proofs.Stages.{IsHere, all, done, sees_now, then_sees, StepOf, Leads, none_lengthens}
 use Rattle.laws_container.proofs.Stages.{party_then, backs_then, goes_on, ends, was_well_formed}
-use Rattle.laws_container.proofs.Standing.{remove_at, release_total, RemoveAt, place_is}
+use Rattle.laws_container.proofs.CallProgress.{remove_at, release_total, RemoveAt, place_is}
 use Rattle.laws_container.proofs.Steps.{loads, hides, ends_counted}
 use Rattle.laws_container.proofs.Turns.{count_in}
 use Rattle.laws_container.proofs.Writing.{adds_one, adds_to_change, hides_count}

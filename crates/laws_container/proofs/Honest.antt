@@ -21,7 +21,7 @@ use Rattle.laws_container.specs.Open.{is_for_gone, steps_for_gone}
 use Rattle.laws_container.proofs.Allowed.{allowed_open}
 use Rattle.laws_container.proofs.Invariant.{family_by, wrote_of}
 use Rattle.laws_container.proofs.Stages.{any_call}
-use Rattle.laws_container.proofs.Standing.{At}
+use Rattle.laws_container.proofs.CallProgress.{At}
 use Rattle.laws_container.proofs.Terms.{Terms}
 use Rattle.laws_container.proofs.Written.{all_effects}
 

@@ -23,8 +23,8 @@ use Rattle.laws_container.proofs.Contents.{IsWhole}
 use Rattle.laws_container.proofs.KeepingReads.{still_knows}
 use Rattle.laws_container.proofs.HiddenKnows.{EndsRight}
 use Rattle.laws_container.proofs.Knows.{View, Knows}
-use Rattle.laws_container.proofs.Sights.{Rests, rests_later}
-use Rattle.laws_container.proofs.Standing.{number_of, At}
+use Rattle.laws_container.proofs.StateInvariant.{Rests, rests_later}
+use Rattle.laws_container.proofs.CallProgress.{number_of, At}
 use Rattle.laws_container.proofs.Terms.{Terms, dying, Keeps}
 use Rattle.laws_container.proofs.Turns.{Now, WellFormed, count_in, change_in, Passes, Leaves}
 

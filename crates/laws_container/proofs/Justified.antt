@@ -20,7 +20,7 @@ use Rattle.laws_container.proofs.Kept.{container_kept}
 use Rattle.laws_container.proofs.WellFormed.{well_formed_so_far}
 use Rattle.laws_container.proofs.Sound.{Shown, May, all_turns, may_go_on}
 use Rattle.laws_container.proofs.Terms.{dying}
-use Rattle.laws_container.proofs.TurnTells.{tells_if}
+use Rattle.laws_container.proofs.TurnPromises.{tells_if}
 use Rattle.laws_container.proofs.Written.{all_effects}
 
 module _ {T : Type 0} (shown : Shown T) (code : Coding T) (c : ℕ) where

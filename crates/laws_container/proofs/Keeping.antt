@@ -24,7 +24,7 @@ use Rattle.laws_container.proofs.Knows.{ReplaceKnows, Covers, Writes, HasPlaced,
 use Rattle.laws_container.proofs.Knows.{RemoveSays, HasCome, HasLeft, ReleaseHides, ReleaseLeft, RemoveKnows, Copying}
 use Rattle.laws_container.proofs.Knows.{HasCopied, CheckPaid, HasFoundBelow, Finds, Steady, FindKnows}
 use Rattle.laws_container.proofs.Replaces.{ReplaceOwns, replace_later, add_later}
-use Rattle.laws_container.proofs.Sights.{StoodThere}
+use Rattle.laws_container.proofs.StateInvariant.{StoodThere}
 use Rattle.laws_container.proofs.Terms.{Keeps}
 use Rattle.laws_container.proofs.Turns.{WellFormed, count_in, Passes, Leaves}
 use Rattle.laws_container.proofs.Writers.{Replacing, IsWriter}

@@ -22,7 +22,7 @@ use Rattle.laws_container.proofs.Knows.{GoneBut, Recovers, RecoverSays, RecoverK
 use Rattle.laws_container.proofs.Knows.{LookRests, LookKnows, Knows}
 use Rattle.laws_container.proofs.KeptCopies.{CallsOn, own_later, calls_same}
 use Rattle.laws_container.proofs.KeptLocks.{FilledBut, filled_then, each_later, says_later, unlocked_later}
-use Rattle.laws_container.proofs.Sights.{rests_later, course_later}
+use Rattle.laws_container.proofs.StateInvariant.{rests_later, course_later}
 use Rattle.laws_container.proofs.Turns.{Now}
 use Rattle.laws_container.proofs.Keeping as keeping
 use Rattle.laws_container.proofs.Keeping.{OthersTurn, acts_same, add_knows, check_paid, copying, count_below, set_acts_same}

@@ -11,7 +11,7 @@ use Rattle.model.proofs.Frame as frame
 use Rattle.laws_container.proofs.Answers.{asks_right, recovers_right, answers_right}
 use Rattle.laws_container.proofs.Invariant.{moment, family, family_by}
 use Rattle.laws_container.proofs.WellFormed.{IsWellFormedSoFar, well_formed_so_far}
-use Rattle.laws_container.proofs.Sights.{Rests}
+use Rattle.laws_container.proofs.StateInvariant.{Rests}
 use Rattle.laws_container.proofs.Terms.{Terms, dying}
 
 -- ---- what is shown was copied

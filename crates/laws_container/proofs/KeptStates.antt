@@ -23,7 +23,7 @@ use Rattle.laws_container.proofs.Looks.{looks_as, written_other}
 use Rattle.laws_container.proofs.LooksTell.{LookEnd, ended, looks_right, looks_own, looks_leave}
 use Rattle.laws_container.proofs.Sound.{MayGoOn, Shown, kept_now}
 use Rattle.laws_container.proofs.Stages.{any_call}
-use Rattle.laws_container.proofs.Standing.{look_at, look_number}
+use Rattle.laws_container.proofs.CallProgress.{look_at, look_number}
 use Rattle.laws_container.proofs.Terms.{Terms}
 use Rattle.laws_container.proofs.Allowed.{IsAllowed}
 

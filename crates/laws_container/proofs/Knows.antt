@@ -30,7 +30,7 @@ use Rattle.laws_container.proofs.Left.{left_of}
 use Rattle.laws_container.proofs.Replaces.{ReplaceOwns}
 use Rattle.laws_container.proofs.KeptCopies.{ShowsOwn}
 use Rattle.laws_container.proofs.KeptLocks.{NoIndex, FilledBut, FoundFilled}
-use Rattle.laws_container.proofs.Sights.{number_at, StoodThere, Rests, Course}
+use Rattle.laws_container.proofs.StateInvariant.{number_at, StoodThere, Rests, Course}
 use Rattle.laws_container.proofs.Terms.{Terms, Keeps}
 use Rattle.laws_container.proofs.Turns.{Now, WellFormed, count_in, datum_in}
 use Rattle.laws_container.proofs.Writers.{Adds}

@@ -55,7 +55,7 @@ use Rattle.laws_container.proofs.MeasuredFalls.{M, any_call, ShownBy, add_falls,
 use Rattle.laws_container.proofs.MeasuredLooks.{find_falls, find_comes, recover_falls, recover_comes, look_falls, count_falls}
 use Rattle.laws_container.proofs.Looks.{written_same, written_other}
 use Rattle.laws_container.proofs.MeasuredMost.{most}
-use Rattle.laws_container.proofs.Standing.{add_at, remove_at, replace_at, find_at, recover_at, look_at, count_at}
+use Rattle.laws_container.proofs.CallProgress.{add_at, remove_at, replace_at, find_at, recover_at, look_at, count_at}
 
 -- ---- where a call goes on, it stands there
 

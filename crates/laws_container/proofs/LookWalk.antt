@@ -17,15 +17,15 @@ use Rattle.steps.specs.Picks.{by_test, by_eq}
 use Rattle.laws_container.proofs.Contents.{Stands}
 use Rattle.laws_container.proofs.Copies.{copying_first, copying_more, copied_value}
 use Rattle.laws_container.proofs.Core.{count_at, change_at}
-use Rattle.laws_container.proofs.Glances.{counting, count_put, counted_number, counted_none, counted_same, showing}
-use Rattle.laws_container.proofs.Glances.{value_put, value_number, value_here, course_first, course_copying}
-use Rattle.laws_container.proofs.Glances.{course_passed, course_word}
+use Rattle.laws_container.proofs.LookSteps.{counting, count_put, counted_number, counted_none, counted_same, showing}
+use Rattle.laws_container.proofs.LookSteps.{value_put, value_number, value_here, course_first, course_copying}
+use Rattle.laws_container.proofs.LookSteps.{course_passed, course_word}
 use Rattle.laws_container.proofs.Invariant.{Scene, Inv, before, view}
 use Rattle.laws_container.proofs.KeptCopies.{HasCopied, ShowsOwn, copies_of, CallsOn, own_later}
 use Rattle.laws_container.proofs.Knows.{IsPaid, Copying, CheckPaid, LookKnows}
-use Rattle.laws_container.proofs.Sights.{number_at, Rests, Course}
+use Rattle.laws_container.proofs.StateInvariant.{number_at, Rests, Course}
 use Rattle.laws_container.proofs.Stages.{all, done, sees_now, since_then, changes_then, backs_then}
-use Rattle.laws_container.proofs.Standing.{AreBelow, LookAt, look_number}
+use Rattle.laws_container.proofs.CallProgress.{AreBelow, LookAt, look_number}
 use Rattle.laws_container.proofs.Turns.{Now, WellFormed, count_in, datum_in, change_in}
 use Rattle.laws_container.proofs.Writing.{even_is, odd_is}
 

@@ -20,18 +20,18 @@ use Rattle.model.specs.declared.families.container.calls.LookOf.TheVariants as k
 use Rattle.laws_container.specs.Gone.{AnswersBy}
 use Rattle.laws_container.proofs.Core.{count_at}
 use Rattle.laws_container.proofs.Effects.{OwesStill}
-use Rattle.laws_container.proofs.Glances.{rests_settled}
+use Rattle.laws_container.proofs.LookSteps.{rests_settled}
 use Rattle.laws_container.proofs.HiddenKnows.{EndsRight}
 use Rattle.laws_container.proofs.Invariant.{Scene, Inv, AreAllRight, Does, before, after, wrote_of, view}
 use Rattle.laws_container.proofs.KeptCopies.{ShowsOwn, copies_of, CallsOn, calls_on}
 use Rattle.laws_container.proofs.Knows.{LookKnows, Knows}
 use Rattle.laws_container.proofs.LookWalk.{Comes, IsRight, call_at, Walker, WalkAt, walks_change, walks_count, walks_word, walks_check}
-use Rattle.laws_container.proofs.Sights.{Rests, Course, rests_later, course_later}
+use Rattle.laws_container.proofs.StateInvariant.{Rests, Course, rests_later, course_later}
 use Rattle.laws_container.proofs.Silent.{Silent, EndsSilently, silent_set, silent_changes}
 use Rattle.laws_container.proofs.Stages.{NoReplace, IsHere, none_lengthens, all, done, sees_now, StepOf, Leads}
 use Rattle.laws_container.proofs.Stages.{party_then, backs_then, since_then, changes_then, goes_on, ends, owes_none}
 use Rattle.laws_container.proofs.Stages.{was_well_formed}
-use Rattle.laws_container.proofs.Standing.{look_at, look_number, LookAt, At, AreBelow}
+use Rattle.laws_container.proofs.CallProgress.{look_at, look_number, LookAt, At, AreBelow}
 use Rattle.laws_container.proofs.Turns.{Now, WellFormed, Passes, change_in}
 
 -- ---- a party's state is written

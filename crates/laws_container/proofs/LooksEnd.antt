@@ -20,9 +20,9 @@ use Rattle.laws_container.proofs.Knows.{LookKnows}
 use Rattle.laws_container.proofs.LookWalk.{Comes, call_at}
 use Rattle.laws_container.proofs.Looks.{looks_as, no_replace, silent_end, written_same, comes, HasState, state_known, walks}
 use Rattle.laws_container.proofs.WellFormed.{IsWellFormedSoFar}
-use Rattle.laws_container.proofs.Sights.{Rests, Course}
+use Rattle.laws_container.proofs.StateInvariant.{Rests, Course}
 use Rattle.laws_container.proofs.Stages.{IsHere, all, done, sees_now, any_call, owes_is, was_well_formed}
-use Rattle.laws_container.proofs.Standing.{look_at, look_number, LookAt}
+use Rattle.laws_container.proofs.CallProgress.{look_at, look_number, LookAt}
 use Rattle.laws_container.proofs.Turns.{Owing, owes, Now, WellFormed, change_in}
 
 -- ---- what its answer says

@@ -26,11 +26,11 @@ pub use Rattle.laws_container.proofs.Moves.{look_asks_none}
 use Rattle.laws_container.proofs.WellFormed.{IsWellFormedSoFar}
 use Rattle.laws_container.proofs.Sound.{MayGoOn, Shown, kept_now, scene_of, inv_with, IsThere, is_there}
 use Rattle.laws_container.proofs.Stages.{all, done, any_call}
-use Rattle.laws_container.proofs.Standing.{look_at, LookAt, At}
+use Rattle.laws_container.proofs.CallProgress.{look_at, LookAt, At}
 use Rattle.laws_container.proofs.Terms.{Terms}
 use Rattle.laws_container.proofs.Turns.{owes}
 use Rattle.laws_container.proofs.Written.{all_effects}
-use Rattle.laws_container.specs.Tells.{LooksRightIf}
+use Rattle.laws_container.specs.ConditionalPromises.{LooksRightIf}
 use Rattle.laws_container.proofs.Allowed.{IsAllowed}
 
 -- ---- a turn that ends a call writes its end last

@@ -34,7 +34,7 @@ use Rattle.model.proofs.LockFree.Falls.{same_is, load_leaves, FallsIn}
 use Rattle.laws_container.proofs.MeasuredCalls.{behind, cell_leaves, hide_leaves, RecoverStands, LookStands}
 use Rattle.laws_container.proofs.MeasuredCalls.{recover_left, find_left, look_left, recover_pays}
 use Rattle.laws_container.proofs.MeasuredFalls.{behind_next, check_leaves, M, any_call, ShownBy}
-use Rattle.laws_container.proofs.Standing.{find_at, recover_at, look_at, count_at}
+use Rattle.laws_container.proofs.CallProgress.{find_at, recover_at, look_at, count_at}
 
 module _ {T : Type 0} (code : Coding T) (c : ℕ) (words : List ℕ) where
   abbrev There : ContainerFlight T → Type 0

@@ -20,10 +20,10 @@ use Rattle.laws_container.proofs.Invariant.{Scene, Inv, ActsFor}
 use Rattle.laws_container.proofs.Knows.{AddKnows, RemoveKnows, ReplacesKnow, Knows}
 use Rattle.laws_container.proofs.Looks.{looks_as}
 use Rattle.laws_container.proofs.Stages.{IsHere, all, done, sees_now, StepOf, AnswerOf, DecisionOf}
-use Rattle.laws_container.proofs.Standing.{add_at, remove_at, replace_at, find_at, recover_at, look_at, count_at}
-use Rattle.laws_container.proofs.Standing.{lock_at, add_number, remove_number, replace_number, find_number}
-use Rattle.laws_container.proofs.Standing.{recover_number, look_number, number_of, AddAt, RemoveAt, ReplaceAt, FindAt}
-use Rattle.laws_container.proofs.Standing.{RecoverAt, LookAt, At}
+use Rattle.laws_container.proofs.CallProgress.{add_at, remove_at, replace_at, find_at, recover_at, look_at, count_at}
+use Rattle.laws_container.proofs.CallProgress.{lock_at, add_number, remove_number, replace_number, find_number}
+use Rattle.laws_container.proofs.CallProgress.{recover_number, look_number, number_of, AddAt, RemoveAt, ReplaceAt, FindAt}
+use Rattle.laws_container.proofs.CallProgress.{RecoverAt, LookAt, At}
 use Rattle.laws_container.proofs.Terms.{Keeps}
 
 -- ---- what is shown of each call

@@ -19,9 +19,9 @@ pub use Rattle.laws_robust.proofs.Rights.{AreOwned, IsBy, Right, right_after}
 pub use Rattle.laws_robust.proofs.SetActs.{all_so, by_latest, last_one, was_one}
 pub use Rattle.laws_robust.proofs.Sound.{count_asks_none, lock_asks_none, raise_asks_none}
 pub use Rattle.laws_robust.proofs.Stages.{exchange_sets, exchanges, fails_same, is_seen, loads, loads_same}
-pub use Rattle.laws_robust.proofs.Standing.{AcquireAt, CountAt, LockAt, ReleaseAt, acquire_at, acquire_number}
-pub use Rattle.laws_robust.proofs.Standing.{borrowed_at, count_number, lock_number, looking, raise_number, release_at}
-pub use Rattle.laws_robust.proofs.Standing.{release_number}
+pub use Rattle.laws_robust.proofs.CallProgress.{AcquireAt, CountAt, LockAt, ReleaseAt, acquire_at, acquire_number}
+pub use Rattle.laws_robust.proofs.CallProgress.{borrowed_at, count_number, lock_number, looking, raise_number, release_at}
+pub use Rattle.laws_robust.proofs.CallProgress.{release_number}
 pub use Rattle.laws_robust.specs.Gone.{ActsForRight, AnswersBy, Death, GivesBackRight, GoneBy, IsCalm, IsHonest}
 pub use Rattle.laws_robust.specs.Gone.{IsHonestBy, Word, gone_after, is_gone}
 pub use Rattle.laws_robust.specs.Open.{IsReachedOpen, attempt_open, open_refusal, run_open}

@@ -20,9 +20,9 @@ use Rattle.model.proofs.Scenes.{comes_from, decides_from, stands_there}
 use Rattle.model.proofs.Reached.{kept_by}
 use Rattle.laws_container.specs.Gone.{AnswersBy}
 use Rattle.laws_container.specs.Open.{is_for_gone, steps_for_gone, is_faithful, IsFaithful, IsFaithfulRun, IsOpenContainer}
-use Rattle.laws_container.specs.Tells.{TellsIf}
+use Rattle.laws_container.specs.ConditionalPromises.{TellsIf}
 use Rattle.laws_container.proofs.Allowed.{allowed_open}
-use Rattle.laws_container.proofs.Everything.{shown}
+use Rattle.laws_container.proofs.AllRuns.{shown}
 use Rattle.laws_container.proofs.Honest.{turn_honest}
 use Rattle.laws_container.proofs.Invariant.{family_by}
 use Rattle.laws_container.proofs.Kept.{cells, lock, dead, questions, states, contained}
@@ -30,7 +30,7 @@ use Rattle.laws_container.proofs.Living.{steps_leave}
 use Rattle.laws_container.proofs.WellFormed.{well_formed_on}
 use Rattle.laws_container.proofs.Sound.{MayGoOn, IsRightly, MayRecoverIn, kept_now, recovers_by, comes, decides, begin_comes, opening_sound}
 use Rattle.laws_container.proofs.Terms.{Terms}
-use Rattle.laws_container.proofs.TurnTells.{tells_if}
+use Rattle.laws_container.proofs.TurnPromises.{tells_if}
 
 -- ---- one turn
 

@@ -9,7 +9,7 @@ use Rattle.model.specs.Families.Indices.Robust.Opening as set_opening
 use Rattle.laws_robust.proofs.Invariant as set
 use Rattle.laws_container.proofs.Core.{count_at, change_at}
 use Rattle.laws_container.proofs.Invariant.{moment}
-use Rattle.laws_container.proofs.Sights.{Sight, Rests, number_in, number_at}
+use Rattle.laws_container.proofs.StateInvariant.{Sight, Rests, number_in, number_at}
 use Rattle.laws_container.proofs.Sound.{Opens}
 use Rattle.laws_container.proofs.Terms.{Terms}
 use Rattle.laws_container.proofs.Turns.{Now}

@@ -33,7 +33,7 @@ use Rattle.laws_container.proofs.RecoverWords.{check_step, decided}
 use Rattle.laws_container.proofs.Sets.{leaves_behind}
 use Rattle.laws_container.proofs.Stages.{all, done, sees_now, StepOf, AnswerOf, none_lengthens, party_then}
 use Rattle.laws_container.proofs.Stages.{backs_then, since_then, changes_then, ends, was_well_formed}
-use Rattle.laws_container.proofs.Standing.{recover_at, recover_number, for_back, for_index, RecoverAt}
+use Rattle.laws_container.proofs.CallProgress.{recover_at, recover_number, for_back, for_index, RecoverAt}
 use Rattle.laws_container.proofs.Steps.{ends_counted}
 use Rattle.laws_container.proofs.Writing.{adds_one, adds_to_change}
 use Rattle.laws_container.proofs.Recovers.{locks_step, most_is, raises_step}

@@ -29,7 +29,7 @@ use Rattle.laws_container.proofs.RecoverReads.{Here, Becomes, Goes, Course, cour
 use Rattle.laws_container.proofs.Recoveries.{rehidden, one_of_none, has_of_none, has_latest, was_act, course_then}
 use Rattle.laws_container.proofs.SetSteps.{rest_set, wide_set, frees}
 use Rattle.laws_container.proofs.Stages.{all, done, sees_now, then_sees, StepOf, Leads, none_lengthens, backs_then, since_then, changes_then, was_well_formed}
-use Rattle.laws_container.proofs.Standing.{recover_at, recover_number, for_back, for_index, AskedOrShown, IsInCourse, RecoverAt}
+use Rattle.laws_container.proofs.CallProgress.{recover_at, recover_number, for_back, for_index, AskedOrShown, IsInCourse, RecoverAt}
 use Rattle.laws_container.proofs.Steps.{hides}
 use Rattle.laws_container.proofs.Turns.{owes, count_in}
 use Rattle.laws_container.proofs.Writing.{even_is, odd_is, hides_count}

@@ -27,7 +27,7 @@ use Rattle.laws_container.proofs.Silent.{Silent, silently}
 use Rattle.laws_container.proofs.Stages.{IsHere, Lengthens, none_lengthens, all, done, sees_now, then_sees, ShowsThen}
 use Rattle.laws_container.proofs.Stages.{party_then, since_then, changes_then, backs_then, set_acts_more, acts_more}
 use Rattle.laws_container.proofs.Stages.{goes_on, was_well_formed, does_with}
-use Rattle.laws_container.proofs.Standing.{recover_at, recover_number, for_back, for_index, IsInCourse, RecoverAt}
+use Rattle.laws_container.proofs.CallProgress.{recover_at, recover_number, for_back, for_index, IsInCourse, RecoverAt}
 use Rattle.laws_container.proofs.Steps.{calm_none, right_none}
 use Rattle.laws_container.proofs.Turns.{owes}
 

@@ -31,7 +31,7 @@ use Rattle.laws_container.proofs.Silent.{silent_set}
 use Rattle.laws_container.proofs.Stages.{IsHere, all, done, sees_now, then_sees, ShowsThen, StepOf, Leads}
 use Rattle.laws_container.proofs.Stages.{none_lengthens, backs_then, since_then, changes_then, acts_more}
 use Rattle.laws_container.proofs.Stages.{was_well_formed}
-use Rattle.laws_container.proofs.Standing.{recover_at, recover_number, for_back, for_index, AreBelow, IsInCourse, RecoverAt}
+use Rattle.laws_container.proofs.CallProgress.{recover_at, recover_number, for_back, for_index, AreBelow, IsInCourse, RecoverAt}
 use Rattle.laws_container.proofs.Turns.{count_in}
 use Rattle.laws_container.proofs.Writing.{even_is, odd_is}
 

@@ -29,7 +29,7 @@ use Rattle.laws_container.proofs.Silent.{silent_set}
 use Rattle.laws_container.proofs.Stages.{IsHere, all, done, sees_now, then_sees, ShowsThen, StepOf, AnswerOf, Leads}
 use Rattle.laws_container.proofs.Stages.{backs_then, since_then, changes_then, set_acts_more, acts_more}
 use Rattle.laws_container.proofs.Stages.{was_well_formed}
-use Rattle.laws_container.proofs.Standing.{recover_at, for_back, for_index, AreBelow, RecoverAt}
+use Rattle.laws_container.proofs.CallProgress.{recover_at, for_back, for_index, AreBelow, RecoverAt}
 use Rattle.laws_container.proofs.Turns.{count_in, datum_in}
 use Rattle.laws_container.proofs.RecoverReads.{back_at_least, calm_next, calm_on, calm_recs, course_calm, index_at_least, sees_number}
 

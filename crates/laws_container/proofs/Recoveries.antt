@@ -9,7 +9,7 @@ use Rattle.laws_container.proofs.Names.{split_last, gone_more, honest_less, stay
 use Rattle.laws_container.proofs.Finds.{all_both, below_more, has_more}
 use Rattle.laws_container.proofs.HiddenKnows.{HasHidden}
 use Rattle.laws_container.proofs.Knows.{View, now, IsGone, AskedBelow, GoneBut, Recovers}
-use Rattle.laws_container.proofs.Standing.{AreBelow, AskedOrShown, IsInCourse}
+use Rattle.laws_container.proofs.CallProgress.{AreBelow, AskedOrShown, IsInCourse}
 
 -- ---- what it has done
 

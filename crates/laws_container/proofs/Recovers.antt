@@ -33,7 +33,7 @@ use Rattle.laws_container.proofs.Recoveries.{has_of_none, course_then}
 use Rattle.laws_container.proofs.SetSteps.{rest_set, wide_set, locks}
 use Rattle.laws_container.proofs.Stages.{all, done, sees_now, Leads}
 use Rattle.laws_container.proofs.Stages.{backs_then, since_then, changes_then, was_well_formed}
-use Rattle.laws_container.proofs.Standing.{recover_at, for_back, for_index}
+use Rattle.laws_container.proofs.CallProgress.{recover_at, for_back, for_index}
 
 pub most_is : (c z : ℕ) (owner backs : ℕ) (T : Type 0) (mode : ReleaseMode)
     → 3 + c * for_index c z mode + backs * for_back c z mode ≡ most_steps {T = T} c z (Recover owner mode) backs

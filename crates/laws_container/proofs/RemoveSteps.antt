@@ -21,7 +21,7 @@ use Rattle.laws_container.proofs.Silent.{silently}
 use Rattle.laws_container.proofs.Stages.{IsHere, all, done, sees_now, StepOf, none_lengthens}
 use Rattle.laws_container.proofs.Stages.{party_then, ends}
 use Rattle.laws_container.proofs.Stages.{owes_none, was_well_formed}
-use Rattle.laws_container.proofs.Standing.{remove_at, remove_number, RemoveAt, place_is}
+use Rattle.laws_container.proofs.CallProgress.{remove_at, remove_number, RemoveAt, place_is}
 use Rattle.laws_container.proofs.Turns.{count_in}
 use Rattle.laws_container.proofs.Removes.{refused_done, refused_right, release_step, stays_on}
 

@@ -45,7 +45,7 @@ use Rattle.laws_container.proofs.Silent.{silently}
 use Rattle.laws_container.proofs.Stages.{IsHere, all, done, sees_now, then_sees, StepOf, Leads, none_lengthens}
 use Rattle.laws_container.proofs.Stages.{party_then, since_then, changes_then, backs_then, goes_on, goes_calmly, ends}
 use Rattle.laws_container.proofs.Stages.{owes_none, was_well_formed, was_well_formed_calmly, does_with}
-use Rattle.laws_container.proofs.Standing.{remove_at, remove_number, release_total, RemoveAt, place_is}
+use Rattle.laws_container.proofs.CallProgress.{remove_at, remove_number, release_total, RemoveAt, place_is}
 use Rattle.laws_container.proofs.Steps.{calm_none, right_none}
 use Rattle.laws_container.proofs.Terms.{Keeps}
 use Rattle.laws_container.proofs.Turns.{remove_owes, count_in}

@@ -32,7 +32,7 @@ use Rattle.laws_container.proofs.Sets.{leaves_behind}
 use Rattle.laws_container.proofs.Stages.{IsHere, Lengthens, all, done, sees_now, then_sees, StepOf, Leads}
 use Rattle.laws_container.proofs.Stages.{none_lengthens, party_then, since_then, changes_then, backs_then, acts_more}
 use Rattle.laws_container.proofs.Stages.{goes_on, goes_calmly, ends, owes_none}
-use Rattle.laws_container.proofs.Standing.{replace_at, replace_number, ReplaceAt, MayHaveHidden, place_is}
+use Rattle.laws_container.proofs.CallProgress.{replace_at, replace_number, ReplaceAt, MayHaveHidden, place_is}
 use Rattle.laws_container.proofs.Steps.{stores_word, hides, places as places_it, misplaces, ends_counted, ends_calmly}
 use Rattle.laws_container.proofs.Turns.{WellFormed, replace_owes, count_in}
 use Rattle.laws_container.proofs.Writers.{IsWriter, one_writer}

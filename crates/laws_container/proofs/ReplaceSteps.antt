@@ -24,7 +24,7 @@ use Rattle.laws_container.proofs.Replaces.{ReplaceOwns, earlier}
 use Rattle.laws_container.proofs.Stages.{IsHere, Lengthens, all, done, sees_now, then_sees, StepOf, Leads}
 use Rattle.laws_container.proofs.Stages.{none_lengthens, party_then, since_then, changes_then, backs_then}
 use Rattle.laws_container.proofs.Stages.{goes_calmly, ends, owes_none}
-use Rattle.laws_container.proofs.Standing.{replace_at, replace_number, ReplaceAt, place_is}
+use Rattle.laws_container.proofs.CallProgress.{replace_at, replace_number, ReplaceAt, place_is}
 use Rattle.laws_container.proofs.Steps.{loads, ends_calmly}
 use Rattle.laws_container.proofs.Turns.{WellFormed, replace_owes}
 

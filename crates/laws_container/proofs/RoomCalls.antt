@@ -39,7 +39,7 @@ use Rattle.laws_robust.proofs.Measured.{raise_left}
 use Rattle.laws_robust.proofs.RoomCalls.{pays_move}
 use Rattle.laws_robust.proofs.Room.{room, lock_left, release_left, Less, RaiseAt, CountAt, LockAt, AcquireAt, ReleaseAt}
 use Rattle.laws_container.proofs.MeasuredCalls.{again_at, behind, call_left, call_pays, measure, leaves, CallStands, Kept, Known}
-use Rattle.laws_container.proofs.Standing.{look_at}
+use Rattle.laws_container.proofs.CallProgress.{look_at}
 
 -- ---- how many steps a call takes at most before its last one, while the counter stays and no element is placed
 

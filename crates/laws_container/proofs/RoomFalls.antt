@@ -45,7 +45,7 @@ use Rattle.laws_container.proofs.Counter.{container_leaves, recover_then}
 use Rattle.laws_container.proofs.MeasuredCalls.{measure, behind, apart_leaves, cell_leaves, hide_leaves}
 use Rattle.laws_container.proofs.MeasuredFalls.{behind_next, check_leaves}
 use Rattle.laws_container.proofs.RoomCalls.{each, recover_own, RemoveAt, RecoverAt, CallTo, load_none, raise_none, lock_none}
-use Rattle.laws_container.proofs.Standing.{remove_at, recover_at}
+use Rattle.laws_container.proofs.CallProgress.{remove_at, recover_at}
 
 -- the steps of a turn of a recovery: a question takes none
 abbrev pub recover_steps : RecoverStage → ℕ

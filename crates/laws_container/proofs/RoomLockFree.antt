@@ -57,7 +57,7 @@ use Rattle.laws_container.proofs.RoomCalls.{each, remove_own, recover_own, call_
 use Rattle.laws_container.proofs.RoomCalls.{room_measure, AtAny, room_outline, room_leaves, moves, moved_by, to_falls}
 use Rattle.laws_container.proofs.RoomFalls.{remove_owes, recover_owes, recover_steps, comes, then_words}
 use Rattle.laws_container.proofs.RoomStands.{CallAfter, call_at_after, first_at}
-use Rattle.laws_container.proofs.Standing.{remove_at, recover_at}
+use Rattle.laws_container.proofs.CallProgress.{remove_at, recover_at}
 
 -- ---- no call has more of its own
 

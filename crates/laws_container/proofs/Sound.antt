@@ -30,8 +30,8 @@ use Rattle.laws_container.specs.Gone.{acts_for_gone}
 use Rattle.laws_container.proofs.Knows.{Knows}
 use Rattle.laws_container.proofs.Moves.{CallSteps, step_moves, decision_moves}
 use Rattle.laws_container.proofs.Stages.{IsHere, all, done, sees_now}
-use Rattle.laws_container.proofs.Standing.{At}
-use Rattle.laws_container.proofs.Standing as standing
+use Rattle.laws_container.proofs.CallProgress.{At}
+use Rattle.laws_container.proofs.CallProgress as standing
 use Rattle.laws_container.proofs.Terms.{Terms, dying, Keeps}
 
 -- ---- what is shown of a begin, of a death and of the opening

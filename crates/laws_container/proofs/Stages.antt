@@ -19,9 +19,9 @@ use Rattle.laws_container.proofs.Invariant.{Scene, Inv, Does, Shows, AreAllRight
 use Rattle.laws_container.proofs.Invariant as invariant
 use Rattle.laws_container.proofs.Knows.{View, Knows}
 use Rattle.laws_container.proofs.WellFormed.{IsWellFormedSoFar, well_formed_before}
-use Rattle.laws_container.proofs.Sights.{rests_later}
-use Rattle.laws_container.proofs.Standing.{At}
-use Rattle.laws_container.proofs.Standing as standing
+use Rattle.laws_container.proofs.StateInvariant.{rests_later}
+use Rattle.laws_container.proofs.CallProgress.{At}
+use Rattle.laws_container.proofs.CallProgress as standing
 use Rattle.laws_container.proofs.Turns.{WellFormed, owes, flight_owes}
 
 module _ {T : Type 0} where

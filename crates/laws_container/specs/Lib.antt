@@ -1,4 +1,4 @@
+pub mod ConditionalPromises
 pub mod Gone
 pub mod LockFree
 pub mod Open
-pub mod Tells

@@ -55,14 +55,14 @@ module _ {T : Type 0} (scene : Scene T IndexSet) (inv : Inv outline scene) where
     fails : (failure : UniqueIndexSetAcquireFailure)
         → AnswersFew c events (Finished p (Indices Acquire) (NoIndex failure))
         → Does stage ask back (Done (Err failure))
-    fails x0 x1 = grind arith
+    fails = grind arith
 
     goes_to : (stage' : AcquireStage) → acquire_counts stage' ≡ 0 → AcquireAt c stage'
         → steps + 1 ≤ acquire_number c stage' (backs_then scene back)
         → AcquireKnows c (words_after ws (Some ask)) (since_then scene (Some ask)) (changes_then scene (Some ask))
         (backs_then scene back) stage'
         → Does stage ask back (GoOn (at_acquire (call_at stage) stage'))
-    goes_to x0 x1 x2 x3 x4 = grind arith
+    goes_to = grind arith
 
     -- as many indices are in use as there are, without this call, and the set is not locked
     out_of : borrowed (head_of ws) ≢ locked → borrowed (head_of ws) ≡ c → (c + 1 ≤ in_use (tally_of events)) × (is_locked events ≡ false)
@@ -101,7 +101,7 @@ module _ {T : Type 0} (scene : Scene T IndexSet) (inv : Inv outline scene) where
 
   loads_next : (head : ℕ) → IsOpen c head → PaidUnless (head_of ws ≡ head) since changes backs
       → steps ≤ 1 + backs * max 2 c → StepOf scene Acquire (acquire_at c (acquires.LoadsNext head))
-  loads_next x0 x1 x2 x3 = grind (arith, next_word, set-get_or, goes_on, false, busy, g, head_of, unless_then)
+  loads_next = grind (arith, next_word, set-get_or, goes_on, false, busy, g, head_of, unless_then)
 
   -- ---- the exchange of the head
 
@@ -133,7 +133,7 @@ module _ {T : Type 0} (scene : Scene T IndexSet) (inv : Inv outline scene) where
           → AcquireKnows c (words_after ws (Some exchange)) (since_then scene (Some exchange))
           (changes_then scene (Some exchange)) (backs_then scene false) stage
           → Does exchanging exchange false (GoOn (at_acquire (call_at exchanging) stage))
-      goes_to_claim x0 x1 x2 x3 x4 = grind (arith, goes_on, false, good_taken, lock_same)
+      goes_to_claim = grind (arith, goes_on, false, good_taken, lock_same)
 
       exchange_succeeds : Does exchanging exchange false (GoOn (at_acquire (call_at exchanging) (first_claim c head)))
       exchange_succeeds =
@@ -231,7 +231,7 @@ module _ {T : Type 0} (scene : Scene T IndexSet) (inv : Inv outline scene) where
     scan_paid = paid_of scene (AllClaimed c ws i) knows
 
     one_more : is_claimed c ws i ≡ true → AllClaimed c ws i → AllClaimed c ws (i + 1)
-    one_more x0 x1 x2 x3 = grind arith
+    one_more = grind arith
 
     scans_on : is_claimed c ws i ≡ true → i + 1 < c → Does scanning scan false (GoOn (at_acquire (call_at scanning) (acquires.Scans (i + 1))))
     scans_on stood more =

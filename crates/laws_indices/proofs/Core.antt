@@ -43,19 +43,19 @@ held_below_set holders n i o below long =
     omega arith
 
 pub none_if_zero : (o : Option ℕ) → one_held o ≤ 0 → o ≡ None
-none_if_zero x0 x1 = grind arith
+none_if_zero = grind arith
 
 pub one_if_some : (o : Option ℕ) → is_some o ≡ true → one_held o ≡ 1
-one_if_some x0 x1 = grind arith
+one_if_some = grind arith
 
 pub none_if_not : (o : Option ℕ) → is_some o ≡ false → o ≡ None
-none_if_not x0 x1 = grind arith
+none_if_not = grind arith
 
 module _ (c : ℕ) where
   -- ---- the flags
 
   pub flag_within : (i : ℕ) → i < c → flag_word c i < size c
-  flag_within i below = omega arith
+  flag_within = omega arith
 
   abbrev pub is_claimed : List ℕ → ℕ → Bool
   is_claimed words i = has_flag (get_or words (flag_word c i) 0) i
@@ -97,7 +97,7 @@ module _ (c : ℕ) where
       clear_clears = grind (arith, has_flag, get_or-set_same, flag, without_clear)
 
       pub clear_leaves : (j : ℕ) → j ≢ i → is_claimed (set words (flag_word c i) (bit_and word (2 ^ 64 - 1 - flag i))) j ≡ is_claimed words j
-      clear_leaves x0 x1 = grind (arith, claim_stays, flag, without_leaves)
+      clear_leaves = grind (arith, claim_stays, flag, without_leaves)
 
   -- ---- what holds of both
 

@@ -7,16 +7,16 @@ use Rattle.steps.specs.Indices.Unique.{head_taken, head_given_back, head_locked}
 -- ---- the heads that calls write
 
 pub taken_number : (head next : ℕ) → borrowed head < locked → borrowed (head_taken head next) ≡ borrowed head + 1
-taken_number x0 x1 x2 = grind arith
+taken_number = grind arith
 
 pub given_number : (head index : ℕ) → 1 ≤ borrowed head → borrowed (head_given_back head index) + 1 ≡ borrowed head
-given_number x0 x1 x2 = grind arith
+given_number = grind arith
 
 pub locked_number : (head index : ℕ) → borrowed (head_locked head index) ≡ locked
-locked_number x0 x1 = grind arith
+locked_number = grind arith
 
 pub less_number : (head : ℕ) → 1 ≤ borrowed head → borrowed ((head + (2 ^ 64 - 1)) % 2 ^ 64) + 1 ≡ borrowed head
-less_number head some = omega arith
+less_number = omega arith
 
 -- ---- what it counts
 
@@ -30,17 +30,17 @@ module _ (c counted total : ℕ) (few : c < locked) (h : Tally c counted total) 
   counts_all unlocked = ⊎_elim (λ x. x) (λ x. absurd (unlocked x.0)) h
 
   pub counts_none : counted ≡ locked → total ≡ 0
-  counts_none x0 = grind arith
+  counts_none = grind arith
 
   -- while something is counted, the set is not locked
   pub is_open : 1 ≤ total → counted ≢ locked
   is_open some shut = let none = counts_none shut in absurd (omega arith)
 
   pub tally_up : (counted' : ℕ) → counted ≢ locked → counted ≢ c → counted' ≡ counted + 1 → Tally c counted' (total + 1)
-  tally_up x0 x1 x2 x3 = grind arith
+  tally_up = grind arith
 
   pub tally_down : (counted' total' : ℕ) → total ≡ total' + 1 → counted' + 1 ≡ counted → Tally c counted' total'
-  tally_down x0 x1 x2 x3 = grind arith
+  tally_down = grind arith
 
   pub tally_shut : (counted' total' : ℕ) → total ≡ total' + 1 → counted ≡ 1 → counted' ≡ locked → Tally c counted' total'
-  tally_shut x0 x1 x2 x3 x4 = grind arith
+  tally_shut = grind arith

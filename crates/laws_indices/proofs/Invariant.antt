@@ -151,7 +151,7 @@ module _ {T : Type 0} where
     enough = let same = s.seats in grind arith
 
     no_call : (q : ℕ) → set.seats ≤ q → party_of q latest ≡ None
-    no_call x0 x1 = grind arith
+    no_call = grind arith
 
     weight_moves : (weight : IndexFlight → ℕ)
         → total (of_any weight) latest' seats' + weight_of (of_any weight) was

@@ -199,4 +199,4 @@ IsSeen words words' changes changes' =
 
 module _ (words words' : List ℕ) (changes changes' since backs : ℕ) (seen : IsSeen words words' changes changes') where
   pub flight_keeps : (c : ℕ) (flight : IndexFlight) → FlightKnows c words since changes backs flight → FlightKnows c words' since changes' backs flight
-  flight_keeps x0 x1 x2 = grind arith
+  flight_keeps = grind arith

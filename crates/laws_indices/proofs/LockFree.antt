@@ -165,7 +165,7 @@ module _ {T : Type 0} (code : Coding T) (c : ℕ) (words : List ℕ) where
       go false = omega arith
 
   scans_most : 1 ≤ c → (new : List ℕ) (i : ℕ) → scans c new i + 1 ≤ c
-  scans_most x0 x1 x2 = grind arith
+  scans_most = grind arith
 
   exchange_falls : 1 ≤ c → (head next : ℕ) → Shown (acquire_at c (acquires.ExchangesHead head next))
   exchange_falls some head next = go (now == head) refl (nat_lt (proposed head) c) refl
@@ -208,7 +208,7 @@ module _ {T : Type 0} (code : Coding T) (c : ℕ) (words : List ℕ) where
 
     module _ (free : ((j : ℕ) → j < c → is_claimed c words j ≡ true) → ⊥) where
       one_on : (next here : ℕ) → next + 1 ≤ here → here ≤ c - 1 → min (c - 1) next + 1 ≤ min (c - 1) here
-      one_on x0 x1 x2 x3 = grind arith
+      one_on = grind arith
 
       scans_fall : Shown (acquire_at c (acquires.Scans i))
       scans_fall = go (nat_lt (i + 1) c) refl
@@ -337,7 +337,7 @@ module _ (c : ℕ) (some : 1 ≤ c) (words : List ℕ) where
   one_of false a b most x y = y
 
   scans_low : (i : ℕ) → scans c words i ≤ c + 3
-  scans_low x0 = grind arith
+  scans_low = grind arith
 
   acquire_most : (stage : AcquireStage) → acquire_left c words stage ≤ c + 4
   acquire_most acquires.LoadsHead = omega arith
@@ -382,7 +382,7 @@ module _ {T : Type 0} (t : Trace T) (s : Sound (family t.world.coding t.world.ca
 module _ {T : Type 0} where
   never_asks : (code : Coding T) (c : ℕ) (holders : List (Option ℕ)) (p : ℕ) (start : Start T) (flight : Flight T)
       → FlightAt c holders p start flight → is_question (want_of code flight) ≡ false
-  never_asks x0 x1 x2 x3 x4 x5 x6 = grind arith
+  never_asks = grind arith
 
   laws : FramedLaws kinds.Indices (family {T = T}) (λ c. of_words (measure c))
   laws =

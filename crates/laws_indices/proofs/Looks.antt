@@ -37,14 +37,14 @@ module _ {T : Type 0} (scene : Scene T IndexSet) (inv : Inv outline scene) (stra
   same = set-get_or ws 0 0
 
   good_same : (busy' : ℕ) → busy' + 0 ≡ busy scene + 0 → Good c (words_after ws (Some loads)) hs busy'
-  good_same x0 x1 = grind (arith, busy, same, g)
+  good_same = grind (arith, busy, same, g)
 
   -- what it counts lies between what is held and what is in use
   counts_so : IsHere scene borrowed_at → CountsRight events (borrowed_number (head_of ws))
   counts_so here = (shut, unlocked)
     where
       shut : is_locked events ≡ true → borrowed_number (head_of ws) ≡ 0
-      shut t = grind arith
+      shut = grind arith
 
       unlocked : is_locked events ≡ false → ((tally_of events).held ≤ borrowed_number (head_of ws)) × (borrowed_number (head_of ws) ≤ in_use (tally_of events))
       unlocked t =
@@ -64,7 +64,7 @@ module _ {T : Type 0} (scene : Scene T IndexSet) (inv : Inv outline scene) (stra
   counts_few = grind arith
 
   pub counts_step : IsHere scene borrowed_at → StepOf scene starts.BorrowedIndices borrowed_at
-  counts_step x0 = grind (arith, ends, head_of, false, good_same, told, counts_so, counts_few, same)
+  counts_step = grind (arith, ends, head_of, false, good_same, told, counts_so, counts_few, same)
 
   pub looks_step : StepOf scene starts.IsLocked locked_at
   looks_step = grind (arith, ends, head_of, false, good_same, told, same)

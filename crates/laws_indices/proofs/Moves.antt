@@ -16,11 +16,11 @@ module _ (c : ℕ) (words : List ℕ) (holders : List (Option ℕ)) where
 
   module _ (busy : ℕ) (g : Good c words holders busy) where
     pub counts_right : counted_in words ≢ locked → (counted_in words ≡ held_below holders c + busy) × (held_below holders c + busy ≤ c)
-    counts_right x0 = grind (arith, counts_all)
+    counts_right = grind (arith, counts_all)
 
     -- a call that takes an index or gives one back finds no lock
     pub unlocked_for : 1 ≤ busy → counted_in words ≢ locked
-    unlocked_for x0 = grind (arith, is_open)
+    unlocked_for = grind (arith, is_open)
 
     -- where none is counted as held, none is held
     pub nobody : held_below holders c ≡ 0 → (i : ℕ) → holder holders i ≡ None
@@ -36,13 +36,13 @@ module _ (c : ℕ) (words : List ℕ) (holders : List (Option ℕ)) where
 
     -- some flag is free while a call takes an index
     pub some_free : 1 ≤ busy → ((i : ℕ) → i < c → is_claimed c words i ≡ true) → ⊥
-    some_free x0 x1 = grind (arith, sum_all, holder, one_if_some, counts_right, unlocked_for)
+    some_free = grind (arith, sum_all, holder, one_if_some, counts_right, unlocked_for)
 
   -- ---- a word that is none of flags
 
   moves_word : (n x busy busy' : ℕ) → n ≤ c → Good c words holders busy
       → Tally c (counted_in (set words n x)) (held_below holders c + busy') → Good c (set words n x) holders busy'
-  moves_word x0 x1 x2 x3 x4 x5 x6 = grind (arith, length-set, claims_stay)
+  moves_word = grind (arith, length-set, claims_stay)
 
   pub stores_next : (index x busy : ℕ) → index < c → Good c words holders busy → Good c (set words (1 + index) x) holders busy
   stores_next index x busy below g =
@@ -147,7 +147,7 @@ module _ (c : ℕ) (words : List ℕ) (holders : List (Option ℕ)) where
 
     -- a flag that stands already goes on to stand, as do the others
     pub still_claimed : (busy j : ℕ) → Good c words holders busy → is_claimed c words j ≡ true → is_claimed c (set words place (bit_or old (flag i))) j ≡ true
-    still_claimed x0 x1 x2 x3 = grind (arith, set, flag, claim_sets, within, claim_leaves, cases_eq)
+    still_claimed = grind (arith, set, flag, claim_sets, within, claim_leaves, cases_eq)
 
     pub claims_again : (busy : ℕ) → is_claimed c words i ≡ true → Good c words holders busy → Good c (set words place (bit_or old (flag i))) holders busy
     claims_again busy stood g =

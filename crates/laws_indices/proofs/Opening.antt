@@ -23,7 +23,7 @@ nobody_holds (suc n) zero = refl
 nobody_holds (suc n) (suc i) = nobody_holds n i
 
 opening_long : (c : ℕ) → length (opening_words c) ≡ size c
-opening_long x0 = grind (arith, length-append, length-range_with_len, length-replicate)
+opening_long = grind (arith, length-append, length-range_with_len, length-replicate)
 
 -- the words of flags open as 0
 opening_flag : (c i : ℕ) → get_or (opening_words c) (flag_word c i) 0 ≡ 0
@@ -39,7 +39,7 @@ pub none_held : (c : ℕ) → held_below (replicate c None) c ≡ 0
 none_held c = sum_none (λ i. one_held (holder (replicate c None) i)) c (λ i below. ap one_held (nobody_holds c i))
 
 pub opening_good : (c : ℕ) → 1 ≤ c → c < locked → Good c (opening_words c) (replicate c None) 0
-opening_good x0 x1 x2 = grind (arith, none_held, opening_long, length-replicate, has_flag, opening_flag, none_stands, is_some, nobody_holds, inl)
+opening_good = grind (arith, none_held, opening_long, length-replicate, has_flag, opening_flag, none_stands, is_some, nobody_holds, inl)
 
 pub admitted_is : (c : ℕ) → capacity_error kinds.Indices c ≡ None → (1 ≤ c) × (c < locked)
-admitted_is x0 x1 = grind arith
+admitted_is = grind arith

@@ -59,7 +59,7 @@ module _ {T : Type 0} (scene : Scene T IndexSet) (inv : Inv outline scene) (inde
 
   -- so many calls are busy as before
   good_same : (ask : Ask) (busy' : ℕ) → words_after ws (Some ask) ≡ ws → busy' ≡ busy scene → Good c (words_after ws (Some ask)) hs busy'
-  good_same x0 x1 x2 x3 = grind (arith, busy, g)
+  good_same = grind (arith, busy, g)
 
   good_stored : (head busy' : ℕ) → busy' ≡ busy scene → Good c (words_after ws (Some (store head))) hs busy'
   good_stored head busy' e =
@@ -93,7 +93,7 @@ module _ {T : Type 0} (scene : Scene T IndexSet) (inv : Inv outline scene) (inde
     -- a head that counts one less is not locked either
     still_open : (ask : Ask) (x : ℕ) → words_after ws (Some ask) ≡ set ws 0 x → borrowed x + 1 ≡ counted_in ws
         → says_locked (head_of (words_after ws (Some ask))) ≡ says_locked (head_of ws)
-    still_open x0 x1 x2 x3 = grind (arith, head_of, get_or-set_same, open_says, not_locked)
+    still_open = grind (arith, head_of, get_or-set_same, open_says, not_locked)
 
     given_open : (ask : Ask) → words_after ws (Some ask) ≡ set ws 0 (head_given_back (head_of ws) index)
         → says_locked (head_of (words_after ws (Some ask))) ≡ says_locked (head_of ws)
@@ -125,7 +125,7 @@ module _ {T : Type 0} (scene : Scene T IndexSet) (inv : Inv outline scene) (inde
         (omega arith) (refl, refl, below, tt) (omega arith)
 
     default_loads : steps ≤ 1 → StepOf scene started (default releases.LoadsHead)
-    default_loads x0 = grind (arith, goes_on, head_of, false, good_same, loads_same)
+    default_loads = grind (arith, goes_on, head_of, false, good_same, loads_same)
 
     default_stores : (head : ℕ) → steps ≤ 2 → StepOf scene started (default (releases.StoresNext head))
     default_stores head s =
@@ -196,7 +196,7 @@ module _ {T : Type 0} (scene : Scene T IndexSet) (inv : Inv outline scene) (inde
       (refl, refl, below, tt) (omega arith)
 
   lock_loads : IsPaid since changes backs → steps ≤ 1 → StepOf scene started_lock (locking releases.LoadsHead)
-  lock_loads x0 x1 = grind (arith, goes_on, head_of, false, good_same, loads_same, inl)
+  lock_loads = grind (arith, goes_on, head_of, false, good_same, loads_same, inl)
 
   lock_stores : (head : ℕ) → PaidUnless (head_of ws ≡ head) since changes backs → steps ≤ 2 + backs * 2
       → StepOf scene started_lock (locking (releases.StoresNext head))
@@ -249,7 +249,7 @@ module _ {T : Type 0} (scene : Scene T IndexSet) (inv : Inv outline scene) (inde
     -- the head has moved
     goes_back_to : words_after ws (Some (exchange true head)) ≡ ws → head_of ws ≢ head
         → Does true (GoOn (locking (releases.StoresNext (head_of ws))))
-    goes_back_to x0 x1 = grind arith
+    goes_back_to = grind arith
 
     lock_exchanges : StepOf scene started_lock exchanging
     lock_exchanges = go (head_of ws == head) refl (borrowed head == 1) refl

@@ -86,7 +86,7 @@ module _ (c : ℕ) where
   -- ---- it finds one flag less from the next one on
 
   one_less : (a m r : ℕ) → cond (a == m) (m + r) a + 1 ≤ cond (suc a == suc m) (suc m + r) (suc a)
-  one_less x0 x1 x2 = grind (arith, nat_tests)
+  one_less = grind (arith, nat_tests)
 
   pub scan_on : (words : List ℕ) (i : ℕ) → i + 1 < c → is_claimed c words i ≡ true → scan words (i + 1) + 1 ≤ scan words i
   scan_on words i more stood =
@@ -105,7 +105,7 @@ module _ (c : ℕ) where
         go false t rest = omega arith
 
     wrapped : (k a b r s : ℕ) → a ≤ b → b ≤ k → r ≤ s → cond (a == k) (k + r) a ≤ cond (b == k) (k + s) b
-    wrapped x0 x1 x2 x3 x4 x5 x6 x7 = grind (arith, nat_tests)
+    wrapped = grind (arith, nat_tests)
 
     pub scan_fewer : (i : ℕ) → scan new i ≤ scan old i
     scan_fewer i =

@@ -36,7 +36,7 @@ module _ {T : Type 0} where
       grind arith
 
   all_effects : (p : ℕ) (freed : Option ℕ) (outcome : Option (Answer T)) → AllByRecursion (IsEffectOf {T = T} (Next p)) (effects p freed outcome)
-  all_effects x0 x1 x2 = grind arith
+  all_effects = grind arith
 
   writes : (c : ℕ) (t : Trace T) (p : ℕ) (words : List ℕ) (holders : List (Option ℕ)) (start : Start T) (flight : Flight T)
       → FlightAt c holders p start flight
@@ -69,7 +69,7 @@ module _ {T : Type 0} where
 
   no_question : (code : Coding T) (c : ℕ) (s : IndexSet) (p : ℕ) (start : Start T) (flight : Flight T) → (family code c).At s p start flight
       → is_question (want_of code flight) ≡ false
-  no_question x0 x1 x2 x3 x4 x5 x6 = grind arith
+  no_question = grind arith
 
   turns : (code : Coding T) (c : ℕ) → Turns outline code c May
   turns code c =

@@ -75,11 +75,11 @@ holder_set holders index o i below = ⊎_elim here there (cases_eq index i)
 
 pub same_tally : (h h' t t' g g' : ℕ) → h ≡ h' → t ≡ t' → g ≡ g'
     → ◌≡◌ {A = Tally} (record { held = h; taking = t; giving = g }) (record { held = h'; taking = t'; giving = g' })
-same_tally x0 x1 x2 x3 x4 x5 x6 x7 x8 = grind arith
+same_tally = grind arith
 
 module _ {T : Type 0} where
   any_less : (o : Option (Flight T)) → weight_of (of_any counts) o ≤ weight_of (of_any takes) o + weight_of (of_any gives) o
-  any_less x0 = grind arith
+  any_less = grind arith
 
   -- a call of the set as one of any family
   abbrev pub any_call : After IndexFlight (Answer T) → After (Flight T) (Answer T)
@@ -149,7 +149,7 @@ module _ {T : Type 0} (scene : Scene T IndexSet) where
 
   pub unless_then : (ask : Option Ask) (P Q : Type 0) → (P → Q) → PaidUnless P scene.since scene.changes scene.backs
       → PaidUnless Q (since_then ask) (changes_then ask) (backs_then false)
-  unless_then x0 x1 x2 x3 x4 = grind (arith, inl, inr)
+  unless_then = grind (arith, inl, inr)
 
   -- a step after which the call is this, which leaves these holders and writes these events
   abbrev pub Leaves : List (Option ℕ) → List (Event T) → IndexStart → IndexFlight → Option Ask → Bool → After IndexFlight (Answer T) → Type 0

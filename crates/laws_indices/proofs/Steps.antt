@@ -39,7 +39,7 @@ module _ {T : Type 0} (scene : Scene T IndexSet) (inv : Inv outline scene) where
       → (IsHere scene (default_at c index stage) → StepOf scene (starts.Release index Default) (default_at c index stage))
       → IsHere scene (default_at n i stage)
       → StepOf scene (starts.Release index Default) (default_at n i stage)
-  default_moves x0 x1 x2 x3 x4 x5 x6 = grind arith
+  default_moves = grind arith
 
   lock_moves : (n i index : ℕ) (stage : ReleaseStage) → n ≡ c → i ≡ index
       → (IsHere scene (lock_at c index stage) → StepOf scene (starts.Release index LockIfLastIndex) (lock_at c index stage))

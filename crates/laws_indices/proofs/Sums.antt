@@ -27,7 +27,7 @@ module _ (f g : ℕ → ℕ) where
           omega arith
 
       before : (p < n → sum_below f n + g p ≡ sum_below g n + f p) → n ≢ p → f n + sum_below f n + g p ≡ g n + sum_below g n + f p
-      before moved ne = grind arith
+      before = grind arith
 
 module _ (f : ℕ → ℕ) where
   -- each counts 1
@@ -46,7 +46,7 @@ module _ (f : ℕ → ℕ) where
       before one less = let rest = one less in omega arith
 
       here : n ≤ p → f p ≤ f n + sum_below f n
-      here more = grind arith
+      here = grind arith
 
   pub sum_none : (n : ℕ) → ((i : ℕ) → i < n → f i ≡ 0) → sum_below f n ≡ 0
   sum_none zero none = refl
@@ -61,7 +61,7 @@ module _ (f : ℕ → ℕ) where
   sum_longer n (suc m) low none = ⊎_elim (longer (λ less. sum_longer n m less none)) whole (cases_lt n (suc m))
     where
       longer : (n ≤ m → sum_below f m ≡ sum_below f n) → n < suc m → f m + sum_below f m ≡ sum_below f n
-      longer rest less = grind arith
+      longer = grind arith
 
       whole : suc m ≤ n → f m + sum_below f m ≡ sum_below f n
       whole more = let same : n ≡ suc m = omega arith in rw same refl

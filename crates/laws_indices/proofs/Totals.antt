@@ -33,4 +33,4 @@ module _ {T : Type 0} (weight : Flight T → ℕ) where
 
   -- where no party from n on has begun a call, more of them sum to the same
   pub total_longer : (latest : List (ℕ × Party T)) (n m : ℕ) → n ≤ m → ((p : ℕ) → n ≤ p → party_of p latest ≡ None) → total latest m ≡ total latest n
-  total_longer x0 x1 x2 x3 x4 = grind (arith, sum_longer)
+  total_longer = grind (arith, sum_longer)

@@ -64,15 +64,15 @@ module _ {T : Type 0} where
   acts_of p (effects.Frees index) = []
 
   pub effects_are : (p : ℕ) (effect : Effect) (outcome : Option (Answer T)) → effects_of p effect outcome ≡ did p effect outcome ++ acts_of p effect
-  effects_are x0 x1 x2 = grind arith
+  effects_are = grind arith
 
   pub did_effects : (turn : Turn T) (p : ℕ) (effect : Effect) (outcome : Option (Answer T)) → IsParty turn p
       → AllByRecursion (IsEffectOf turn) (did p effect outcome)
-  did_effects x0 x1 x2 x3 x4 = grind arith
+  did_effects = grind arith
 
 module _ (T : Type 0) where
   pub all_act : (p : ℕ) (effect : Effect) → AllByRecursion IsAct (acts_of {T = T} p effect)
-  all_act x0 x1 = grind arith
+  all_act = grind arith
 
 -- ---- steps in which nobody acts
 
@@ -87,16 +87,16 @@ Silent (effects.Frees index) = Unit {0}
 Silent effect = ⊥
 
 pub frees_silent : (index : ℕ) (stage : ReleaseStage) → Silent (release_effect index stage)
-frees_silent x0 x1 = grind arith
+frees_silent = grind arith
 
 pub take_back_silent : (stage : TakeBackStage) → Silent (take_back_effect stage)
-take_back_silent x0 = grind arith
+take_back_silent = grind arith
 
 pub give_back_silent : (index : ℕ) (stage : pushes.PushStage) → Silent (give_back_effect index stage)
-give_back_silent x0 x1 = grind arith
+give_back_silent = grind arith
 
 pub reclaim_silent : (slots queue : ℕ) (words : List ℕ) (stage : ReclaimStage) (old : ℕ) → Silent (reclaim_effect slots queue words stage old)
-reclaim_silent x0 x1 x2 x3 x4 = grind arith
+reclaim_silent = grind arith
 
 -- ---- what an act tells
 
@@ -118,7 +118,7 @@ module _ {T : Type 0} (code : Coding T) (slots queue : ℕ) (t : Trace T)
   reached = let sent = s.holds.sent in omega arith
 
   by_words : (word : ℕ → ℕ) (ask : Option Ask) → asked ≡ ask → AddsOne (word slots) (words_in k) ask → AddsOne (word t.world.capacity) t.world.words asked
-  by_words x0 x1 x2 x3 = grind arith
+  by_words = grind arith
 
   -- the next write position is stored
   writes_on : (write read index : ℕ) → write ≡ k.submission.write
@@ -146,7 +146,7 @@ module _ {T : Type 0} (code : Coding T) (slots queue : ℕ) (t : Trace T)
       (adds_read slots queue k busy s.holds.parts reached))
 
   pub silent_right : (effect : Effect) → Silent effect → Right (acts_of p effect)
-  silent_right x0 x1 = grind arith
+  silent_right = grind arith
 
   -- beside the send that waits
   abbrev pub waits : Option (ℕ × ℕ)
@@ -181,7 +181,7 @@ module _ {T : Type 0} (code : Coding T) (slots queue : ℕ) (t : Trace T)
   -- ---- a receive
 
   made_right : p ≢ 0 → AddsOne (read_word t.world.capacity) t.world.words asked → (push : Option (ℕ × ℕ)) → waits ≡ push → Right (room_made push)
-  made_right x0 x1 x2 x3 = grind arith
+  made_right = grind arith
 
   none_waits : (read : ℕ) → read ≤ k.submission.read → k.submission.write ≡ read → waiting t.events ≡ []
   none_waits read low same =

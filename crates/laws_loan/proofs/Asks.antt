@@ -3,4 +3,4 @@ use Rattle.laws_loan.proofs.Names.{◌≡◌, false, LoanFlight, is_question, wa
 use native.Mathlib.Omega.{arith}
 
 pub never_asks : (flight : LoanFlight) → is_question (want flight) ≡ false
-never_asks x0 = grind arith
+never_asks = grind arith

@@ -28,7 +28,7 @@ use Rattle.laws_loan.proofs.Invariant.{reclaims_in, HoldsNow, family}
 -- five rows, none of which refuses
 pub rows_passed : (a b c d e : Bool) → first_row ((a, BadIndex) ∷ (b, NoRole) ∷ (c, NotHeld) ∷ (d, OwnerIsDead) ∷ (e, OwnerLives) ∷ []) ≡ None
     → (a ≡ false) × (b ≡ false) × (c ≡ false) × (d ≡ false) × (e ≡ false)
-rows_passed x0 x1 x2 x3 x4 x5 = grind arith
+rows_passed = grind arith
 
 -- ---- on a queue with a capacity a call begins with a load
 
@@ -65,7 +65,7 @@ module _ {T : Type 0} (code : Coding T) (slots queue : ℕ) (s : Channel T) (lat
       → (p ≡ 0 → IsShut (span_of 0 s.events) → reclaims_in (span_of 0 s.events) ≡ false
       → IsFirst code slots queue s latest turns changes 0 start flight)
       → First start flight
-  as_sender x0 x1 x2 x3 = grind arith
+  as_sender = grind arith
 
   -- the sender has the index that its call asks for
   mine : (index : ℕ) → p ≡ 0 → not (holds (get_or s.book.holders index None) p) ≡ false → not (holds (get_or s.book.holders index None) 0) ≡ false
@@ -76,7 +76,7 @@ module _ {T : Type 0} (code : Coding T) (slots queue : ℕ) (s : Channel T) (lat
       → (is_past slots (asks_for start) ≡ false) × (lacks_role s.book p start ≡ false)
       × (lacks_index s.book p (asks_for start) ≡ false) × (has_died p s.book.dead ≡ false)
       × (reclaims_early s.book start ≡ false)
-  passed x0 x1 = grind (arith, rows_passed, asks_for)
+  passed = grind (arith, rows_passed, asks_for)
 
   pub first_is : (start : LoanStart) → first_row (call_rows slots s.book p start) ≡ None → First start (first slots s.book start)
   first_is calls.Loan r =
@@ -131,7 +131,7 @@ IsOwn slots book start flight = ⊥
 pub begins_own : {T : Type 0} (slots : ℕ) (book : Book) (start : Start T) (flight : Flight T)
     → first_of kinds.Loan slots start (registries.Loan book) ≡ Some flight
     → IsOwn slots book start flight
-begins_own x0 x1 x2 x3 x4 = grind arith
+begins_own = grind arith
 
 module _ {T : Type 0} (code : Coding T) (slots queue : ℕ) where
   abbrev channel : frame.Family T

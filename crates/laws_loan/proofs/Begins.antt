@@ -21,7 +21,7 @@ use Rattle.laws_loan.proofs.Turns.{Shows, now_more}
 
 -- a call that is over has nothing in passing
 pub shut_none : {T : Type 0} (index : ℕ) (span : Span T) → IsShut span → Carries index span → ⊥
-shut_none x0 x1 x2 x3 = grind arith
+shut_none = grind arith
 
 module _ {T : Type 0} (code : Coding T) (slots queue : ℕ) (s : Channel T) (latest : List (ℕ × Party T))
     (turns changes p : ℕ) (start : LoanStart) (flight : LoanFlight) where
@@ -78,13 +78,13 @@ module _ {T : Type 0} (code : Coding T) (slots queue : ℕ) (s : Channel T) (lat
     weighs_same {A} f e = ⊎_elim mine other (cases_eq p 0)
       where
         mine : p ≡ 0 → f (sends_at (put p began latest)) ≡ f (sends_at latest)
-        mine x0 = grind (arith, sends_at, put, party_put_same)
+        mine = grind (arith, sends_at, put, party_put_same)
 
         other : p ≢ 0 → f (sends_at (put p began latest)) ≡ f (sends_at latest)
         other ne = ap (λ o. f (flight_of (doing_of o))) (party_put_other 0 p began latest (λ z. ne (sym z)))
 
     still_carried : (index q : ℕ) → spot_of index s.events ≡ Passing q → Carries index (span_of q events_then)
-    still_carried x0 x1 x2 = grind (arith, shut_none, shut, theirs_stays, cases_eq)
+    still_carried = grind (arith, shut_none, shut, theirs_stays, cases_eq)
 
     parts_then : Holds slots queue after (counted_for (sends_at (put p began latest)))
     parts_then =

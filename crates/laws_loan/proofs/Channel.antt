@@ -76,7 +76,7 @@ pub opening_fits : (T : Type 0) (slots queue : ℕ) → Represents {T = T} (open
 opening_fits T slots queue = (refl, refl)
 
 empty_good : (cells : ℕ) → queues.Good 1 words_of_index cells (empty cells)
-empty_good x0 = grind (arith, length-replicate)
+empty_good = grind (arith, length-replicate)
 
 pub all_free : (n i : ℕ) → place_at (replicate n places.Free) i ≡ places.Free
 all_free zero i = refl
@@ -84,10 +84,10 @@ all_free (suc n) zero = refl
 all_free (suc n) (suc i) = all_free n i
 
 nobody_by : (p : ℕ) → IsBy p Free → ⊥
-nobody_by x0 x1 = grind arith
+nobody_by = grind arith
 
 opening_keeps : {T : Type 0} (slots queue : ℕ) → KeepsBook {T = T} (opening_book slots queue) []
-opening_keeps x0 x1 = grind (arith, all_free, nobody_holds)
+opening_keeps = grind (arith, all_free, nobody_holds)
 
 opening_placed : {T : Type 0} (slots queue : ℕ) → Placed {T = T} slots (replicate slots None) [] [] (opening_book slots queue) []
 opening_placed slots queue =

@@ -26,13 +26,13 @@ module _ (slots : ℕ) (some : 1 ≤ slots) (few : slots < 2 ^ 24) (k : Core ℕ
 
   -- the place of a position's cell, as a call asks for it
   cell_place : (position : ℕ) → word_at (cell_word slots 1 position) 0 ≡ 4 + (1 * (position % slots) + 0)
-  cell_place x0 = grind arith
+  cell_place = grind arith
 
   pub cell_on : (position : ℕ) → word_at (cell_word slots 1 position) 0 < length ws
-  cell_on x0 = grind arith
+  cell_on = grind arith
 
   pub cell_is : (position : ℕ) → get_or ws (word_at (cell_word slots 1 position) 0) 0 ≡ get_or k.cells (1 * (position % slots) + 0) 0
-  cell_is x0 = grind (arith, word_at, cell_place)
+  cell_is = grind (arith, word_at, cell_place)
 
   -- the first value stands in the cell of the read position
   pub first_is : (value : ℕ) (rest : List ℕ) → k.waiting ≡ value ∷ rest → get_or ws (word_at (cell_word slots 1 k.read) 0) 0 ≡ value
@@ -51,7 +51,7 @@ module _ (slots : ℕ) (some : 1 ≤ slots) (few : slots < 2 ^ 24) (k : Core ℕ
   pub loads_read : length k.waiting < slots
       → push_takes 1 (push_at (pushes.LoadsRead k.write)) (pushes.LoadsRead k.write) k.read
       ≡ GoOn (push_at (pushes.StoresCell k.write (cell_word slots 1 k.write) 0))
-  loads_read x0 = grind arith
+  loads_read = grind arith
 
   module _ (v : ℕ) (room : length k.waiting < slots) where
     abbrev pub fill : Core ℕ
@@ -88,10 +88,10 @@ module _ (slots : ℕ) (some : 1 ≤ slots) (few : slots < 2 ^ 24) (k : Core ℕ
 
   -- it finds nothing, or something
   pub finds_none : (k.write == k.read) ≡ true → k.waiting ≡ []
-  finds_none x0 = grind (arith, nil_from_length, nat_tests)
+  finds_none = grind (arith, nil_from_length, nat_tests)
 
   pub finds_some : (k.write == k.read) ≡ false → k.read < k.write
-  finds_some x0 = grind arith
+  finds_some = grind arith
 
   abbrev pub next_read : Option Ask
   next_read = Some (record { word = 1; op = Store (after_position k.read) })

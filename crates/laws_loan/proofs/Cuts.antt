@@ -17,7 +17,7 @@ IsOn ws want = Unit {0}
 
 -- a part's word is so far behind the words before the part
 place : (xs ws : List ℕ) (n : ℕ) → length xs + length ws < 2 ^ 64 → n < length ws → word_at (length xs) n ≡ length xs + n
-place xs ws n few below = omega arith
+place = omega arith
 
 read : (xs ws zs : List ℕ) (n : ℕ) → length xs + length ws < 2 ^ 64 → n < length ws → get_or (xs ++ (ws ++ zs)) (word_at (length xs) n) 0 ≡ get_or ws n 0
 read xs ws zs n few below =
@@ -34,11 +34,11 @@ stored xs ws zs n v few below =
 
 module _ (xs ws zs : List ℕ) (few : length xs + length ws < 2 ^ 64) where
   pub shifted_old : (want : Want (Unit {0})) → IsOn ws want → old_of (xs ++ (ws ++ zs)) (ask_of (shifted (length xs) want)) ≡ old_of ws (ask_of want)
-  shifted_old x0 x1 = grind (arith, read)
+  shifted_old = grind (arith, read)
 
   pub shifted_words : (want : Want (Unit {0})) → IsOn ws want
       → words_after (xs ++ (ws ++ zs)) (ask_of (shifted (length xs) want)) ≡ xs ++ (words_after ws (ask_of want) ++ zs)
-  shifted_words x0 x1 = grind (arith, set, word_at, length, written, read, stored)
+  shifted_words = grind (arith, set, word_at, length, written, read, stored)
 
   ask_change : (ask : Ask) → ask.word < length ws
       → change_of (xs ++ (ws ++ zs)) (ask_of (shifted (length xs) (wants.Ask ask))) ≡ change_of ws (ask_of (wants.Ask ask))

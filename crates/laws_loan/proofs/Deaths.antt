@@ -29,13 +29,13 @@ died_with q o dead = ⊎_elim now before (cases_eq q o)
     before ne = died_before q o dead ne ∙ sym (ap (λ b. b || has_died q dead) (ne_eqb o q (λ e. ne (sym e))))
 
 either_way : (b d : Bool) → (b || d) ≡ (if b then true else d)
-either_way x0 x1 = grind arith
+either_way = grind arith
 
 still_dead : (b d : Bool) → d ≡ true → (b || d) ≡ true
-still_dead x0 x1 x2 = grind arith
+still_dead = grind arith
 
 was_alive : (b d : Bool) → (b || d) ≡ false → d ≡ false
-was_alive x0 x1 x2 = grind arith
+was_alive = grind arith
 
 module _ {T : Type 0} (slots queue : ℕ) (s : Channel T) (o : ℕ) where
   abbrev pub after : Channel T
@@ -66,7 +66,7 @@ module _ {T : Type 0} (slots queue : ℕ) (s : Channel T) (o : ℕ) where
       (lists_stay is_returning s.completion.waiting s.events (Died o) h.returns refl)
 
   parts_then : (busy : ℕ) → Holds slots queue s busy → Holds slots queue after busy
-  parts_then x0 x1 = grind (arith, placed_then)
+  parts_then = grind (arith, placed_then)
 
   told_then : Told queue s.submission.waiting s.completion.waiting s.events → Told queue s.submission.waiting s.completion.waiting (s.events ++ Died o ∷ [])
   told_then h =
@@ -94,7 +94,7 @@ module _ {T : Type 0} (slots queue : ℕ) (s : Channel T) (o : ℕ) where
 
   at_on : (p : ℕ) (wrote : List (Event T)) (start : LoanStart) (flight : LoanFlight)
       → At slots queue s p wrote start flight → At slots queue after p wrote start flight
-  at_on x0 = grind (arith, at_stays, same_spot, was_alive, died_with, still_dead)
+  at_on = grind (arith, at_stays, same_spot, was_alive, died_with, still_dead)
 
 -- ---- the turn
 
@@ -104,15 +104,15 @@ module _ {T : Type 0} (code : Coding T) (slots queue : ℕ) where
 
   fit_then : (kept : Registry T) (words : List ℕ) (s : Channel T) (o : ℕ) → Represents kept words s
       → Represents (kept_after_death kept o) words (after slots queue s o)
-  fit_then x0 x1 x2 x3 x4 = grind arith
+  fit_then = grind arith
 
   call_on : (s : Channel T) (o q : ℕ) (start : Start T) (flight : Flight T) → channel.At s q start flight → channel.At (after slots queue s o) q start flight
-  call_on x0 x1 x2 x3 x4 x5 = grind (arith, span_of-death, at_on)
+  call_on = grind (arith, span_of-death, at_on)
 
   known_on : (s : Channel T) (o since changes backs : ℕ) (flight : Flight T)
       → channel.Knows s o s.events since changes backs flight
       → channel.Knows (after slots queue s o) o (s.events ++ Died o ∷ []) since changes backs flight
-  known_on x0 x1 x2 x3 x4 x5 x6 = grind arith
+  known_on = grind arith
 
   pub death_comes : (t : Trace T) (owner : ℕ) (sound : frame.Sound channel t) → MayDie t.world owner → frame.ComesByDeath channel t sound owner
   death_comes t owner sound may =

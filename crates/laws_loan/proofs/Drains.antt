@@ -222,4 +222,4 @@ module _ {T : Type 0} (code : Coding T) (slots queue : ℕ) (s : Channel T) (lat
 
   pub drains_does : (stage : PopStage) → StageAt slots s.submission s.completion s.book.places wrote (drains stage)
       → x.steps ≤ reclaim_number slots wrote (drains stage) → Does_at stage
-  drains_does x0 x1 x2 = grind (arith, loads_read, loads_write, loads_cell, moves_read)
+  drains_does = grind (arith, loads_read, loads_write, loads_cell, moves_read)

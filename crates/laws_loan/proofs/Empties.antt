@@ -287,4 +287,4 @@ module _ {T : Type 0} (code : Coding T) (slots queue : ℕ) (s : Channel T) (lat
   pub empties_does : (stage : PopStage)
       → StageAt slots s.submission s.completion s.book.places wrote (empties stage)
       → x.steps ≤ reclaim_number slots wrote (empties stage) → Does_at stage
-  empties_does x0 x1 x2 = grind (arith, loads_read, loads_write, loads_cell, stores_read)
+  empties_does = grind (arith, loads_read, loads_write, loads_cell, stores_read)

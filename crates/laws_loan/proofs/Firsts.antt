@@ -30,10 +30,10 @@ use Rattle.laws_loan.proofs.Told.{is_reclaiming}
 -- ---- what rows tell that do not apply
 
 pub is_that : (a b : ℕ) → not (a == b) ≡ false → a ≡ b
-is_that x0 x1 x2 = grind arith
+is_that = grind arith
 
 pub is_below : (slots index : ℕ) → nat_le slots index ≡ false → index < slots
-is_below slots index t = grind (arith, nat_tests)
+is_below = grind (arith, nat_tests)
 
 module _ {T : Type 0} (code : Coding T) (slots queue : ℕ) (s : Channel T) (latest : List (ℕ × Party T))
     (turns changes : ℕ) (h : HoldsNow slots queue s latest s.events turns) where
@@ -42,10 +42,10 @@ module _ {T : Type 0} (code : Coding T) (slots queue : ℕ) (s : Channel T) (lat
 
   -- the party has the index by its row
   pub has_it : (p index : ℕ) → not (holds (get_or s.book.holders index None) p) ≡ false → spot_of index s.events ≡ With p
-  has_it x0 x1 x2 = grind arith
+  has_it = grind arith
 
   pub receiver_is : (p : ℕ) → p ≡ s.book.receiver → (p ≢ 0) × (p ≡ receiver_of s.events)
-  receiver_is x0 x1 = grind arith
+  receiver_is = grind arith
 
   module _ (p : ℕ) (start : LoanStart) where
     abbrev begun : Event T
@@ -114,7 +114,7 @@ module _ {T : Type 0} (code : Coding T) (slots queue : ℕ) (s : Channel T) (lat
 
     not_reclaiming : (start : LoanStart) → reclaims_in {T = T} (Open (starts.Loan start) []) ≡ false
         → is_reclaiming s.events ≡ reclaims_in (span_of 0 (s.events ++ Begun 0 (starts.Loan start) ∷ []))
-    not_reclaiming x0 x1 = grind (arith, quiet, span_of-own)
+    not_reclaiming = grind (arith, quiet, span_of-own)
 
     pub loan_first : First 0 calls.Loan (loan_of slots)
     loan_first = asks_none 0 calls.Loan refl (loan_of slots) refl refl refl refl (not_reclaiming calls.Loan refl) (refl, refl, refl, tt) refl

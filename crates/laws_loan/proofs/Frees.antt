@@ -31,7 +31,7 @@ use Rattle.laws_loan.proofs.Sents.{none_there, may_free}
 use Rattle.laws_loan.proofs.SetSteps.{ReleaseLeads, ReleaseStep, claims_then, release_step}
 use Rattle.laws_loan.proofs.Spots.{is_waiting, is_returning, free_passes}
 use Rattle.laws_loan.proofs.Table.{frees_it}
-use Rattle.laws_loan.proofs.Theirs.{others_dead}
+use Rattle.laws_loan.proofs.SenderInterference.{others_dead}
 use Rattle.laws_loan.proofs.Told.{items}
 use Rattle.laws_loan.proofs.Turns.{Shows, sends_now}
 
@@ -40,11 +40,11 @@ frees_at slots queue number index stage = reclaim_at slots queue (Releases numbe
 
 -- each stage takes one operation
 one_step : (slots index : ℕ) (stage : ReleaseStage) → step_count (ask_of (back_asks slots index stage)) ≡ 1
-one_step x0 x1 x2 = grind arith
+one_step = grind arith
 
 -- behind the first stage nothing more is to be known of the index
 pub frees_for : (stage : ReleaseStage) → release_counts stage ≡ 1 → (table : List Place) (index : ℕ) → FreesAt table index stage
-frees_for x0 x1 x2 x3 = grind arith
+frees_for = grind arith
 
 -- numbers below a bound are below a greater one
 pub all_less : (xs : List ℕ) (m n : ℕ) → m ≤ n → AllByRecursion (λ i. i < m) xs → AllByRecursion (λ i. i < n) xs
@@ -70,7 +70,7 @@ module _ {T : Type 0} (code : Coding T) (slots queue : ℕ) (s : Channel T) (lat
 
   -- what its step does to the words of the indices
   release_for : (stage : ReleaseStage) → index < slots → FreesAt s.book.places index stage → ReleaseAt s.claims 0 index stage
-  release_for x0 x1 x2 = grind arith
+  release_for = grind arith
 
   steps_set : (stage : ReleaseStage) → Here stage → (at : Known stage) → ReleaseStep slots index at.stage_at.1 s.set s.claims stage
   steps_set stage here at =
@@ -185,7 +185,7 @@ module _ {T : Type 0} (code : Coding T) (slots queue : ℕ) (s : Channel T) (lat
   -- ---- every later step
 
   claims_for : (stage : ReleaseStage) → release_counts stage ≡ 1 → claims_then index stage s.claims ≡ s.claims
-  claims_for x0 x1 = grind arith
+  claims_for = grind arith
 
   module _ (stage : ReleaseStage) (heavy : release_counts stage ≡ 1) (here : Here stage) (at : Known stage)
       (few : x.steps ≤ 8 * (slots + 1) + 5 * number + release_number stage 0) where

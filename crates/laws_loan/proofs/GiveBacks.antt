@@ -24,7 +24,7 @@ use Rattle.laws_loan.proofs.Cuts.{IsOn}
 use Rattle.laws_loan.proofs.Giving.{GivesBy, gives_on}
 use Rattle.laws_loan.proofs.Invariant.{sends_at, counted_for, HoldsNow}
 use Rattle.laws_loan.proofs.Knows.{Passes}
-use Rattle.laws_loan.proofs.Mine.{at_given, given_then}
+use Rattle.laws_loan.proofs.GiveBackInterference.{at_given, given_then}
 use Rattle.laws_loan.proofs.OneMove.{OneMove, carried, passes_on, same_receiver}
 use Rattle.laws_loan.proofs.Parts.{completion_long, completion_old, completion_words}
 use Rattle.laws_loan.proofs.Placed.{Placed}
@@ -112,7 +112,7 @@ module _ {T : Type 0} (code : Coding T) (slots queue : ℕ) (s : Channel T) (lat
       ∙ ap (λ ws. s.set ++ (layout no_roles s.submission ++ ws)) is
 
   one_step : (stage : PushStage) → step_count (asked stage) ≡ 1
-  one_step x0 = grind arith
+  one_step = grind arith
 
   -- ---- it goes on
 

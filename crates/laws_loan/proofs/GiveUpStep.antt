@@ -23,7 +23,7 @@ module _ (T : Type 0) (slots queue index : ℕ) where
 
   goes_so : (stage : ReleaseStage) (value : ℕ)
       → given_up_after (back_takes slots stage value) ≡ embedded (give_up_at slots queue index) answers.Done (back_takes slots stage value)
-  goes_so x0 x1 = grind arith
+  goes_so = grind arith
 
 module _ {T : Type 0} (code : Coding T) (slots queue : ℕ) (t : Trace T)
     (sound : frame.Sound (channel code slots queue) t) (small : t.world.turns < 2 ^ 64 - 2) (x : Party T)

@@ -11,7 +11,7 @@ use Rattle.laws_queues.proofs.Queues.Core.{Good}
 use Rattle.laws_loan.proofs.Channel.{Channel, words_in}
 use Rattle.laws_loan.proofs.Invariant.{HoldsNow}
 use Rattle.laws_loan.proofs.Knows.{number_of, wrote_in, At, FlightKnows}
-use Rattle.laws_loan.proofs.Mine.{given_then, at_given}
+use Rattle.laws_loan.proofs.GiveBackInterference.{given_then, at_given}
 use Rattle.laws_loan.proofs.Sender.{party_then, told_by, Steps, StepBy}
 use Rattle.laws_loan.proofs.Told.{silent_tells}
 use Rattle.laws_loan.proofs.Told.{is_reclaiming}

@@ -56,7 +56,7 @@ module _ {T : Type 0} where
   Carries index span = ⊥
 
   pub carried_open : (index : ℕ) (span : Span T) → Carries index span → IsOpen (λ call. Unit {0}) (λ wrote. Unit {0}) span
-  carried_open x0 x1 x2 = grind arith
+  carried_open = grind arith
 
   -- ---- what is so of the channel, of the latest calls and of the events
 

@@ -47,7 +47,7 @@ module _ {T : Type 0} (code : Coding T) (slots queue : ℕ) (t : Trace T)
   receive_acts other stage room there asks = receive_right code slots queue t s small p other since t.world.changes x.backs stage room there.knows asks
 
   call_acts : (start : LoanStart) (flight : LoanFlight) → There start flight → Acts flight
-  call_acts x0 x1 x2 x3 = grind (arith, send_at, send_acts, silent_right, frees_silent, take_back_silent, receive_acts, give_back_silent, reclaim_silent)
+  call_acts = grind (arith, send_at, send_acts, silent_right, frees_silent, take_back_silent, receive_acts, give_back_silent, reclaim_silent)
 
   -- ---- the order of what a step writes
 
@@ -86,7 +86,7 @@ told : {T : Type 0} (code z : Coding T) (slots queue : ℕ) (words : List ℕ) (
     (p : ℕ) (start : Start T) (flight : Flight T) (answer : ℕ) (kept : Registry T)
     → Represents kept words s → (channel code slots queue).At s p start flight
     → (step_of z words push p start flight answer kept).after ≡ goes_of z p flight answer kept
-told x0 x1 x2 x3 x4 x5 x6 x7 x8 x9 x10 x11 x12 x13 = grind arith
+told = grind arith
 
 orders : {T : Type 0} (code : Coding T) (slots queue : ℕ) → Orders (channel code slots queue)
 orders code slots queue =

@@ -22,4 +22,4 @@ module _ {T : Type 0} (slots queue : ℕ) (s : Channel T) (book' : Book) (events
     module _ (spares : Spares) where
       pub at_stays : (wrote : List (Event T)) (start : LoanStart) (flight : LoanFlight)
           → At slots queue s p wrote start flight → At slots queue after p wrote start flight
-      at_stays x0 x1 x2 x3 = grind arith
+      at_stays = grind arith

@@ -24,12 +24,12 @@ claim_tells : (spot : Spot) → is_some (claim_of spot) ≡ true → spot ≢ Fr
 claim_tells spot some e = true≢false (sym some ∙ ap (λ x. is_some (claim_of x)) e)
 
 claim_told : (spot : Spot) → spot ≢ Free → is_some (claim_of spot) ≡ true
-claim_told x0 x1 = grind arith
+claim_told = grind arith
 
 module _ {T : Type 0} where
   -- what was published and not handed out is what waits
   pub waiting_is : (events : List (Event T)) (rest : List (Item T)) → published events ≡ handed_out events ++ rest → waiting events ≡ rest
-  waiting_is x0 x1 x2 = grind (arith, drop, length, handed_out, drop_at)
+  waiting_is = grind (arith, drop, length, handed_out, drop_at)
 
   channel_kept : (t : Trace T) (queue : ℕ) → (s : frame.Sound (family t.world.coding t.world.capacity queue) t)
       → Each LivesRight t.events → IsTabled t → IsChannel t

@@ -89,7 +89,7 @@ module _ {T : Type 0} (code : Coding T) (slots queue : ℕ) (t : Trace T)
       → first_row (going_rows t.world.coding t.world.kept (Some flight) None) ≡ None
       → StandsThere (channel code slots queue) t sound p x since start flight
       → ComesFrom (channel code slots queue) t sound p x since code (words_in sound.state) (registries.Loan sound.state.book) start flight
-  comes x0 x1 x2 x3 x4 = grind (arith, call_comes, lives)
+  comes = grind (arith, call_comes, lives)
 
   step_comes : (p : ℕ) (flight : Flight T)
       → first_row (going_rows t.world.coding t.world.kept (Some flight) None) ≡ None
@@ -106,7 +106,7 @@ module _ {T : Type 0} (code : Coding T) (slots queue : ℕ) where
       → (t : Trace T) (p : ℕ) (x : Party T) (flight : Flight T) (since : ℕ) (s : frame.Sound (channel code slots queue) t)
       → party_of p t.world.latest ≡ Some x → x.doing ≡ Going flight since
       → is_question (want_of t.world.coding flight) ≡ true → A
-  asks_nothing x0 x1 x2 x3 x4 x5 x6 x7 x8 = grind arith
+  asks_nothing = grind arith
 
   pub laws : frame.Laws (channel code slots queue)
   laws =

@@ -13,12 +13,12 @@ pub mod Drains
 pub mod Empties
 pub mod Firsts
 pub mod Frees
+pub mod GiveBackInterference
 pub mod GiveBackStep
 pub mod GiveBacks
 pub mod GiveUpStep
 pub mod Giving
-pub mod Hanging
-pub mod HungSends
+pub mod HelpedSends
 pub mod Invariant
 pub mod Justified
 pub mod Keeping
@@ -32,7 +32,6 @@ pub mod LoanStep
 pub mod Loans
 pub mod LockFree
 pub mod Lowers
-pub mod Mine
 mod Names
 pub mod OneMove
 pub mod Opens
@@ -56,6 +55,7 @@ pub mod Rooms
 pub mod SendMoves
 pub mod SendStep
 pub mod Sender
+pub mod SenderInterference
 pub mod Senders
 pub mod Sends
 pub mod Sents
@@ -69,9 +69,9 @@ pub mod Tabled
 pub mod TakeBackStep
 pub mod TakeBacks
 pub mod Takes
-pub mod Theirs
 pub mod Told
 pub mod Turns
+pub mod WaitingSends
 pub mod Waits
 pub mod Weight
 pub mod WorkedLockFree

@@ -27,10 +27,10 @@ pub other_none : (x i : ℕ) → x ≢ i → one_if (x == i) ≡ 0
 other_none x i ne = ap one_if (ne_eqb x i ne)
 
 pub one_at_most : (b : Bool) → one_if b ≤ 1
-one_at_most x0 = grind arith
+one_at_most = grind arith
 
 pub true_if_one : (b : Bool) → 1 ≤ one_if b → b ≡ true
-true_if_one x0 x1 = grind arith
+true_if_one = grind arith
 
 times_more : (i : ℕ) (xs : List ℕ) (x : ℕ) → times i (xs ++ x ∷ []) ≡ times i xs + one_if (x == i)
 times_more i [] x = omega arith
@@ -98,7 +98,7 @@ module _ {T : Type 0} (is : Spot → Bool) where
 
   -- the first of them is there
   pub first_there : (xs rest : List ℕ) (events : List (Event T)) (x : ℕ) → xs ≡ x ∷ rest → Lists xs events → is (spot_of x events) ≡ true
-  first_there x0 x1 x2 x3 x4 x5 = grind arith
+  first_there = grind arith
 
   module _ (xs : List ℕ) (events : List (Event T)) (e : Event T) (all : Lists xs events) where
     -- an event that moves no index
@@ -128,7 +128,7 @@ module _ {T : Type 0} (is : Spot → Bool) where
 
       -- an index comes
       lists_push : is (spot_of m.index events) ≡ false → is m.to ≡ true → Lists (xs ++ m.index ∷ []) (events ++ e ∷ [])
-      lists_push x0 x1 = grind (arith, times_more, same_one, each, other_none)
+      lists_push = grind (arith, times_more, same_one, each, other_none)
 
       -- the first one leaves
       lists_pop : (rest : List ℕ) → xs ≡ m.index ∷ rest → is m.to ≡ false → Lists rest (events ++ e ∷ [])

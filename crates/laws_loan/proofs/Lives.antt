@@ -11,4 +11,4 @@ module _ {T : Type 0} (code : Coding T) (slots queue : ℕ) (t : Trace T) (sound
   pub lives : (said : Option Bool)
       → first_row (going_rows t.world.coding t.world.kept (Some (flights.Loan flight)) said) ≡ None
       → has_died (party_of flight) sound.state.book.dead ≡ false
-  lives x0 x1 = grind arith
+  lives = grind arith

@@ -34,17 +34,17 @@ module _ {T : Type 0} (code : Coding T) (slots queue : ℕ) where
       (flight : Flight T) (old : ℕ) (kept : Registry T)
       → Represents kept words s → (channel code slots queue).At s p start flight
       → AllWritten p (events_of_step p start (step_of z words push p start flight old kept))
-  step_written x0 x1 x2 x3 x4 x5 x6 x7 x8 x9 x10 = grind arith
+  step_written = grind arith
 
   module _ (t : Trace T) (sound : frame.Sound (channel code slots queue) t) where
     -- who lives by the book lives by the events
     alive_by : (p : ℕ) → has_died p sound.state.book.dead ≡ false → has_died_by p t.events ≡ false
-    alive_by x0 x1 = grind (arith, false)
+    alive_by = grind (arith, false)
 
     -- ---- a call begins
 
     begins : (p : ℕ) (start : Start T) → MayBegin t.world p start → LivesRight t.events (Begun p start)
-    begins x0 x1 x2 = grind arith
+    begins = grind arith
 
     -- ---- a call goes on
 
@@ -52,22 +52,22 @@ module _ {T : Type 0} (code : Coding T) (slots queue : ℕ) where
       goes_alive : (start : Start T) (flight : Flight T) → (channel code slots queue).At sound.state p start flight
           → first_row (going_rows t.world.coding t.world.kept (Some flight) said) ≡ None
           → has_died p sound.state.book.dead ≡ false
-      goes_alive x0 x1 x2 x3 = grind arith
+      goes_alive = grind arith
 
       answered : (x : Party T) (answer : ℕ) (doing : Doing T) → party_of p t.world.latest ≡ Some x → x.doing ≡ doing
           → AreRight LivesRight t.events (events_of_answer t.world p x answer doing)
-      answered x0 x1 x2 x3 x4 = grind (arith, stands_there, first_row, written_right, alive_by, goes_alive, step_written)
+      answered = grind (arith, stands_there, first_row, written_right, alive_by, goes_alive, step_written)
 
     next : (p : ℕ) → first_row (going_rows t.world.coding t.world.kept (flight_in t.world p) None) ≡ None
         → (o : Option (Party T)) → party_of p t.world.latest ≡ o
         → AreRight LivesRight t.events (events_of_next t.world p o)
-    next x0 x1 x2 x3 = grind (arith, answered)
+    next = grind (arith, answered)
 
     decided : (p : ℕ) (said : Bool)
         → first_row (going_rows t.world.coding t.world.kept (flight_in t.world p) (Some said)) ≡ None
         → (o : Option (Party T)) → party_of p t.world.latest ≡ o
         → AreRight LivesRight t.events (events_of_decision t.world p said o)
-    decided x0 x1 x2 x3 x4 = grind (arith, answered, number_of)
+    decided = grind (arith, answered, number_of)
 
     -- ---- any turn
 

@@ -24,7 +24,7 @@ use Rattle.laws_loan.proofs.Sender.{party_then, Steps}
 use Rattle.laws_loan.proofs.SetSteps.{TakesAt, AcquireStep, acquire_step}
 use Rattle.laws_loan.proofs.Spots.{free_passes, with_passes, spot_moved}
 use Rattle.laws_loan.proofs.Table.{claims_it, loan_ends}
-use Rattle.laws_loan.proofs.Theirs.{others_beside}
+use Rattle.laws_loan.proofs.SenderInterference.{others_beside}
 use Rattle.laws_loan.proofs.Told.{items, is_reclaiming}
 use Rattle.laws_loan.proofs.Turns.{Shows, sends_now}
 
@@ -33,11 +33,11 @@ loan_at slots stage = Loan (record { call = record { capacity = slots; stage = s
 
 -- an index that nobody has claimed is free
 none_free : (spot : Spot) → claim_of spot ≡ None → spot ≡ Free
-none_free x0 x1 = grind arith
+none_free = grind arith
 
 -- each stage takes one operation
 one_step : (slots : ℕ) (stage : AcquireStage) → step_count (ask_of (acquire_asks slots stage)) ≡ 1
-one_step x0 x1 = grind arith
+one_step = grind arith
 
 module _ {T : Type 0} (code : Coding T) (slots queue : ℕ) (s : Channel T) (latest : List (ℕ × Party T))
     (turns changes since : ℕ) (x : Party T) (h : HoldsNow slots queue s latest s.events turns) (stage : AcquireStage)

@@ -53,7 +53,7 @@ module _ {T : Type 0} where
   begun_same : (code : Coding T) (slots : ℕ) (start : Start T) (p : ℕ) (book : Book)
       → (receiver_in (kept_after_begin code slots start p (registries.Loan book)) ≡ book.receiver)
       × (is_lost (kept_after_begin code slots start p (registries.Loan book)) ≡ has_died book.receiver book.dead)
-  begun_same x0 x1 x2 x3 x4 = grind arith
+  begun_same = grind arith
 
 -- who was dead stays so
 dies : (q owner : ℕ) (dead : List ℕ) (left : ℕ) → cond (has_died q (dead_with owner dead)) 0 left ≤ cond (has_died q dead) 0 left

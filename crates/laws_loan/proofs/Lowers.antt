@@ -48,11 +48,11 @@ use Rattle.laws_loan.proofs.Weight.{receiver_moved, most_sending, send_costs, al
 -- ---- what a step that goes on leaves of the book
 
 not_ended : (T : Type 0) (p : ℕ) (start : LoanStart) (book : Book) → ended_book {T = T} p start None book ≡ book
-not_ended x0 x1 x2 x3 = grind arith
+not_ended = grind arith
 
 module _ {T : Type 0} where
   book_stays : (e : Event T) (book : Book) → ((book_after book e).receiver ≡ book.receiver) × ((book_after book e).dead ≡ book.dead)
-  book_stays x0 x1 = grind arith
+  book_stays = grind arith
 
   fold_stays : (es : List (Event T)) (book : Book)
       → ((fold book_after book es).receiver ≡ book.receiver) × ((fold book_after book es).dead ≡ book.dead)
@@ -301,26 +301,26 @@ module _ {T : Type 0} (code : Coding T) (slots queue : ℕ) where
       sender_few p backs wrote calls.Loan (Loan run) mine at = acquire_few at.3
         where
           acquire_few : TakesAt slots s'.set run.call.stage → acquire_number slots run.call.stage 0 ≤ most_sending slots
-          acquire_few x0 = grind arith
+          acquire_few = grind arith
       sender_few p backs wrote (calls.Send index) (Send run) mine at = send_few run.call.stage
         where
           send_few : (stage : SendStage) → knows.send_number stage ≤ 13 * slots + 5 + send_costs stage
-          send_few x0 = grind arith
+          send_few = grind arith
       sender_few p backs wrote (calls.GiveUp index) (GiveUp run) mine at = release_few run.call.stage
         where
           release_few : (stage : ReleaseStage) → release_number stage 0 ≤ most_sending slots
-          release_few x0 = grind arith
+          release_few = grind arith
       sender_few p backs wrote calls.TakeBack (TakeBack run) mine at = take_back_few run.call.stage at.4
         where
           take_back_few : (stage : TakeBackStage) → TakeBackAt slots queue s' stage → knows.take_back_number stage ≤ most_sending slots
-          take_back_few x0 x1 = grind arith
+          take_back_few = grind arith
       sender_few p backs wrote calls.Receive (Receive by run) mine at = absurd (at.0 mine)
       sender_few p backs wrote (calls.GiveBack index) (GiveBack by run) mine at = absurd (at.0 mine)
       sender_few p backs wrote calls.Reclaim (Reclaim call) mine at = reclaim_few call.stage at.3.stage_at
         where
           reclaim_few : (stage : ReclaimStage) → StageAt slots s'.submission s'.completion s'.book.places wrote stage
               → knows.reclaim_number slots wrote stage ≤ most_sending slots
-          reclaim_few x0 x1 = grind arith
+          reclaim_few = grind arith
       sender_few p backs wrote start flight mine at = absurd at
 
       few_any : (p backs : ℕ) (start : Start T) (flight : Flight T) → p ≡ 0 → (channel code slots queue).At s' p start flight

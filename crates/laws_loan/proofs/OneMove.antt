@@ -28,10 +28,10 @@ module _ {T : Type 0} where
   spot_last spot (e ∷ es) = spot_last (spot_then spot (move_of e)) es
 
   moves_so : (index : ℕ) (e : Event T) (spot : Spot) → OfIndex index (move_of e) → spot_after index spot e ≡ spot_then spot (move_of e)
-  moves_so x0 x1 x2 x3 = grind (arith, eq-eqb)
+  moves_so = grind (arith, eq-eqb)
 
   moves_none : (index i : ℕ) (e : Event T) (spot : Spot) → OfIndex index (move_of e) → index ≢ i → spot_after i spot e ≡ spot
-  moves_none x0 x1 x2 x3 x4 x5 = grind (arith, ne_eqb)
+  moves_none = grind (arith, ne_eqb)
 
   last_is : (index : ℕ) (es : List (Event T)) (spot : Spot) → AreOf index es → fold (spot_after index) spot es ≡ spot_last spot es
   last_is index [] spot of = refl

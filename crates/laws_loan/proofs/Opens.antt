@@ -12,16 +12,16 @@ use Rattle.laws_loan.proofs.Told.{Told}
 -- ---- numbers that are admitted
 
 pub slots_are : (c : ℕ) → capacity_error kinds.Loan c ≡ None → (1 ≤ c) × (c < locked)
-slots_are x0 x1 = grind arith
+slots_are = grind arith
 
 pub queue_is : (c : ℕ) → queue_error kinds.Loan c ≡ None → (1 ≤ c) × (c < 2 ^ 32)
-queue_is x0 x1 = grind arith
+queue_is = grind arith
 
 -- ---- the opening
 
 module _ {T : Type 0} where
   told_nothing : (queue : ℕ) → Told {T = T} queue [] [] []
-  told_nothing x0 = grind arith
+  told_nothing = grind arith
 
   module _ (slots queue : ℕ) (some : 1 ≤ slots) (few : slots < locked) (room : 1 ≤ queue) (fits : queue < 2 ^ 32) where
     holds_now : HoldsNow {T = T} slots queue (channels.opened slots queue) [] [] 0

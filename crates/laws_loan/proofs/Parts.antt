@@ -65,7 +65,7 @@ module _ {T : Type 0} (slots queue : ℕ) (s : Channel T) (busy : ℕ) (h : Hold
   -- ---- the completion queue, with nothing behind it
 
   last : (ws : List ℕ) → s.set ++ (submission ++ ws) ≡ (s.set ++ submission) ++ (ws ++ [])
-  last x0 = grind (arith, append_assoc, append-nil)
+  last = grind (arith, append_assoc, append-nil)
 
   pub completion_old : (want : Want (Unit {0})) → IsOn completion want
       → old_of (words_in s) (ask_of (shifted (completion_word slots queue) want)) ≡ old_of completion (ask_of want)

@@ -20,10 +20,10 @@ module _ {T : Type 0} (slots queue : ℕ) (s : Channel T) (busy : ℕ) (h : Hold
   within = let long = submission_long slots queue s busy h in omega arith
 
   there : (ys : List ℕ) (n : ℕ) → get_or (s.set ++ ys) (submission_word slots + n) 0 ≡ get_or ys n 0
-  there x0 x1 = grind (arith, set_long, get_or-append-add)
+  there = grind (arith, set_long, get_or-append-add)
 
   first : (ys : List ℕ) → get_or (s.set ++ ys) (submission_word slots) 0 ≡ get_or ys 0 0
-  first x0 = grind (arith, there)
+  first = grind (arith, there)
 
   -- the store of a push's next write position
   pub adds_write : (read index : ℕ)

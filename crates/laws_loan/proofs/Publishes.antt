@@ -30,7 +30,7 @@ use Rattle.laws_loan.proofs.Still.{AreStill, placed_still}
 use Rattle.laws_loan.proofs.Submission as submission
 use Rattle.laws_loan.proofs.Submission.{Room, HasRoom, IsFull, HasMoved}
 use Rattle.laws_loan.proofs.Table.{publishes_it}
-use Rattle.laws_loan.proofs.Theirs.{others_beside}
+use Rattle.laws_loan.proofs.SenderInterference.{others_beside}
 use Rattle.laws_loan.proofs.Told.{items, is_reclaiming, Tells}
 use Rattle.laws_loan.proofs.Turns.{Shows, sends_now}
 
@@ -192,7 +192,7 @@ module _ {T : Type 0} (code : Coding T) (slots queue : ℕ) (s : Channel T) (lat
   -- the queue is full: it waits
   waits_tells : length s.submission.waiting ≡ queue
       → Tells queue (is_reclaiming s.events) s.submission.waiting k.waiting s.completion.waiting s.completion.waiting (publishes ∷ [])
-  waits_tells x0 = grind (arith, more, append-nil, push_waits)
+  waits_tells = grind (arith, more, append-nil, push_waits)
 
   -- ---- the three cases
 
@@ -216,7 +216,7 @@ module _ {T : Type 0} (code : Coding T) (slots queue : ℕ) (s : Channel T) (lat
       → wrote ≡ push_wrote queue k index (pushes.MovesRead read) → read ≤ s.submission.read
       → s.submission.write ≡ read + queue → x.steps ≤ 3
       → frame.Fits channel (s_then tail) 0 (Some (party (GoOn waits_at))) (Open call wrote)
-  waits_here x0 x1 x2 x3 x4 x5 x6 = grind arith
+  waits_here = grind arith
 
   module _ (cell : Holds 1 words_of_index (queue + 1) s.submission.cells s.submission.write index 1) (steps : x.steps ≤ 3) where
     publishes_done : length s.submission.waiting < queue → To (s_then (acts ∷ ends ∷ [])) (Done answers.PoppedNone) (effects.PublishesAndActs index)

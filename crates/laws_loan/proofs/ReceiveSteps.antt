@@ -17,7 +17,7 @@ use Rattle.model.specs.declared.families.loan.LoanStart.TheVariants as calls
 use Rattle.model.specs.declared.families.loan.effects.Effect.TheVariants as effects
 use Rattle.model.proofs.Frame as frame
 use Rattle.laws_loan.proofs.Channel.{Channel, words_in}
-use Rattle.laws_loan.proofs.Hanging.{by_sender, beside_is}
+use Rattle.laws_loan.proofs.WaitingSends.{by_sender, beside_is}
 use Rattle.laws_loan.proofs.Invariant.{sends_at, counted_for, hung}
 use Rattle.laws_loan.proofs.Parts.{submission_long, submission_old}
 use Rattle.laws_loan.proofs.Received.{book_told}

@@ -13,8 +13,8 @@ use Rattle.model.specs.declared.families.loan.LoanStart.TheVariants as calls
 use Rattle.model.specs.Parties.{party_of}
 use Rattle.model.proofs.Frame as frame
 use Rattle.laws_loan.proofs.Channel.{Channel, Holds, no_roles, words_in}
-use Rattle.laws_loan.proofs.Hanging.{made, reclaims_made, carries_made, past_none, hung_span}
-use Rattle.laws_loan.proofs.HungSends.{Takes, taken_out, taken_then, sender_fits, none_reclaims}
+use Rattle.laws_loan.proofs.WaitingSends.{made, reclaims_made, carries_made, past_none, hung_span}
+use Rattle.laws_loan.proofs.HelpedSends.{Takes, taken_out, taken_then, sender_fits, none_reclaims}
 use Rattle.laws_loan.proofs.Invariant.{Hangs, sends_at, counted_for, hung, Carries, HoldsNow, family}
 use Rattle.laws_loan.proofs.Lists.{first_there}
 use Rattle.laws_loan.proofs.Parts.{submission_long, submission_words, submission_change}
@@ -28,7 +28,7 @@ use Rattle.laws_loan.proofs.Spots.{waits_there, with_passes, waiting_passes, pas
 use Rattle.laws_loan.proofs.Still.{placed_still}
 use Rattle.laws_loan.proofs.Submission as submission
 use Rattle.laws_loan.proofs.Table.{hands_it_out, receive_ends}
-use Rattle.laws_loan.proofs.Theirs.{Stays, theirs_stay, knows_keeps}
+use Rattle.laws_loan.proofs.SenderInterference.{Stays, theirs_stay, knows_keeps}
 use Rattle.laws_loan.proofs.Told.{is_reclaiming, Tells}
 use Rattle.laws_loan.proofs.Turns.{Shows}
 
@@ -171,11 +171,11 @@ module _ {T : Type 0} (code : Coding T) (slots queue : ℕ) (s : Channel T) (lat
   -- ---- what it owes
 
   stays : (q : ℕ) → q ≢ p → Stays slots queue s s_then q
-  stays x0 x1 = grind arith
+  stays = grind arith
 
   still_at : (q : ℕ) → q ≢ p → q ≢ 0 → (start : Start T) (flight : Flight T) → channel.At s q start flight
       → channel.At s_then q start flight × (channel.written s_then q flight ≡ channel.written s q flight)
-  still_at x0 x1 x2 x3 x4 x5 = grind (arith, others_then, theirs_stay, stays)
+  still_at = grind (arith, others_then, theirs_stay, stays)
 
   others_fit : (q : ℕ) → q ≢ p → frame.Fits channel s_then q (party_of q latest) (span_of q (s.events ++ es))
   others_fit q ne =
@@ -194,7 +194,7 @@ module _ {T : Type 0} (code : Coding T) (slots queue : ℕ) (s : Channel T) (lat
 
   know_still : (q sooner backs : ℕ) (flight : Flight T) → channel.Knows s q s.events sooner changes backs flight
       → channel.Knows s_then q (s.events ++ es) sooner (changes + change_of (words_in s) asks) backs flight
-  know_still x0 x1 x2 x3 x4 = grind (arith, knows_keeps, goes_up)
+  know_still = grind (arith, knows_keeps, goes_up)
 
   pub take_owes : frame.Owes channel s_then p y_then latest s.events es (changes + change_of (words_in s) asks)
   take_owes =

@@ -10,7 +10,7 @@ use Rattle.std.proofs.Common.{arith}
 use Rattle.model.specs.declared.event.Answer.TheVariants as answers
 use Rattle.model.specs.declared.event.Start.TheVariants as starts
 use Rattle.model.specs.declared.families.loan.LoanStart.TheVariants as calls
-use Rattle.laws_loan.proofs.Hanging.{made, made_own, made_still}
+use Rattle.laws_loan.proofs.WaitingSends.{made, made_own, made_still}
 use Rattle.laws_loan.proofs.Invariant.{Hangs}
 use Rattle.laws_loan.proofs.Knows.{send_of}
 use Rattle.laws_loan.proofs.Spots.{spot_stays, spot_other, spot_moved}
@@ -45,22 +45,22 @@ module _ {T : Type 0} (p value : ℕ) where
     run waits = (events ++ hands ∷ []) ++ acts ∷ made waits
 
     pub whole : (waits : Option ℕ) → run waits ++ ends ∷ [] ≡ events ++ told waits
-    whole x0 = grind (arith, append_assoc, made)
+    whole = grind (arith, append_assoc, made)
 
     parts : (waits : Option ℕ) → ((events ++ hands ∷ acts ∷ []) ++ made waits) ++ ends ∷ [] ≡ events ++ told waits
-    parts x0 = grind (arith, append_assoc, made)
+    parts = grind (arith, append_assoc, made)
 
     pub still : (waits : Option ℕ) → AreStill (acts ∷ made waits)
-    still x0 = grind (arith, made_still)
+    still = grind (arith, made_still)
 
     pub reclaims_told : (waits : Option ℕ) (b : Bool) → fold reclaims_after b (told waits) ≡ b
-    reclaims_told x0 x1 = grind arith
+    reclaims_told = grind arith
 
     pub receiver_told : (waits : Option ℕ) → receiver_of (events ++ told waits) ≡ receiver_of events
-    receiver_told x0 = grind (arith, fold-append)
+    receiver_told = grind (arith, fold-append)
 
     pub book_told : (waits : Option ℕ) (book : Book) → fold (book_after {T = T}) book (hands ∷ acts ∷ made waits) ≡ book
-    book_told x0 x1 = grind arith
+    book_told = grind arith
 
     -- ---- where the indices are
 
@@ -92,10 +92,10 @@ module _ {T : Type 0} (p value : ℕ) where
         grind arith
 
     pub begins_told : (waits : Option ℕ) → AreRight BeginsRight events (told waits)
-    begins_told x0 = grind arith
+    begins_told = grind arith
 
     pub answers_told : (slots : ℕ) (waits : Option ℕ) → AreRight (AnswersRight slots) events (told waits)
-    answers_told x0 x1 = grind arith
+    answers_told = grind arith
 
     -- ---- the spans
 
@@ -141,7 +141,7 @@ module _ {T : Type 0} (p value : ℕ) where
           p_2 = grind (arith, span_of-own, fold, p_1)
 
           last : (before : List (Event T)) → span_of p before ≡ Open call (hands ∷ acts ∷ []) → Stands promise slots ends (span_of p before)
-          last x0 x1 = grind (arith, promise)
+          last = grind (arith, promise)
 
           go : (o : Option ℕ) → waits ≡ o → AreRight (StandsRight promise slots) events (told o)
           go None e = (first, (second, (last ((events ++ hands ∷ []) ++ acts ∷ []) p_2, tt)))

@@ -24,7 +24,7 @@ use Rattle.laws_loan.proofs.Channel.{Channel, no_roles, words_in}
 use Rattle.laws_loan.proofs.Cuts.{IsOn}
 use Rattle.laws_loan.proofs.Giving.{GivesBy, gives_on}
 use Rattle.laws_loan.proofs.Invariant.{sends_at, counted_for, Carries, HoldsNow}
-use Rattle.laws_loan.proofs.Mine.{at_given, given_then}
+use Rattle.laws_loan.proofs.GiveBackInterference.{at_given, given_then}
 use Rattle.laws_loan.proofs.Parts.{submission_long, submission_old, submission_words}
 use Rattle.laws_loan.proofs.Sender.{party_then}
 use Rattle.laws_loan.proofs.Still.{AreStill, spots_still, receiver_still, placed_still}
@@ -91,7 +91,7 @@ module _ {T : Type 0} (code : Coding T) (slots queue : ℕ) (s : Channel T) (lat
   looks_by : (stage : PopStage) (room : OneWord) (back : Bool) (after : After LoanFlight (Answer T)) (effect : Effect)
       → goes_back stage (old stage) ≡ back → goes stage room (old stage) ≡ after → effect_at stage (old stage) ≡ effect
       → Looks stage back after effect → LooksOf stage room
-  looks_by x0 x1 x2 x3 x4 x5 x6 x7 x8 = grind arith
+  looks_by = grind arith
 
   -- ---- what is so of the queue
 

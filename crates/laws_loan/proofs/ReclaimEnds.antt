@@ -15,7 +15,7 @@ use Rattle.laws_loan.proofs.Reclaiming.{reclaimed, end_of, receiver_then, none_p
 use Rattle.laws_loan.proofs.Rests.{KeepsSet}
 use Rattle.laws_loan.proofs.Sender.{party_then, Steps}
 use Rattle.laws_loan.proofs.Sents.{IsHome, all_home}
-use Rattle.laws_loan.proofs.Theirs.{others_dead}
+use Rattle.laws_loan.proofs.SenderInterference.{others_dead}
 use Rattle.laws_loan.proofs.Told.{items}
 use Rattle.laws_loan.proofs.Turns.{Shows, sends_now}
 

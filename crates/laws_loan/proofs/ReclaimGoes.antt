@@ -26,7 +26,7 @@ use Rattle.laws_loan.proofs.Reclaiming.{reclaim_at, goes_known, none_more}
 use Rattle.laws_loan.proofs.Rests.{KeepsSet, keeps_all}
 use Rattle.laws_loan.proofs.Rests as rests
 use Rattle.laws_loan.proofs.Sender.{party_then, Steps, StepBy}
-use Rattle.laws_loan.proofs.Theirs.{others_dead}
+use Rattle.laws_loan.proofs.SenderInterference.{others_dead}
 use Rattle.laws_loan.proofs.Told.{is_reclaiming, Tells}
 use Rattle.laws_loan.proofs.Turns.{Shows, sends_now}
 

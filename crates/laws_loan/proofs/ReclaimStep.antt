@@ -187,7 +187,7 @@ module _ {T : Type 0} (code : Coding T) (slots queue : ℕ) (t : Trace T)
     -- ---- any step
 
     reclaim_frees : (stage : ReleaseStage) → FreesThere stage → Goes (Releases number index stage)
-    reclaim_frees x0 x1 = grind (arith, clears, later)
+    reclaim_frees = grind (arith, clears, later)
 
   -- ---- any step
 
@@ -203,7 +203,7 @@ module _ {T : Type 0} (code : Coding T) (slots queue : ℕ) (t : Trace T)
       (from_step code slots queue t sound small x since calls.Reclaim ask after effect does.channel_then wrote (from stage there) does.step)
 
   pub reclaim_steps : (stage : ReclaimStage) → There stage → Goes stage
-  reclaim_steps x0 x1 = grind (arith, pops, drains_does, from, empties_does, reclaim_frees)
+  reclaim_steps = grind (arith, pops, drains_does, from, empties_does, reclaim_frees)
 
   -- as the machine has the call
   pub reclaim_steps_from : (held : reclaims.Reclaim)

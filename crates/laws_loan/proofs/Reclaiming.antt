@@ -30,7 +30,7 @@ none_more f wrote es before none = flat_map-append f wrote es ∙ (ap (λ xs. xs
 pub goes_known : {T : Type 0} (slots queue : ℕ) (s : Channel T) (set' : List ℕ) (wrote : List (Event T)) (stage stage' : ReclaimStage)
     → ReclaimAt slots queue s wrote stage → StageAt slots s.submission s.completion s.book.places wrote stage'
     → ReclaimAt slots queue (record s { set = set'; claims = s.claims; book = s.book; events = s.events ++ [] }) wrote stage'
-goes_known x0 x1 x2 x3 x4 x5 x6 x7 x8 = grind (arith, append-nil)
+goes_known = grind (arith, append-nil)
 
 -- ---- it takes an index out of a queue, from where only a call of its own has it
 
@@ -55,7 +55,7 @@ module _ {T : Type 0} (slots queue : ℕ) (s : Channel T) (wrote : List (Event T
 
   -- and what it has in passing itself was sent
   pub passing_sent : (i : ℕ) → spot_of i (s.events ++ e ∷ []) ≡ Passing 0 → place_at s.book.places i ≡ places.Sent
-  passing_sent x0 x1 = grind (arith, place_at, sent_there, elsewhere, cases_eq)
+  passing_sent = grind (arith, place_at, sent_there, elsewhere, cases_eq)
 
 -- ---- its end
 
@@ -73,9 +73,9 @@ module _ {T : Type 0} (events : List (Event T)) (answer : Answer T) where
   module _ (home : (index : ℕ) → IsHome (spot_of index events)) where
     -- nothing is in passing any more
     pub none_passing : {A : Type 0} (index p : ℕ) → spot_of index (events ++ end_of answer ∷ []) ≡ Passing p → A
-    none_passing x0 x1 x2 = grind (arith, home_stays, spot_stays)
+    none_passing = grind (arith, home_stays, spot_stays)
 
     pub placed_ended : (slots : ℕ) (claims : List (Option ℕ)) (sent back : List ℕ) (book : Book)
         → Placed slots claims sent back book events → receiver_of events + 1 < 2 ^ 64
         → Placed slots claims sent back (reclaimed book) (events ++ end_of answer ∷ [])
-    placed_ended x0 x1 x2 x3 x4 x5 x6 = grind (arith, placed_on, receiver_then, fold-append, false, inl, home_by, lists_stay)
+    placed_ended = grind (arith, placed_on, receiver_then, fold-append, false, inl, home_by, lists_stay)

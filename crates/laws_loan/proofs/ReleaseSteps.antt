@@ -22,7 +22,7 @@ use Rattle.laws_loan.proofs.StepLaw.{channel, holds_now, ComesBy}
 
 -- an index that is released is one of the channel
 pub gives_below : {T : Type 0} (slots queue : ℕ) (s : Channel T) (index : ℕ) (stage : ReleaseStage) → GivesAt slots queue s index stage → index < slots
-gives_below x0 x1 x2 x3 x4 x5 = grind arith
+gives_below = grind arith
 
 module _ {T : Type 0} (code : Coding T) (slots queue : ℕ) (t : Trace T)
     (sound : frame.Sound (channel code slots queue) t) (small : t.world.turns < 2 ^ 64 - 2) (x : Party T)
@@ -107,7 +107,7 @@ module _ {T : Type 0} (code : Coding T) (slots queue : ℕ) (t : Trace T)
           there.found there.gives there.from there.few straight)
 
     goes : (stage : ReleaseStage) → There stage → Goes stage (old_of s.set (asked stage))
-    goes x0 x1 = grind (arith, clears, later)
+    goes = grind (arith, clears, later)
 
   pub releases_on : (stage : ReleaseStage) → There stage → Goes stage (old_of (words_in s) (asked stage))
   releases_on stage there =

@@ -24,7 +24,7 @@ module _ (slots queue : ℕ) where
 
 module _ (T : Type 0) (slots queue : ℕ) where
   pub gives_up_so : (index : ℕ) → ReleasesLast T slots queue index (calls.GiveUp index) (give_up_at slots queue index) [] Done 0
-  gives_up_so x0 = grind arith
+  gives_up_so = grind arith
 
   abbrev pub gives_up : (index : ℕ) → Releasing T slots queue index
   gives_up index =
@@ -41,7 +41,7 @@ module _ (T : Type 0) (slots queue : ℕ) where
       → ReleasesLast T slots queue oldest (calls.Send own) (send_frees_at slots queue own oldest)
       (Published 0 (Index own) ∷ HandedOut 0 (Index oldest) ∷ Acted 0 (send_of own) (PoppedIndex oldest) ∷ [])
       (PoppedIndex oldest) 6
-  sends_back_so x0 x1 = grind arith
+  sends_back_so = grind arith
 
   abbrev pub sends_back : (own oldest : ℕ) → Releasing T slots queue oldest
   sends_back own oldest =
@@ -57,7 +57,7 @@ module _ (T : Type 0) (slots queue : ℕ) where
   pub takes_back_so : (index : ℕ)
       → ReleasesLast T slots queue index calls.TakeBack (take_back_frees_at slots queue index) (TakenBack 0 index ∷ [])
       (PoppedIndex index) 4
-  takes_back_so x0 = grind arith
+  takes_back_so = grind arith
 
   abbrev pub takes_back : (index : ℕ) → Releasing T slots queue index
   takes_back index =

@@ -22,13 +22,13 @@ use Rattle.laws_loan.proofs.Sender.{party_then, Steps}
 use Rattle.laws_loan.proofs.SetSteps.{ReleaseLeads, ReleaseStep, claims_then, release_step}
 use Rattle.laws_loan.proofs.Spots.{passing_same, free_passes}
 use Rattle.laws_loan.proofs.Table.{frees_it}
-use Rattle.laws_loan.proofs.Theirs.{others_beside}
+use Rattle.laws_loan.proofs.SenderInterference.{others_beside}
 use Rattle.laws_loan.proofs.Told.{items}
 use Rattle.laws_loan.proofs.Turns.{Shows, sends_now}
 
 -- each stage takes one operation
 one_step : (slots index : ℕ) (stage : ReleaseStage) → step_count (ask_of (back_asks slots index stage)) ≡ 1
-one_step x0 x1 x2 = grind arith
+one_step = grind arith
 
 -- how a call goes on whose release goes on so
 abbrev pub embedded : {A : Type 0} → (ReleaseStage → LoanFlight) → A → After (Release DefaultMode) ReleaseState → After LoanFlight A
@@ -75,10 +75,10 @@ module _ {T : Type 0} (code : Coding T) (slots queue : ℕ) (s : Channel T) (lat
 
   -- what its step does to the words of the indices
   release_at : (stage : ReleaseStage) → GivesAt slots queue s index stage → ReleaseAt s.claims 0 index stage
-  release_at x0 x1 = grind arith
+  release_at = grind arith
 
   good_at : (stage : ReleaseStage) → Here stage → indices.Good slots s.set s.claims (release_counts stage)
-  good_at x0 x1 = grind arith
+  good_at = grind arith
 
   pub steps_set : (stage : ReleaseStage) → Here stage → GivesAt slots queue s index stage → ReleaseStep slots index below s.set s.claims stage
   steps_set stage here gives = release_step slots index below s.set s.claims stage (release_at stage gives) (good_at stage here)
@@ -157,13 +157,13 @@ module _ {T : Type 0} (code : Coding T) (slots queue : ℕ) (s : Channel T) (lat
   -- ---- every later step
 
   gives_for : (s' : Channel T) (stage : ReleaseStage) → release_counts stage ≡ 1 → GivesAt slots queue s' index stage
-  gives_for x0 x1 x2 = grind arith
+  gives_for = grind arith
 
   wrote_for : (stage : ReleaseStage) → release_counts stage ≡ 1 → release_wrote {T = T} 0 index stage ≡ Freed 0 index ∷ []
-  wrote_for x0 x1 = grind arith
+  wrote_for = grind arith
 
   claims_for : (stage : ReleaseStage) → release_counts stage ≡ 1 → claims_then index stage s.claims ≡ s.claims
-  claims_for x0 x1 = grind arith
+  claims_for = grind arith
 
   module _ (stage : ReleaseStage) (heavy : release_counts stage ≡ 1) (here : Here stage)
       (gives : GivesAt slots queue s index stage) (from : span_of 0 s.events ≡ spanned stage)

@@ -19,7 +19,7 @@ use Rattle.laws_loan.proofs.Invariant.{sends_at, counted_for, hung, reclaims_in,
 use Rattle.laws_loan.proofs.Knows.{counts, number_of, wrote_in, At, FlightKnows}
 use Rattle.laws_loan.proofs.Sender.{party_then, Steps}
 use Rattle.laws_loan.proofs.Still.{Still, AreStill, spots_still, receiver_still, placed_still}
-use Rattle.laws_loan.proofs.Theirs.{others_beside}
+use Rattle.laws_loan.proofs.SenderInterference.{others_beside}
 use Rattle.laws_loan.proofs.Told.{is_reclaiming, Tells, silent_tells}
 use Rattle.laws_loan.proofs.Turns.{Shows, sends_now}
 
@@ -34,7 +34,7 @@ module _ {T : Type 0} (slots queue : ℕ) (s : Channel T) (latest : List (ℕ ×
   -- a step that changes no word
   pub keeps_all : (turns : ℕ) → HoldsNow slots queue s latest s.events turns → words_after (words_in s) ask ≡ words_in s
       → counted_for (sends_at latest) ≡ 0 → hung s.submission.read (sends_at latest) ≡ None → KeepsSet s.set 0
-  keeps_all x0 x1 x2 x3 x4 = grind arith
+  keeps_all = grind arith
 
 module _ {T : Type 0} (code : Coding T) (slots queue : ℕ) (s : Channel T) (latest : List (ℕ × Party T))
     (turns changes since : ℕ) (x : Party T) (h : HoldsNow slots queue s latest s.events turns) (straight : x.backs ≡ 0)

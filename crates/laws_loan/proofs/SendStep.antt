@@ -29,7 +29,7 @@ module _ (T : Type 0) (slots queue index oldest : ℕ) where
   goes_so : (stage : ReleaseStage) (release : After (Release DefaultMode) ReleaseState)
       → as_call Send popped (went_on as_it_is index tt (send_released (call_at stage) oldest release))
       ≡ embedded {A = Answer T} (send_frees_at slots queue index oldest) (PoppedIndex oldest) release
-  goes_so x0 x1 = grind arith
+  goes_so = grind arith
 
 module _ {T : Type 0} (code : Coding T) (slots queue : ℕ) (t : Trace T)
     (sound : frame.Sound (channel code slots queue) t) (small : t.world.turns < 2 ^ 64 - 2) (x : Party T)

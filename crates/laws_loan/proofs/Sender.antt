@@ -12,7 +12,7 @@ use Rattle.model.proofs.Frame as frame
 use Rattle.laws_loan.proofs.Channel.{Channel, words_in}
 use Rattle.laws_loan.proofs.Invariant.{family}
 use Rattle.laws_loan.proofs.Knows.{At}
-use Rattle.laws_loan.proofs.Theirs.{Others, knows_keeps}
+use Rattle.laws_loan.proofs.SenderInterference.{Others, knows_keeps}
 use Rattle.laws_loan.proofs.Turns.{Shows}
 
 module _ {T : Type 0} where
@@ -41,11 +41,11 @@ module _ {T : Type 0} (code : Coding T) (slots queue : ℕ) (s s' : Channel T) (
 
   others : (q : ℕ) → q ≢ p → (other : Start T) (call : Flight T) → any.At s q other call
       → any.At s' q other call × (any.written s' q call ≡ any.written s q call)
-  others x0 x1 x2 x3 x4 = grind (arith, same_span)
+  others = grind (arith, same_span)
 
   others_know : (q : ℕ) → q ≢ p → (sooner backs : ℕ) (call : Flight T) → any.Knows s q s.events sooner changes backs call
       → any.Knows s' q (s.events ++ es) sooner changes' backs call
-  others_know x0 x1 x2 x3 x4 x5 = grind (arith, knows_keeps)
+  others_know = grind (arith, knows_keeps)
 
   pub owes_by : AllFollow (Stands promise slots) from es → frame.Fits any s' p (Some y) (fold own_after from es)
       → frame.KnowsDoing any s' p (s.events ++ es) changes' y.backs y.doing

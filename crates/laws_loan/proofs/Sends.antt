@@ -25,7 +25,7 @@ use Rattle.laws_loan.proofs.Knows.{Passes, PushAt, push_wrote}
 use Rattle.laws_loan.proofs.Parts.{submission_old, submission_words, submission_change}
 use Rattle.laws_loan.proofs.Sender.{party_then, StepBy}
 use Rattle.laws_loan.proofs.Submission as submission
-use Rattle.laws_loan.proofs.Theirs.{others_beside}
+use Rattle.laws_loan.proofs.SenderInterference.{others_beside}
 use Rattle.laws_loan.proofs.Told.{silent_tells}
 use Rattle.laws_loan.proofs.Turns.{Shows, sends_now}
 
@@ -78,7 +78,7 @@ module _ {T : Type 0} (code : Coding T) (slots queue : ℕ) (s : Channel T) (lat
   pub does_by : (s' : Channel T) (stage : PushStage) (wrote : List (Event T)) (after : After LoanFlight (Answer T)) (effect : Effect)
       → push_wrote queue s.submission index stage ≡ wrote → goes stage (old stage) ≡ after → effect_at stage (old stage) ≡ effect
       → StepTo s' wrote stage after effect → Does stage
-  does_by x0 x1 x2 x3 x4 x5 x6 x7 x8 = grind arith
+  does_by = grind arith
 
   abbrev pub Here : PushStage → Type 0
   Here stage = sends_at latest ≡ Some (flights.Loan (pushes_at slots queue stage index))
@@ -114,7 +114,7 @@ module _ {T : Type 0} (code : Coding T) (slots queue : ℕ) (s : Channel T) (lat
 
   -- a send carries no other index, until it takes one out
   pub none_carried : {A : Type 0} (i : ℕ) → index ≢ i → Carries i (Open start []) → A
-  none_carried x0 x1 x2 = grind arith
+  none_carried = grind arith
 
   -- ---- it goes on, and nothing has moved yet
 

@@ -14,7 +14,7 @@ use Rattle.laws_loan.proofs.Spots.{is_waiting, is_returning}
 -- ---- the next index that is sent
 
 sent_is : (place : Place) → is_sent place ≡ true → place ≡ places.Sent
-sent_is x0 x1 = grind arith
+sent_is = grind arith
 
 not_sent : (place : Place) → is_sent place ≡ false → place ≢ places.Sent
 not_sent place other e = true≢false (sym (ap is_sent e) ∙ other)
@@ -29,10 +29,10 @@ module _ (table : List Place) (slots : ℕ) where
   -- one that is not sent is passed over
   module _ (from : ℕ) (ne : place_at table from ≢ places.Sent) where
     passed : (P : ℕ → Type 0) → ((j : ℕ) → from + 1 ≤ j → P j → place_at table j ≢ places.Sent) → (j : ℕ) → from ≤ j → P j → place_at table j ≢ places.Sent
-    passed x0 x1 x2 x3 x4 = grind arith
+    passed = grind arith
 
     later : (o : Option ℕ) → ComesTo table slots (from + 1) o → ComesTo table slots from o
-    later x0 x1 = grind arith
+    later = grind arith
 
   within : (left from : ℕ) → slots - from ≡ left → ComesTo table slots from (sent_within table from left)
   within zero from e = λ j low high. absurd (omega arith)
@@ -47,7 +47,7 @@ module _ (table : List Place) (slots : ℕ) where
 -- ---- where an index is by the events
 
 false_if_none : (b : Bool) → one_if b ≡ 0 → b ≡ false
-false_if_none x0 x1 = grind arith
+false_if_none = grind arith
 
 -- where nothing waits no index is there
 pub none_there : {T : Type 0} (is : Spot → Bool) (xs : List ℕ) (events : List (Event T)) → xs ≡ []
@@ -59,10 +59,10 @@ abbrev pub IsHome : Spot → Type 0
 IsHome spot = (spot ≡ Free) ⊎ (spot ≡ With 0)
 
 pub home_by : (p : ℕ) (spot : Spot) → IsHome spot → IsBy p spot → p ≡ 0
-home_by x0 x1 x2 x3 = grind arith
+home_by = grind arith
 
 pub home_stays : (p : ℕ) (spot : Spot) → IsHome spot → spot ≡ Passing p → ⊥
-home_stays x0 x1 x2 x3 = grind arith
+home_stays = grind arith
 
 module _ {T : Type 0} (slots : ℕ) (claims : List (Option ℕ)) (sent back : List ℕ) (book : Book)
     (events : List (Event T)) (h : Placed slots claims sent back book events) where
@@ -87,10 +87,10 @@ module _ {T : Type 0} (slots : ℕ) (claims : List (Option ℕ)) (sent back : Li
 
     -- so a reclaim may free it, since the receiver is dead
     pub may_free : has_died book.receiver book.dead ≡ true → IsReclaiming (span_of 0 events) → MayFree 0 i events
-    may_free x0 x1 = grind (arith, inl, inr, there)
+    may_free = grind (arith, inl, inr, there)
 
   -- where no index is sent, and one in passing in the sender's call would be
   pub all_home : ((j : ℕ) → j < slots → place_at book.places j ≢ places.Sent)
       → ((j : ℕ) → spot_of j events ≡ Passing 0 → place_at book.places j ≡ places.Sent) → (i : ℕ)
       → IsHome (spot_of i events)
-  all_home x0 x1 x2 = grind arith
+  all_home = grind arith

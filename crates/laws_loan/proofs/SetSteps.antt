@@ -64,7 +64,7 @@ module _ (c index : ℕ) (below : index < c) (ws : List ℕ) (hs : List (Option 
 
     -- a head that counts one less is not locked
     less_unlocked : (x : ℕ) → borrowed x + 1 ≡ counted_in ws → counted_in (set ws 0 x) ≢ locked
-    less_unlocked x0 x1 = grind (arith, set, borrowed, get_or-set_same)
+    less_unlocked = grind (arith, set, borrowed, get_or-set_same)
 
     loads : ReleaseStep releases.LoadsHead
     loads = grind (arith, set-get_or, unlocked_for)
@@ -136,7 +136,7 @@ AcquireLeads c stage ws ws' hs (Done (Err failures.OutOfIndices)) =
 AcquireLeads c stage ws ws' hs (Done (Err failures.IsLocked)) = ⊥
 
 one_held_most : (o : Option ℕ) → one_held o ≤ 1
-one_held_most x0 = grind arith
+one_held_most = grind arith
 
 -- where as many are held as there are, each is
 all_held : (hs : List (Option ℕ)) (c i : ℕ) → held_below hs c ≡ c → i < c → holder hs i ≢ None
@@ -170,7 +170,7 @@ module _ (c : ℕ) (ws : List ℕ) (hs : List (Option ℕ)) (opened : counted_in
     good_loaded = subst (λ w. Good c w hs 0) (sym loaded) g
 
     full : borrowed (head_of ws) ≡ c → (i : ℕ) → i < c → holder hs i ≢ None
-    full x0 x1 x2 = grind (arith, counts_right, all_held)
+    full = grind (arith, counts_right, all_held)
 
     sees : Leads acquires.LoadsHead (acquire_sees (call_at acquires.LoadsHead) (head_of ws))
     sees = grind (arith, by_test, head_of, borrowed, locked, by_eq, good_loaded, full, loaded, nat_tests)
@@ -181,7 +181,7 @@ module _ (c : ℕ) (ws : List ℕ) (hs : List (Option ℕ)) (opened : counted_in
     -- ---- the load of the next index
 
     loads_next : (head : ℕ) → IsOpen c head → head_of ws ≡ head → proposed head < c → AcquireStep (acquires.LoadsNext head)
-    loads_next x0 x1 x2 x3 = grind (arith, set-get_or, next_word, head_of, locked)
+    loads_next = grind (arith, set-get_or, next_word, head_of, locked)
 
     -- ---- the exchange of the head, which finds it as it was
 
@@ -229,7 +229,7 @@ module _ (c : ℕ) (ws : List ℕ) (hs : List (Option ℕ)) (opened : counted_in
 
     module _ (all : AllClaimed c ws i) where
       one_more : is_claimed c ws i ≡ true → AllClaimed c ws (i + 1)
-      one_more x0 x1 x2 = grind arith
+      one_more = grind arith
 
       -- some flag is free, so the last one to be tried does not stand
       not_last : has_flag old i ≡ true → i + 1 < c
@@ -244,7 +244,7 @@ module _ (c : ℕ) (ws : List ℕ) (hs : List (Option ℕ)) (opened : counted_in
       scans = go (has_flag old i) refl
         where
           go : (b : Bool) → has_flag old i ≡ b → AcquireStep (acquires.Scans i)
-          go x0 x1 = grind (arith, not_last, is_on, stood_good, still_claimed, one_more, still_unlocked, claimed, was_free, nat_tests)
+          go = grind (arith, not_last, is_on, stood_good, still_claimed, one_more, still_unlocked, claimed, was_free, nat_tests)
 
   pub acquire_step : (stage : AcquireStage) → TakesAt c ws stage → Good c ws hs (acquire_counts stage) → AcquireStep stage
-  acquire_step x0 x1 x2 = grind (arith, loads_head, loads_next, exchanges_head, claims_proposed, scans)
+  acquire_step = grind (arith, loads_head, loads_next, exchanges_head, claims_proposed, scans)

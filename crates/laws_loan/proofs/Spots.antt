@@ -15,10 +15,10 @@ is_returning Returning = true
 is_returning spot = false
 
 pub waits_there : (spot : Spot) → is_waiting spot ≡ true → spot ≡ Waiting
-waits_there x0 x1 = grind arith
+waits_there = grind arith
 
 pub returns_there : (spot : Spot) → is_returning spot ≡ true → spot ≡ Returning
-returns_there x0 x1 = grind arith
+returns_there = grind arith
 
 -- ---- which of them are in passing
 
@@ -42,7 +42,7 @@ pub passing_on : {T : Type 0} (events es : List (Event T)) (index : ℕ)
     → ((i : ℕ) → index ≢ i → spot_of i (events ++ es) ≡ spot_of i events)
     → (spot : Spot) → spot_of index events ≡ spot → (q : ℕ) → (spot ≡ Passing q → ⊥)
     → (i : ℕ) → spot_of i events ≡ Passing q → spot_of i (events ++ es) ≡ Passing q
-passing_on x0 x1 x2 x3 x4 x5 x6 x7 x8 x9 = grind arith
+passing_on = grind arith
 
 -- ---- one event
 

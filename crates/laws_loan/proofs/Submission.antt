@@ -20,10 +20,10 @@ module _ (queue : ℕ) (some : 1 ≤ queue) (few : queue < 2 ^ 32) (k : Core ℕ
   long = let cells = g.cells in omega arith
 
   pub cell_is : (position : ℕ) → get_or ws (cell_word queue position) 0 ≡ get_or k.cells (position % (queue + 1)) 0
-  cell_is x0 = grind (arith, word_at)
+  cell_is = grind (arith, word_at)
 
   pub cell_on : (position : ℕ) → cell_word queue position < length ws
-  cell_on x0 = grind arith
+  cell_on = grind arith
 
   -- ---- the load of the write position by a push
 
@@ -73,7 +73,7 @@ module _ (queue : ℕ) (some : 1 ≤ queue) (few : queue < 2 ^ 32) (k : Core ℕ
     HasMoved : (distance k.write read == queue) ≡ true → (k.read == read) ≡ false → read < k.read → length k.waiting < queue → Room read
 
   pub finds : (read : ℕ) → read ≤ k.read → k.write ≤ read + queue → Room read
-  finds x0 x1 x2 = grind arith
+  finds = grind arith
 
   -- ---- the move of the read position, by a push or by a pop
 

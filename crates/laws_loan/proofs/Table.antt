@@ -22,10 +22,10 @@ pub record IsAway (spot : Spot) : Type 0 where
   pub not_passing : spot ≢ Passing 0
 
 pub sent_there : (place : Place) (spot : Spot) → IsIn place spot → IsAway spot → place ≡ places.Sent
-sent_there x0 x1 x2 x3 = grind arith
+sent_there = grind arith
 
 loaned_there : (place : Place) → IsIn place (With 0) → place ≡ places.Loaned
-loaned_there x0 x1 = grind arith
+loaned_there = grind arith
 
 pub waiting_away : IsAway Waiting
 waiting_away = grind arith
@@ -34,17 +34,17 @@ pub returning_away : IsAway Returning
 returning_away = grind arith
 
 with_away : (p : ℕ) → p ≢ 0 → IsAway (With p)
-with_away x0 x1 = grind arith
+with_away = grind arith
 
 passing_away : (p : ℕ) → p ≢ 0 → IsAway (Passing p)
-passing_away x0 x1 = grind arith
+passing_away = grind arith
 
 -- whose an index is that one party has
 by_passing : (q p : ℕ) → IsBy p (Passing q) → p ≡ q
-by_passing x0 x1 x2 = grind arith
+by_passing = grind arith
 
 by_with : (q p : ℕ) → IsBy p (With q) → p ≡ q
-by_with x0 x1 x2 = grind arith
+by_with = grind arith
 
 by_none : (p : ℕ) (spot : Spot) → spot ≢ With p → spot ≢ Passing p → IsBy p spot → ⊥
 by_none p spot a b by = ⊎_elim a b by

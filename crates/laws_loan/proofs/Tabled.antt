@@ -48,10 +48,10 @@ module _ {T : Type 0} where
 
   one : (slots i : ℕ) (book : Book) (before : List (Event T)) (e : Event T) → length book.places ≡ slots
       → MovesRight slots before e → place_at (book_after book e).places i ≡ place_after i (place_at book.places i) e
-  one x0 x1 x2 x3 x4 x5 x6 = grind (arith, set_at)
+  one = grind (arith, set_at)
 
   long_after : (book : Book) (e : Event T) → length (book_after book e).places ≡ length book.places
-  long_after x0 x1 = grind (arith, length-set)
+  long_after = grind (arith, length-set)
 
   each : (slots i : ℕ) (book : Book) (before es : List (Event T)) → length book.places ≡ slots
       → AreRight (MovesRight slots) before es
@@ -69,10 +69,10 @@ module _ {T : Type 0} where
   -- ---- the end of a call changes no place
 
   ended_places : (p : ℕ) (start : LoanStart) (outcome : Option (Answer T)) (book : Book) → (ended_book p start outcome book).places ≡ book.places
-  ended_places x0 x1 x2 x3 = grind arith
+  ended_places = grind arith
 
   ending_keeps : (p : ℕ) (start : Start T) (outcome : Option (Answer T)) (book : Book) → fold book_after book (ending_of p start outcome) ≡ book
-  ending_keeps x0 x1 x2 x3 = grind arith
+  ending_keeps = grind arith
 
 module _ {T : Type 0} (code : Coding T) (slots queue : ℕ) where
   step_tabled : (i : ℕ) (before : List (Event T)) (z : Coding T) (words : List ℕ) (push : Option (ℕ × ℕ))
@@ -106,16 +106,16 @@ module _ {T : Type 0} (code : Coding T) (slots queue : ℕ) where
     as_before i e none = fold-append (place_after i) places.Free t.events (e ∷ []) ∙ none (place_of i t.events)
 
     begun : (p : ℕ) (start : Start T) (o : Option (Flight T)) (i : ℕ) → place_in (after_begin t.world p start o).kept i ≡ place_of i t.events
-    begun x0 x1 x2 x3 = grind arith
+    begun = grind arith
 
     died : (owner i : ℕ) → place_in (kept_after_death t.world.kept owner) i ≡ place_in t.world.kept i
-    died x0 x1 = grind (arith, is_kept)
+    died = grind (arith, is_kept)
 
     answered : (p : ℕ) (x : Party T) (ask : Option Ask) (answer : ℕ) (doing : Doing T)
         → party_of p t.world.latest ≡ Some x → x.doing ≡ doing
         → AreRight (MovesRight slots) t.events (events_of_answer t.world p x answer doing)
         → (i : ℕ) → place_in (after_answer t.world p x ask answer doing).kept i ≡ place_of i (t.events ++ events_of_answer t.world p x answer doing)
-    answered x0 x1 x2 x3 x4 x5 x6 x7 x8 = grind (arith, place_of, append-nil, stands_there, step_tabled, fold, place_after, fold-append)
+    answered = grind (arith, place_of, append-nil, stands_there, step_tabled, fold, place_after, fold-append)
 
     pub turn_tabled : (turn : Turn T) → Each (MovesRight slots) (after_turn t turn).events → IsTabled (after_turn t turn)
     turn_tabled (Begin p start) moves =

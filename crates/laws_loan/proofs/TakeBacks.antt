@@ -34,7 +34,7 @@ use Rattle.laws_loan.proofs.Rooms.{back_below, index_is}
 use Rattle.laws_loan.proofs.Sender.{party_then, StepBy}
 use Rattle.laws_loan.proofs.Spots.{returns_there, passing_same, returning_passes}
 use Rattle.laws_loan.proofs.Table.{takes_it_back}
-use Rattle.laws_loan.proofs.Theirs.{others_beside}
+use Rattle.laws_loan.proofs.SenderInterference.{others_beside}
 use Rattle.laws_loan.proofs.Told.{silent_tells}
 use Rattle.laws_loan.proofs.Told.{is_reclaiming}
 use Rattle.laws_loan.proofs.Turns.{Shows, sends_now}
@@ -80,7 +80,7 @@ module _ {T : Type 0} (code : Coding T) (slots queue : ℕ) (s : Channel T) (lat
   -- so it comes, as the call computes it
   does_by : (s' : Channel T) (stage : PopStage) (found : OneWord) (after : After LoanFlight (Answer T)) → goes stage found (old stage) ≡ after
       → StepTo s' stage after (take_back_effect (take_backs.Pops stage found)) → Does stage found
-  does_by x0 x1 x2 x3 x4 x5 = grind arith
+  does_by = grind arith
 
   -- ---- what is so of the queue
 
@@ -107,7 +107,7 @@ module _ {T : Type 0} (code : Coding T) (slots queue : ℕ) (s : Channel T) (lat
       ∙ ap (λ ws. s.set ++ (layout no_roles s.submission ++ ws)) is
 
   one_step : (stage : PopStage) → step_count (asked stage) ≡ 1
-  one_step x0 = grind arith
+  one_step = grind arith
 
   calm : Hangs queue s.submission None
   calm = grind arith
@@ -122,7 +122,7 @@ module _ {T : Type 0} (code : Coding T) (slots queue : ℕ) (s : Channel T) (lat
 
   keeps : (now : PopStage) → IsOn queued (pop_asks now) → words_after queued (ask_of (pop_asks now)) ≡ queued
       → KeepsSet slots queue s latest (asked now) s.set 0
-  keeps x0 x1 x2 = grind (arith, keeps_all, words_are, idle)
+  keeps = grind (arith, keeps_all, words_are, idle)
 
   goes_on : (now after_it : PopStage) (then_found : OneWord) → IsOn queued (pop_asks now)
       → words_after queued (ask_of (pop_asks now)) ≡ queued → KnowsPop one_word slots s.completion (in_one then_found) after_it

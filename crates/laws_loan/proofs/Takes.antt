@@ -19,7 +19,7 @@ use Rattle.laws_loan.proofs.Receives.{receive_at}
 use Rattle.laws_loan.proofs.Weight.{receiver_call, read_at, read_word}
 
 one_less : (new old : ℕ) → new ≡ 1 → old ≡ 2 → new + 1 ≤ old
-one_less new old a b = omega arith
+one_less = omega arith
 
 module _ (T : Type 0) (slots queue : ℕ) (words : List ℕ) (places : List Place) where
   abbrev asked : LoanFlight → Option Ask

@@ -13,7 +13,7 @@ use Rattle.model.proofs.Replays.{calls_of, answers_of, standing_more, legal_more
 module _ {A X : Type 0} (goes_in comes_out : A → List X) (events es : List A) (old new : List X) where
   pub rest_more : flat_map goes_in events ≡ flat_map comes_out events ++ old → old ++ flat_map goes_in es ≡ flat_map comes_out es ++ new
       → flat_map goes_in (events ++ es) ≡ flat_map comes_out (events ++ es) ++ new
-  rest_more x0 x1 = grind (arith, flat_map-append, append_assoc)
+  rest_more = grind (arith, flat_map-append, append_assoc)
 
 module _ {T : Type 0} where
   abbrev pub items : List ℕ → List (Item T)
@@ -67,4 +67,4 @@ module _ {T : Type 0} where
 pub silent_tells : {T : Type 0} (queue : ℕ) (reclaims : Bool) (sent back back' : List ℕ) (es : List (Event T))
     → published es ≡ [] → handed_out es ≡ [] → as_queue reclaims es ≡ []
     → back ++ given_back es ≡ taken_back es ++ back' → Tells queue reclaims sent sent back back' es
-silent_tells x0 x1 x2 x3 x4 x5 x6 x7 x8 x9 = grind (arith, items, append-nil)
+silent_tells = grind (arith, items, append-nil)

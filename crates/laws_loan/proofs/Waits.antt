@@ -19,7 +19,7 @@ use Rattle.laws_loan.proofs.Parts.{set_long, both_long}
 
 -- the place of a cell of one word
 pub cell_place : (c position : ℕ) → 0 < c → cell_word c 1 position ≡ 4 + 1 * (position % c)
-cell_place x0 x1 x2 = grind arith
+cell_place = grind arith
 
 module _ {T : Type 0} (code : Coding T) (kd : QueueKind)
     (reads : (words : List ℕ) (cell : ℕ) → item_at code kd words cell ≡ Index (get_or words cell 0))
@@ -125,10 +125,10 @@ module _ {T : Type 0} where
   are_those spot is self only xs events all = record { each = λ i. (from i, to i); once = once }
     where
       from : (i : ℕ) → Contains (items xs) (Index i) → spot_of i events ≡ spot
-      from x0 x1 = grind (arith, stands, true_if_one)
+      from = grind (arith, stands, true_if_one)
 
       to : (i : ℕ) → spot_of i events ≡ spot → Contains (items xs) (Index i)
-      to x0 x1 = grind (arith, there)
+      to = grind (arith, there)
 
       once : AllPairs (λ x y. x ≢ y) (items xs)
       once a b d less below same =

@@ -46,7 +46,7 @@ abbrev pub read_at : ℕ → List ℕ → ℕ
 read_at slots words = get_or words (read_word slots) 0
 
 costs_few : (stage : SendStage) → send_costs stage ≤ 2
-costs_few x0 = grind arith
+costs_few = grind arith
 
 module _ {T : Type 0} where
   -- a call of this kind takes so many steps at most before its last one, with what it can still cost the receiver
@@ -96,23 +96,23 @@ module _ {T : Type 0} where
   -- ---- no more than this
 
   pub allowance_most : (slots : ℕ) (flight : Flight T) → allowance slots flight ≤ most_sending slots
-  allowance_most x0 x1 = grind (arith, costs_few)
+  allowance_most = grind (arith, costs_few)
 
   pub sender_most : (slots : ℕ) (o : Option (Party T)) → sender_left slots o ≤ most_sending slots
-  sender_most x0 x1 = grind (arith, allowance_most)
+  sender_most = grind (arith, allowance_most)
 
   call_most : (read steps : ℕ) (flight : Flight T) → receiver_call read steps flight ≤ 4
-  call_most x0 x1 x2 = grind arith
+  call_most = grind arith
 
   pub receiver_most : (read : ℕ) (o : Option (Party T)) → receiver_left read o ≤ 4
-  receiver_most x0 x1 = grind (arith, call_most)
+  receiver_most = grind (arith, call_most)
 
   -- a read position that moves costs the receiver two steps
   call_moved : (read read' steps : ℕ) (flight : Flight T) → receiver_call read' steps flight ≤ receiver_call read steps flight + 2
-  call_moved x0 x1 x2 x3 = grind arith
+  call_moved = grind arith
 
   pub receiver_moved : (read read' : ℕ) (o : Option (Party T)) → receiver_left read' o ≤ receiver_left read o + 2
-  receiver_moved x0 x1 x2 = grind (arith, call_moved)
+  receiver_moved = grind (arith, call_moved)
 
   pub weight_most : (slots : ℕ) (w : World T) → weight slots w ≤ 13 * slots + 11
   weight_most slots w =

@@ -54,7 +54,7 @@ none_more : (before after ended : ℕ) → before ≡ ended → after ≡ ended 
 none_more before after ended was is less = absurd (omega arith)
 
 more_steps : (most steps here : ℕ) → steps ≡ here → most < here → most < steps
-more_steps most steps here e h = omega arith
+more_steps = omega arith
 
 low_there : (bound : Bound) (n c words : ℕ) → n ≡ 2 → c ≡ 1 → words ≡ 1 → bound 2 1 1 < 14 → bound n c words < 14
 low_there bound n c words a b d few = rw (a, b, d) few

@@ -16,7 +16,7 @@ use Rattle.laws_robust.proofs.Grants.{grants}
 use Rattle.laws_robust.proofs.Held.{Caller, WhyNot, FewEnd, held_step}
 use Rattle.laws_robust.proofs.Invariant.{IsWorn, Scene, Inv, wrote_of}
 use Rattle.laws_robust.proofs.Knows.{Knows, IsPaid}
-use Rattle.laws_robust.proofs.Standing.{acquire_at, acquire_number, AcquireAt}
+use Rattle.laws_robust.proofs.CallProgress.{acquire_at, acquire_number, AcquireAt}
 use Rattle.laws_robust.proofs.Stages.{IsHere, all, now, sees, StepOf, Leads, goes_on, ends, goes_quietly, ends_quietly}
 
 module _ {T : Type 0} (scene : Scene T) (inv : Inv scene) (owner : ℕ) (fits : owner < empty)

@@ -13,7 +13,7 @@ use Rattle.laws_robust.proofs.Counting.{count_next, count_within}
 use Rattle.laws_robust.proofs.Effects.{stays_same, filled_by}
 use Rattle.laws_robust.proofs.Invariant.{Scene, Inv, Good}
 use Rattle.laws_robust.proofs.Knows.{Knows, IsPaid}
-use Rattle.laws_robust.proofs.Standing.{find_at, find_number, FindAt}
+use Rattle.laws_robust.proofs.CallProgress.{find_at, find_number, FindAt}
 use Rattle.laws_robust.proofs.Stages.{IsHere, all, now, sees, loads, loads_same, StepOf, AnswerOf, Leads, goes_quietly, ends_quietly}
 
 module _ {T : Type 0} (scene : Scene T) (inv : Inv scene) (owner : ℕ) (fits : owner < empty) where

@@ -16,7 +16,7 @@ use Rattle.laws_robust.proofs.Invariant.{view}
 use Rattle.laws_robust.proofs.Knows.{Knows}
 use Rattle.laws_robust.proofs.Past.{since_begun}
 use Rattle.laws_robust.proofs.Rights.{AreOwned}
-use Rattle.laws_robust.proofs.Standing.{At}
+use Rattle.laws_robust.proofs.CallProgress.{At}
 
 pub record IsFirst (T : Type 0) (by : GoneBy) (c : ℕ) (words : List ℕ) (events : List (Event T)) (p changes : ℕ)
     (start : RobustStart) (flight : RobustFlight) : Type 0 where

@@ -20,7 +20,7 @@ use Rattle.laws_robust.proofs.Effects.{at_same, IsRaised, unlocked, is_shut, fil
 use Rattle.laws_robust.proofs.Gone.{calm_less, lives_granted}
 use Rattle.laws_robust.proofs.Invariant.{IsWorn, worn_at, Scene, Inv, Good, Does}
 use Rattle.laws_robust.proofs.Knows.{Knows, IsPaid, AllOnce}
-use Rattle.laws_robust.proofs.Standing.{acquire_at, acquire_number, raise_number, AcquireAt}
+use Rattle.laws_robust.proofs.CallProgress.{acquire_at, acquire_number, raise_number, AcquireAt}
 use Rattle.laws_robust.proofs.Parts.{raise_ask, raise_step, none_holds, finds_counter}
 use Rattle.laws_robust.proofs.Rights.{By, right_after, right_of, IsBy}
 use Rattle.laws_robust.proofs.Stages.{all, now, sees, then_sees, backs_then, loads, exchanges, loads_same, fails_same}

@@ -24,7 +24,7 @@ use Rattle.laws_robust.proofs.Frees.{frees}
 use Rattle.laws_robust.proofs.Gone.{calm_less}
 use Rattle.laws_robust.proofs.Invariant.{IsWorn, Scene, Inv, Good, Does}
 use Rattle.laws_robust.proofs.Knows.{Knows, IsPaid, FoundOne}
-use Rattle.laws_robust.proofs.Standing.{at_least_one, release_at, release_number, raise_number, lock_number, for_back, ReleaseAt, LockAt}
+use Rattle.laws_robust.proofs.CallProgress.{at_least_one, release_at, release_number, raise_number, lock_number, for_back, ReleaseAt, LockAt}
 use Rattle.laws_robust.proofs.Parts.{raise_ask, lock_ask, raise_step, lock_step, IsSaid}
 use Rattle.laws_robust.proofs.Rights.{right_of, IsBy}
 use Rattle.laws_robust.proofs.Stages.{all, now, sees, then_sees, backs_then, exchanges, fails_same, exchange_sets}

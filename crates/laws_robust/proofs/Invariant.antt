@@ -17,7 +17,7 @@ use Rattle.model.proofs.Frame.{Family}
 use Rattle.laws_robust.specs.Gone.{GoneBy, Death, Word, IsCalm, AsksBy, AnswersBy}
 use Rattle.laws_robust.proofs.Core.{counter_of, cell}
 use Rattle.laws_robust.proofs.Knows.{View, Knows, Goes, Spares, IsSeen, knows_later}
-use Rattle.laws_robust.proofs.Standing.{number_of, At}
+use Rattle.laws_robust.proofs.CallProgress.{number_of, At}
 use Rattle.laws_robust.proofs.Rights.{AreOwned}
 
 -- the words and the dead; and the events, by which calls under way are read

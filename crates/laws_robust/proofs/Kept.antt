@@ -11,9 +11,9 @@ use Rattle.laws_robust.proofs.Core.{cell}
 use Rattle.laws_robust.proofs.Gone.{asks_right, answers_right}
 use Rattle.laws_robust.proofs.Invariant.{family}
 use Rattle.laws_robust.proofs.Knows.{View, Paid}
-use Rattle.laws_robust.proofs.Standing.{count_number, lock_number, acquire_number, for_back, for_index, release_number}
-use Rattle.laws_robust.proofs.Standing.{recover_number, find_number, number_of, AcquireAt, CountAt, LockAt, ReleaseAt}
-use Rattle.laws_robust.proofs.Standing.{FindAt, RecoverAt, At}
+use Rattle.laws_robust.proofs.CallProgress.{count_number, lock_number, acquire_number, for_back, for_index, release_number}
+use Rattle.laws_robust.proofs.CallProgress.{recover_number, find_number, number_of, AcquireAt, CountAt, LockAt, ReleaseAt}
+use Rattle.laws_robust.proofs.CallProgress.{FindAt, RecoverAt, At}
 
 -- ---- how many steps a call has taken
 

@@ -38,8 +38,8 @@ pub mod RoomCalls
 pub mod RoomStands
 pub mod Sound
 pub mod Stages
-pub mod Standing
-pub mod Tells
+pub mod CallProgress
+pub mod FindCoverage
 pub mod Told
 pub mod Wide
 pub mod Written

@@ -12,7 +12,7 @@ use Rattle.laws_robust.proofs.Counting.{count_none, count_next}
 use Rattle.laws_robust.proofs.Effects.{both_ways, not_shut, unlocked, is_shut, stays_same, stays_raised}
 use Rattle.laws_robust.proofs.Invariant.{Scene, Inv}
 use Rattle.laws_robust.proofs.Knows.{Knows, Borrowed}
-use Rattle.laws_robust.proofs.Standing.{borrowed_at, looking, count_number, CountAt}
+use Rattle.laws_robust.proofs.CallProgress.{borrowed_at, looking, count_number, CountAt}
 use Rattle.laws_robust.proofs.Parts.{count_ask, count_step, IsSaid}
 use Rattle.laws_robust.proofs.Stages.{IsHere, all, now, loads, loads_same, StepOf, Leads, goes_quietly, ends_quietly}
 

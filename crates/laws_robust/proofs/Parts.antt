@@ -19,7 +19,7 @@ use Rattle.laws_robust.proofs.Effects.{Stays, not_shut, stays_same, stays_raised
 use Rattle.laws_robust.proofs.Invariant.{IsWorn, worn_at, worn_then, Scene, Inv, Good}
 use Rattle.laws_robust.proofs.Knows.{unless_last, raise_holds, count_holds, lock_holds, count_scan, lock_scan}
 use Rattle.laws_robust.proofs.Knows.{CountSays, LockSays, IsPaid, Holding, Paid, Scanned}
-use Rattle.laws_robust.proofs.Standing.{raise_number, count_number, lock_number, CountAt, LockAt}
+use Rattle.laws_robust.proofs.CallProgress.{raise_number, count_number, lock_number, CountAt, LockAt}
 use Rattle.laws_robust.proofs.Stages.{loads, exchanges, loads_same, fails_same, exchange_sets, backs_then, now, sees, paid_of, paid_back, holds_on}
 
 abbrev pub raise_ask : Raise → Ask

@@ -23,7 +23,7 @@ use Rattle.laws_robust.proofs.Frees.{frees}
 use Rattle.laws_robust.proofs.Gone.{gone_told, calm_less}
 use Rattle.laws_robust.proofs.Invariant.{Scene, Inv, Does}
 use Rattle.laws_robust.proofs.Knows.{Knows, IsPaid, GoneBut}
-use Rattle.laws_robust.proofs.Standing.{at_least_one, at_least_four, recover_at, raise_number, for_back, for_index, RecoverAt, IsInCourse}
+use Rattle.laws_robust.proofs.CallProgress.{at_least_one, at_least_four, recover_at, raise_number, for_back, for_index, RecoverAt, IsInCourse}
 use Rattle.laws_robust.proofs.Parts.{raise_ask, raise_step, none_beyond}
 use Rattle.laws_robust.proofs.Past.{through_now}
 use Rattle.laws_robust.proofs.Stages.{IsHere, now, sees, backs_then, loads, exchanges}

@@ -18,7 +18,7 @@ use Rattle.laws_robust.proofs.SetActs.{asks_more, freed_more}
 use Rattle.laws_robust.proofs.Effects.{quiet_none, stays_same}
 use Rattle.laws_robust.proofs.Invariant.{Scene, Inv, Does, wrote_of}
 use Rattle.laws_robust.proofs.Knows.{Knows, IsPaid}
-use Rattle.laws_robust.proofs.Standing.{recover_at, recover_number, lock_number, for_back, for_index, RecoverAt, LockAt, IsInCourse}
+use Rattle.laws_robust.proofs.CallProgress.{recover_at, recover_number, lock_number, for_back, for_index, RecoverAt, LockAt, IsInCourse}
 use Rattle.laws_robust.proofs.Locks.{locks}
 use Rattle.laws_robust.proofs.Parts.{lock_ask, lock_step, IsSaid}
 use Rattle.laws_robust.proofs.Recovers.{nothing_said, comes_quietly, comes_loudly, open_then, asked_then, gone_then}

@@ -23,7 +23,7 @@ use Rattle.laws_robust.proofs.Effects.{filled_some}
 use Rattle.laws_robust.proofs.Gone.{gone_more, honest_less, stays_lost}
 use Rattle.laws_robust.proofs.Invariant.{IsWorn, Scene, Inv, Good, Does, wrote_of}
 use Rattle.laws_robust.proofs.Knows.{Knows, IsPaid, WasOpen, AskedBelow, GoneBut, LockSays}
-use Rattle.laws_robust.proofs.Standing.{at_least_four, recover_at, for_back, for_index, IsInCourse}
+use Rattle.laws_robust.proofs.CallProgress.{at_least_four, recover_at, for_back, for_index, IsInCourse}
 use Rattle.laws_robust.proofs.Past.{through_less, through_now}
 use Rattle.laws_robust.proofs.Stages.{IsHere, Lengthens, now, sees, then_sees, backs_then, loads}
 use Rattle.laws_robust.proofs.Stages.{loads_same, set_acts_more, StepOf, Leads}

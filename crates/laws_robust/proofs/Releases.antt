@@ -22,7 +22,7 @@ use Rattle.laws_robust.proofs.Gone.{lives_freed}
 use Rattle.laws_robust.proofs.HeldRelease.{Caller, Ends, StepAt, held_step}
 use Rattle.laws_robust.proofs.Invariant.{IsWorn, Scene, Inv, wrote_of}
 use Rattle.laws_robust.proofs.Knows.{Knows, IsPaid}
-use Rattle.laws_robust.proofs.Standing.{release_at, release_number, ReleaseAt}
+use Rattle.laws_robust.proofs.CallProgress.{release_at, release_number, ReleaseAt}
 use Rattle.laws_robust.proofs.Locks.{locks}
 use Rattle.laws_robust.proofs.Stages.{IsHere, all, now, sees, backs_then, StepOf, Leads, goes_on, ends, goes_quietly, ends_quietly}
 

@@ -34,8 +34,8 @@ use Rattle.laws_robust.proofs.Firsts.{IsFirst, first_is, begins_own}
 use Rattle.laws_robust.proofs.Invariant.{outline, Scene, Inv, Shows, HasRoom, room_of_few, family}
 use Rattle.laws_robust.proofs.Invariant.{family_by, wrote_of, at_written, owes, holds_more}
 use Rattle.laws_robust.proofs.Knows.{Knows}
-use Rattle.laws_robust.proofs.Standing.{acquire_at, find_at, recover_at, borrowed_at, At, FindAt, RecoverAt}
-use Rattle.laws_robust.proofs.Standing as standing
+use Rattle.laws_robust.proofs.CallProgress.{acquire_at, find_at, recover_at, borrowed_at, At, FindAt, RecoverAt}
+use Rattle.laws_robust.proofs.CallProgress as standing
 use Rattle.laws_robust.proofs.Looks.{borrowed_step, looks_step}
 use Rattle.laws_robust.proofs.Opening.{opening_good, admitted_is}
 use Rattle.laws_robust.proofs.RecoverSteps.{recover_step, recover_decided}

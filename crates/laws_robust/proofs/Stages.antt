@@ -17,9 +17,9 @@ use Rattle.laws_robust.specs.Gone.{AsksBy, AnswersBy}
 use Rattle.laws_robust.proofs.Core.{counter_of}
 use Rattle.laws_robust.proofs.Effects.{Stays, quiet_none, quiet_end, quietly}
 use Rattle.laws_robust.proofs.Invariant.{IsWorn, Scene, Inv, Does, Shows, wrote_of, view}
-use Rattle.laws_robust.proofs.Standing as standing
+use Rattle.laws_robust.proofs.CallProgress as standing
 use Rattle.laws_robust.proofs.Knows.{View, Knows, IsSeen, IsPaid, PaidUnless, Holding}
-use Rattle.laws_robust.proofs.Standing.{At}
+use Rattle.laws_robust.proofs.CallProgress.{At}
 use Rattle.laws_robust.proofs.Rights.{Right, right_after}
 
 -- the words stay, or their changes go up

@@ -21,7 +21,7 @@ use Rattle.laws_robust.proofs.Knows.{Knows}
 use Rattle.laws_robust.specs.Gone.{Death}
 use Rattle.laws_robust.proofs.Sound.{scene_of, raise_asks_none, lock_asks_none}
 use Rattle.laws_robust.proofs.Stages.{all, now, any_call}
-use Rattle.laws_robust.proofs.Standing.{recover_at, At}
+use Rattle.laws_robust.proofs.CallProgress.{recover_at, At}
 use Rattle.laws_robust.proofs.Written.{effects_hold}
 
 -- only a question asks about an index of an owner

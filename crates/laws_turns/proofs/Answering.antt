@@ -19,9 +19,9 @@ use Rattle.model.proofs.Frame as frame
 use Rattle.laws_robust.proofs.Invariant.{family}
 use Rattle.laws_robust.proofs.Sound.{reached_sound}
 use Rattle.laws_robust.proofs.Stages.{any_call}
-use Rattle.laws_robust.proofs.Standing.{recover_at}
+use Rattle.laws_robust.proofs.CallProgress.{recover_at}
 use Rattle.laws_turns.specs.Questions.{IsAnswered}
-use Rattle.laws_turns.proofs.Standing.{left_by, decision_left, under_way}
+use Rattle.laws_turns.proofs.CallTransition.{left_by, decision_left, under_way}
 
 module _ {T : Type 0} (code : Coding T) where
   abbrev due_by : After RobustFlight (Answer T) → Bool

@@ -32,8 +32,8 @@ use Rattle.steps.specs.Container.Recover.{recover_locked}
 use Rattle.model.specs.declared.families.container.ContainerStart.TheVariants as starts
 use Rattle.model.specs.declared.families.container.calls.ContainerFlight.TheVariants as calls
 use Rattle.model.specs.Families.Container.Calls.{want, after}
-use Rattle.laws_container.proofs.Standing.{add_at, remove_at, replace_at, recover_at, AddAt, RemoveAt, RecoverAt, At}
-use Rattle.laws_container.proofs.Standing.{place_is}
+use Rattle.laws_container.proofs.CallProgress.{add_at, remove_at, replace_at, recover_at, AddAt, RemoveAt, RecoverAt, At}
+use Rattle.laws_container.proofs.CallProgress.{place_is}
 use Rattle.laws_container.proofs.Moves.{add_asks_none, remove_asks_none, replace_asks_none}
 use Rattle.laws_turns.proofs.CountSteps.{IsCalm, acquire_calm, calm_apart, calm_load, count_calm, empty_none}
 use Rattle.laws_turns.proofs.CountSteps.{find_none, get_none, len_none, lock_calm, raise_calm, release_calm}

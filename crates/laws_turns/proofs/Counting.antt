@@ -30,7 +30,7 @@ use Rattle.laws_container.proofs.Terms.{Terms}
 use Rattle.laws_turns.specs.Changes.{change_in, changes_of, CountsChanges}
 use Rattle.laws_turns.proofs.CountSteps.{ends_count}
 use Rattle.laws_turns.proofs.CountWalks.{step_counts, decision_counts}
-use Rattle.laws_turns.proofs.Standing.{under_way}
+use Rattle.laws_turns.proofs.CallTransition.{under_way}
 use Rattle.laws_turns.proofs.Taken.{decides}
 
 -- ---- what events count

@@ -18,9 +18,9 @@ use Rattle.model.proofs.Frame as frame
 use Rattle.laws_robust.proofs.Invariant.{family}
 use Rattle.laws_robust.proofs.Sound.{reached_sound}
 use Rattle.laws_robust.proofs.Stages.{any_call}
-use Rattle.laws_robust.proofs.Standing.{At}
+use Rattle.laws_robust.proofs.CallProgress.{At}
 use Rattle.laws_turns.specs.Questions.{FindsAsking, index_if, loads_cell}
-use Rattle.laws_turns.proofs.Standing.{left_by, next_left, under_way}
+use Rattle.laws_turns.proofs.CallTransition.{left_by, next_left, under_way}
 
 module _ {T : Type 0} (code : Coding T) where
   abbrev asks_then : RobustFlight → ℕ → Option ℕ

@@ -9,7 +9,7 @@ use Rattle.model.specs.Turns.{after_step}
 use Rattle.model.proofs.Frame as frame
 use Rattle.laws_container.proofs.Invariant.{ContainerNow, family_by}
 use Rattle.laws_container.proofs.Terms.{Terms}
-use Rattle.laws_turns.proofs.Standing.{IsUnderWay, left_by}
+use Rattle.laws_turns.proofs.CallTransition.{IsUnderWay, left_by}
 
 module _ {T : Type 0} where
   doing_left : (changes since : ℕ) (a : After (Flight T) (Answer T)) → flight_of (Some (doing_after changes since a)) ≡ left_by a

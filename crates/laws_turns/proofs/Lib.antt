@@ -1,5 +1,6 @@
 pub mod Answering
 pub mod Asking
+pub mod CallTransition
 pub mod Called
 pub mod Changing
 pub mod CountSteps
@@ -11,7 +12,6 @@ pub mod LockCalls
 pub mod LockKnows
 pub mod LockSteps
 pub mod Locking
-pub mod Meeting
 mod Names
 pub mod Others
 pub mod Queue
@@ -20,8 +20,8 @@ pub mod SeenKnows
 pub mod SeenLooks
 pub mod SeenTurns
 pub mod Showing
-pub mod Standing
 pub mod Taken
+pub mod UpdateAnswers
 pub mod Waiting
 pub mod Worked
 pub mod WorkedStates

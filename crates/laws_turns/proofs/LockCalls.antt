@@ -21,12 +21,12 @@ use Rattle.model.proofs.Frame as frame
 use Rattle.laws_robust.proofs.Invariant.{family}
 use Rattle.laws_robust.proofs.Sound.{reached_sound, scene_of, inv_of}
 use Rattle.laws_robust.proofs.Stages.{any_call}
-use Rattle.laws_robust.proofs.Standing.{recover_at, At, RecoverAt}
+use Rattle.laws_robust.proofs.CallProgress.{recover_at, At, RecoverAt}
 use Rattle.laws_robust.proofs.Written.{effects_hold}
 use Rattle.laws_turns.specs.Recoveries.{LocksRight}
 use Rattle.laws_turns.proofs.LockKnows.{CallKnows, FlightKnows}
 use Rattle.laws_turns.proofs.LockSteps.{Tells, steps, decided}
-use Rattle.laws_turns.proofs.Standing.{left_by}
+use Rattle.laws_turns.proofs.CallTransition.{left_by}
 
 -- ---- what is right of the events of a turn
 

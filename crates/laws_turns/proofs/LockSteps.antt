@@ -24,7 +24,7 @@ use Rattle.model.specs.declared.families.indices.robust.RobustStart.TheVariants.
 use Rattle.model.specs.Families.Indices.Reading.{locked_after}
 use Rattle.laws_robust.proofs.SetActs.{was_one}
 use Rattle.laws_robust.proofs.Parts.{lock_ask, lock_step, IsSaid}
-use Rattle.laws_robust.proofs.Standing.{recover_at, RecoverAt}
+use Rattle.laws_robust.proofs.CallProgress.{recover_at, RecoverAt}
 use Rattle.laws_turns.specs.Recoveries.{FilledSinceEach}
 use Rattle.laws_turns.proofs.LockKnows.{Settled, StageKnows, settled_then}
 

@@ -21,12 +21,12 @@ use Rattle.model.specs.Families.Indices.Robust.Steps.{effects}
 use Rattle.model.proofs.Frame as frame
 use Rattle.laws_robust.proofs.Invariant.{family}
 use Rattle.laws_robust.proofs.Sound.{reached_sound, is_there}
-use Rattle.laws_robust.proofs.Standing.{At, RecoverAt}
+use Rattle.laws_robust.proofs.CallProgress.{At, RecoverAt}
 use Rattle.laws_turns.specs.Recoveries.{LocksRight}
 use Rattle.laws_turns.proofs.LockKnows.{StageKnows, CallKnows, FlightKnows, flight_later}
 use Rattle.laws_turns.proofs.LockCalls.{Leaves, all_own, effects_own, step_leaves, decision_leaves}
 use Rattle.laws_turns.proofs.Others.{others_stay}
-use Rattle.laws_turns.proofs.Standing.{left_by, next_left, decision_left, under_way}
+use Rattle.laws_turns.proofs.CallTransition.{left_by, next_left, decision_left, under_way}
 
 -- the indices that recoveries have freed, and those that have ended
 module _ {T : Type 0} where

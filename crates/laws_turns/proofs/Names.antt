@@ -1,6 +1,6 @@
 -- The names of the standard library and of the crates below that proofs here use.
 pub use Rattle.laws_container.proofs.Core.{change_at, change_set}
-pub use Rattle.laws_container.proofs.Everything.{container_keeps, shown}
+pub use Rattle.laws_container.proofs.AllRuns.{container_keeps, shown}
 pub use Rattle.laws_container.proofs.KeptLocks.{FilledBut, FoundFilled, NoIndex, filled_each, filled_last}
 pub use Rattle.laws_container.proofs.KeptLocks.{filled_locked, filled_none, filled_then, says_later}
 pub use Rattle.laws_container.proofs.Looks.{looks_as, written_same}
@@ -16,7 +16,7 @@ pub use Rattle.laws_robust.proofs.Knows.{Knows, LockSays}
 pub use Rattle.laws_robust.proofs.Sound.{acquire_asks_none, count_asks_none, lock_asks_none, raise_asks_none}
 pub use Rattle.laws_robust.proofs.Sound.{release_asks_none}
 pub use Rattle.laws_robust.proofs.Stages.{IsHere, Lengthens, all, exchanges, loads, loads_same, now, set_acts_more}
-pub use Rattle.laws_robust.proofs.Standing.{AcquireAt, FindAt, LockAt, find_at}
+pub use Rattle.laws_robust.proofs.CallProgress.{AcquireAt, FindAt, LockAt, find_at}
 pub use Rattle.laws_robust.specs.Gone.{Death}
 pub use Rattle.model.proofs.Moments.{held_now, others_begin_none}
 pub use Rattle.model.proofs.Names.{After, AllByRecursion, Ask, BeginsNone, Bool, Coding, ContainerState, Default, Each}

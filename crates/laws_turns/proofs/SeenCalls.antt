@@ -17,13 +17,13 @@ use Rattle.model.specs.declared.families.container.calls.LookOf.TheVariants as k
 use Rattle.model.specs.Families.Container.Calls.{after, counted}
 use Rattle.model.specs.Families.Container.Steps.{effects}
 use Rattle.laws_container.proofs.Stages.{any_call}
-use Rattle.laws_container.proofs.Standing.{At}
+use Rattle.laws_container.proofs.CallProgress.{At}
 use Rattle.laws_turns.specs.Changes.{Seen, up_to_date, changes_of, seen_after, seen_by, MeetsChanges}
 use Rattle.laws_turns.proofs.SeenKnows.{Within, LookSees, CallSees, FlightSees, seen_number, changes_are, effects_same}
 use Rattle.laws_turns.proofs.SeenKnows.{one_more, IsNoLook, ended_grows, within_later}
 use Rattle.laws_turns.proofs.SeenLooks.{Out, step_out}
 use Rattle.laws_turns.proofs.LockCalls.{right_append}
-use Rattle.laws_turns.proofs.Standing.{left_by}
+use Rattle.laws_turns.proofs.CallTransition.{left_by}
 
 module _ {T : Type 0} where
   -- ---- of what a step did, nothing is to be shown

@@ -27,14 +27,14 @@ use Rattle.model.specs.Families.Container.Calls.{want, after}
 use Rattle.model.proofs.Frame as frame
 use Rattle.laws_container.proofs.Invariant.{family_by}
 use Rattle.laws_container.proofs.Sound.{MayGoOn, is_there}
-use Rattle.laws_container.proofs.Standing.{At}
+use Rattle.laws_container.proofs.CallProgress.{At}
 use Rattle.laws_container.proofs.Terms.{Terms}
 use Rattle.laws_turns.specs.Changes.{Seen, seen_by, CountsChanges, MeetsChanges}
 use Rattle.laws_turns.proofs.Leaving.{next_leaves, decision_leaves}
 use Rattle.laws_turns.proofs.Others.{others_stay}
 use Rattle.laws_turns.proofs.SeenCalls.{Leaves, wrote_by, others_leave, look_leaves, look_stays}
 use Rattle.laws_turns.proofs.SeenKnows.{Within, Grows, LookSees, CallSees, FlightSees, seen_number, changes_are, others_grow, sees_later, IsNoLook}
-use Rattle.laws_turns.proofs.Standing.{left_by, under_way}
+use Rattle.laws_turns.proofs.CallTransition.{left_by, under_way}
 use Rattle.laws_turns.proofs.Taken.{decides}
 use Rattle.laws_container.proofs.Moves.{look_asks_none}
 

@@ -19,7 +19,7 @@ use Rattle.laws_container.proofs.Invariant.{family}
 use Rattle.laws_container.proofs.Moves.{add_asks_none, remove_asks_none, replace_asks_none, look_asks_none}
 use Rattle.laws_container.proofs.Sound.{reached_sound}
 use Rattle.laws_turns.specs.Questions.{WaitsForAnswers, IsAnswered}
-use Rattle.laws_turns.proofs.Standing.{under_way}
+use Rattle.laws_turns.proofs.CallTransition.{under_way}
 
 module _ {T : Type 0} (code : Coding T) where
   find_waits : (size c : ℕ) (stage : FindStage) (value : T) → is_question (find_asks size c stage) ≡ is_some (find_question code stage value)

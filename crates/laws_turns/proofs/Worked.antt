@@ -14,7 +14,7 @@ use Rattle.model.specs.declared.families.container.ContainerStart.TheVariants as
 use Rattle.model.specs.declared.families.indices.robust.RobustStart.TheVariants.{Acquire, Find, Recover}
 use Rattle.model.specs.declared.turn.Kind.TheVariants as kinds
 use Rattle.model.proofs.Runs.{begins, ran}
-use Rattle.laws_robust.proofs.Standing.{recover_at}
+use Rattle.laws_robust.proofs.CallProgress.{recover_at}
 use Rattle.laws_turns.specs.Changes.{changes_of, CountsChanges, MeetsChanges}
 use Rattle.laws_turns.specs.Others.{queue_in}
 use Rattle.laws_turns.specs.Questions.{IsAnswered, AsksAtOnce, FindsAsking, loads_cell}

@@ -74,7 +74,7 @@ pub fn counts_changes<T>()
 {}
 
 /// An update of a state that answers true has met a change since the look began that last brought that state up to date;
-/// where one answers false, there was none since that look ended. The lemma is `meets_changes` of `proofs/Meeting.antt`.
+/// where one answers false, there was none since that look ended. The lemma is `meets_changes` of `proofs/UpdateAnswers.antt`.
 pub fn meets_changes<T>()
     ensures { (t : Trace T) → t.world.kind ≡ Container → IsReached t → Each MeetsChanges t.events }
 {}

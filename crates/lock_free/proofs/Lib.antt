@@ -12,15 +12,12 @@ pub use Rattle.lock_free_queues.proofs.Queues.Sums as QueueSums
 pub use Rattle.lock_free_queues.proofs.Queues.Whole as QueueWhole
 pub use Rattle.threaded.proofs.Fractions
 pub use Rattle.threaded.proofs.Shares
-mod Names
-pub mod Sums
-pub mod Whole
-mod Looks
-mod Steps
-pub mod Ends
-pub mod Closures
-pub mod Unique
-pub mod Loan
-pub mod Sets
-pub mod Bits
-pub mod Counts
+pub use Rattle.lock_free_sets.proofs.Sums
+pub use Rattle.lock_free_sets.proofs.Whole
+pub use Rattle.lock_free_sets.proofs.Ends
+pub use Rattle.lock_free_sets.proofs.Closures
+pub use Rattle.lock_free_sets.proofs.Unique
+pub use Rattle.lock_free_sets.proofs.Sets
+pub use Rattle.lock_free_sets.proofs.Bits
+pub use Rattle.lock_free_sets.proofs.Counts
+pub use Rattle.lock_free_loans.proofs.Loan

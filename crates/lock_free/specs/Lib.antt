@@ -37,7 +37,7 @@ pub use Rattle.atomic_table.specs.Seated.{TableId}
 pub use Rattle.model.specs.declared.event.Event
 pub use Rattle.history.specs.declared.view as HistoryView
 pub use Rattle.lock_free_queues.specs.declared.spsc.ring as QueueEnds
-pub use Rattle.lock_free.specs.declared.spsc.loan.places.Place
+pub use Rattle.lock_free_loans.specs.declared.spsc.loan.places.Place
 pub use Rattle.threaded.specs.declared.share.Share
 pub use Rattle.steps.specs.declared.enums.UniqueIndexCreationError
 pub use Rattle.steps.specs.declared.enums.CallbackProgression
@@ -48,12 +48,12 @@ pub use Rattle.steps.specs.declared.bits.counting_bit_set.BitState
 pub use Rattle.steps.specs.declared.words.Words
 pub mod Value
 pub mod Queues
-pub mod Whole
-pub mod Driven
-pub mod Unique
-pub mod UniqueIndexSet
-pub mod Sets
-pub mod Bits
-pub mod Counts
+pub use Rattle.lock_free_sets.specs.Whole
+pub use Rattle.lock_free_sets.specs.Driven
+pub use Rattle.lock_free_sets.specs.Unique
+pub use Rattle.lock_free_sets.specs.UniqueIndexSet
+pub use Rattle.lock_free_sets.specs.Sets
+pub use Rattle.lock_free_sets.specs.Bits
+pub use Rattle.lock_free_sets.specs.Counts
 pub mod Facts
-pub mod Loan
+pub use Rattle.lock_free_loans.specs.Loan

@@ -1,9 +1,6 @@
 //! Structures that have many producers and many consumers.
 
 pub use lock_free_owners::mpmc::{container, robust_unique_index_set};
-
-pub mod bit_set;
-pub mod counting_bit_set;
-pub mod sets;
-pub mod unique_index_set;
-pub mod unique_index_set_enums;
+pub use lock_free_sets::mpmc::{
+    bit_set, counting_bit_set, sets, unique_index_set, unique_index_set_enums,
+};

@@ -21,5 +21,5 @@ pub mod RecoverCells
 pub mod Recoveries
 pub mod States
 pub mod Changes
-pub mod Meeting
+pub mod UpdateAnswers
 pub mod Steps

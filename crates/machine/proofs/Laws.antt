@@ -13,7 +13,7 @@ use Rattle.model.proofs.Reached.{reached_more, after_turns_more, AreAllowed-more
 use Rattle.laws_value.proofs.Sound.{value_keeps}
 use Rattle.laws_bits.proofs.Bits.Justified.{bits_keep}
 use Rattle.laws_bits.proofs.Counts.Justified.{counts_keep}
-use Rattle.laws_container.proofs.Everything.{container_keeps}
+use Rattle.laws_container.proofs.AllRuns.{container_keeps}
 use Rattle.laws_indices.proofs.Sound.{index_keeps}
 use Rattle.laws_loan.proofs.Justified.{loan_keeps}
 use Rattle.laws_queues.proofs.Queues.Sound.{queue_keeps}

@@ -8,7 +8,7 @@ one_at_most true = omega arith
 one_at_most false = omega arith
 
 pub change_small : (words : List ℕ) (ask : Option Ask) → change_of words ask ≤ 1
-change_small x0 x1 = grind (arith, one_at_most)
+change_small = grind (arith, one_at_most)
 
 -- as many words as before
 pub as_long : (words : List ℕ) (ask : Option Ask) → length (words_after words ask) ≡ length words

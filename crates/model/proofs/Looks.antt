@@ -9,7 +9,7 @@ use Rattle.steps.specs.Queues.Lengths.{len_asks}
 use Rattle.model.specs.Progress.{Looks, ChangesNothing}
 
 by_len : (words : List ℕ) (stage : LenStage) → words_after words (ask_of (len_asks stage)) ≡ words
-by_len x0 x1 = grind (arith, set-get_or)
+by_len = grind (arith, set-get_or)
 
 by_check : (words : List ℕ) (version : ℕ) → words_after words (Some (record { word = 0; op = Exchange version version })) ≡ words
 by_check words version = go (get_or words 0 0 == version) refl
@@ -21,8 +21,8 @@ by_check words version = go (get_or words 0 0 == version) refl
     go false t = rw t (set-get_or words 0 0)
 
 by_load : (words : List ℕ) (stage : LoadStage) → words_after words (ask_of (load_asks stage)) ≡ words
-by_load x0 x1 = grind (arith, set-get_or, by_check)
+by_load = grind (arith, set-get_or, by_check)
 
 module _ {T : Type 0} where
   pub looks_change_nothing : (code : Coding T) (flight : Flight T) → Looks flight → ChangesNothing code flight
-  looks_change_nothing x0 x1 x2 = grind (arith, by_len, by_load)
+  looks_change_nothing = grind (arith, by_len, by_load)

@@ -19,23 +19,23 @@ module _ {T : Type 0} where
   others_begin_none p q (e ∷ es) ne own = others_begin_none p q es ne own.1
 
   pub held_now : (p : ℕ) (P : List (Event T) → Type 0) (events : List (Event T)) → P events → HeldSometime p P events
-  held_now x0 x1 x2 x3 = grind (arith, append-nil)
+  held_now = grind (arith, append-nil)
 
   pub held_later : (p : ℕ) (P : List (Event T) → Type 0) (events es : List (Event T)) → BeginsNone p es
       → HeldSometime p P events → HeldSometime p P (events ++ es)
-  held_later x0 x1 x2 x3 x4 x5 = grind (arith, append_assoc, begins_none_more)
+  held_later = grind (arith, append_assoc, begins_none_more)
 
   -- what follows from what held, held as well
   pub held_so : (p : ℕ) (P Q : List (Event T) → Type 0) (events : List (Event T))
       → ((part : List (Event T)) → P part → Q part) → HeldSometime p P events → HeldSometime p Q events
-  held_so x0 x1 x2 x3 x4 x5 = grind arith
+  held_so = grind arith
 
   -- ---- since the latest call began
 
   pub since_more : (p : ℕ) (P Q : List (Event T) → List (Event T) → Type 0) (events es : List (Event T))
       → BeginsNone p es → (h : SinceBegin p P events) → Q h.before (h.since ++ es) → SinceBegin p Q (events ++ es)
-  since_more x0 x1 x2 x3 x4 x5 x6 x7 = grind (arith, append_assoc, begins_none_more)
+  since_more = grind (arith, append_assoc, begins_none_more)
 
   pub since_now : (p : ℕ) (P : List (Event T) → List (Event T) → Type 0) (events : List (Event T)) (start : Start T)
       → P events [] → SinceBegin p P (events ++ Begun p start ∷ [])
-  since_now x0 x1 x2 x3 x4 = grind arith
+  since_now = grind arith

@@ -16,15 +16,15 @@ module _ {T : Type 0} where
   -- another kind than the loan channel has no second number
   pub opened_others : (code : Coding T) (kind : Kind) (c queue parties : ℕ) → is_loan kind ≡ false
       → opened code kind c queue parties ≡ opening code kind c parties
-  opened_others x0 x1 x2 x3 x4 x5 = grind arith
+  opened_others = grind arith
 
 -- ---- numbers that are admitted
 
 passed_both : (a b : Bool) (x y : UniqueIndexCreationError) → (if a then Some x else if b then Some y else None) ≡ None → (a ≡ false) × (b ≡ false)
-passed_both x0 x1 x2 x3 x4 = grind arith
+passed_both = grind arith
 
 passes_both : (a b : Bool) (x y : UniqueIndexCreationError) → a ≡ false → b ≡ false → (if a then Some x else if b then Some y else None) ≡ None
-passes_both x0 x1 x2 x3 x4 x5 = grind arith
+passes_both = grind arith
 
 neither : (a b : Bool) → (a || b) ≡ false → (a ≡ false) × (b ≡ false)
 neither true b e = absurd (cc)
@@ -37,11 +37,11 @@ passes a b e f = passes_both a b ProvidedCapacityGreaterThanMaxCapacity Provided
 
 -- a number of slots is also a capacity of a submission queue
 wide_enough : (c : ℕ) → capacity_error Loan c ≡ None → queue_error Loan c ≡ None
-wide_enough x0 x1 = grind (arith, passed_both, false, passes, nat_tests)
+wide_enough = grind (arith, passed_both, false, passes, nat_tests)
 
 pub queue_admitted : (kind : Kind) (c : ℕ) → capacity_error kind c ≡ None → queue_error kind c ≡ None
 queue_admitted Loan c e = wide_enough c e
 queue_admitted kind c e = refl
 
 pub loan_admitted : (slots queue : ℕ) → loan_error slots queue ≡ None → (capacity_error Loan slots ≡ None) × (queue_error Loan queue ≡ None)
-loan_admitted x0 x1 x2 = grind (arith, passed_both, neither, passes)
+loan_admitted = grind (arith, passed_both, neither, passes)

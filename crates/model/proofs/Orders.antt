@@ -106,4 +106,4 @@ module _ {T : Type 0} (laws : (kind : Kind) → Keeps T kind) where
   -- the same of a machine that is seen as `now`
   pub step_turn : (inside now new : Trace T) (turn : Turn T) → inside ≡ now → IsReached inside
       → refusal_of inside.world turn ≡ None → new ≡ after_turn inside turn → IsTurn now turn new
-  step_turn x0 x1 x2 x3 x4 x5 x6 x7 = grind (arith, reached_turn)
+  step_turn = grind (arith, reached_turn)

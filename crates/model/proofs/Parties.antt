@@ -29,7 +29,7 @@ apart p q ne = go (nat_lt p q) refl
     go false s = rw t refl
 
 pub itself : (p : ℕ) → is_eq (nat_cmp p p) ≡ true
-itself x0 = grind (arith, false, nat_tests)
+itself = grind (arith, false, nat_tests)
 
 less_is : (p q : ℕ) → nat_cmp p q ≡ Less → p < q
 less_is p q e = go (nat_lt p q) refl (p == q) e

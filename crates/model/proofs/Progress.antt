@@ -20,14 +20,14 @@ use Rattle.model.specs.Promises.Bounds.{IsBounded}
 -- ---- the table
 
 at_most : (n : ℕ) → n ≤ n
-at_most n = omega arith
+at_most = omega arith
 
 -- more changes pay for more retries
 paid : (fewer more each : ℕ) → fewer ≤ more → fewer * each ≤ more * each
 paid fewer more each le = let rest : more ≡ fewer + (more - fewer) = omega arith in rw rest (spread fewer (more - fewer) each)
   where
     spread : (a b each : ℕ) → a * each ≤ (a + b) * each
-    spread a b each = omega arith
+    spread = omega arith
 
 module _ {T : Type 0} where
   abbrev pushing : ℕ → Start T
@@ -71,29 +71,29 @@ module _ {T : Type 0} where
   queue_guaranteed kind capacity size other = λ backs. at_most _
 
   value_guaranteed : (capacity size : ℕ) (start : Start T) → IsGuaranteed value_promises.promise capacity size start (in_value size start)
-  value_guaranteed x0 x1 x2 = grind (arith, at_most)
+  value_guaranteed = grind (arith, at_most)
 
   bits_guaranteed : (capacity size : ℕ) (start : Start T) → IsGuaranteed bits_promise capacity size start (in_bits capacity start)
-  bits_guaranteed x0 x1 x2 = grind (arith, at_most)
+  bits_guaranteed = grind (arith, at_most)
 
   counts_guaranteed : (capacity size : ℕ) (start : Start T) → IsGuaranteed counts_promise capacity size start (in_counts capacity start)
-  counts_guaranteed x0 x1 x2 = grind (arith, at_most)
+  counts_guaranteed = grind (arith, at_most)
 
   index_guaranteed : (capacity size : ℕ) (start : Start T) → IsGuaranteed index_promises.promise capacity size start (in_indices capacity start)
-  index_guaranteed x0 x1 x2 = grind (arith, at_most)
+  index_guaranteed = grind (arith, at_most)
 
   robust_guaranteed : (capacity size : ℕ) (start : Start T) → IsGuaranteed robust_promises.promise capacity size start (in_robust capacity start)
-  robust_guaranteed x0 x1 x2 = grind (arith, at_most)
+  robust_guaranteed = grind (arith, at_most)
 
   container_guaranteed : (capacity size : ℕ) (start : Start T) → IsGuaranteed container_promises.promise capacity size start (in_container capacity size start)
-  container_guaranteed x0 x1 x2 = grind (arith, at_most)
+  container_guaranteed = grind (arith, at_most)
 
   loan_guaranteed : (capacity size : ℕ) (start : Start T) → IsGuaranteed loan_promises.promise capacity size start (in_loan capacity start)
-  loan_guaranteed x0 x1 x2 = grind (arith, at_most)
+  loan_guaranteed = grind (arith, at_most)
 
 pub guaranteed : {T : Type 0} (kind : Kind) (capacity size : ℕ) (start : Start T)
     → IsGuaranteed (promise_of kind) capacity size start (guarantee_of kind capacity size start)
-guaranteed x0 x1 x2 x3 =
+guaranteed =
     grind (
       arith,
       queue_guaranteed,
@@ -112,13 +112,13 @@ module _ {T : Type 0} where
   within : (promise : Promise T) (capacity size : ℕ) (start : Start T) (g : Progress) (guarantee : Guarantee)
       → IsGuaranteed promise capacity size start guarantee → IsBounded promise capacity size start g
       → IsWithin guarantee g
-  within x0 x1 x2 x3 x4 x5 x6 x7 = grind (arith, paid)
+  within = grind (arith, paid)
 
   latest_within : (promise : Promise T) (capacity size : ℕ) (guarantee : Start T → Guarantee)
       → ((start : Start T) → IsGuaranteed promise capacity size start (guarantee start))
       → (span : Span T) (g : Option Progress) → Progresses promise capacity size span g
       → LatestIsWithin guarantee span g
-  latest_within x0 x1 x2 x3 x4 x5 x6 x7 = grind (arith, within)
+  latest_within = grind (arith, within)
 
   pub keeps_guarantees : (t : Trace T) → IsKept t → KeepsGuarantees t
-  keeps_guarantees x0 x1 x2 = grind (arith, latest_within, guaranteed)
+  keeps_guarantees = grind (arith, latest_within, guaranteed)

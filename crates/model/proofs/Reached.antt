@@ -23,20 +23,20 @@ module _ {T : Type 0} where
   same w = record { coding = refl; kind = refl; capacity = refl; parties = refl }
 
   begin_making : (w : World T) (p : ℕ) (start : Start T) (flight : Option (Flight T)) → SameMaking w (after_begin w p start flight)
-  begin_making x0 x1 x2 x3 = grind arith
+  begin_making = grind arith
 
   answer_making : (w : World T) (p : ℕ) (x : Party T) (ask : Option Ask) (answer : ℕ) (doing : Doing T) → SameMaking w (after_answer w p x ask answer doing)
-  answer_making x0 x1 x2 x3 x4 x5 = grind arith
+  answer_making = grind arith
 
   next_making : (w : World T) (p : ℕ) (o : Option (Party T)) → SameMaking w (after_next w p o)
-  next_making x0 x1 x2 = grind (arith, answer_making)
+  next_making = grind (arith, answer_making)
 
   decision_making : (w : World T) (p : ℕ) (said : Bool) (o : Option (Party T)) → SameMaking w (after_decision w p said o)
   decision_making w p said None = same w
   decision_making w p said (Some x) = answer_making w p x None (number_of said) x.doing
 
   pub turn_making : (w : World T) (turn : Turn T) → SameMaking w (world_after w turn)
-  turn_making x0 x1 = grind (arith, begin_making, first_of, next_making, decision_making)
+  turn_making = grind (arith, begin_making, first_of, next_making, decision_making)
 
   -- ---- one turn more, whichever turns are refused
 
@@ -98,7 +98,7 @@ module _ {T : Type 0} where
 
   pub reached_loan : (code : Coding T) (slots queue parties : ℕ) → IsCoding code → loan_error slots queue ≡ None
       → IsReached (loan_opening code slots queue parties)
-  reached_loan x0 x1 x2 x3 x4 x5 = grind (arith, loan_admitted)
+  reached_loan = grind (arith, loan_admitted)
 
   pub reached_is : (t u : Trace T) → t ≡ u → IsReached u → IsReached t
   reached_is t u e r = subst IsReached (sym e) r

@@ -19,9 +19,9 @@ module _ {T State : Type 0} where
   pub standing_more : (o : Object T State) (moments more : List (Start T × Answer T)) (old new : State)
       → standing o moments ≡ old → fold o.after old (calls_of more) ≡ new
       → standing o (moments ++ more) ≡ new
-  standing_more x0 x1 x2 x3 x4 x5 x6 = grind (arith, fold, map-append, fold-append)
+  standing_more = grind (arith, fold, map-append, fold-append)
 
   pub legal_more : (o : Object T State) (moments more : List (Start T × Answer T)) (old : State) → IsLegal o moments
       → standing o moments ≡ old → answers_from o old (calls_of more) ≡ answers_of more
       → IsLegal o (moments ++ more)
-  legal_more x0 x1 x2 x3 x4 x5 x6 = grind (arith, map-append, answers_more, standing)
+  legal_more = grind (arith, map-append, answers_more, standing)

@@ -38,10 +38,10 @@ module _ {T : Type 0} where
     pub on : call_refusal w turn ≡ None
 
   more : (w : World T) (rest : List (Bool × Refusal)) → first_row ((is_at_end w, AtEnd) ∷ rest) ≡ None → (w.turns < 2 ^ 64 - 2) × (first_row rest ≡ None)
-  more x0 x1 x2 = grind (arith, row_passed, false, nat_tests)
+  more = grind (arith, row_passed, false, nat_tests)
 
   pub passes : (w : World T) (turn : Turn T) → refusal_of w turn ≡ None → Passes w turn
-  passes x0 x1 x2 = grind (arith, more, row_passed)
+  passes = grind (arith, more, row_passed)
 
   pub record MayBegin (w : World T) (p : ℕ) (start : Start T) : Type 0 where
     pub free : flight_in w p ≡ None
@@ -49,20 +49,20 @@ module _ {T : Type 0} where
     pub rows : first_row ((begin_of w.kind w.capacity start).rows w.kept p) ≡ None
 
   pub may_begin : (w : World T) (p : ℕ) (start : Start T) → call_refusal w (Begin p start) ≡ None → MayBegin w p start
-  may_begin x0 x1 x2 x3 = grind (arith, row_passed, not_some)
+  may_begin = grind (arith, row_passed, not_some)
 
   pub record MayGoOn (w : World T) (p : ℕ) : Type 0 where
     pub flight : Flight T
     pub is : flight_in w p ≡ Some flight
 
   pub may_next : (w : World T) (p : ℕ) → call_refusal w (Next p) ≡ None → MayGoOn w p
-  may_next x0 x1 x2 = grind (arith, row_passed, not_none)
+  may_next = grind (arith, row_passed, not_none)
 
   pub may_decide : (w : World T) (p : ℕ) (said : Bool) → call_refusal w (Decide p said) ≡ None → MayGoOn w p
-  may_decide x0 x1 x2 x3 = grind (arith, row_passed, not_none)
+  may_decide = grind (arith, row_passed, not_none)
 
   pub must_be_due : (w : World T) (p : ℕ) (said : Bool) → call_refusal w (Decide p said) ≡ None → not (is_due w.coding (flight_in w p)) ≡ false
-  must_be_due x0 x1 x2 x3 = grind (arith, row_passed, is_none)
+  must_be_due = grind (arith, row_passed, is_none)
 
   -- ---- what a turn has that is taken, whichever rows refuse others
 
@@ -92,15 +92,15 @@ module _ {T : Type 0} where
 
   -- the family's rows of a call that goes on
   pub next_passes : (w : World T) (p : ℕ) → call_refusal w (Next p) ≡ None → first_row (going_rows w.coding w.kept (flight_in w p) None) ≡ None
-  next_passes x0 x1 x2 = grind (arith, row_passed, is_none)
+  next_passes = grind (arith, row_passed, is_none)
 
   pub decision_passes : (w : World T) (p : ℕ) (said : Bool) → call_refusal w (Decide p said) ≡ None
       → first_row (going_rows w.coding w.kept (flight_in w p) (Some said)) ≡ None
-  decision_passes x0 x1 x2 x3 = grind (arith, row_passed, is_none)
+  decision_passes = grind (arith, row_passed, is_none)
 
   pub record MayDie (w : World T) (owner : ℕ) : Type 0 where
     pub owners : not (has_owners w.kept) ≡ false
     pub lives : is_dead w.kept owner ≡ false
 
   pub may_die : (w : World T) (owner : ℕ) → call_refusal w (Die owner) ≡ None → MayDie w owner
-  may_die x0 x1 x2 = grind (arith, row_passed)
+  may_die = grind (arith, row_passed)

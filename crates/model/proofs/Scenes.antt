@@ -26,7 +26,7 @@ module _ {T : Type 0} where
     pub in_order_from : (promise : Promise T) (z : Coding T) (words : List ℕ) (kept : Registry T) (start : Start T) (flight : Flight T)
         → t.world.words ≡ words → t.world.kept ≡ kept → InOrder promise z words kept start flight
         → InOrder promise z t.world.words t.world.kept start flight
-    in_order_from x0 x1 x2 x3 x4 x5 x6 x7 x8 = grind arith
+    in_order_from = grind arith
 
     -- what a decision writes down is in order
     abbrev pub DecidedInOrder : Promise T → Bool → Coding T → List ℕ → Registry T → Start T → Flight T → Type 0
@@ -36,7 +36,7 @@ module _ {T : Type 0} where
     pub decided_in_order_from : (promise : Promise T) (said : Bool) (z : Coding T) (words : List ℕ) (kept : Registry T) (start : Start T) (flight : Flight T)
         → t.world.words ≡ words → t.world.kept ≡ kept → DecidedInOrder promise said z words kept start flight
         → DecidedInOrder promise said z t.world.words t.world.kept start flight
-    decided_in_order_from x0 x1 x2 x3 x4 x5 x6 x7 x8 x9 = grind arith
+    decided_in_order_from = grind arith
 
   module _ (F : Family T) (t : Trace T) (s : Sound F t) (p : ℕ) (x : Party T) (since : ℕ) where
     -- the call `start` of party `p` is under way and stands at `flight`
@@ -48,7 +48,7 @@ module _ {T : Type 0} where
       pub knows : F.Knows s.state p t.events since t.world.changes x.backs flight
 
     pub stands_there : (flight : Flight T) → party_of p t.world.latest ≡ Some x → x.doing ≡ Going flight since → StandsThere x.start flight
-    stands_there x0 x1 x2 = grind (arith, under_way, knows_now)
+    stands_there = grind (arith, under_way, knows_now)
 
     -- what the step of the call `start`, which stands at `flight`, comes to from `words` and `kept`
     abbrev pub ComesFrom : Coding T → List ℕ → Registry T → Start T → Flight T → Type 0
@@ -62,7 +62,7 @@ module _ {T : Type 0} where
     pub comes_from : (words : List ℕ) (kept : Registry T) (flight : Flight T) → t.world.words ≡ words
         → t.world.kept ≡ kept → ComesFrom F.coding words kept x.start flight
         → ComesByStep F t p x flight since (asked t.world.coding flight) (old_of t.world.words (asked t.world.coding flight))
-    comes_from x0 x1 x2 x3 x4 x5 = grind arith
+    comes_from = grind arith
 
     -- the same of a decision, of which the call is handed `answer`
     abbrev pub DecidesFrom : Coding T → ℕ → List ℕ → Registry T → Start T → Flight T → Type 0
@@ -75,4 +75,4 @@ module _ {T : Type 0} where
     pub decides_from : (said : Bool) (words : List ℕ) (kept : Registry T) (flight : Flight T) → t.world.words ≡ words
         → t.world.kept ≡ kept → DecidesFrom F.coding (number_of said) words kept x.start flight
         → ComesByStep F t p x flight since None (number_of said)
-    decides_from x0 x1 x2 x3 x4 x5 x6 = grind arith
+    decides_from = grind arith

@@ -14,14 +14,14 @@ use Rattle.model.proofs.Reached.{kept_by_runs}
 use Rattle.model.proofs.Rows.{passes}
 
 more_changes : {T : Type 0} (changes more : ℕ) (doing : Doing T) → HasSmallCount changes doing → HasSmallCount (changes + more) doing
-more_changes x0 x1 x2 x3 = grind arith
+more_changes = grind arith
 
 module _ {T : Type 0} where
   abbrev AllSmall : ℕ → ℕ → List (ℕ × Party T) → Type 0
   AllSmall turns changes latest = (p : ℕ) (x : Party T) → party_of p latest ≡ Some x → HasSmallCounts turns changes x
 
   later : (turns changes more : ℕ) (x : Party T) → HasSmallCounts turns changes x → HasSmallCounts (turns + 1) (changes + more) x
-  later x0 x1 x2 x3 x4 = grind (arith, more_changes)
+  later = grind (arith, more_changes)
 
   all_put : (turns changes more p : ℕ) (y : Party T) (latest : List (ℕ × Party T))
       → HasSmallCounts (turns + 1) (changes + more) y → AllSmall turns changes latest
@@ -53,7 +53,7 @@ module _ {T : Type 0} where
 
   doing_small : (changes since change : ℕ) (after : After (Flight T) (Answer T)) → since ≤ changes
       → HasSmallCount (changes + change) (doing_after (changes + change) (since + change) after)
-  doing_small x0 x1 x2 x3 x4 = grind arith
+  doing_small = grind arith
 
   step_small : (w : World T) (p : ℕ) (x : Party T) (since : ℕ) (ask : Option Ask) (s : Step (Flight T) (Registry T) T)
       → w.turns < 2 ^ 64 - 2 → x.steps ≤ w.turns → x.backs ≤ w.turns → since ≤ w.changes → IsSmall w
@@ -88,10 +88,10 @@ module _ {T : Type 0} where
 
   decision_small : (w : World T) (p : ℕ) (said : Bool) (o : Option (Party T)) → party_of p w.latest ≡ o
       → w.turns < 2 ^ 64 - 2 → IsSmall w → IsSmall (after_decision w p said o)
-  decision_small x0 x1 x2 x3 x4 x5 x6 = grind (arith, answer_small, number_of)
+  decision_small = grind (arith, answer_small, number_of)
 
   death_small : (w : World T) (owner : ℕ) → w.turns < 2 ^ 64 - 2 → IsSmall w → IsSmall (after_death w owner)
-  death_small x0 x1 x2 x3 = grind (arith, later)
+  death_small = grind (arith, later)
 
   turn_small : (w : World T) (turn : Turn T) → refusal_of w turn ≡ None → IsSmall w → IsSmall (world_after w turn)
   turn_small w (Begin p start) e h = begin_small w p start (first_of w.kind w.capacity start w.kept) (passes w (Begin p start) e).turns h

@@ -18,7 +18,7 @@ use Rattle.model.proofs.Reached.{turn_making}
 use Rattle.model.proofs.Rows.{may_begin, may_next, may_decide}
 
 later : (changes since change : ℕ) → (changes + change) - (since + change) ≡ changes - since
-later changes since change = omega arith
+later = omega arith
 
 -- ---- a change of a word
 
@@ -26,10 +26,10 @@ abbrev counts_for : Bool → ℕ
 counts_for b = cond b 0 1
 
 change_is : (b : Bool) → (b ≡ true → counts_for b ≡ 0) × (b ≡ false → counts_for b ≡ 1)
-change_is x0 = grind arith
+change_is = grind arith
 
 pub unchanged_words : (words : List ℕ) (ask : Option Ask) → words_after words ask ≡ words → change_of words ask ≡ 0
-unchanged_words x0 x1 x2 = grind (arith, change_is, nat_tests)
+unchanged_words = grind (arith, change_is, nat_tests)
 
 -- a word that keeps its value leaves all of them
 pub kept_words : (words : List ℕ) (at value : ℕ) → get_or (set words at value) at 0 ≡ get_or words at 0 → set words at value ≡ words
@@ -71,7 +71,7 @@ module _ {T : Type 0} where
   -- ---- the machine
 
   same_but_turns : (w : World T) (turn : Turn T) → (world_after w turn).turns ≡ w.turns + 1 → IsOneTurnLater w (world_after w turn)
-  same_but_turns x0 x1 x2 = grind (arith, turn_making)
+  same_but_turns = grind (arith, turn_making)
 
   begin_turns : (w : World T) (p : ℕ) (start : Start T) (o : Option (Flight T)) → is_none o ≡ false → (after_begin w p start o).turns ≡ w.turns + 1
   begin_turns w p start None e = absurd (cc)
@@ -79,14 +79,14 @@ module _ {T : Type 0} where
 
   answer_turns : (w : World T) (p : ℕ) (x : Party T) (ask : Option Ask) (answer : ℕ) (flight : Flight T) (doing : Doing T)
       → flight_of (Some doing) ≡ Some flight → (after_answer w p x ask answer doing).turns ≡ w.turns + 1
-  answer_turns x0 x1 x2 x3 x4 x5 x6 x7 = grind arith
+  answer_turns = grind arith
 
   next_turns : (w : World T) (p : ℕ) (flight : Flight T) (o : Option (Party T)) → flight_of (doing_of o) ≡ Some flight → (after_next w p o).turns ≡ w.turns + 1
-  next_turns x0 x1 x2 x3 x4 = grind (arith, answer_turns)
+  next_turns = grind (arith, answer_turns)
 
   decision_turns : (w : World T) (p : ℕ) (said : Bool) (flight : Flight T) (o : Option (Party T))
       → flight_of (doing_of o) ≡ Some flight → (after_decision w p said o).turns ≡ w.turns + 1
-  decision_turns x0 x1 x2 x3 x4 x5 = grind (arith, answer_turns, number_of)
+  decision_turns = grind (arith, answer_turns, number_of)
 
   pub one_turn_later : (w : World T) (turn : Turn T) → call_refusal w turn ≡ None → IsOneTurnLater w (world_after w turn)
   one_turn_later w (Begin p start) e =
@@ -108,36 +108,36 @@ module _ {T : Type 0} where
   answer_word : (w : World T) (p : ℕ) (x : Party T) (answer : ℕ) (doing : Doing T)
       → (after_answer w p x (ask_of_doing w.coding doing) answer doing).words
       ≡ words_after w.words (ask_of_flight w.coding (flight_of (Some doing)))
-  answer_word x0 x1 x2 x3 x4 = grind arith
+  answer_word = grind arith
 
   next_word : (w : World T) (p : ℕ) (o : Option (Party T)) → (after_next w p o).words ≡ words_after w.words (ask_of_flight w.coding (flight_of (doing_of o)))
-  next_word x0 x1 x2 = grind (arith, answer_word)
+  next_word = grind (arith, answer_word)
 
   decided_word : (w : World T) (p : ℕ) (x : Party T) (answer : ℕ) (doing : Doing T) → (after_answer w p x None answer doing).words ≡ w.words
-  decided_word x0 x1 x2 x3 x4 = grind arith
+  decided_word = grind arith
 
   decision_word : (w : World T) (p : ℕ) (said : Bool) (o : Option (Party T)) → (after_decision w p said o).words ≡ w.words
   decision_word w p said None = refl
   decision_word w p said (Some x) = decided_word w p x (number_of said) x.doing
 
   pub writes_one_word : (w : World T) (turn : Turn T) → WritesOneWord w turn (world_after w turn)
-  writes_one_word x0 x1 = grind (arith, begin_word, first_of, next_word, decision_word)
+  writes_one_word = grind (arith, begin_word, first_of, next_word, decision_word)
 
   -- ---- the party's own call
 
   -- the party after its call went on
   step_here : (w : World T) (p : ℕ) (x : Party T) (since : ℕ) (ask : Option Ask) (s : Step (Flight T) (Registry T) T)
       → party_of p (after_step w p x since ask s).latest ≡ Some (party_after x since w.changes (step_count ask) (change_of w.words ask) s)
-  step_here x0 x1 x2 x3 x4 x5 = grind (arith, party_put_same)
+  step_here = grind (arith, party_put_same)
 
   stands : (changes since : ℕ) (after : After (Flight T) (Answer T)) (w : World T) (p : ℕ) (x : Party T)
       → party_of p w.latest ≡ Some x → x.doing ≡ doing_after changes since after → StandsAt w p after
-  stands x0 x1 x2 x3 x4 x5 x6 x7 = grind arith
+  stands = grind arith
 
   goes : (w : World T) (p : ℕ) (x : Party T) (flight : Flight T) (since : ℕ) (ask : Option Ask) (answer : ℕ)
       → (step_in w p x flight answer).after ≡ goes_of w.coding p flight answer w.kept
       → StandsAt (after_step w p x since ask (step_in w p x flight answer)) p (goes_of w.coding p flight answer w.kept)
-  goes x0 x1 x2 x3 x4 x5 x6 x7 = grind (arith, step_in, after_step, stands, step_here)
+  goes = grind (arith, step_in, after_step, stands, step_here)
 
   next_goes : (w : World T) (p : ℕ) → GoesAsTold w → (o : Option (Party T)) → party_of p w.latest ≡ o
       → IfSome (flight_of (doing_of o))
@@ -168,7 +168,7 @@ module _ {T : Type 0} where
       go (Going flight since) e = goes w p x flight since None (number_of said) (tells p x flight since (number_of said) found e)
 
   begin_goes : (w : World T) (p : ℕ) (start : Start T) (o : Option (Flight T)) → is_none o ≡ false → flight_in (after_begin w p start o) p ≡ o
-  begin_goes x0 x1 x2 x3 x4 = grind (arith, party_put_same)
+  begin_goes = grind (arith, party_put_same)
 
   pub goes_on : (w : World T) (turn : Turn T) → GoesAsTold w → call_refusal w turn ≡ None → GoesOn w turn (world_after w turn)
   goes_on w (Begin p start) tells e = begin_goes w p start (first_of w.kind w.capacity start w.kept) (may_begin w p start e).call
@@ -244,7 +244,7 @@ module _ {T : Type 0} where
 
   begin_counts : (w : World T) (p : ℕ) (start : Start T) (o : Option (Flight T)) → is_none o ≡ false
       → progress_in (after_begin w p start o) p ≡ Some record { steps = 0; backs = 0; others = 0; finished = false }
-  begin_counts x0 x1 x2 x3 x4 = grind (arith, party_put_same)
+  begin_counts = grind (arith, party_put_same)
 
   pub counts_turn : (w : World T) (turn : Turn T) → call_refusal w turn ≡ None → CountsTurn w turn (world_after w turn)
   counts_turn w (Begin p start) e = begin_counts w p start (first_of w.kind w.capacity start w.kept) (may_begin w p start e).call
@@ -278,30 +278,30 @@ module _ {T : Type 0} where
 
   seen : (old new : World T) (q : ℕ) (o : Option (Party T)) → party_of q old.latest ≡ o → party_of q new.latest ≡ o
       → Tells old new → IsSmall old → BothSee old new (progress_in old q) (progress_in new q)
-  seen x0 x1 x2 x3 x4 x5 x6 x7 = grind (arith, sees)
+  seen = grind (arith, sees)
 
   still_tells : (old new : World T) → new.words ≡ old.words → new.changes ≡ old.changes → Tells old new
-  still_tells x0 x1 x2 x3 = grind arith
+  still_tells = grind arith
 
   step_tells : (w : World T) (p : ℕ) (x : Party T) (since : ℕ) (ask : Option Ask) (s : Step (Flight T) (Registry T) T) → Tells w (after_step w p x since ask s)
-  step_tells x0 x1 x2 x3 x4 x5 = grind (arith, unchanged_words, changed_words)
+  step_tells = grind (arith, unchanged_words, changed_words)
 
   begin_others : (w : World T) (p : ℕ) (start : Start T) (o : Option (Flight T)) (q : ℕ) → q ≢ p → IsSmall w
       → BothSee w (after_begin w p start o) (progress_in w q) (progress_in (after_begin w p start o) q)
-  begin_others x0 x1 x2 x3 x4 x5 x6 = grind (arith, seen, still_tells, party_put_other)
+  begin_others = grind (arith, seen, still_tells, party_put_other)
 
   answer_others : (w : World T) (p : ℕ) (x : Party T) (ask : Option Ask) (answer : ℕ) (doing : Doing T) (q : ℕ)
       → q ≢ p → IsSmall w
       → BothSee w (after_answer w p x ask answer doing) (progress_in w q) (progress_in (after_answer w p x ask answer doing) q)
-  answer_others x0 x1 x2 x3 x4 x5 x6 x7 x8 = grind (arith, seen, still_tells, step_in, after_step, party_put_other, step_tells)
+  answer_others = grind (arith, seen, still_tells, step_in, after_step, party_put_other, step_tells)
 
   next_others : (w : World T) (p : ℕ) (o : Option (Party T)) (q : ℕ) → q ≢ p → IsSmall w
       → BothSee w (after_next w p o) (progress_in w q) (progress_in (after_next w p o) q)
-  next_others x0 x1 x2 x3 x4 x5 = grind (arith, seen, still_tells, answer_others)
+  next_others = grind (arith, seen, still_tells, answer_others)
 
   decision_others : (w : World T) (p : ℕ) (said : Bool) (o : Option (Party T)) (q : ℕ) → q ≢ p → IsSmall w
       → BothSee w (after_decision w p said o) (progress_in w q) (progress_in (after_decision w p said o) q)
-  decision_others x0 x1 x2 x3 x4 x5 x6 = grind (arith, seen, still_tells, answer_others, number_of)
+  decision_others = grind (arith, seen, still_tells, answer_others, number_of)
 
   pub counts_others : (w : World T) (turn : Turn T) → IsSmall w → CountsOthers w turn (world_after w turn)
-  counts_others x0 x1 x2 x3 x4 = grind (arith, begin_others, first_of, next_others, decision_others, seen, still_tells)
+  counts_others = grind (arith, begin_others, first_of, next_others, decision_others, seen, still_tells)

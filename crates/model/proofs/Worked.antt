@@ -197,7 +197,7 @@ no_excuse legal = cc
 
 -- a call that acts a second time
 pub no_second_act : Stands {T = ℕ} (promise_of IndexQueue) 1 (Acted 0 (Queues Pop) PoppedNone) (Open (Queues Pop) (Acted 0 (Queues Pop) PoppedNone ∷ [])) → ⊥
-no_second_act x0 = grind (arith, acts)
+no_second_act = grind (arith, acts)
 
 -- a call that ends without having acted
 pub no_silent_end : Stands {T = ℕ} (promise_of IndexQueue) 1 (Finished 0 (Queues Pop) PoppedNone) (Open (Queues Pop) []) → ⊥

@@ -184,7 +184,7 @@ set_past_the_capacity k = let e = k.within 2 (omega arith) in cc
 
 -- a bit that was set in none of the events stood at no moment
 never_stood : (p b : ℕ) (events : List (Event ℕ)) → sets b events ≡ 0 → HeldSometime p (λ part. standing b part ≡ 1) events → ⊥
-never_stood x0 x1 x2 x3 x4 = grind (arith, sets, sum_by-append, cond)
+never_stood = grind (arith, sets, sum_by-append, cond)
 
 -- a set that answers false where its bit never stood
 abbrev false_set : List (Event ℕ)
@@ -249,7 +249,7 @@ skips came = go came.passed refl
     is = subst (λ n. place_after 2 n came.passed ≡ 1) from came.is
 
     go : (n : ℕ) → came.passed ≡ n → ⊥
-    go x0 x1 = grind (arith, not_next, place_after, is, standing, from, first_stood)
+    go = grind (arith, not_next, place_after, is, standing, from, first_stood)
 
 -- a reset of all that goes down, or clears a bit twice
 descends : bits_stand {T = ℕ} (Cleared 0 1) (Open (Bits ResetAll) (Cleared 0 3 ∷ [])) → ⊥

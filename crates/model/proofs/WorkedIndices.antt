@@ -161,13 +161,13 @@ no_lock_over_a_holder h = let free = h.0 1 in cc
 
 -- OutOfIndices of a set that nobody uses
 no_empty_set : AnswersRight 1 (Begun 0 acquire ∷ []) (Finished 0 acquire (NoIndex failures.OutOfIndices)) → ⊥
-no_empty_set h = omega arith
+no_empty_set = omega arith
 
 -- a release that says that it has not locked, though nothing else is in use
 no_missed_lock : AnswersRight 1 (Claimed 0 0 ∷ Begun 0 (release_or_lock 0) ∷ Freed 0 0 ∷ [])
     (Finished 0 (release_or_lock 0) (State states.Unlocked))
     → ⊥
-no_missed_lock h = omega arith
+no_missed_lock = omega arith
 
 abbrev freed_in : Option SetActs → List ℕ
 freed_in None = []

@@ -36,10 +36,10 @@ Completed sequential call =
     (λ response. is_push_or_pop call.start ≡ true → Contains sequential (call, response.answer))
 
 unequal : (m n : ℕ) → m < n → m ≡ n → ⊥
-unequal m n lt e = omega arith
+unequal = omega arith
 
 no_less : (m n : ℕ) → n ≤ m → m < n → ⊥
-no_less m n le lt = omega arith
+no_less = omega arith
 
 -- ---- a pop runs inside a push and finds nothing: it stands before the push, which was invoked first
 

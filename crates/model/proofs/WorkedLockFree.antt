@@ -52,7 +52,7 @@ all_allowed t (turn ∷ turns) e =
     (may_is (call_refusal t.world turn) here.0, all_allowed (after_turn t turn) turns here.1)
 
 low : (p n : ℕ) → nat_lt p n ≡ true → p < n
-low x0 x1 x2 = grind (arith, nat_tests)
+low = grind (arith, nat_tests)
 
 one_below : (n : ℕ) (turn : Turn ℕ) → is_below n turn ≡ true → IsBelow n turn
 one_below n (Begin p start) e = low p n e
@@ -72,7 +72,7 @@ none_more : (before after ended : ℕ) → before ≡ ended → after ≡ ended 
 none_more before after ended was is less = absurd (omega arith)
 
 more_steps : (most steps here : ℕ) → steps ≡ here → most < here → most < steps
-more_steps most steps here e h = omega arith
+more_steps = omega arith
 
 -- these turns take so many steps, and no call ends
 record IsEndless (t : Trace ℕ) (kind : Kind) (c n steps ended : ℕ) (turns : List (Turn ℕ)) : Type 0 where

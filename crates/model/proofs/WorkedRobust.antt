@@ -261,7 +261,7 @@ passes_over done =
 
 -- a find that comes to the end without that index, and one that counts an index that nobody filled
 counted_none : (chosen : ℕ → Bool) → count_below chosen 1 ≡ 0 → chosen 0 ≡ true → ⊥
-counted_none x0 x1 x2 = grind (arith, count_below)
+counted_none = grind (arith, count_below)
 
 misses_one : IsCount 0 (IsFilledWith 7) 1 0 (Filled 1 0 7 ∷ Begun 0 (find 7) ∷ []) → ⊥
 misses_one count = counted_none count.chosen count.is (count.through 0 (omega arith) (stays_filled (find 7)))
@@ -277,7 +277,7 @@ stays_empty i (e ∷ es) rest none =
     subst (λ owner. fold (filled_after i) owner es ≡ None) (sym none.0) (stays_empty i es rest none.1)
 
 never_filled : (p i : ℕ) (told : List (Event ℕ)) → FillsNot i told → HeldSometime p (IsFilled i) told → ⊥
-never_filled x0 x1 x2 x3 x4 = grind (arith, stays_empty)
+never_filled = grind (arith, stays_empty)
 
 abbrev alone : List (Event ℕ)
 alone = Begun 0 (acquire 7) ∷ []
@@ -295,7 +295,7 @@ abbrev last_one : List (Event ℕ)
 last_one = Filled 1 0 7 ∷ Begun 1 (release 0 7 LockIfLastIndex) ∷ FreedOf 1 0 7 ∷ []
 
 freed_all : (i : ℕ) → filled_of i last_one ≡ None
-freed_all x0 = grind (arith, false, ne_eqb)
+freed_all = grind (arith, false, ne_eqb)
 
 no_moment : (i : ℕ) (part rest : List (Event ℕ)) → last_one ≡ part ++ rest → IsOneOf (Frees 0 7) (set_acts_of 1 part) → IsFilled i part → ⊥
 no_moment i [] rest is one filled = cc
@@ -314,7 +314,7 @@ no_moment i (a ∷ b ∷ c ∷ []) rest is one filled =
 no_moment i (a ∷ b ∷ c ∷ d ∷ ds) rest is one filled = cc
 
 never_locks : AnswersRight 1 last_one (Finished 1 (release 0 7 LockIfLastIndex) (State states.Unlocked)) → ⊥
-never_locks x0 = grind (arith, no_moment)
+never_locks = grind (arith, no_moment)
 
 -- ---- a well-formed run: an acquire, its release, and an acquire again
 

@@ -35,7 +35,7 @@ use Rattle.parts.proofs.Going.{refusal_is, going_is}
 -- ---- a party written in its place
 
 at_itself : (p : ℕ) → nat_cmp p p ≡ Equal
-at_itself p = grind (arith, nat_tests)
+at_itself = grind (arith, nat_tests)
 
 put_again : {X : Type 0} (p : ℕ) (x y : X) (es : List (ℕ × X))
     → insert_entry nat_cmp (insert_entry nat_cmp es p x) p y ≡ insert_entry nat_cmp es p y
@@ -54,7 +54,7 @@ put_again p x y (e ∷ es) = by (nat_cmp p e.0) refl (put_again p x y es)
 module _ {T : Type 0} where
   over_small : (changes since change : ℕ) (after : After (Flight T) (Answer T)) → since ≤ changes
       → HasSmallCount (changes + change) (doing_after (changes + change) (since + change) after)
-  over_small x0 x1 x2 x3 x4 = grind arith
+  over_small = grind arith
 
   pub around_small : (code : Coding T) (p turns : ℕ) (a b : Around T) → HasSmallCounts turns a.changes a.party → a.changes ≤ turns
       → b ≡ after_turn_of code p None None a.party.doing a → HasSmallCounts (turns + 1) b.changes b.party × (b.changes ≤ turns + 1)

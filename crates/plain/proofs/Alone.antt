@@ -42,7 +42,7 @@ module _ {C G M E : Type 0} (want_of : C → G → Want (Unit {0})) (after : C �
   step_on : (n : ℕ) (s : Stop C E) (r : M) (ws : List ℕ) (call d : C) (room : M) (words : List ℕ)
       → Stops n s r ws call room words → next call words ≡ GoOn d
       → (k : ℕ) × (n ≡ k + 1) × Stops k s r ws d (next_room call room words) (next_words call words)
-  step_on x0 x1 x2 x3 x4 x5 x6 x7 x8 x9 = grind arith
+  step_on = grind arith
 
   pub goes_on : (first : C) (room₀ : M) (words₀ : List ℕ) (done : ℕ) (call d : C) (room : M)
       (words : List ℕ) → Going first room₀ words₀ done call room words → next call words ≡ GoOn d
@@ -64,22 +64,22 @@ module _ {C G M E : Type 0} (want_of : C → G → Want (Unit {0})) (after : C �
   stopped : (n : ℕ) (s f : Stop C E) (r : M) (ws : List ℕ) (call : C) (room : M) (words : List ℕ)
       → Stops n s r ws call room words → next call words ≡ Done f
       → (f ≡ s) × (next_room call room words ≡ r) × (next_words call words ≡ ws)
-  stopped x0 x1 x2 x3 x4 x5 x6 x7 x8 x9 = grind arith
+  stopped = grind arith
 
   pub stops : (first : C) (room₀ : M) (words₀ : List ℕ) (done : ℕ) (call : C) (f : Stop C E)
       (room : M) (words : List ℕ) → Going first room₀ words₀ done call room words
       → next call words ≡ Done f
       → StopsAlike want_of after kept given first room₀ words₀ f (next_room call room words)
       (next_words call words)
-  stops x0 x1 x2 x3 x4 x5 x6 x7 x8 x9 x10 x11 x12 x13 x14 = grind (arith, stopped)
+  stops = grind (arith, stopped)
 
   some_left : (n : ℕ) (s : Stop C E) (r : M) (ws : List ℕ) (call : C) (room : M) (words : List ℕ)
       → Stops n s r ws call room words → 1 ≤ n
-  some_left x0 x1 x2 x3 x4 x5 x6 x7 = grind arith
+  some_left = grind arith
 
   pub stops_in_time : (first : C) (room₀ : M) (words₀ : List ℕ) (done : ℕ) (call : C) (room : M)
       (words : List ℕ) → Going first room₀ words₀ done call room words → 2 ^ 64 - 1 ≤ done → ⊥
-  stops_in_time x0 x1 x2 x3 x4 x5 x6 x7 x8 = grind (arith, some_left)
+  stops_in_time = grind (arith, some_left)
 
   -- ---- its first steps, which stand by themselves
 
@@ -158,12 +158,12 @@ module _ {C G M E : Type 0} (want_of : C → G → Want (Unit {0})) (after : C �
   pub ends_alike : (call : C) (room : M) (words : List ℕ) (e : E) (r : M) (ws : List ℕ)
       → StopsAlike want_of after kept given call room words (Ended e) r ws
       → EndsAlike want_of after kept given call room words e r ws
-  ends_alike x0 x1 x2 x3 x4 x5 x6 x7 x8 x9 x10 x11 = grind arith
+  ends_alike = grind arith
 
   pub never_asks : (call : C) (room : M) (words : List ℕ)
       → CanEnd want_of after kept given call room words → (s : Stop C E) (r : M) (ws : List ℕ)
       → StopsAlike want_of after kept given call room words s r ws → has_ended s
-  never_asks x0 x1 x2 x3 x4 x5 x6 x7 = grind arith
+  never_asks = grind arith
 
 -- ---- what comes of a call that runs alone
 
@@ -181,13 +181,13 @@ module _ {C G M E : Type 0} (want_of : C → G → Want (Unit {0})) (after : C �
 
   pub can_end : (P : E → M → List ℕ → Type 0) (call : C) (room : M) (words : List ℕ)
       → Runs P call room words → CanEnd want_of after kept given call room words
-  can_end x0 x1 x2 x3 x4 = grind arith
+  can_end = grind arith
 
   -- who drove it to its end found that end
   pub ends_so : (P : E → M → List ℕ → Type 0) (call : C) (room : M) (words : List ℕ)
       → Runs P call room words → (e : E) (r : M) (ws : List ℕ)
       → EndsAlike want_of after kept given call room words e r ws → P e r ws
-  ends_so x0 x1 x2 x3 x4 x5 x6 x7 x8 = grind arith
+  ends_so = grind arith
 
   -- ---- the same of a call that puts questions
 
@@ -215,4 +215,4 @@ module _ {C G M E : Type 0} (want_of : C → G → Want (Unit {0})) (after : C �
   pub stops_so : (P : Stop C E → M → List ℕ → Type 0) (call : C) (room : M) (words : List ℕ)
       → Halts P call room words → (s : Stop C E) (r : M) (ws : List ℕ)
       → StopsAlike want_of after kept given call room words s r ws → P s r ws
-  stops_so x0 x1 x2 x3 x4 x5 x6 x7 x8 = grind arith
+  stops_so = grind arith

@@ -29,7 +29,7 @@ module _ (call : ResetAll) (low : call.word < call.end) (words : List ℕ) where
   pub goes_on : (n : ℕ) → call.word + 1 < call.end
       → stepped (reset_all_want call) call (reset_all_after call n)
       ≡ GoOn (record { word = call.word + 1; end = call.end })
-  goes_on x0 x1 = grind (arith, stepped, asks, nat_tests)
+  goes_on = grind (arith, stepped, asks, nat_tests)
 
 -- ---- the words so far
 
@@ -85,15 +85,15 @@ module _ {F : Type 0} (pre : F → BitState → Type 0) (step : F → BitState �
 
   pub begins : length before ≡ capacity → Takes pre step (states before) first
       → (call : ResetAll) → call ≡ record { word = 0; end = capacity } → Emptying 0 call before first
-  begins x0 x1 x2 x3 = grind (arith, words_are)
+  begins = grind (arith, words_are)
 
   left_none : (place : ℕ) → place < length before → slice_index before place ≡ 0
       → left place ≡ left (place + 1)
-  left_none x0 x1 x2 = grind (arith, suc, rest_of, drop, eq-eqb)
+  left_none = grind (arith, suc, rest_of, drop, eq-eqb)
 
   left_one : (place : ℕ) → place < length before → slice_index before place ≢ 0
       → left place ≡ record { bit = place; count = slice_index before place } ∷ left (place + 1)
-  left_one x0 x1 x2 = grind (arith, suc, rest_of, drop, ne_eqb)
+  left_one = grind (arith, suc, rest_of, drop, ne_eqb)
 
   pub found : (place : ℕ) (call : ResetAll) (words : List ℕ) (visit : F) → Emptying place call words visit
       → slice_index words place ≡ slice_index before place
@@ -101,7 +101,7 @@ module _ {F : Type 0} (pre : F → BitState → Type 0) (step : F → BitState �
 
   more_swept : (place : ℕ) (call : ResetAll) (words now : List ℕ) (visit : F) → place < capacity
       → Emptying place call words visit → now ≡ slice_set words place 0 → now ≡ swept (place + 1) before
-  more_swept x0 x1 x2 x3 x4 x5 x6 x7 = grind (arith, suc, swept_more)
+  more_swept = grind (arith, suc, swept_more)
 
   module _ (place : ℕ) (low : place < capacity) (call : ResetAll) (words : List ℕ) (visit : F)
       (h : Emptying place call words visit) (n : ℕ) (counted : n ≡ slice_index words call.word) where
@@ -113,7 +113,7 @@ module _ {F : Type 0} (pre : F → BitState → Type 0) (step : F → BitState �
     state = record { bit = place; count = n }
 
     split : 0 < n → left place ≡ state ∷ left (place + 1)
-    split x0 = grind (arith, count_is, left_one)
+    split = grind (arith, count_is, left_one)
 
     both : 0 < n → Takes pre step (state ∷ left (place + 1)) visit
     both some = subst (λ xs. Takes pre step xs visit) (split some) h.takes

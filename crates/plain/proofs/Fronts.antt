@@ -41,10 +41,10 @@ module _ (k at : ℕ) (low : at < k) (words : List ℕ) where
   front_set x y e = ap (slice_set (take k words) at) e ∙ take_set k at y words low
 
   front_written : (op : Op) → written_by (take k words) at op ≡ take k (written_by words at op)
-  front_written x0 = grind (arith, front_set, written, front_word, take, by_test)
+  front_written = grind (arith, front_set, written, front_word, take, by_test)
 
   set_behind : (x : ℕ) → Behind k words (slice_set words at x)
-  set_behind x0 = grind (arith, length-set, get_or-set_other)
+  set_behind = grind (arith, length-set, get_or-set_other)
 
   written_behind : (op : Op) → Behind k words (written_by words at op)
   written_behind Load = stays k words
@@ -62,11 +62,11 @@ module _ (k at : ℕ) (low : at < k) (words : List ℕ) where
 
 front_answer : (k : ℕ) (words : List ℕ) (want : Want (Unit {0})) → AsksBelow k want
     → answer_in (take k words) want ≡ answer_in words want
-front_answer x0 x1 x2 x3 = grind (arith, front_word)
+front_answer = grind (arith, front_word)
 
 front_then : (k : ℕ) (words : List ℕ) (want : Want (Unit {0})) → AsksBelow k want
     → words_then (take k words) want ≡ take k (words_then words want)
-front_then x0 x1 x2 x3 = grind (arith, front_written)
+front_then = grind (arith, front_written)
 
 then_behind : (k : ℕ) (words : List ℕ) (want : Want (Unit {0})) → AsksBelow k want
     → Behind k words (words_then words want)
@@ -75,7 +75,7 @@ then_behind k words (wants.Question question) low = stays k words
 then_behind k words wants.Nothing low = stays k words
 
 pub behind_more : (k : ℕ) (a b c : List ℕ) → Behind k a b → Behind k b c → Behind k a c
-behind_more x0 x1 x2 x3 x4 x5 = grind arith
+behind_more = grind arith
 
 -- ---- all steps
 
@@ -89,7 +89,7 @@ module _ {C E : Type 0} (want : C → Want (Unit {0})) (after : C → ℕ → Af
       → ((d : C) → Low d → Walks want after n (OnEnd P) d (take k words) → Walks want after n (OnEnd Q) d words)
       → WalksFrom (Walks want after n (OnEnd P)) (OnEnd P) (stepped w call a) (take k words)
       → WalksFrom (Walks want after n (OnEnd Q)) (OnEnd Q) (stepped w call a) words
-  from_front x0 x1 x2 x3 x4 x5 x6 x7 x8 = grind arith
+  from_front = grind arith
 
   pub front_walks : (n : ℕ) (call : C) (words : List ℕ) → Low call → Behind k before words
       → Walks want after n (OnEnd P) call (take k words) → Walks want after n (OnEnd Q) call words

@@ -64,9 +64,9 @@ module _ {C G M E : Type 0} (want_of : C → G → Want (Unit {0})) (after : C �
   ended : (n : ℕ) (P : E × M → List ℕ → Type 0) (call : C) (room : M) (words : List ℕ) (s : Stop C E) (r : M) (ws : List ℕ)
       → n ≤ 2 ^ 64 - 1 → StopsIn want_of after kept given n s r ws call room words → Apart (OnEnd P) s r ws
       → Runs want_of after kept given (λ e room ws. P (e, room) ws) call room words
-  ended x0 x1 x2 x3 x4 x5 x6 x7 x8 x9 x10 = grind arith
+  ended = grind arith
 
   pub runs_both : (n : ℕ) (P : E × M → List ℕ → Type 0) (call : C) (room : M) (words : List ℕ) → n ≤ 2 ^ 64 - 1
       → Walks want_both after_both n (OnEnd P) (call, room) words
       → Runs want_of after kept given (λ e room ws. P (e, room) ws) call room words
-  runs_both x0 x1 x2 x3 x4 x5 x6 = grind (arith, found, ended)
+  runs_both = grind (arith, found, ended)

@@ -21,7 +21,7 @@ use Rattle.plain.proofs.Words.{words_same, words_all, stored_length, stored_othe
 
 -- a cell lies within the words
 cell_within : (size p : ℕ) → cell_word size p + size ≤ 2 + 2 * size
-cell_within x0 x1 = grind (arith, mul-le-mul_left)
+cell_within = grind (arith, mul-le-mul_left)
 
 module _ {V : Type 0} (words_of : V → List ℕ) (value_of : List ℕ → V) (size : ℕ)
     (sized : (x : V) → length (words_of x) ≡ size) (given_back : (x : V) → value_of (words_of x) ≡ x)
@@ -59,7 +59,7 @@ module _ {V : Type 0} (words_of : V → List ℕ) (value_of : List ℕ → V) (s
       (Stored ws) call tt ws
 
   at_end : (ws : List ℕ) → Represents size ws → slice_index ws 0 ≡ 2 ^ 64 - 1 → StoreRuns first_store ws
-  at_end x0 x1 x2 = grind (arith, eq-eqb, false, by_eq, value_in)
+  at_end = grind (arith, eq-eqb, false, by_eq, value_in)
 
   module _ (ws : List ℕ) (fits : Represents size ws) (more : slice_index ws 0 ≢ 2 ^ 64 - 1) where
     abbrev v : ℕ
@@ -135,7 +135,7 @@ module _ {V : Type 0} (words_of : V → List ℕ) (value_of : List ℕ → V) (s
 
   pub store_runs : (call : Store V) → call ≡ first_store → (ws : List ℕ) → Represents size ws
       → StoreRuns call ws
-  store_runs x0 x1 x2 x3 = grind (arith, at_end, stores_one)
+  store_runs = grind (arith, at_end, stores_one)
 
 -- ---- load
 

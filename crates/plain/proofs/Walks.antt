@@ -94,7 +94,7 @@ module _ {C E D X : Type 0} (want : C → Want (Unit {0})) (after : C → ℕ �
       → ((e : D) → Low e → Walks part_want part_after m (OnEnd (Then n P)) e words → Walks want after (plus m n) P (within e) words)
       → WalksFrom (Walks part_want part_after m (OnEnd (Then n P))) (OnEnd (Then n P)) (stepped w d a) words
       → WalksFrom (Walks want after (plus m n) P) P (stepped w (within d) (lift a)) words
-  part_from x0 x1 x2 x3 x4 x5 x6 x7 x8 x9 = grind (arith, part_goes)
+  part_from = grind (arith, part_goes)
 
   pub part_walks_low : (m n : ℕ) (P : Stop C E → List ℕ → Type 0) (d : D) (words : List ℕ) → Low d
       → Walks part_want part_after m (OnEnd (Then n P)) d words → Walks want after (plus m n) P (within d) words
@@ -154,7 +154,7 @@ module _ {C G E : Type 0} (want_of : C → G → Want (Unit {0})) (after : C →
   ended : (n : ℕ) (P : E → List ℕ → Type 0) (call : C) (words : List ℕ) (s : Stop C E) (r : Unit {0}) (ws : List ℕ)
       → n ≤ 2 ^ 64 - 1 → StopsIn want_of after (λ c (room : Unit {0}) old. room) given n s r ws call tt words → OnEnd P s ws
       → Runs want_of after (λ c (room : Unit {0}) old. room) given (λ e room ws. P e ws) call tt words
-  ended x0 x1 x2 x3 x4 x5 x6 x7 x8 x9 = grind arith
+  ended = grind arith
 
   pub runs : (n : ℕ) (P : E → List ℕ → Type 0) (call : C) (words : List ℕ) → n ≤ 2 ^ 64 - 1
       → Walks (λ c. want_of c given) (λ c old. after c given old) n (OnEnd P) call words

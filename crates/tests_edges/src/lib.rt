@@ -1,5 +1,5 @@
 //! What of the threaded types no text of calls can say: what crosses threads, memory that is refused, closures that
-//! capture, a state that outlives its container; and what README.md and CALLING.md show.
+//! capture, and a state that outlives its container.
 #![tactic(auto)]
 
 #[cfg(test)]
@@ -8,8 +8,6 @@ mod closes;
 mod closures;
 #[cfg(test)]
 mod crossing;
-#[cfg(test)]
-mod examples;
 #[cfg(test)]
 mod freed;
 #[cfg(test)]

@@ -1,9 +1,7 @@
-//! What no text of `tests_scripts` can say of runs and machines, and of calls alone: reads, writes and memory that fail, values
-//! of other types, and calls that a line cannot name.
+//! What no text of `tests_scripts` can say of runs and machines: reads, writes and memory that fail, values of other types,
+//! and calls that a line cannot name.
 #![tactic(auto)]
 
-#[cfg(test)]
-mod alone;
 #[cfg(test)]
 mod failures;
 #[cfg(test)]

@@ -39,4 +39,4 @@ too_great greatest word at h =
 
 pub is_number : (greatest : ℕ) (word : List ℕ) → all_ascii_digits word ≡ true → 0 < length word → digits_value 10 word ≤ greatest
     → number_of greatest word ≡ Ok (digits_value 10 word)
-is_number greatest word all some fits = grind (arith, nat_tests)
+is_number = grind (arith, nat_tests)

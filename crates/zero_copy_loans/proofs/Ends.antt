@@ -3,7 +3,7 @@ use Rattle.std.proofs.Common.{◌≡◌, true, inl, inr, ℕ, ◌+◌, ◌-◌, 
 use Rattle.std.proofs.lemmas.List.FromFn.{length-range_with_len}
 use Rattle.std.specs.List.{range_with_len}
 use Rattle.std.specs.Prelude.{Option, Some, None}
-use Rattle.lock_free.specs.Loan.Sender.{IsSame}
+use Rattle.lock_free_loans.specs.Loan.Sender.{IsSame}
 use Rattle.model.specs.declared.event.Item.TheVariants.{Index}
 use Rattle.lock_free_queues.specs.Queues.Contracts.{HasAcquired, HasPopped, HasReleased}
 use Rattle.model.specs.Families.Queues.Reading.{published}

@@ -5,9 +5,9 @@ use Rattle.std.proofs.Common.{get_or-set_same, set-set}
 use Rattle.std.proofs.lemmas.Nat.{mod-mul-add}
 use Rattle.zero_copy_loans.specs.Words.{word_of}
 use Rattle.std.specs.Prelude.{slice_set}
-use Rattle.lock_free.specs.Loan.Places.{is_out, is_sent, place_at, returned}
-use Rattle.lock_free.specs.declared.spsc.loan.places.Place.{Place}
-use Rattle.lock_free.specs.declared.spsc.loan.places.Place.TheVariants.{Free, Loaned, Sent}
+use Rattle.lock_free_loans.specs.Loan.Places.{is_out, is_sent, place_at, returned}
+use Rattle.lock_free_loans.specs.declared.spsc.loan.places.Place.{Place}
+use Rattle.lock_free_loans.specs.declared.spsc.loan.places.Place.TheVariants.{Free, Loaned, Sent}
 
 within : (ps : List Place) (i : ℕ) → is_out (place_at ps i) ≡ true → i < length ps
 within [] i h = absurd (true≢false (sym h))

@@ -1,11 +1,11 @@
 //! What the ends of a channel share.
 ghost use Rattle.std.specs.Prelude.{◌≡◌, ◌≤◌, ◌+◌, ◌-◌, ◌^◌, None, IfOk, IfSome, OnOk, List, [], ℕ, replicate};
-ghost use Rattle.lock_free.specs.Enums.{capacity_refusal};
-ghost use Rattle.lock_free.specs.Loan.Sender.{completion_of, submission_of};
-ghost use Rattle.lock_free.specs.declared.spsc.loan.places.Place.TheVariants.{Free};
-ghost use Rattle.lock_free.specs.Queues.Rings as queues;
-ghost use Rattle.lock_free.specs.Unique.Held.{HoldsNothing};
-ghost use Rattle.lock_free.specs.UniqueIndexSet.{capacity_of, made, set_refusal, IsPassOf};
+ghost use Rattle.steps.specs.Enums.{capacity_refusal};
+ghost use Rattle.lock_free_loans.specs.Loan.Sender.{completion_of, submission_of};
+ghost use Rattle.lock_free_loans.specs.declared.spsc.loan.places.Place.TheVariants.{Free};
+ghost use Rattle.lock_free_queues.specs.Queues.Rings as queues;
+ghost use Rattle.lock_free_sets.specs.Unique.Held.{HoldsNothing};
+ghost use Rattle.lock_free_sets.specs.UniqueIndexSet.{capacity_of, made, set_refusal, IsPassOf};
 ghost use Rattle.zero_copy_loans.specs.Ends as ends;
 ghost use Rattle.zero_copy_loans.specs.declared.receiver.ReceiverParts.{ReceiverParts};
 ghost use Rattle.zero_copy_loans.specs.declared.sender.SenderParts.{SenderParts};
@@ -16,12 +16,12 @@ ghost use Rattle.zero_copy_slots.specs.Slots.{slots_in};
 use crate::receiver::{Receiver, ReceiverParts};
 use crate::sender::{Sender, SenderParts};
 use crate::words::Layout;
-use lock_free::mpmc::unique_index_set::{Pass, UniqueIndexSet};
-use lock_free::mpmc::unique_index_set_enums::UniqueIndexCreationError;
-use lock_free::spsc::index_queue::IndexQueue;
-use lock_free::spsc::loan::LoanSender;
-use lock_free::spsc::safely_overflowing_index_queue::SafelyOverflowingIndexQueue;
-use lock_free::spsc::{index_queue, safely_overflowing_index_queue as overflow};
+use lock_free_loans::spsc::loan::LoanSender;
+use lock_free_queues::spsc::index_queue::IndexQueue;
+use lock_free_queues::spsc::safely_overflowing_index_queue::SafelyOverflowingIndexQueue;
+use lock_free_queues::spsc::{index_queue, safely_overflowing_index_queue as overflow};
+use lock_free_sets::mpmc::unique_index_set::{Pass, UniqueIndexSet};
+use lock_free_sets::mpmc::unique_index_set_enums::UniqueIndexCreationError;
 use std::alloc::Global;
 use zero_copy_slots::{Anything, Keeps, Slots};
 

@@ -1,5 +1,5 @@
 //! Why there is no loan, no reading, or no buffer.
-use lock_free::mpmc::unique_index_set_enums::UniqueIndexSetAcquireFailure;
+use lock_free_sets::mpmc::unique_index_set_enums::UniqueIndexSetAcquireFailure;
 use thiserror::Error;
 use zero_copy_slots::error as slots;
 

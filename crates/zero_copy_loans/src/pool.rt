@@ -1,13 +1,13 @@
 //! A pool of buffers: who takes a place of it has the value that lies there, in plain memory and alone, and lays it back or hands
 //! it on to another thread.
 ghost use Rattle.std.specs.Prelude.{◌≡◌, ◌<◌, Some, None, IfOk, IfErr, IfSome, MatchOption, OnOk};
-ghost use Rattle.lock_free.specs.UniqueIndexSet.{set_refusal, value_of, IsPassOf};
+ghost use Rattle.lock_free_sets.specs.UniqueIndexSet.{set_refusal, value_of, IsPassOf};
 ghost use Rattle.zero_copy_slots.specs.Slots.{laid_number, laid_slot, IsUntaken};
 ghost use Rattle.zero_copy_slots.specs.Words.{emptied_number, emptied_slot};
 
 use crate::error::PoolFailure;
-use lock_free::mpmc::unique_index_set::{Pass, UniqueIndex, UniqueIndexSet};
-use lock_free::mpmc::unique_index_set_enums::UniqueIndexCreationError;
+use lock_free_sets::mpmc::unique_index_set::{Pass, UniqueIndex, UniqueIndexSet};
+use lock_free_sets::mpmc::unique_index_set_enums::UniqueIndexCreationError;
 use std::alloc::Global;
 use std::sync::Wait;
 use zero_copy_slots::error::TakeFailure;

@@ -1,16 +1,16 @@
 //! The end of the channel that receives values and reads them.
 ghost use Rattle.std.specs.Prelude.{◌≡◌, ◌<◌, ℕ, IsTrue, IsFalse, IfOk, IfErr, IfSome, IfNone, []};
-ghost use Rattle.lock_free.specs.Queues.Item.TheVariants.{Index};
-ghost use Rattle.lock_free.specs.Passes.{Goes};
-ghost use Rattle.lock_free.specs.Queues.Rings.{consumer_queue, consumer_view, producer_queue, producer_view, queue_of};
-ghost use Rattle.lock_free.specs.Queues.Role.TheVariants as roles;
-ghost use Rattle.lock_free.specs.Queues.Contracts.{HasReleased, PopOldest, PushDone};
+ghost use Rattle.model.specs.declared.event.Item.TheVariants.{Index};
+ghost use Rattle.history.specs.Passes.{Goes};
+ghost use Rattle.lock_free_queues.specs.Queues.Rings.{consumer_queue, consumer_view, producer_queue, producer_view, queue_of};
+ghost use Rattle.steps.specs.declared.queues.roles.Role.TheVariants as roles;
+ghost use Rattle.lock_free_queues.specs.Queues.Contracts.{HasReleased, PopOldest, PushDone};
 ghost use Rattle.zero_copy_loans.specs.Words.{IsRoomFor};
 ghost use Rattle.zero_copy_slots.specs.Slots.{number_in, slot_in, slots_in};
 
 use crate::error::ReadFailure;
 use crate::words::Layout;
-use lock_free::spsc::{index_queue, safely_overflowing_index_queue as overflow};
+use lock_free_queues::spsc::{index_queue, safely_overflowing_index_queue as overflow};
 use std::alloc::Global;
 use std::sync::Wait;
 use std::thread;

@@ -27,7 +27,7 @@ all_at room word end =
     calls.ResetAll (record { call = record { word = word; end = end }; given = tt; room = room })
 
 one_is : (t : Bool) → one_if t ≡ cond t 1 0
-one_is x0 = grind arith
+one_is = grind arith
 
 module _ {T : Type 0} (code : Coding T) (c : ℕ) (s : SetState T) (events : List (Event T))
     (turns p changes since steps backs : ℕ) (holds : Holds c s.words events) (wrote : List (Event T))

@@ -21,10 +21,10 @@ pub record Pays (words words' : List ℕ) (changes changes' : ℕ) : Type 0 wher
 
 module _ (words words' : List ℕ) (changes changes' : ℕ) (pays : Pays words words' changes changes') where
   paid_still : (since backs element found : ℕ) → Paid words since changes backs element found → Paid words' since changes' backs element found
-  paid_still x0 x1 x2 x3 x4 = grind arith
+  paid_still = grind arith
 
   set_still : (since backs bit : ℕ) (stage : SetStage) → KnowsSet words since changes backs bit stage → KnowsSet words' since changes' backs bit stage
-  set_still x0 x1 x2 x3 x4 = grind arith
+  set_still = grind arith
 
 module _ {T : Type 0} where
   pub record Holds (c : ℕ) (words : List ℕ) (events : List (Event T)) : Type 0 where
@@ -109,12 +109,12 @@ module _ {T : Type 0} where
       began_still c start h = held_later p (λ part. at_most c (position_of part) ≡ start) events es none h
 
       came_still : (c bit : ℕ) → CameTo p c bit events → CameTo p c bit (events ++ es)
-      came_still x0 x1 x2 = grind (arith, began_still, passed_still)
+      came_still = grind (arith, began_still, passed_still)
 
       next_still : (c since backs : ℕ) (stage : ResetNextStage)
           → KnowsNext c p events words since changes backs stage
           → KnowsNext c p (events ++ es) words' since changes' backs stage
-      next_still x0 x1 x2 x3 x4 = grind (arith, passed_still, began_still, paid_still, place_after, came_still)
+      next_still = grind (arith, passed_still, began_still, paid_still, place_after, came_still)
 
       pub call_still : (since backs : ℕ) (flight : BitsFlight) → KnowsCall p events words since changes backs flight
           → KnowsCall p (events ++ es) words' since changes' backs flight

@@ -15,10 +15,10 @@ use Rattle.laws_bits.proofs.Laws.{SetLaws, sets_keep, sound_on}
 
 module _ (T : Type 0) where
   set_effects : (p bit old : ℕ) (stage : SetStage) → AllByRecursion (IsEffectOf {T = T} (Next p)) (set_events p bit stage old)
-  set_effects x0 x1 x2 x3 = grind arith
+  set_effects = grind arith
 
   next_effects : (p c old : ℕ) (stage : ResetNextStage) → AllByRecursion (IsEffectOf {T = T} (Next p)) (reset_events p c stage old)
-  next_effects x0 x1 x2 x3 = grind arith
+  next_effects = grind arith
 
   all_effects : (p : ℕ) (bs : List ℕ) → AllByRecursion (IsEffectOf {T = T} (Next p)) (all_cleared p bs)
   all_effects p [] = tt

@@ -8,11 +8,11 @@ use Rattle.laws_bits.proofs.Bits.Knows.{CallAt, KnowsCall, number_of}
 module _ {T : Type 0} where
   pub steps_most : (c : ℕ) (wrote : List (Event T)) (backs : ℕ) (start : BitsStart) (flight : BitsFlight)
       → CallAt c wrote start flight → number_of flight backs ≤ most_bits_steps c start backs
-  steps_most x0 x1 x2 x3 x4 x5 = grind arith
+  steps_most = grind arith
 
   pub backs_paid : (p : ℕ) (events : List (Event T)) (words : List ℕ) (since changes backs : ℕ) (flight : BitsFlight)
       → KnowsCall p events words since changes backs flight → backs ≤ changes - since
-  backs_paid x0 x1 x2 x3 x4 x5 x6 x7 = grind arith
+  backs_paid = grind arith
 
   pub bits_kept : (c : ℕ) (t : Trace T) → t.world.capacity ≡ c → Holds c t.world.words t.events → IsBitSet t
   bits_kept c t same h =

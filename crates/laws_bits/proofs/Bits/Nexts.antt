@@ -23,7 +23,7 @@ use Rattle.laws_bits.proofs.Words.{load_leaves, failed_leaves, done_writes}
 -- ---- places one after another
 
 pub place_near : (c start passed : ℕ) → start ≤ c → passed < c → place_after c start passed < c
-place_near x0 x1 x2 x3 x4 = grind arith
+place_near = grind arith
 
 -- each place comes
 pub place_comes : (c start b : ℕ) → start ≤ c → b < c → (k : ℕ) × (k < c) × (place_after c start k ≡ b)
@@ -42,7 +42,7 @@ place_comes c start b low below = ⊎_elim behind ahead (cases_lt b start)
         (b - start, omega arith, rw t is)
 
 start_near : (c position : ℕ) → at_most c position ≤ c
-start_near x0 x1 = grind arith
+start_near = grind arith
 
 module _ {T : Type 0} (code : Coding T) (c : ℕ) (s : SetState T) (events : List (Event T))
     (turns p changes since steps backs : ℕ) (holds : Holds c s.words events) where
@@ -70,7 +70,7 @@ module _ {T : Type 0} (code : Coding T) (c : ℕ) (s : SetState T) (events : Lis
       (began : Began c p start events) where
     comes_on : (passed : ℕ) → Passed c p start passed events → steps + 1 ≤ 1 + passed + (backs + one_if back)
         → passed < c → Does [] (Some a) back (GoOn (next_at c (resetting.LoadsElement start passed))) []
-    comes_on x0 x1 x2 x3 = grind (arith, goes_on, next_at, start, same_bits, same, low, passed_more, began_more, began)
+    comes_on = grind (arith, goes_on, next_at, start, same_bits, same, low, passed_more, began_more, began)
 
     comes_none : Passed c p start c events → steps + 1 ≤ 3 + c + (backs + one_if back) → Does [] (Some a) back (Done answers.ResetNone) []
     comes_none held few =
@@ -113,7 +113,7 @@ module _ {T : Type 0} (code : Coding T) (c : ℕ) (s : SetState T) (events : Lis
       began = grind (arith, held_now, at_most, start)
 
       go : (t : Bool) → nat_lt 0 c ≡ t → DoesOf [] resetting.LoadsPosition
-      go x0 x1 = grind (arith, by_parts, next_at, start, comes_on, load_leaves, low, began, comes_none, nat_tests)
+      go = grind (arith, by_parts, next_at, start, comes_on, load_leaves, low, began, comes_none, nat_tests)
 
   -- ---- an element
 
@@ -165,7 +165,7 @@ module _ {T : Type 0} (code : Coding T) (c : ℕ) (s : SetState T) (events : Lis
         stage = resetting.LoadsElement start passed
 
         parts : (then : After BitsFlight (Answer T)) → after (next_at c stage) word ≡ then → Does [] (Some loads_it) false then [] → DoesOf [] stage
-        parts x0 x1 x2 = grind (arith, by_parts, next_at, stage, false)
+        parts = grind (arith, by_parts, next_at, stage, false)
 
         same : words_after s.words (Some loads_it) ≡ s.words
         same = load_leaves s.words element
@@ -249,7 +249,7 @@ module _ {T : Type 0} (code : Coding T) (c : ℕ) (s : SetState T) (events : Lis
             → goes_back (next_at c stage) word ≡ back → after (next_at c stage) word ≡ then
             → effects_of p (next_at c stage) word ≡ fx → Does [] (Some (exchanging found)) back then fx
             → DoesOf [] stage
-        parts x0 x1 x2 x3 x4 x5 x6 = grind (arith, by_parts, next_at, stage)
+        parts = grind (arith, by_parts, next_at, stage)
 
         failed : (word == found) ≡ false → words_after s.words (Some (exchanging found)) ≡ s.words
         failed t = failed_leaves s.words element found (without_flag found place) t

@@ -19,7 +19,7 @@ use Rattle.laws_bits.proofs.Words.{load_leaves, failed_leaves, done_writes}
 
 -- a bit below the capacity has its element among the words
 pub element_near : (c bit : ℕ) (words : List ℕ) → length words ≡ 1 + elements c → bit < c → element_of bit < length words
-element_near c bit words sized below = omega arith
+element_near = omega arith
 
 module _ {T : Type 0} (code : Coding T) (c : ℕ) (s : SetState T) (events : List (Event T))
     (turns p changes since steps backs : ℕ) (holds : Holds c s.words events) (bit : ℕ) (below : bit < c) where
@@ -37,17 +37,17 @@ module _ {T : Type 0} (code : Coding T) (c : ℕ) (s : SetState T) (events : Lis
 
   -- the bit that stands is seen in the events
   stood_now : has_flag word bit ≡ true → standing bit events ≡ 1
-  stood_now x0 = grind arith
+  stood_now = grind arith
 
   -- ---- the test of the element, after a step that leaves the words
 
   module _ (a : Ask) (back : Bool) (same : words_after s.words (Some a) ≡ s.words) (paid : backs + one_if back + since ≤ changes) where
     stood : steps + 1 ≤ 2 + (backs + one_if back) → has_flag word bit ≡ true → Does (Some a) back (Done (answers.Truth false)) []
-    stood x0 x1 = grind (arith, ends, false, same_bits, same, held_now, standing, stood_now)
+    stood = grind (arith, ends, false, same_bits, same, held_now, standing, stood_now)
 
     clear : steps + 1 ≤ 1 + (backs + one_if back) → has_flag word bit ≡ false
         → Does (Some a) back (GoOn (set_at bit (setting.ExchangesElement word))) []
-    clear x0 x1 = grind arith
+    clear = grind arith
 
   -- ---- the steps
 
@@ -127,7 +127,7 @@ module _ {T : Type 0} (code : Coding T) (c : ℕ) (s : SetState T) (events : Lis
       parts : (back : Bool) (then : After BitsFlight (Answer T)) (fx : List (Event T))
           → goes_back (set_at bit stage) word ≡ back → after (set_at bit stage) word ≡ then
           → effects_of p (set_at bit stage) word ≡ fx → Does (Some (exchanging found)) back then fx → DoesOf stage
-      parts back then fx is_back goes tells shows = grind arith
+      parts = grind arith
 
       go : (t : Bool) → (word == found) ≡ t → (u : Bool) → has_flag word bit ≡ u → DoesOf stage
       go true t u e =

@@ -24,7 +24,7 @@ opens_clear c b = ap (λ w. has_flag w b) (zeros (1 + elements c) (element_of b)
 
 pub never_asks : {T : Type 0} (c : ℕ) (wrote : List (Event T)) (start : BitsStart) (flight : BitsFlight)
     → CallAt c wrote start flight → is_question (want flight) ≡ false
-never_asks x0 x1 x2 x3 x4 = grind arith
+never_asks = grind arith
 
 module _ {T : Type 0} where
   pub opens : (c : ℕ) → Holds {T = T} c (bits_words c) []
@@ -70,13 +70,13 @@ module _ {T : Type 0} where
     First start flight = IsFirst bit_set c p events words changes start flight
 
     pub first_is : (start : BitsStart) (flight : BitsFlight) → first kinds.Bits c start ≡ Some flight → is_past c start ≡ false → First start flight
-    first_is x0 x1 x2 x3 = grind arith
+    first_is = grind arith
 
   -- a call that begins on a bit set is one of its own
   pub begins_own : (c : ℕ) (kept : Registry T) (start : Start T) (flight : Flight T) → first_of kinds.Bits c start kept ≡ Some flight → IsOwn start
-  begins_own x0 x1 x2 x3 x4 = grind arith
+  begins_own = grind arith
 
   -- to begin changes no bit
   pub begins_none : (c p : ℕ) (start : BitsStart) (words : List ℕ) (events : List (Event T)) (changes : ℕ)
       → Preserves c words events changes words (Begun p (Bits start) ∷ []) changes
-  begins_none x0 x1 x2 x3 x4 x5 = grind arith
+  begins_none = grind arith

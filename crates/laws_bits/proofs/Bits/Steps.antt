@@ -15,7 +15,7 @@ use Rattle.laws_bits.proofs.Words.{change_one}
 
 -- the words of any operation are paid
 pub pays_by : (words : List ℕ) (ask : Option Ask) (changes : ℕ) → Pays words (words_after words ask) changes (changes + change_of words ask)
-pays_by x0 x1 x2 = grind (arith, change_one)
+pays_by = grind (arith, change_one)
 
 module _ {T : Type 0} (code : Coding T) (c : ℕ) (s : SetState T) (events : List (Event T)) (turns p changes since steps backs : ℕ) where
   abbrev Does : List (Event T) → BitsStart → Option Ask → Bool → After BitsFlight (Answer T) → List (Event T) → Type 0
@@ -81,4 +81,4 @@ module _ {T : Type 0} (code : Coding T) (c : ℕ) (s : SetState T) (events : Lis
       → goes_back flight (old_of s.words (ask_of (want flight))) ≡ back
       → after flight (old_of s.words (ask_of (want flight))) ≡ then
       → effects_of p flight (old_of s.words (ask_of (want flight))) ≡ fx → Does before start (ask_of (want flight)) back then fx → DoesOf before start flight
-  by_parts x0 x1 x2 x3 x4 x5 x6 x7 x8 x9 = grind arith
+  by_parts = grind arith

@@ -6,7 +6,7 @@ use Rattle.std.proofs.Common.{arith}
 
 -- of what was counted and taken out before and since
 either_way : (c t c' t' wraps : ℕ) → 1 ≤ c - t → c + c' ≡ t + t' + 2 ^ 64 * wraps → (1 ≤ t') ⊎ (2 ^ 64 ≤ c + c')
-either_way x0 x1 x2 x3 x4 x5 x6 = grind arith
+either_way = grind arith
 
 module _ {T : Type 0} where
   pub counts_more : (place : ℕ) (xs ys : List (Event T)) → counts place (xs ++ ys) ≡ counts place xs + counts place ys

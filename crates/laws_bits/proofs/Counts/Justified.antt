@@ -10,7 +10,7 @@ use Rattle.laws_bits.proofs.Laws.{SetLaws, sets_keep, sound_on}
 
 are_effects : (T : Type 0) (c p old : ℕ) (wrote : List (Event T)) (start : BitsStart) (flight : BitsFlight)
     → CallAt c wrote start flight → AllByRecursion (IsEffectOf {T = T} (Next p)) (effects_of p flight old)
-are_effects x0 x1 x2 x3 x4 x5 x6 x7 = grind arith
+are_effects = grind arith
 
 module _ {T : Type 0} where
   pub laws : (code : Coding T) (c : ℕ) → SetLaws counting_set code c

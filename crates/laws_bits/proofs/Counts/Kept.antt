@@ -12,10 +12,10 @@ use Rattle.laws_bits.proofs.Counts.Invariant.{Holds, CallAt, KnowsCall, number_o
 module _ {T : Type 0} where
   pub steps_most : (c : ℕ) (wrote : List (Event T)) (start : BitsStart) (flight : BitsFlight)
       → CallAt c wrote start flight → number_of flight ≤ most_counts_steps c start
-  steps_most x0 x1 x2 x3 x4 = grind arith
+  steps_most = grind arith
 
   pub backs_paid : (p : ℕ) (events : List (Event T)) (n backs : ℕ) (flight : BitsFlight) → KnowsCall p events backs flight → backs ≤ n
-  backs_paid x0 x1 x2 x3 x4 x5 = grind arith
+  backs_paid = grind arith
 
   -- ---- without an end
 

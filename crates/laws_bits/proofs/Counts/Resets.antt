@@ -123,7 +123,7 @@ module _ {T : Type 0} (code : Coding T) (c : ℕ) (s : SetState T) (events : Lis
           go false t = rw t refl
 
   takes_some : 1 ≤ count → TakesOut (TakenOut p word count ∷ [])
-  takes_some x0 = grind arith
+  takes_some = grind arith
 
   -- ---- a swap
 
@@ -187,7 +187,7 @@ module _ {T : Type 0} (code : Coding T) (c : ℕ) (s : SetState T) (events : Lis
           }
 
       ends_with_some : word + 1 ≡ c → 1 ≤ count → Does swaps done (TakenOut p word count ∷ [])
-      ends_with_some x0 x1 = grind (arith, takes_some, length-set, moved, swapped, cond, not_far, all_taken)
+      ends_with_some = grind (arith, takes_some, length-set, moved, swapped, cond, not_far, all_taken)
 
       -- whatever the count is
       swaps_on : word + 1 < end → (t : Bool) → (count == 0) ≡ t → Does swaps next (take_events p word count)
@@ -195,7 +195,7 @@ module _ {T : Type 0} (code : Coding T) (c : ℕ) (s : SetState T) (events : Lis
       swaps_on more false t = let some : 1 ≤ count = grind (arith, nat_tests) in rw t (goes_on (TakenOut p word count ∷ []) (takes_some some) more)
 
       swaps_last : word + 1 ≡ c → (t : Bool) → (count == 0) ≡ t → Does swaps done (take_events p word count)
-      swaps_last x0 x1 x2 = grind (arith, ends_with_none, ends_with_some, nat_tests)
+      swaps_last = grind (arith, ends_with_none, ends_with_some, nat_tests)
 
     -- the step, whatever is left
     pub reset_step : word ≤ c

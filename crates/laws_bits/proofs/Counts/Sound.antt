@@ -14,7 +14,7 @@ use Rattle.laws_bits.proofs.Words.{zeros}
 
 pub never_asks : {T : Type 0} (c : ℕ) (wrote : List (Event T)) (start : BitsStart) (flight : BitsFlight)
     → CallAt c wrote start flight → is_question (want flight) ≡ false
-never_asks x0 x1 x2 x3 x4 = grind arith
+never_asks = grind arith
 
 module _ {T : Type 0} where
   pub opens : (c : ℕ) → Holds {T = T} c (counts_words c) [] 0
@@ -56,14 +56,14 @@ module _ {T : Type 0} where
 
     pub first_is : (start : BitsStart) (flight : BitsFlight) → first kinds.Counts c start ≡ Some flight
         → is_past c start ≡ false → First start flight
-    first_is x0 x1 x2 x3 = grind arith
+    first_is = grind arith
 
   -- a call that begins on a counting bit set is one of its own
   pub begins_own : (c : ℕ) (kept : Registry T) (start : Start T) (flight : Flight T)
       → first_of kinds.Counts c start kept ≡ Some flight → IsOwn start
-  begins_own x0 x1 x2 x3 x4 = grind arith
+  begins_own = grind arith
 
   -- to begin changes no count
   pub begins_none : (c p : ℕ) (start : BitsStart) (words : List ℕ) (events : List (Event T)) (turns : ℕ)
       → Holds c words events turns → Preserves c words events turns words (Begun p (Bits start) ∷ [])
-  begins_none x0 x1 x2 x3 x4 x5 x6 = grind arith
+  begins_none = grind arith

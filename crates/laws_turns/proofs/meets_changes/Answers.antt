@@ -1,4 +1,4 @@
-use Rattle.laws_turns.proofs.Meeting as laws
+use Rattle.laws_turns.proofs.UpdateAnswers as laws
 use Rattle.laws_turns.proofs.meets_changes.Goals as goal
 
 pub returns : goal.returns

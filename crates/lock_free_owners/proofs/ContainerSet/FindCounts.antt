@@ -16,7 +16,7 @@ use Rattle.model.specs.Families.Container.Questions.{question_in}
 use Rattle.model.specs.Shape.{IsOpenFor}
 use Rattle.model.specs.Step.{answer_in}
 use Rattle.model.specs.World.{Trace, flight_in}
-use Rattle.laws_container.specs.Tells.{StoppedIf}
+use Rattle.laws_container.specs.ConditionalPromises.{StoppedIf}
 use Rattle.laws_container.proofs.OpenRuns.{reached_open_tells}
 use Rattle.history.proofs.Calls.{Stands, stands, flight_is, heard_events}
 use Rattle.history.proofs.Reached.{decide_as}

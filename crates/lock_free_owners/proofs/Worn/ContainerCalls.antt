@@ -23,7 +23,7 @@ use Rattle.model.specs.Families.Container.Reading.{Act}
 use Rattle.model.specs.Families.Container.Steps.{effects}
 use Rattle.model.specs.Families.Indices.Robust.Reading.{SetAct}
 use Rattle.model.specs.Families.Queues.Calls.{kept_at, read_in}
-use Rattle.laws_container.proofs.Standing.{At}
+use Rattle.laws_container.proofs.CallProgress.{At}
 use Rattle.lock_free_owners.specs.Worn.{changes, may_lock}
 use Rattle.laws_robust.proofs.Counter.{count_old}
 use Rattle.lock_free_owners.proofs.Worn.Parts.{moved_none, count_moves, counts_move}

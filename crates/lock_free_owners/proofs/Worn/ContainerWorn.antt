@@ -43,7 +43,7 @@ use Rattle.model.proofs.Scenes.{stands_there}
 use Rattle.laws_robust.specs.Gone.{Word}
 use Rattle.laws_robust.specs.Open.{open_refusal, IsReachedOpen}
 use Rattle.laws_robust.proofs.Opening.{admitted_is}
-use Rattle.laws_container.proofs.Everything.{shown}
+use Rattle.laws_container.proofs.AllRuns.{shown}
 use Rattle.laws_container.proofs.Invariant.{family_by, FlightAt}
 use Rattle.laws_container.proofs.OpenRuns.{open_turn_sound}
 use Rattle.laws_container.proofs.Sound.{opening_sound}

@@ -4,7 +4,7 @@ use Rattle.model.specs.declared.event.Start.TheVariants.{Robust}
 use Rattle.model.specs.declared.families.indices.robust.RobustStart.{RobustStart}
 use Rattle.model.specs.declared.families.indices.robust.calls.RobustFlight.{RobustFlight}
 use Rattle.model.specs.Families.Indices.Robust.Reading.{SetAct}
-use Rattle.laws_robust.proofs.Standing.{At}
+use Rattle.laws_robust.proofs.CallProgress.{At}
 use Rattle.lock_free_owners.specs.Worn.{may_lock}
 use Rattle.lock_free_owners.proofs.Worn.RobustPays.{robust_locks, RobustStands}
 

@@ -130,7 +130,7 @@ module _ {T : Type 0} (is_call : Start T → Bool) where
 
   pub ends_as : (start : Start T) (answer : Answer T) (x : Standing T) (call : Start T) (acted : Option (Answer T))
       → x ≡ Some (call, acted) → is_call call ≡ true → Ends start answer x → acted ≡ Some answer
-  ends_as x0 x1 x2 x3 x4 x5 x6 x7 = grind arith
+  ends_as = grind arith
 
   -- a call that has acted ends with that answer
   pub told : (p : ℕ) (start : Start T) (answer : Answer T) (r : Response T) (es : List (Event T)) (place : ℕ) (going : ℕ → Standing T)

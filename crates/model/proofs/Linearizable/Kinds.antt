@@ -18,7 +18,7 @@ module _ {T : Type 0} where
   one_of_list : (kind : QueueKind) (capacity : ℕ) (start : Start T) (answer : Answer T) (wrote : List (Event T))
       → is_push_or_pop start ≡ true → queue_promises.wrote kind capacity start answer wrote
       → moments wrote ≡ (start, answer) ∷ []
-  one_of_list x0 x1 x2 x3 x4 x5 x6 = grind arith
+  one_of_list = grind arith
 
   others_of_list : (kind : QueueKind) (capacity : ℕ) (items : List (Item T)) (start : Start T)
       → is_push_or_pop start ≡ false → (list_of kind capacity).after items start ≡ items
@@ -57,11 +57,11 @@ module _ {T : Type 0} where
   one_of_value : (capacity : ℕ) (start : Start T) (answer : Answer T) (wrote : List (Event T))
       → is_store_or_load start ≡ true → value_promises.wrote capacity start answer wrote
       → moments wrote ≡ (start, answer) ∷ []
-  one_of_value x0 x1 x2 x3 x4 x5 = grind arith
+  one_of_value = grind arith
 
   others_of_value : (code : Coding T) (value : T) (start : Start T) → is_store_or_load start ≡ false
       → (value_promises.value_of_zeros code).after value start ≡ value
-  others_of_value x0 x1 x2 x3 = grind arith
+  others_of_value = grind arith
 
   value_linearizable : (t : Trace T) → IsKeptBy value_promises.promise t → IsLinearizable (as_value t.world.coding) t.events
   value_linearizable t kept =

@@ -48,7 +48,7 @@ module _ {X : Type 0} where
       go (suc k) lt e = inr (k, omega arith, e)
 
   pub split_if : (b : Bool) (x y : X) (xs : List X) → Contains (kept_if b x xs) y → (b ≡ true) × (x ≡ y) ⊎ Contains xs y
-  split_if x0 x1 x2 x3 x4 = grind (arith, inl, inr, split)
+  split_if = grind (arith, inl, inr, split)
 
   -- P holds of each where it holds of each member
   pub all_of : (P : X → Type 0) (xs : List X) → ((y : X) → Contains xs y → P y) → All P xs
@@ -78,12 +78,12 @@ module _ {X : Type 0} where
 module _ {X : Type 0} where
   -- R holds of a pair
   pub pair_of : (R : X → X → Type 0) (x y : X) → R x y → AllPairs R (x ∷ y ∷ [])
-  pair_of x0 x1 x2 x3 = grind (arith, pairs_of, none_there, split)
+  pair_of = grind (arith, pairs_of, none_there, split)
 
   -- one of two
   pub either : (x y z : X) → Contains (x ∷ y ∷ []) z → (x ≡ z) ⊎ (y ≡ z)
-  either x0 x1 x2 x3 = grind (arith, inl, inr, none_there, split)
+  either = grind (arith, inl, inr, none_there, split)
 
   -- three of two are not apart
   pub three_of_two : (x y a b c : X) → (x ≡ a) ⊎ (y ≡ a) → (x ≡ b) ⊎ (y ≡ b) → (x ≡ c) ⊎ (y ≡ c) → a ≢ b → a ≢ c → b ≢ c → ⊥
-  three_of_two x0 x1 x2 x3 x4 x5 x6 x7 x8 x9 x10 = grind arith
+  three_of_two = grind arith

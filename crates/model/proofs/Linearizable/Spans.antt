@@ -27,22 +27,22 @@ module _ {T : Type 0} where
   moments_more wrote e = flat_map-append acts wrote (e ∷ [])
 
   shut : (span : Span T) → IsShut span → standing span ≡ None
-  shut x0 x1 = grind arith
+  shut = grind arith
 
   not_acted : (start : Start T) (span : Span T) → IsOpenFor start (λ wrote. moments wrote ≡ []) span → standing span ≡ Some (start, None)
-  not_acted x0 x1 x2 = grind arith
+  not_acted = grind arith
 
   acted_now : (p : ℕ) (start : Start T) (answer : Answer T) (span : Span T)
       → IsOpenFor start (λ wrote. moments wrote ≡ []) span
       → Some (start, Some answer) ≡ standing (longer span (Acted p start answer))
-  acted_now x0 x1 x2 x3 x4 = grind (arith, moments_more)
+  acted_now = grind (arith, moments_more)
 
   over : (span : Span T) (answer : Answer T) → standing (ended span answer) ≡ None
-  over x0 x1 = grind arith
+  over = grind arith
 
   -- what an event that is no act makes of it
   quiet : (span : Span T) (e : Event T) → acts e ≡ [] → standing (longer span e) ≡ standing span
-  quiet x0 x1 x2 = grind (arith, moments_more, moments, append-nil)
+  quiet = grind (arith, moments_more, moments, append-nil)
 
   -- ---- one event
 
@@ -76,7 +76,7 @@ module _ {T : Type 0} (promise : Promise T) (capacity : ℕ) (is_call : Start T 
     → promise.wrote capacity start answer wrote → moments wrote ≡ (start, answer) ∷ []) where
   ends : (start : Start T) (answer : Answer T) (span : Span T)
       → IsOpenFor start (promise.wrote capacity start answer) span → Ends is_call start answer (standing span)
-  ends x0 x1 x2 x3 = grind arith
+  ends = grind arith
 
   follows : (es before : List (Event T)) (going : ℕ → Standing T) → Agree going before
       → AreRight (StandsRight promise capacity) before es → ActsOnce is_call es going

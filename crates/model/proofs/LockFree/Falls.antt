@@ -7,7 +7,7 @@ use Rattle.steps.specs.declared.ask.Op.TheVariants.{Load}
 use Rattle.model.proofs.LockFree.Measure.{WordMeasure, of_words, Falls}
 
 pub same_is : (n : ℕ) → (n == n) ≡ true
-same_is x0 = grind (arith, nat_tests)
+same_is = grind (arith, nat_tests)
 
 -- a load leaves the words
 pub load_leaves : (words : List ℕ) (w : ℕ) → words_after words (Some (record { word = w; op = Load })) ≡ words

@@ -16,7 +16,7 @@ use Rattle.model.specs.Loads.{EndsLoad, EndsLoadRuns}
 use Rattle.model.proofs.LockFree.Measure.{worth}
 
 past_none : (parties p : ℕ) → nat_le parties p ≡ false → p < parties
-past_none x0 x1 x2 = grind (arith, nat_tests)
+past_none = grind (arith, nat_tests)
 
 -- where no more have ended, there were no more steps than the bound
 one_ends : (bound steps before after : ℕ) → AreWithinEnds bound steps before after → bound < steps → before < after

@@ -17,7 +17,7 @@ pub worth : (fewer more each : ℕ) → fewer ≤ more → fewer * each ≤ more
 worth fewer more each le = let rest : more ≡ fewer + (more - fewer) = omega arith in rw rest (spread fewer (more - fewer) each)
   where
     spread : (a b each : ℕ) → a * each ≤ (a + b) * each
-    spread a b each = omega arith
+    spread = omega arith
 
 -- what is said of each call under way, in these words and by what is kept beside them
 pub record Measure (T : Type 0) : Type 0 where

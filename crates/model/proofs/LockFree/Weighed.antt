@@ -9,7 +9,7 @@ use Rattle.model.specs.Turns.{AreAllowedBy, IsReachedBy}
 one_turn_more : (s steps old new last before ended after each : ℕ) → s + new ≤ old + ended * each
     → steps + last + (before + ended) * each ≤ new + after * each
     → s + steps + last + before * each ≤ old + after * each
-one_turn_more s steps old new last before ended after each here rest = omega arith
+one_turn_more = omega arith
 
 pub ended_more : {T : Type 0} (xs ys : List (Event T)) → ends (xs ++ ys) ≡ ends xs + ends ys
 ended_more xs ys = sum_by-append end_of xs ys

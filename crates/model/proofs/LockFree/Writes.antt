@@ -36,40 +36,40 @@ module _ {T : Type 0} where
   edges events = sum_by edge_of events
 
   end_in : (e : Event T) → end_of e ≤ edge_of e
-  end_in e = omega arith
+  end_in = omega arith
 
   begin_in : (e : Event T) → begun_of e ≤ edge_of e
-  begin_in e = omega arith
+  begin_in = omega arith
 
 module _ (T : Type 0) where
   queue_writes : (p : ℕ) (start : QueueStart T) (effect : Effect T) (outcome : Option (Answer T)) → edges (queues.effects_of p start effect outcome) ≡ 0
-  queue_writes x0 x1 x2 x3 = grind arith
+  queue_writes = grind arith
 
   atomic_writes : (p : ℕ) (start : AtomicStart T) (outcome : Option (Answer T)) → edges (atomic.acted p start outcome) ≡ 0
-  atomic_writes x0 x1 x2 = grind arith
+  atomic_writes = grind arith
 
   cleared : (p : ℕ) (places : List ℕ) → edges {T = T} (map (λ bit. Cleared p bit) places) ≡ 0
   cleared p [] = refl
   cleared p (x ∷ xs) = cleared p xs
 
   bits_writes : (p : ℕ) (flight : BitsFlight) (old : ℕ) → edges {T = T} (bits.effects_of p flight old) ≡ 0
-  bits_writes x0 x1 x2 = grind (arith, cleared)
+  bits_writes = grind (arith, cleared)
 
   index_writes : (p : ℕ) (frees : Option ℕ) (outcome : Option (Answer T)) → edges (indices.effects p frees outcome) ≡ 0
-  index_writes x0 x1 x2 = grind arith
+  index_writes = grind arith
 
   robust_writes : (p : ℕ) (flight : RobustFlight) (old : ℕ) → edges {T = T} (robust.effects p flight old) ≡ 0
-  robust_writes x0 x1 x2 = grind arith
+  robust_writes = grind arith
 
   container_effects : (code : Coding T) (p : ℕ) (state : Option (ContainerState T)) (flight : ContainerFlight T) (old : ℕ)
       → edges (container.effects code p state flight old) ≡ 0
-  container_effects x0 x1 x2 x3 x4 = grind arith
+  container_effects = grind arith
 
   container_questions : (p : ℕ) (flight : ContainerFlight T) (old : ℕ) → edges (container.questions p flight old) ≡ 0
-  container_questions x0 x1 x2 = grind arith
+  container_questions = grind arith
 
   loan_writes : (p : ℕ) (effect : loan_effects.Effect) (outcome : Option (Answer T)) → edges (loan.effects_of p effect outcome) ≡ 0
-  loan_writes x0 x1 x2 = grind arith
+  loan_writes = grind arith
 
   container_writes : (code : Coding T) (p : ℕ) (state : Option (ContainerState T)) (flight : ContainerFlight T) (old : ℕ)
       → edges (container.effects code p state flight old ++ container.questions p flight old) ≡ 0
@@ -81,7 +81,7 @@ module _ (T : Type 0) where
 
   no_edge : (code : Coding T) (words : List ℕ) (beside : Option (ℕ × ℕ)) (p : ℕ) (start : Start T) (flight : Flight T) (old : ℕ) (kept : Registry T)
       → edges (step_of code words beside p start flight old kept).wrote ≡ 0
-  no_edge x0 x1 x2 x3 x4 x5 x6 x7 =
+  no_edge =
       grind (arith, queue_writes, atomic_writes, bits_writes, index_writes, robust_writes, container_writes, loan_writes)
 
   module _ (code : Coding T) (words : List ℕ) (beside : Option (ℕ × ℕ)) (p : ℕ) (start : Start T) (flight : Flight T) (old : ℕ) (kept : Registry T) where

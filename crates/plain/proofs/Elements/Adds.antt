@@ -31,7 +31,7 @@ IsAnswer (Ok x) = Unit {0}
 IsAnswer (Err e) = ⊥
 
 pub acquired_low : (s : Owners) (i : ℕ) → Ok i ≡ acquired s → i < length s.owners
-acquired_low x0 x1 = grind (arith, by_test, length, is_none, nat_tests)
+acquired_low = grind (arith, by_test, length, is_none, nat_tests)
 
 pub owners_long : (capacity : ℕ) (words : List ℕ) → robust.Represents capacity words
     → length (owners_in words).owners ≡ capacity
@@ -189,4 +189,4 @@ module _ {V : Type 0} (words_of : V → List ℕ) (value_of : List ℕ → V) (s
       → (words : List ℕ) → Represents size capacity words
       → Runs (add_want words_of size) (λ c given old. add_after size c old) (λ c (room : Unit {0}) old. room) given
       (λ e room ws. Put words e ws) call tt words
-  add_at x0 x1 x2 x3 x4 x5 x6 = grind (arith, add_runs)
+  add_at = grind (arith, add_runs)

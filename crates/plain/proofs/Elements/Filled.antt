@@ -40,7 +40,7 @@ gone_there (y ∷ l) zero = refl
 gone_there (y ∷ l) (suc i) = gone_there l i
 
 pub given_owners : (mode : ReleaseMode) (s : Owners) (i : ℕ) → (given_back mode s i).owners ≡ slice_set s.owners i None
-given_owners x0 x1 x2 = grind (arith, by_test, length, taken, without, raised)
+given_owners = grind (arith, by_test, length, taken, without, raised)
 
 module _ {V : Type 0} where
   pub filled_opened : (capacity container : ℕ) → IsFilled (opened {V = V} capacity container)
@@ -52,14 +52,14 @@ module _ {V : Type 0} where
   -- an index goes, and its value
   pub filled_gone : (s new : Contents V) (i : ℕ) → new.values ≡ slice_set s.values i None
       → new.owners.owners ≡ slice_set s.owners.owners i None → IsFilled s → IsFilled new
-  filled_gone x0 x1 x2 x3 x4 x5 x6 x7 = grind (arith, gone_there, false, get_or-set_other, eqb_tells)
+  filled_gone = grind (arith, gone_there, false, get_or-set_other, eqb_tells)
 
   put : (s : Contents V) (owner : ℕ) (value : V) (i : ℕ) → i < length s.values → IsFilled s → IsFilled (put_at s owner value (Ok i))
-  put x0 x1 x2 x3 x4 x5 x6 x7 = grind (arith, get_or-set_same, false, get_or-set_other, eqb_tells)
+  put = grind (arith, get_or-set_same, false, get_or-set_other, eqb_tells)
 
   added : (s : Contents V) (owner : ℕ) (value : V) → length s.values ≡ length s.owners.owners → IsFilled s
       → (r : Result ℕ UniqueIndexSetAcquireFailure) → r ≡ acquired s.owners → IsFilled (put_at s owner value r)
-  added x0 x1 x2 x3 x4 x5 x6 = grind (arith, acquired_low, put)
+  added = grind (arith, acquired_low, put)
 
   pub filled_add : (owner : ℕ) (value : V) (s : Contents V) → length s.values ≡ length s.owners.owners → IsFilled s
       → IsFilled (after_add s owner value)
@@ -67,18 +67,18 @@ module _ {V : Type 0} where
 
   pub filled_remove : (handle : ContainerHandle) (mode : ReleaseMode) (s : Contents V) → IsFilled s
       → IsFilled (after_remove s handle mode)
-  filled_remove x0 x1 x2 x3 = grind (arith, by_test, names, filled_gone, changed, given_back, given_owners)
+  filled_remove = grind (arith, by_test, names, filled_gone, changed, given_back, given_owners)
 
   pub filled_replace : (handle : ContainerHandle) (value : V) (s : Contents V) → IsFilled s
       → IsFilled (after_replace s handle value)
-  filled_replace x0 x1 x2 x3 = grind (arith, by_test, names, was_none)
+  filled_replace = grind (arith, by_test, names, was_none)
 
 -- a turn of the words keeps them so
 pub still : {V A : Type 0} (value_of : List ℕ → V) (size capacity container : ℕ) (answer : Contents V → A) (next : Contents V → Contents V)
     (words : List ℕ) → IsFilled (next (contents_in value_of size capacity container words)) → (a : A) (last : List ℕ)
     → BehavesAs (Represents size capacity) (contents_in value_of size capacity container) answer next words a last
     → BehavesAs (Holds value_of size capacity container) (contents_in value_of size capacity container) answer next words a last
-still x0 x1 x2 x3 x4 x5 x6 x7 x8 x9 x10 = grind arith
+still = grind arith
 
 pub values_long : {V : Type 0} (value_of : List ℕ → V) (size capacity container : ℕ) (words : List ℕ) → Represents size capacity words
     → length (contents_in value_of size capacity container words).values ≡ length (contents_in value_of size capacity container words).owners.owners

@@ -109,7 +109,7 @@ module _ {V R F : Type 0} (value_of : List ℕ → V) (words_in : R → List ℕ
     module _ (done : ℕ) (call : Find V R) (room₀ : R) (now : F) (so_far : Finding ready done call room₀ now) where
       pub ended : (n : ℕ) (room : R) (last : List ℕ) → At ready done so_far.left (stops.TheVariants.Ended (n, room)) last
           → HasFound sees all f n now × (last ≡ words)
-      ended x0 x1 x2 x3 = grind (arith, found_all)
+      ended = grind (arith, found_all)
 
       module _ (question : Question (Unit {0})) (asks : Find V R) (room : R) (last : List ℕ)
           (at : Question_at ready done so_far.left question asks room last)
@@ -125,7 +125,7 @@ module _ {V R F : Type 0} (value_of : List ℕ → V) (words_in : R → List ℕ
             (value_in value_of size (words_in room)) at.copied)
 
         saw : (a : CallbackProgression) (next : F) → step now value (handle_of old owner index) a next → sees now at.index a next
-        saw x0 x1 x2 = grind (arith, value_in)
+        saw = grind (arith, value_in)
 
         pub onward : (a : CallbackProgression) (next : F) → step now value (handle_of old owner index) a next
             → Onward ready (done + 1) (find_after size asks owner (as_answer a)) room next
@@ -166,7 +166,7 @@ module _ {V R F : Type 0} (value_of : List ℕ → V) (words_in : R → List ℕ
 
   pub starts : (call : Find V R) → call ≡ first_find capacity → (room : R) → size ≤ length (words_in room)
       → Ready value_of size capacity container owner words → Searching 0 call room f words
-  starts x0 x1 x2 x3 x4 = grind (arith, begins)
+  starts = grind (arith, begins)
 
   module _ (done : ℕ) (call : Find V R) (room₀ : R) (now : F) (items : List ℕ) (t : Searching done call room₀ now items) where
     pub can_go : CanStop want (find_after size) kept owner call room₀ items
@@ -174,7 +174,7 @@ module _ {V R F : Type 0} (value_of : List ℕ → V) (words_in : R → List ℕ
 
     stops_at : (stop : stops.Stop (Find V R) ℕ) (room : R) (last : List ℕ)
         → StopsAlike want (find_after size) kept owner call room₀ items stop room last → Apart (At t.0 done t.2.left) stop room last
-    stops_at x0 x1 x2 x3 = grind (arith, stops_so)
+    stops_at = grind (arith, stops_so)
 
     pub ended_so : (n : ℕ) (room : R) (last : List ℕ)
         → StopsAlike want (find_after size) kept owner call room₀ items (stops.TheVariants.Ended n) room last
@@ -200,7 +200,7 @@ module _ {V R F : Type 0} (value_of : List ℕ → V) (words_in : R → List ℕ
 
         further : (a : CallbackProgression) (next : F) (b : After (Find V R) ℕ)
             → Onward t.0 (done + 1) b room next → Further (done + 1) b room next last
-        further x0 x1 x2 x3 = grind arith
+        further = grind arith
 
         pub further_so : (a : CallbackProgression) (next : F) → step now value (handle_of old owner index) a next
             → (answer : ℕ) → answer ≡ as_answer a → (b : After (Find V R) ℕ) → b ≡ find_after size asks owner answer

@@ -63,7 +63,7 @@ module _ {V : Type 0} (value_of : List ℕ → V) (size capacity container : ℕ
       let e : suc (length cells) ≡ 1 + capacity = sym (ap length front) ∙ front_long in omega arith
 
   pub cell_is : (index : ℕ) → index < capacity → slice_index words (cell_word index) ≡ slice_index cells index
-  cell_is x0 x1 = grind (arith, get_or-take, front, next_cell)
+  cell_is = grind (arith, get_or-take, front, next_cell)
 
   abbrev pub count : ℕ → ℕ
   count index = slice_index words (count_word capacity index)
@@ -72,11 +72,11 @@ module _ {V : Type 0} (value_of : List ℕ → V) (size capacity container : ℕ
   cell index = element_word capacity size index 0
 
   value_is : (index : ℕ) → index < capacity → slice_index_or old.values index None ≡ value_at value_of size capacity words index
-  value_is x0 x1 = grind (arith, get_or-map-range_with_len, value_at)
+  value_is = grind (arith, get_or-map-range_with_len, value_at)
 
   owner_is : (index owner : ℕ) → index < capacity → owner < empty → slice_index cells index ≡ owner
       → slice_index_or old.owners.owners index None ≡ Some owner
-  owner_is x0 x1 x2 x3 x4 = grind (arith, cells_long, front, get_or-map, owner_some)
+  owner_is = grind (arith, cells_long, front, get_or-map, owner_some)
 
   -- an index with an owner has a value
   pub odd_at : (index owner : ℕ) → index < capacity → owner < empty → slice_index cells index ≡ owner
@@ -92,10 +92,10 @@ module _ {V : Type 0} (value_of : List ℕ → V) (size capacity container : ℕ
 
   pub stands_at : (index : ℕ) → index < capacity → is_even (count index) ≡ false
       → Stands old index (value_of (words_from words (cell index) size))
-  stands_at x0 x1 x2 = grind (arith, value_is, words_from)
+  stands_at = grind (arith, value_is, words_from)
 
   pub small_at : (index : ℕ) → index < capacity → size ≤ 128 → cell index + size < 2 ^ 64
-  small_at x0 x1 x2 = grind (arith, cell_within, all_small)
+  small_at = grind (arith, cell_within, all_small)
 
 -- reading words keeps the length of a room
 pub long_read : {R : Type 0} (words_in : R → List ℕ) (with_word : R → ℕ → ℕ → R)

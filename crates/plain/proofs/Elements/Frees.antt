@@ -26,7 +26,7 @@ module _ (capacity g : ℕ) (cells ws : List ℕ) (small : g < 2 ^ 64) (front : 
   pub raise_over : g ≢ locked → (Q : ReleaseState → List ℕ → Type 0)
       → ((last : List ℕ) → Behind (1 + capacity) ws last → take (1 + capacity) last ≡ next_generation g ∷ cells → Q Unlocked last)
       → Walks raise_want raise_after 2 (OnEnd Q) raises.LoadsCounter ws
-  raise_over x0 x1 x2 = grind (arith, front_walks, raise_below, any_low, cells, stays, front, raise_walks)
+  raise_over = grind (arith, front_walks, raise_below, any_low, cells, stays, front, raise_walks)
 
   pub lock_over : length cells ≡ capacity → capacity < 2 ^ 32 → (Q : ReleaseState → List ℕ → Type 0)
       → ((state : ReleaseState) (last : List ℕ) → Behind (1 + capacity) ws last → take (1 + capacity) last ≡ locking g cells ∷ cells → Q state last)

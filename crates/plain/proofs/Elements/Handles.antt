@@ -9,11 +9,11 @@ use Rattle.plain.specs.Contents.{names, contents_in}
 use Rattle.plain.proofs.Robust.Parts.{next_cell}
 
 owns_word : (owner : ℕ) → owner < empty → (w : ℕ) → owns (owner_in w) owner ≡ (w == owner)
-owns_word x0 x1 x2 = grind (arith, by_eq, owns, empty, ne_eqb)
+owns_word = grind (arith, by_eq, owns, empty, ne_eqb)
 
 pub has_word : (capacity : ℕ) (words : List ℕ) → Represents capacity words → (index owner : ℕ) → owner < empty → index < capacity
     → has (owners_in words) index owner ≡ (slice_index words (cell_word index) == owner)
-has_word x0 x1 x2 x3 x4 x5 x6 = grind (arith, suc, length, owns, get_or-map, owns_word, next_cell)
+has_word = grind (arith, suc, length, owns, get_or-map, owns_word, next_cell)
 
 pub has_past : (capacity : ℕ) (words : List ℕ) → Represents capacity words → (index owner : ℕ) → capacity ≤ index
     → has (owners_in words) index owner ≡ false
@@ -24,4 +24,4 @@ has_past capacity (g ∷ cells) fits index owner far = grind (arith, suc, length
 pub names_own : {V : Type 0} (capacity size container : ℕ) (value_of : List ℕ → V) (words : List ℕ) (index owner : ℕ)
     → names (contents_in value_of size capacity container words) (record { index = index; owner = owner; container = container })
     ≡ has (owners_in (take (1 + capacity) words)) index owner
-names_own x0 x1 x2 x3 x4 x5 x6 = grind (arith, has, take, eq-eqb)
+names_own = grind (arith, has, take, eq-eqb)

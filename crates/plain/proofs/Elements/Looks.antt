@@ -38,11 +38,11 @@ BorrowedLow capacity call = (call.capacity ≡ capacity) × CountLow capacity ca
 counted_low : (capacity : ℕ) (call : BorrowedIndices) → call.capacity ≡ capacity
     → (a : After counts.Count ends.Counted) → LowThen (CountLow capacity) a
     → LowThen {E = ℕ} (BorrowedLow capacity) (borrowed_counted call a)
-counted_low x0 x1 x2 x3 x4 = grind arith
+counted_low = grind arith
 
 goes_low : (capacity : ℕ) (call : BorrowedIndices) (old : ℕ) → BorrowedLow capacity call
     → LowThen {E = ℕ} (BorrowedLow capacity) (borrowed_after call old)
-goes_low x0 x1 x2 x3 = grind (arith, counted_low, count_after, count_goes_low)
+goes_low = grind (arith, counted_low, count_after, count_goes_low)
 
 module _ {V : Type 0} (value_of : List ℕ → V) (size capacity container : ℕ) where
   abbrev pub Counted : List ℕ → ℕ → List ℕ → Type 0
@@ -77,4 +77,4 @@ module _ {V : Type 0} (value_of : List ℕ → V) (size capacity container : ℕ
   pub look_at : (c : IsLocked) (words : List ℕ) → Represents size capacity words
       → Runs (λ (c : IsLocked) (given : Unit {0}). load 0) (λ c given old. locked_after c old) (λ c (room : Unit {0}) old. room) tt
       (λ e room ws. Looked words e ws) c tt words
-  look_at x0 x1 x2 = grind (arith, runs, load, take, suc)
+  look_at = grind (arith, runs, load, take, suc)

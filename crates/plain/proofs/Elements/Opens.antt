@@ -41,7 +41,7 @@ module _ {V : Type 0} (value_of : List ℕ → V) (size capacity container : ℕ
   front_long = length-set set 0 0 ∙ (ap length set_is ∙ length-replicate (1 + capacity) empty)
 
   zeros : (i : ℕ) → 1 + capacity ≤ i → slice_index more i ≡ 0
-  zeros x0 x1 = grind (arith, front_long, behind_zero)
+  zeros = grind (arith, front_long, behind_zero)
 
   pub opens_so : contents_in value_of size capacity container more ≡ opened capacity container
   opens_so = grind (arith, take, opened_at, take_front, front_long, opens, same_there, value_at, words_from, zeros)
@@ -49,7 +49,7 @@ module _ {V : Type 0} (value_of : List ℕ → V) (size capacity container : ℕ
 grown : {A B : Type 0} (r : Result A B) (old new : List ℕ) (n m : ℕ)
     → new ≡ (if is_ok r then take n old ++ replicate (n - m) 0 else old) → is_err r ≡ false
     → length old ≤ n → new ≡ old ++ replicate (n - m) 0
-grown x0 x1 x2 x3 x4 x5 x6 x7 = grind (arith, take_all, true≢false)
+grown = grind (arith, take_all, true≢false)
 
 -- as a vector that has grown
 pub opens_grown : {V A B : Type 0} (value_of : List ℕ → V) (size capacity container : ℕ)

@@ -132,22 +132,22 @@ module _ {V R F : Type 0} (value_of : List ℕ → V) (words_in : R → List ℕ
     asked_so = ap (λ l. questions t.asked ++ l) (sym at.left_is) ∙ t.joined
 
     joined_then : (b : Bool) → questions (t.asked ++ an_answer it b ∷ []) ++ left_then ≡ all
-    joined_then x0 = grind (arith, questions_more, append_assoc, questions, asked_so)
+    joined_then = grind (arith, questions_more, append_assoc, questions, asked_so)
 
     stood : Stands old at.index (value_in value_of size (words_in room))
     stood = sym (t.same at.index at.low) ∙ at.copied
 
     pub may_ask : (pre : F → V → Type 0) → TakesQuestions (MayAsk pre old) (Says step old) all f → pre p value
-    may_ask x0 x1 = grind (arith, asked_so, value_in, stood)
+    may_ask = grind (arith, asked_so, value_in, stood)
 
     answers_then : (b : Bool) (q : F) → step p value b q → FoldsTo (asks (Says step old)) f (t.asked ++ an_answer it b ∷ []) q
-    answers_then x0 x1 x2 = grind (arith, folds_more, asks, value_in, stood)
+    answers_then = grind (arith, folds_more, asks, value_in, stood)
 
     owners_are : t.s.owners ≡ owners_in (g ∷ its_cells)
     owners_are = grind (arith, front)
 
     opens : g ≢ locked
-    opens x0 = grind (arith, owners_are, length, suc)
+    opens = grind (arith, owners_are, length, suc)
 
     short : length at.rest ≤ capacity
     short =
@@ -245,7 +245,7 @@ module _ {V R F : Type 0} (value_of : List ℕ → V) (words_in : R → List ℕ
         }
 
     onward : (said : Bool) (q : F) → step p value said q → Onward ready (done + 1) (recover_after size put given (if said then 1 else 0)) room q last
-    onward x0 x1 x2 = grind (arith, on_no, on_yes)
+    onward = grind (arith, on_no, on_yes)
 
   -- ---- as the driver holds it
 
@@ -254,7 +254,7 @@ module _ {V R F : Type 0} (value_of : List ℕ → V) (words_in : R → List ℕ
 
   pub starts : (call : Recover V R) → call ≡ first_recover capacity → (room : R) → size ≤ length (words_in room)
       → Begun → Searching 0 call room f words
-  starts x0 x1 x2 x3 x4 = grind (arith, begins)
+  starts = grind (arith, begins)
 
   module _ (done : ℕ) (call : Recover V R) (room₀ : R) (p : F) (items : List ℕ) (t : Searching done call room₀ p items) where
     pub can_go : CanStop want (recover_after size) kept given call room₀ items
@@ -262,12 +262,12 @@ module _ {V R F : Type 0} (value_of : List ℕ → V) (words_in : R → List ℕ
 
     stops_at : (stop : Stop (Recover V R) ReleaseState) (room : R) (last : List ℕ)
         → StopsAlike want (recover_after size) kept given call room₀ items stop room last → Apart (At t.0 t.1.s t.1.from t.1.left) stop room last
-    stops_at x0 x1 x2 x3 = grind (arith, stops_so)
+    stops_at = grind (arith, stops_so)
 
     pub ended_so : (state : ReleaseState) (room : R) (last : List ℕ)
         → StopsAlike want (recover_after size) kept given call room₀ items (stops.Ended state) room last
         → Gone state p last
-    ended_so x0 x1 x2 x3 = grind (arith, stops_at, append-nil, questions, one_change)
+    ended_so = grind (arith, stops_at, append-nil, questions, one_change)
 
     pub few_rounds : done < 2 ^ 64 - 1
     few_rounds = grind arith
@@ -276,7 +276,7 @@ module _ {V R F : Type 0} (value_of : List ℕ → V) (words_in : R → List ℕ
         (alike : StopsAlike want (recover_after size) kept given call room₀ items (stops.Asked question put) room last)
         (value : V) (value_is : value ≡ value_in value_of size (words_in room)) where
       pub may_so : (pre : F → V → Type 0) → TakesQuestions (MayAsk pre old) (Says step old) all f → pre p value
-      may_so x0 x1 = grind (arith, may_ask, stops_at)
+      may_so = grind (arith, may_ask, stops_at)
 
       abbrev pub Further : After (Recover V R) ReleaseState → R → F → Type 0
       Further (GoOn d) then_room q = Searching (done + 1) d then_room q last

@@ -38,7 +38,7 @@ module _ (owner : ℕ) where
 
   of_hit : (index c : ℕ) (rest : List ℕ) → owner < empty → c ≡ owner
       → of_owner index (c ∷ rest) ≡ record { owner = owner; index = index } ∷ of_owner (index + 1) rest
-  of_hit x0 x1 x2 x3 x4 = grind (arith, filter, taken_from, map, owner_some, cond, eq-eqb)
+  of_hit = grind (arith, filter, taken_from, map, owner_some, cond, eq-eqb)
 
   of_miss : (index c : ℕ) (rest : List ℕ) → c ≢ owner → of_owner index (c ∷ rest) ≡ of_owner (index + 1) rest
   of_miss index c rest n =

@@ -52,7 +52,7 @@ module _ {V : Type 0} (value_of : List ℕ → V) (size : ℕ) (wide : size ≤ 
       → slice_index ws (count_word capacity index) ≡ count
       → P (Ok state) (after_change value_of size capacity ws fits index near wide (hidden value_of size capacity ws fits index near wide))
       → From 2 P (remove_released (call removes.LoadsCount) count (Done (Ok state))) ws
-  hides_on x0 x1 x2 x3 x4 x5 x6 x7 = grind (arith, one_more, by_test, eq-eqb)
+  hides_on = grind (arith, one_more, by_test, eq-eqb)
 
   module _ (words : List ℕ) (fits : Represents size capacity words) (lives : owner < empty) where
     abbrev old : Contents V
@@ -66,7 +66,7 @@ module _ {V : Type 0} (value_of : List ℕ → V) (size : ℕ) (wide : size ≤ 
 
     refused : names old handle ≡ false → (last : List ℕ) → Represents size capacity last → contents_in value_of size capacity container last ≡ old
         → Gone words (Err ContainerHandleNotOwnedByContainer) last
-    refused x0 x1 x2 x3 = grind (arith, given_back, changed)
+    refused = grind (arith, given_back, changed)
 
     abbrev Gave : Released → List ℕ → Type 0
     Gave e last =
@@ -143,4 +143,4 @@ module _ {V : Type 0} (value_of : List ℕ → V) (size : ℕ) (wide : size ≤ 
   pub remove_at : (number : ℕ) → number ≡ owner → number < empty → (c : Remove) → c ≡ first_remove capacity index
       → (words : List ℕ) → Represents size capacity words
       → Runs remove_want remove_after (λ c (room : Unit {0}) old. room) given (λ e room ws. Gone words e ws) c tt words
-  remove_at x0 x1 x2 x3 x4 x5 x6 = grind (arith, remove_runs)
+  remove_at = grind (arith, remove_runs)

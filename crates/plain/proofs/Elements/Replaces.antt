@@ -115,7 +115,7 @@ module _ {V : Type 0} (words_of : V → List ℕ) (value_of : List ℕ → V) (s
     old = contents_in value_of size capacity container words
 
     refused : names old handle ≡ false → Put words (Err ContainerHandleNotOwnedByContainer) words
-    refused x0 = grind (arith, changed)
+    refused = grind (arith, changed)
 
     put_in : (near : given.index < capacity) → names old handle ≡ true
         → Put words (Ok tt) (after_change value_of size capacity words fits given.index near wide

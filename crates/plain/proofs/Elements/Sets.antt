@@ -30,7 +30,7 @@ use Rattle.plain.proofs.Robust.Releases.{give_walks}
 
 module _ (capacity : ℕ) where
   pub raise_below : (r : raises.Raise) → AsksBelow (1 + capacity) (raise_want r)
-  raise_below x0 = grind arith
+  raise_below = grind arith
 
   -- ---- acquire
 
@@ -45,19 +45,19 @@ module _ (capacity : ℕ) where
 
   tries_low : (call : Acquire) (counter index : ℕ) → call.capacity ≡ capacity
       → LowThen {E = Acquired} AcquireLow (acquire_tries call counter index)
-  tries_low x0 x1 x2 x3 = grind (arith, by_test, nat_tests)
+  tries_low = grind (arith, by_test, nat_tests)
 
   sees_low : (call : Acquire) (counter : ℕ) → call.capacity ≡ capacity
       → LowThen {E = Acquired} AcquireLow (acquire_sees call counter)
-  sees_low x0 x1 x2 = grind (arith, by_eq, locked, greatest, tries_low)
+  sees_low = grind (arith, by_eq, locked, greatest, tries_low)
 
   raised_low : (call : Acquire) (index : ℕ) → call.capacity ≡ capacity
       → (a : After raises.Raise ReleaseState) → LowThen {E = Acquired} AcquireLow (acquire_raised call index a)
-  raised_low x0 x1 x2 x3 = grind arith
+  raised_low = grind arith
 
   acquire_takes_low : (call : Acquire) (stage : AcquireStage) (old : ℕ) → call.capacity ≡ capacity
       → LowThen {E = Acquired} AcquireLow (acquire_takes call stage old)
-  acquire_takes_low x0 x1 x2 x3 = grind (arith, sees_low, by_eq, empty, tries_low, raised_low)
+  acquire_takes_low = grind (arith, sees_low, by_eq, empty, tries_low, raised_low)
 
   pub acquire_goes_low : (call : Acquire) (old : ℕ) → AcquireLow call
       → LowThen {E = Acquired} AcquireLow (acquire_after call old)
@@ -65,7 +65,7 @@ module _ (capacity : ℕ) where
 
   stage_below : (owner : ℕ) (stage : AcquireStage) → StageLow stage
       → AsksBelow (1 + capacity) (acquire_asks stage owner)
-  stage_below x0 x1 x2 = grind (arith, raise_below)
+  stage_below = grind (arith, raise_below)
 
   pub acquire_below : (owner : ℕ) (call : Acquire) → AcquireLow call
       → AsksBelow (1 + capacity) (acquire_want call owner)
@@ -80,14 +80,14 @@ module _ (capacity : ℕ) where
 
   comes_low : (counter index filled : ℕ)
       → LowThen {E = ends.Counted} CountLow (count_comes_to capacity counter index filled)
-  comes_low x0 x1 x2 = grind (arith, by_test, by_eq, greatest, nat_tests)
+  comes_low = grind (arith, by_test, by_eq, greatest, nat_tests)
 
   pub count_goes_low : (count : Count) (old : ℕ)
       → LowThen {E = ends.Counted} CountLow (count_after capacity count old)
-  count_goes_low x0 x1 = grind (arith, by_eq, locked, comes_low, empty, one_more)
+  count_goes_low = grind (arith, by_eq, locked, comes_low, empty, one_more)
 
   pub count_below : (count : Count) → CountLow count → AsksBelow (1 + capacity) (count_want count)
-  count_below x0 x1 = grind arith
+  count_below = grind arith
 
   abbrev pub LockLow : Lock → Type 0
   LockLow (locks.Counts count) = CountLow count
@@ -95,13 +95,13 @@ module _ (capacity : ℕ) where
 
   counted_low : (a : After Count ends.Counted) → LowThen {E = ends.Counted} CountLow a
       → LowThen {E = ReleaseState} LockLow (lock_counted a)
-  counted_low x0 x1 = grind (arith, by_test, greatest)
+  counted_low = grind (arith, by_test, greatest)
 
   pub lock_goes_low : (lock : Lock) (old : ℕ) → LowThen {E = ReleaseState} LockLow (lock_after capacity lock old)
-  lock_goes_low x0 x1 = grind (arith, counted_low, count_after, count_goes_low, by_eq)
+  lock_goes_low = grind (arith, counted_low, count_after, count_goes_low, by_eq)
 
   pub lock_below : (lock : Lock) → LockLow lock → AsksBelow (1 + capacity) (lock_want lock)
-  lock_below x0 x1 = grind (arith, count_below)
+  lock_below = grind (arith, count_below)
 
   -- ---- release
 
@@ -115,15 +115,15 @@ module _ (capacity : ℕ) where
 
   given_raised_low : (call : Release) (mode : ReleaseMode) → call.capacity ≡ capacity
       → (a : After raises.Raise ReleaseState) → LowThen {E = Released} ReleaseLow (release_raised call mode a)
-  given_raised_low x0 x1 x2 x3 = grind arith
+  given_raised_low = grind arith
 
   given_locked_low : (call : Release) → call.capacity ≡ capacity → (a : After Lock ReleaseState)
       → LowThen {E = ReleaseState} LockLow a → LowThen {E = Released} ReleaseLow (release_locked call a)
-  given_locked_low x0 x1 x2 x3 = grind arith
+  given_locked_low = grind arith
 
   release_takes_low : (call : Release) (stage : ReleaseStage) (given : GiveBack) (old : ℕ) → call.capacity ≡ capacity
       → LowThen {E = Released} ReleaseLow (release_takes call stage given old)
-  release_takes_low x0 x1 x2 x3 x4 = grind (arith, by_eq, given_raised_low, given_locked_low, lock_goes_low)
+  release_takes_low = grind (arith, by_eq, given_raised_low, given_locked_low, lock_goes_low)
 
   pub release_goes_low : (given : GiveBack) (call : Release) (old : ℕ) → ReleaseLow call
       → LowThen {E = Released} ReleaseLow (release_after call given old)
@@ -131,7 +131,7 @@ module _ (capacity : ℕ) where
 
   gives_below : (given : GiveBack) → given.index < capacity → (stage : ReleaseStage) → GivesLow stage
       → AsksBelow (1 + capacity) (release_asks stage given)
-  gives_below x0 x1 x2 x3 = grind (arith, raise_below, lock_below)
+  gives_below = grind (arith, raise_below, lock_below)
 
   pub release_below : (given : GiveBack) → given.index < capacity → (call : Release) → ReleaseLow call
       → AsksBelow (1 + capacity) (release_want call given)

@@ -17,7 +17,7 @@ use Rattle.plain.proofs.Elements.Values.{front_fits}
 use Rattle.plain.proofs.Elements.Updates.{get_mapped, target, Part, P}
 
 equal : (a b : ℕ) → (a == b) ≡ true → a ≡ b
-equal x0 x1 x2 = grind (arith, false, true≢false, eqb_tells)
+equal = grind (arith, false, true≢false, eqb_tells)
 
 over_all : {V : Type 0} (counts : List ℕ) (elements : List (Element V)) → length counts ≡ length elements
     → numbers_over counts elements ≡ map (λ (e : Element V). e.count) elements
@@ -49,7 +49,7 @@ module _ {V : Type 0} (value_of : List ℕ → V) (size : ℕ) (some : 1 ≤ siz
         ∙ sym (get_or-map-range_with_len (λ i. slice_index words (count_word capacity i)) 0 capacity i i 0 near (omega arith)))
 
     target_is : (i : ℕ) → i < capacity → target value_of size some wide capacity words fits old.seen old.shown i ≡ value_then s (snapshot_of old) i
-    target_is x0 x1 = grind (arith, get_or-map-range_with_len, value_at, map)
+    target_is = grind (arith, get_or-map-range_with_len, value_at, map)
 
     values_are : map value_shown room.elements ≡ map (value_then s (snapshot_of old)) (range_with_len 0 capacity)
     values_are =
@@ -66,7 +66,7 @@ module _ {V : Type 0} (value_of : List ℕ → V) (size : ℕ) (some : 1 ≤ siz
 
   brought_without : (room : Showing V) (last : List ℕ) → Ended false room last
       → Brought s old false (record old { shown = room })
-  brought_without x0 x1 x2 = grind (arith, map, equal, length)
+  brought_without = grind (arith, map, equal, length)
 
   brought_so : (room : Showing V) (last : List ℕ) → Ended true room last
       → Brought s old true (record old { seen = seen_of old.seen room; shown = room })
@@ -102,7 +102,7 @@ module _ {V : Type 0} (value_of : List ℕ → V) (size : ℕ) (some : 1 ≤ siz
 
   pub brought_if : (end : Bool) (room : Showing V) (last : List ℕ) → Ended end room last → end ≡ true
       → (new : ContainerState V) → new ≡ record old { seen = seen_of old.seen room; shown = room } → Brought s old true new
-  brought_if x0 x1 x2 x3 x4 x5 x6 = grind (arith, brought_so)
+  brought_if = grind (arith, brought_so)
 
   pub brought_not : (end : Bool) (room : Showing V) (last : List ℕ) → Ended end room last → end ≡ false
       → Brought s old false (record old { shown = room })

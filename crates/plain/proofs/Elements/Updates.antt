@@ -202,7 +202,7 @@ module _ {V : Type 0} (value_of : List ℕ → V) (size : ℕ) (some : 1 ≤ siz
       let e = element_at first.elements i (omega arith) in (e.0, h.rest i (omega arith) ∙ e.1, e.1)
 
   seen_at : (i : ℕ) (e : Element V) → Meets → slice_get first.elements i ≡ Some e → slice_index seen.counts i ≡ e.count
-  seen_at x0 x1 x2 x3 = grind (arith, get_mapped)
+  seen_at = grind (arith, get_mapped)
 
   abbrev with_number : Element V → ℕ → Element V
   with_number e n = record { count = n; value = e.value }
@@ -277,7 +277,7 @@ module _ {V : Type 0} (value_of : List ℕ → V) (size : ℕ) (some : 1 ≤ siz
         (λ t. let far : capacity ≤ i = grind (arith, nat_tests) in absurd (omega arith))
 
   begins : Known (with_change first (slice_index words (change_word capacity))) 0
-  begins x0 = grind arith
+  begins = grind arith
 
   walks : Ends (suc (most capacity)) (first_look capacity) first words
   walks =

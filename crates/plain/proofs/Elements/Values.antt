@@ -17,16 +17,16 @@ use Rattle.plain.proofs.Words.{words_same, words_all, stored, stored_length, sto
 
 -- the values of two indices lie apart
 pub apart : (size i j : ℕ) → i < j → size * i + size ≤ size * j
-apart x0 x1 x2 x3 = grind (arith, mul-le-mul_left)
+apart = grind (arith, mul-le-mul_left)
 
 two : (n : ℕ) → (n % 2 ≡ 0) ⊎ (n % 2 ≡ 1)
-two x0 = grind (arith, inl, inr)
+two = grind (arith, inl, inr)
 
 odd_next : (n : ℕ) → is_even n ≡ false → is_even (one_more n) ≡ true
-odd_next x0 x1 = grind (arith, true≢false, eq-eqb, one_more, two)
+odd_next = grind (arith, true≢false, eq-eqb, one_more, two)
 
 even_next : (n : ℕ) → is_even n ≡ true → is_even (one_more n) ≡ false
-even_next x0 x1 = grind (arith, ne_eqb, true≢false, two)
+even_next = grind (arith, ne_eqb, true≢false, two)
 
 stored_front : (ws : List ℕ) (k : ℕ) (xs : List ℕ) (at n m : ℕ) → k + at + n < 2 ^ 64 → m ≤ k + at
     → take m (stored ws k xs at n) ≡ take m ws
@@ -50,18 +50,18 @@ module _ {V : Type 0} (value_of : List ℕ → V) (size capacity : ℕ) where
   pub value_same : (ws vs : List ℕ) (i : ℕ) → slice_index vs (count_word capacity i) ≡ slice_index ws (count_word capacity i)
       → ((j : ℕ) → element_word capacity size i 0 ≤ j → j < element_word capacity size i 0 + size → slice_index vs j ≡ slice_index ws j)
       → value_at value_of size capacity vs i ≡ value_at value_of size capacity ws i
-  value_same x0 x1 x2 x3 x4 = grind (arith, words_same)
+  value_same = grind (arith, words_same)
 
   -- ---- only the set has changed
 
   pub behind_values : (ws vs : List ℕ) → Behind (1 + capacity) ws vs
       → values_in value_of size capacity vs ≡ values_in value_of size capacity ws
-  behind_values x0 x1 x2 = grind (arith, map_same, value_at, value_same)
+  behind_values = grind (arith, map_same, value_at, value_same)
 
   pub behind_contents : (container : ℕ) (ws vs : List ℕ) → Behind (1 + capacity) ws vs
       → contents_in value_of size capacity container vs
       ≡ record (contents_in value_of size capacity container ws) { owners = owners_in (take (1 + capacity) vs) }
-  behind_contents x0 x1 x2 x3 = grind (arith, behind_values, map_same, take)
+  behind_contents = grind (arith, behind_values, map_same, take)
 
   pub behind_fits : (ws vs : List ℕ) → Behind (1 + capacity) ws vs → Represents size capacity ws
       → robust.Represents capacity (take (1 + capacity) vs) → Represents size capacity vs
@@ -141,7 +141,7 @@ module _ {V : Type 0} (value_of : List ℕ → V) (size capacity : ℕ) where
 
       -- words before and behind the cell stay as they are
       fills_not : (j : ℕ) → (j < cell) ⊎ (cell + size ≤ j) → slice_index filled j ≡ slice_index hidden j
-      fills_not x0 x1 = grind (arith, stored_other, small, inl, inr)
+      fills_not = grind (arith, stored_other, small, inl, inr)
 
       count_is : slice_index shown count_at ≡ one_more (slice_index hidden count_at)
       count_is = grind (arith, filled_long, within, get_or-set_same, one_more, fills_not, inl)
@@ -160,7 +160,7 @@ module _ {V : Type 0} (value_of : List ℕ → V) (size capacity : ℕ) where
       -- another's words
       beside : (j k : ℕ) → j ≢ index → element_word capacity size j 0 ≤ k → k < element_word capacity size j 0 + size
           → (k < cell) ⊎ (cell + size ≤ k)
-      beside x0 x1 x2 x3 x4 = grind (arith, apart, inl, inr)
+      beside = grind (arith, apart, inl, inr)
 
       pub record Shows (later : List ℕ) : Type 0 where
         pub writes : Writes later
@@ -202,7 +202,7 @@ module _ {V : Type 0} (value_of : List ℕ → V) (size capacity : ℕ) where
         slice_set later (change_word capacity) (one_more (slice_index later (change_word capacity)))
 
     pub change_fits : (later : List ℕ) → Writes later → Represents size capacity (after_change later)
-    change_fits x0 x1 = grind (arith, get_or-take, length-set, small, get_or-set_other)
+    change_fits = grind (arith, get_or-take, length-set, small, get_or-set_other)
 
     pub change_contents : (container : ℕ) (later : List ℕ) (o : Option V) → Writes later → Stands later o
         → contents_in value_of size capacity container (after_change later)
@@ -233,4 +233,4 @@ module _ {V : Type 0} (value_of : List ℕ → V) (size capacity : ℕ) where
 
     -- where it has gone
     pub gone : (later : List ℕ) → Hides later → Stands later None
-    gone x0 x1 = grind (arith, words_from)
+    gone = grind (arith, words_from)

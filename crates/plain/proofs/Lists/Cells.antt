@@ -6,12 +6,12 @@ use Rattle.plain.specs.Queues.{value_at, values_from}
 
 -- two numbers less than n apart, with one remainder, are one number
 pub one_turn : (a b n : ℕ) → a ≤ b → b < a + n → a % n ≡ b % n → a ≡ b
-one_turn x0 x1 x2 x3 x4 x5 = grind (arith, mod-add-div, mul-le-mul_left)
+one_turn = grind (arith, mod-add-div, mul-le-mul_left)
 
 -- a cell lies within the words
 pub cell_within : (capacity size p : ℕ) → 1 ≤ capacity
     → size * (p % capacity) + size ≤ size * capacity
-cell_within x0 x1 x2 x3 = grind (arith, mul-le-mul_left)
+cell_within = grind (arith, mul-le-mul_left)
 
 -- cells of positions less than a lap apart lie apart
 pub cells_apart : (capacity size p q : ℕ) → p < q → q < p + capacity

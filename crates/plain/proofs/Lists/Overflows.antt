@@ -49,11 +49,11 @@ module _ (capacity : ℕ) where
 
     hands_back : (room : OneWord) (words : List ℕ) → capacity ≡ 0
         → Ends 1 Own room words (first_push capacity) room words
-    hands_back x0 x1 x2 = grind (arith, by_eq)
+    hands_back = grind (arith, by_eq)
 
     no_position : (room : OneWord) (words : List ℕ) → capacity ≢ 0 → slice_index words 0 ≡ 2 ^ 64 - 1
         → Ends 1 Own room words (first_push capacity) room words
-    no_position x0 x1 x2 x3 = grind (arith, by_eq)
+    no_position = grind (arith, by_eq)
 
     module _ (room : OneWord) (words : List ℕ) where
       abbrev w : ℕ
@@ -76,11 +76,11 @@ module _ (capacity : ℕ) where
 
       adds : capacity ≢ 0 → w ≢ 2 ^ 64 - 1 → distance w r ≢ capacity
           → Ends 4 Added room stored (first_push capacity) room words
-      adds x0 x1 x2 = grind (arith, by_eq)
+      adds = grind (arith, by_eq)
 
       replaces : capacity ≢ 0 → w ≢ 2 ^ 64 - 1 → distance w r ≡ capacity → slice_index stored 1 ≡ r
           → Ends 6 Oldest oldest moved (first_push capacity) room words
-      replaces x0 x1 x2 x3 = grind (arith, eq-eqb, by_eq)
+      replaces = grind (arith, eq-eqb, by_eq)
 
     -- ---- what it makes of the list
 
@@ -91,7 +91,7 @@ module _ (capacity : ℕ) where
 
     stays_out : (room : OneWord) (words : List ℕ) → Represents capacity words
         → takes_in (list_in capacity words) ≡ false → Pushed words Own room words
-    stays_out x0 x1 x2 x3 = grind (arith, made_of, false)
+    stays_out = grind (arith, made_of, false)
 
     module _ (room : OneWord) (words : List ℕ) (fits : Represents capacity words) (some : capacity ≢ 0)
         (position : slice_index words 0 ≢ 2 ^ 64 - 1) where
@@ -123,7 +123,7 @@ module _ (capacity : ℕ) where
       write_is = grind (arith, cells_long, get_or-set_same, next_is)
 
       kept_word : (j : ℕ) → j ≢ 0 → j ≢ cell_word capacity wp → slice_index kept j ≡ slice_index words j
-      kept_word x0 x1 x2 = grind (arith, get_or-set_other)
+      kept_word = grind (arith, get_or-set_other)
 
       read_is : slice_index kept 1 ≡ rp
       read_is = kept_word 1 (λ e. absurd (omega arith)) (λ e. absurd (omega arith))
@@ -195,7 +195,7 @@ module _ (capacity : ℕ) where
 
         -- the first of all is the oldest
         head : (m : ℕ) → wp - rp ≡ suc m → slice_get (waiting ++ value ∷ []) 0 ≡ Some (number_at words rp)
-        head x0 x1 = grind arith
+        head = grind arith
 
         replaced : Pushed words Oldest (oldest room words) last
         replaced =
@@ -288,7 +288,7 @@ module _ (capacity : ℕ) where
 
     pub push_runs : (call : Push) → call ≡ first_push capacity → (room : OneWord) (words : List ℕ)
         → Represents capacity words → PushRuns call room words
-    push_runs x0 x1 x2 x3 x4 = grind (arith, runs_first)
+    push_runs = grind (arith, runs_first)
 
   -- ---- pop
 
@@ -318,19 +318,19 @@ module _ (capacity : ℕ) where
     found = record { 0 = slice_index words (cell_word capacity read) }
 
     no_capacity : capacity ≡ 0 → PopEnds 1 false room words (first_pop capacity) room words
-    no_capacity x0 = grind (arith, by_eq, false)
+    no_capacity = grind (arith, by_eq, false)
 
     finds_none : capacity ≢ 0 → write ≡ read → PopEnds 2 false room words (first_pop capacity) room words
-    finds_none x0 x1 = grind (arith, by_eq, false)
+    finds_none = grind (arith, by_eq, false)
 
     takes_one : capacity ≢ 0 → write ≢ read → PopEnds 4 true found taken (first_pop capacity) room words
-    takes_one x0 x1 = grind (arith, eq-eqb, by_eq)
+    takes_one = grind (arith, eq-eqb, by_eq)
 
     stays_empty : Represents capacity words → write ≡ read → Popped words false room words
-    stays_empty x0 x1 = grind (arith, min, length, drop)
+    stays_empty = grind (arith, min, length, drop)
 
     taken_out : (m : ℕ) → write - read ≡ suc m → Represents capacity words → Popped words true found taken
-    taken_out x0 x1 x2 = grind (arith, get_or-set_same, get_or-set_other, values_same, number_of, values_length, min, length, drop, length-set)
+    taken_out = grind (arith, get_or-set_same, get_or-set_other, values_same, number_of, values_length, min, length, drop, length-set)
 
     pops_first : Represents capacity words → PopRuns (first_pop capacity) room words
     pops_first fits =

@@ -44,14 +44,14 @@ module _ {V R : Type 0} (value_of : List ℕ → V) (size : ℕ) (some : 1 ≤ s
 
   finds_none : (room : R) (words : List ℕ) → (capacity ≡ 0) ⊎ (slice_index words 0 ≡ slice_index words 1)
       → Ends 2 false room words (first_pop capacity) room words
-  finds_none x0 x1 x2 = grind (arith, by_either, false)
+  finds_none = grind (arith, by_either, false)
 
   comes_out : (n : ℕ) → suc n ≡ size → (room : R) (words : List ℕ) → capacity ≢ 0
       → slice_index words 0 ≢ slice_index words 1
       → Ends (suc (suc (suc (suc n)))) true
       (read_in with_word room words (cell_word capacity size (slice_index words 1)) 0 (suc n))
       (slice_set words 1 (after_position (slice_index words 1))) (first_pop capacity) room words
-  comes_out x0 x1 x2 x3 x4 x5 = grind (arith, by_either, suc, read_in, loads)
+  comes_out = grind (arith, by_either, suc, read_in, loads)
 
   -- ---- what it makes of the list
 
@@ -65,7 +65,7 @@ module _ {V R : Type 0} (value_of : List ℕ → V) (size : ℕ) (some : 1 ≤ s
 
   stays_empty : (room : R) (words : List ℕ) → Represents size capacity words
       → slice_index words 0 ≡ slice_index words 1 → Popped words false room words
-  stays_empty x0 x1 x2 x3 = grind (arith, min, length, drop)
+  stays_empty = grind (arith, min, length, drop)
 
   module _ (room : R) (wide : size ≤ length (words_in room)) (words : List ℕ) (fits : Represents size capacity words)
       (m : ℕ) (there : slice_index words 0 - slice_index words 1 ≡ suc m) where
@@ -82,7 +82,7 @@ module _ {V R : Type 0} (value_of : List ℕ → V) (size : ℕ) (some : 1 ≤ s
     last = slice_set words 1 (after_position r)
 
     has_room : capacity ≢ 0
-    has_room x0 = grind arith
+    has_room = grind arith
 
     cell_is : cell ≡ 4 + size * (r % capacity)
     cell_is = ap (λ b. if b then 4 else 4 + size * (r % capacity)) (ne_eqb capacity 0 has_room)
@@ -145,4 +145,4 @@ module _ {V R : Type 0} (value_of : List ℕ → V) (size : ℕ) (some : 1 ≤ s
   pub pop_runs : (call : Pop V R) → call ≡ first_pop capacity → (room : R)
       → size ≤ length (words_in room) → (words : List ℕ) → Represents size capacity words
       → PopRuns call room words
-  pop_runs x0 x1 x2 x3 x4 x5 = grind (arith, runs_first)
+  pop_runs = grind (arith, runs_first)

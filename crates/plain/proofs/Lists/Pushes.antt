@@ -22,11 +22,11 @@ module _ {V : Type 0} (value : V) (q : Bounded V) where
       if position then record q { values = if room then q.values ++ value ∷ [] else q.values } else q
 
   left_out : (room position : Bool) → (room && position) ≡ false → made room position ≡ q
-  left_out x0 x1 x2 = grind (arith, true≢false)
+  left_out = grind (arith, true≢false)
 
   let_in : (room position : Bool) → (room && position) ≡ true
       → made room position ≡ record q { values = q.values ++ value ∷ [] }
-  let_in x0 x1 x2 = grind (arith, true≢false)
+  let_in = grind (arith, true≢false)
 
 module _ {V : Type 0} (words_of : V → List ℕ) (value_of : List ℕ → V) (size : ℕ)
     (sized : (x : V) → length (words_of x) ≡ size) (given_back : (x : V) → value_of (words_of x) ≡ x)
@@ -56,19 +56,19 @@ module _ {V : Type 0} (words_of : V → List ℕ) (value_of : List ℕ → V) (s
 
   no_position : (words : List ℕ) → slice_index words 0 ≡ 2 ^ 64 - 1
       → Ends 1 false words (first_push capacity) words
-  no_position x0 x1 = grind (arith, by_eq, false)
+  no_position = grind (arith, by_eq, false)
 
   no_room : (words : List ℕ) → slice_index words 0 ≢ 2 ^ 64 - 1
       → (capacity ≡ 0) ⊎ (distance (slice_index words 0) (slice_index words 1) ≡ capacity)
       → Ends 2 false words (first_push capacity) words
-  no_room x0 x1 x2 = grind (arith, by_eq, false, by_either)
+  no_room = grind (arith, by_eq, false, by_either)
 
   goes_in : (n : ℕ) → suc n ≡ size → (words : List ℕ) → slice_index words 0 ≢ 2 ^ 64 - 1 → capacity ≢ 0
       → distance (slice_index words 0) (slice_index words 1) ≢ capacity
       → Ends (suc (suc (suc (suc n)))) true
       (slice_set (stored words (cell_word capacity size (slice_index words 0)) (words_of value) 0 (suc n)) 0
       (after_position (slice_index words 0))) (first_push capacity) words
-  goes_in x0 x1 x2 x3 x4 x5 = grind (arith, stored, suc, by_eq, by_either, stores)
+  goes_in = grind (arith, stored, suc, by_eq, by_either, stores)
 
   -- ---- what it makes of the list
 
@@ -82,7 +82,7 @@ module _ {V : Type 0} (words_of : V → List ℕ) (value_of : List ℕ → V) (s
   -- in numbers
   takes_numbers : (words : List ℕ) → Represents size capacity words
       → takes_more (list words) ≡ nat_lt (slice_index words 0 - slice_index words 1) capacity && not (slice_index words 0 == 2 ^ 64 - 1)
-  takes_numbers x0 x1 = grind (arith, values_length)
+  takes_numbers = grind (arith, values_length)
 
   stays_out : (words : List ℕ) → Represents size capacity words → takes_more (list words) ≡ false
       → Pushed words false tt words
@@ -139,7 +139,7 @@ module _ {V : Type 0} (words_of : V → List ℕ) (value_of : List ℕ → V) (s
 
     -- a word before the cell, or behind it
     kept_word : (j : ℕ) → j ≢ 0 → (j < cell) ⊎ (cell + size ≤ j) → slice_index last j ≡ slice_index words j
-    kept_word x0 x1 x2 = grind (arith, get_or-set_other, stored_other, small, inl, inr)
+    kept_word = grind (arith, get_or-set_other, stored_other, small, inl, inr)
 
     read_is : slice_index last 1 ≡ r
     read_is = kept_word 1 (omega arith) (inl (let c = cell_is in omega arith))

@@ -38,7 +38,7 @@ zero_at (suc n) (suc j) = zero_at n j
 -- words that are all 0
 pub opened : (capacity n : ℕ) (words : List ℕ) → words ≡ replicate n 0
     → places_in capacity words ≡ unset capacity
-opened x0 x1 x2 x3 = grind (arith, none_of, stands, has_flag, zero_at, none_stands)
+opened = grind (arith, none_of, stands, has_flag, zero_at, none_stands)
 
 -- ---- the places of one element
 

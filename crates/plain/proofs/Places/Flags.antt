@@ -54,7 +54,7 @@ module _ (capacity : ℕ) (words : List ℕ) where
 pub same_flags : (capacity : ℕ) (ws vs : List ℕ)
     → ((p : ℕ) → slice_index vs (element_of p) ≡ slice_index ws (element_of p))
     → flags_in capacity vs ≡ flags_in capacity ws
-same_flags x0 x1 x2 x3 = grind (arith, map_same, stands, has_flag)
+same_flags = grind (arith, map_same, stands, has_flag)
 
 -- ---- one flag of the words changes
 
@@ -70,10 +70,10 @@ module _ (words : List ℕ) (place new : ℕ) (near : element_of place < length 
       ap (λ w. has_flag w place) (get_or-set_same words (element_of place) new 0 near) ∙ is
 
   elsewhere : (q : ℕ) → element_of q ≢ element_of place → stands now q ≡ stands words q
-  elsewhere x0 x1 = grind (arith, has_flag, get_or-set_other)
+  elsewhere = grind (arith, has_flag, get_or-set_other)
 
   pub unchanged : (q : ℕ) → q ≢ place → stands now q ≡ stands words q
-  unchanged x0 x1 = grind (arith, has_flag, get_or-set_same, elsewhere, eqb_tells)
+  unchanged = grind (arith, has_flag, get_or-set_same, elsewhere, eqb_tells)
 
   pub flags_change : (capacity : ℕ) → place < capacity
       → flags_in capacity now ≡ slice_set (flags_in capacity words) place b

@@ -55,10 +55,10 @@ module _ (capacity : ℕ) (words : List ℕ) (fits : Represents capacity words) 
   tail_at i = get_or-drop start flags i false
 
   ahead : (j : ℕ) → start + j < capacity → at j ≡ start + j
-  ahead x0 x1 = grind (arith, nat_tests)
+  ahead = grind (arith, nat_tests)
 
   behind : (j : ℕ) → capacity ≤ start + j → at j ≡ start + j - capacity
-  behind x0 x1 = grind (arith, false, nat_tests)
+  behind = grind (arith, false, nat_tests)
 
   clear_tail : (k : ℕ) → Clear k → (i : ℕ) → i < k → start + i < capacity
       → slice_index_or (drop start flags) i false ≡ false
@@ -67,7 +67,7 @@ module _ (capacity : ℕ) (words : List ℕ) (fits : Represents capacity words) 
 
   -- all of the tail, where the search has come round
   tail_empty : (k : ℕ) → Clear k → capacity ≤ start + k → standing_from start (drop start flags) ≡ []
-  tail_empty x0 x1 x2 = grind (arith, none_standing, drop, clear_tail, tail_at, flag_past)
+  tail_empty = grind (arith, none_standing, drop, clear_tail, tail_at, flag_past)
 
   -- of the places below the start, those that were passed
   clear_head : (k : ℕ) → Clear k → (p : ℕ) → p < capacity → (p + capacity < start + k) ⊎ ((start ≤ p) × (capacity ≤ start + k))
@@ -204,11 +204,11 @@ module _ (capacity : ℕ) (words : List ℕ) (fits : Represents capacity words) 
         }
 
   one_more_clear : (k : ℕ) → Clear k → stands words (at k) ≡ false → Clear (k + 1)
-  one_more_clear x0 x1 x2 x3 x4 = grind (arith, stands)
+  one_more_clear = grind (arith, stands)
 
   -- the last place is clear
   comes_round : (k : ℕ) → k + 1 ≡ capacity → Clear k → stands words (at k) ≡ false → Comes 3 k
-  comes_round x0 x1 x2 x3 = grind (arith, one_more_clear, none_is, by_test, has_flag, true≢false, without, nat_tests)
+  comes_round = grind (arith, one_more_clear, none_is, by_test, has_flag, true≢false, without, nat_tests)
 
   -- a place is clear, and there is a further one
   comes_on : (most k : ℕ) → k + 1 < capacity → stands words (at k) ≡ false → Comes most (k + 1)
@@ -241,7 +241,7 @@ module _ (capacity : ℕ) (words : List ℕ) (fits : Represents capacity words) 
       (λ end room last. BehavesAs (Represents capacity) (places_in capacity) next_place after_next words end last) call tt words
 
   nowhere : capacity ≡ 0 → ResetRuns (first_reset capacity)
-  nowhere x0 = grind (arith, none_is, false, by_test, true≢false, without, nat_tests)
+  nowhere = grind (arith, none_is, false, by_test, true≢false, without, nat_tests)
 
   from_start : (n : ℕ) → suc n ≡ capacity → ResetRuns (first_reset capacity)
   from_start n is =

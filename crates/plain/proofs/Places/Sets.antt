@@ -33,7 +33,7 @@ module _ (capacity place : ℕ) (low : place < capacity) (words : List ℕ) (fit
   near = let long = fits.long in omega arith
 
   stood : has_flag found place ≡ true → SetRuns first_set
-  stood x0 = grind (arith, map_changed, stands, false, by_test, has_flag, true≢false, flag_at)
+  stood = grind (arith, map_changed, stands, false, by_test, has_flag, true≢false, flag_at)
 
   clear : has_flag found place ≡ false → SetRuns first_set
   clear is =

@@ -36,7 +36,7 @@ module _ (capacity owner g : ℕ) (cells : List ℕ) (small : g < 2 ^ 64) (long 
   raises_on : (n : ℕ) (P : Acquired → List ℕ → Type 0) (index : ℕ) (cells₂ : List ℕ) → g ≢ locked
       → P (Ok index) (next_generation g ∷ cells₂)
       → Ends (suc (suc n)) P (at_acquire first (acquires.Raises index raises.LoadsCounter)) (g ∷ cells₂)
-  raises_on x0 x1 x2 x3 x4 x5 = grind (arith, part_walks, raise_walks)
+  raises_on = grind (arith, part_walks, raise_walks)
 
   tries : (P : Acquired → List ℕ → Type 0) → g ≢ locked → (rest : List ℕ) (index : ℕ) → drop index cells ≡ rest
       → ((i : ℕ) → i ≡ index + front rest → i < capacity → P (Ok i) (next_generation g ∷ slice_set cells i owner))
@@ -84,7 +84,7 @@ module _ (capacity owner g : ℕ) (cells : List ℕ) (small : g < 2 ^ 64) (long 
   Took end last = BehavesAs (Represents capacity) owners_in acquired (λ s. after_acquire s owner) (g ∷ cells) end last
 
   some_cells : 1 ≤ capacity → (n : ℕ) (cells₂ : List ℕ) → length cells₂ ≡ length cells → n < 2 ^ 64 → Represents capacity (n ∷ cells₂)
-  some_cells x0 x1 x2 x3 x4 = grind arith
+  some_cells = grind arith
 
   -- what it answers says what comes of the map
   so : (e : Acquired) (last : List ℕ) → Represents capacity last → acquired old ≡ e → owners_in last ≡ granted old owner e → Took e last

@@ -82,7 +82,7 @@ module _ {F : Type 0} (step : F → ℕ → CallbackProgression → F → Type 0
   module _ (done : ℕ) (call : Find) (now : F) (so_far : Finding done call now) (last : List ℕ) where
     pub ended : (n : ℕ) → StopsAt capacity owner g cells long few lives done so_far.left (stops.Ended n) last
         → HasFound step all f n now × (last ≡ g ∷ cells)
-    ended x0 x1 = grind (arith, found_all)
+    ended = grind (arith, found_all)
 
     module _ (question : Question (Unit {0})) (asks : Find)
         (at : StopsAt capacity owner g cells long few lives done so_far.left (stops.Asked question asks) last) where
@@ -130,7 +130,7 @@ module _ {F : Type 0} (step : F → ℕ → CallbackProgression → F → Type 0
       HasFound step (indices_of (owners_in first) owner) f n now × (words ≡ first)
 
   pub starts : (first : List ℕ) (call : Find) → call ≡ first_find capacity → Represents capacity first → owner < empty → Searching first 0 call f first
-  starts x0 x1 x2 x3 x4 = grind (arith, length, suc, begins)
+  starts = grind (arith, length, suc, begins)
 
   abbrev kept : Find → Unit {0} → ℕ → Unit {0}
   kept c room old = room
@@ -140,7 +140,7 @@ module _ {F : Type 0} (step : F → ℕ → CallbackProgression → F → Type 0
 
   pub can_go : (first : List ℕ) (done : ℕ) (call : Find) (now : F) (words : List ℕ) → Searching first done call now words
       → CanStop want find_after kept owner call tt words
-  can_go x0 x1 x2 x3 x4 x5 = grind (arith, can_stop)
+  can_go = grind (arith, can_stop)
 
   pub ended_so : (first : List ℕ) (done : ℕ) (call : Find) (now : F) (words : List ℕ) (n : ℕ) (r : Unit {0}) (last : List ℕ)
       → Searching first done call now words
@@ -168,7 +168,7 @@ module _ {F : Type 0} (step : F → ℕ → CallbackProgression → F → Type 0
   further : (g : ℕ) (cells : List ℕ) (long : length cells ≡ capacity) (few : capacity < 2 ^ 32) (lives : owner < empty) (done : ℕ)
       (a : After Find ℕ) (now : F) (words : List ℕ) → words ≡ g ∷ cells
       → Onward step f capacity owner g cells long few lives done a now → Further (g ∷ cells) done a now words
-  further x0 x1 x2 x3 x4 x5 x6 x7 x8 x9 x10 = grind arith
+  further = grind arith
 
   pub goes_further : (first : List ℕ) (done : ℕ) (call : Find) (now : F) (words : List ℕ)
       (question : Question (Unit {0})) (asks : Find) (r : Unit {0}) (last : List ℕ)
@@ -197,7 +197,7 @@ module _ {F : Type 0} (step : F → ℕ → CallbackProgression → F → Type 0
 
   -- it does not go on for ever
   pub few_rounds : (first : List ℕ) (done : ℕ) (call : Find) (now : F) (words : List ℕ) → Searching first done call now words → done < 2 ^ 64 - 1
-  few_rounds x0 x1 x2 x3 x4 x5 = grind arith
+  few_rounds = grind arith
 
 pub takes_at : {F : Type 0} {pre : F → ℕ → Type 0} {step : F → ℕ → CallbackProgression → F → Type 0} {a b : List ℕ} {f : F}
     → a ≡ b → TakesIndices pre step a f → TakesIndices pre step b f

@@ -23,7 +23,7 @@ module _ (owner : ℕ) where
   mine index rest = mine_in (taken_from index (map owner_in rest))
 
   pub hits : (index c : ℕ) (rest : List ℕ) → owner < empty → c ≡ owner → mine index (c ∷ rest) ≡ index ∷ mine (index + 1) rest
-  hits x0 x1 x2 x3 x4 = grind (arith, taken_from, map, owner_some, cond, filter, eq-eqb)
+  hits = grind (arith, taken_from, map, owner_some, cond, filter, eq-eqb)
 
   pub misses : (index c : ℕ) (rest : List ℕ) → c ≢ owner → mine index (c ∷ rest) ≡ mine (index + 1) rest
   misses index c rest n =

@@ -51,7 +51,7 @@ module _ (capacity g : ℕ) (cells : List ℕ) (small : g < 2 ^ 64) (long : leng
   pub looked_runs : (call : IsLocked) → 1 ≤ capacity
       → Runs (λ (c : IsLocked) (given : Unit {0}). load 0) (λ c given old. locked_after c old)
       (λ c (room : Unit {0}) old. room) tt (λ e room ws. Looked e ws) call tt (g ∷ cells)
-  looked_runs x0 x1 = grind (arith, runs, load)
+  looked_runs = grind (arith, runs, load)
 
 -- ---- the same over any words that fit
 
@@ -67,7 +67,7 @@ borrowed_at capacity call is (g ∷ cells) fits =
 pub looked_at : (capacity : ℕ) (call : IsLocked) (words : List ℕ) → Represents capacity words
     → Runs (λ (c : IsLocked) (given : Unit {0}). load 0) (λ c given old. locked_after c old) (λ c (room : Unit {0}) old. room) tt
     (λ e room ws. BehavesAs (Represents capacity) owners_in is_locked (λ s. s) words e ws) call tt words
-looked_at x0 x1 x2 x3 = grind (arith, looked_runs, suc, length)
+looked_at = grind (arith, looked_runs, suc, length)
 
 -- ---- as it opens
 
@@ -77,4 +77,4 @@ none_taken (suc n) = λ i. None ∷ none_taken n i
 
 pub opens : (items : List ℕ) (capacity generation : ℕ) → items ≡ replicate (1 + capacity) empty
     → owners_in (slice_set items 0 generation) ≡ opened_at capacity generation
-opens x0 x1 x2 x3 = grind (arith, suc, empty, none_taken)
+opens = grind (arith, suc, empty, none_taken)

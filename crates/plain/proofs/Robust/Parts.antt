@@ -53,15 +53,15 @@ pub next_cell : (g i : ℕ) (cells : List ℕ) → slice_index (g ∷ cells) (ce
 next_cell g i cells = ap (slice_index (g ∷ cells)) (let e : 1 + i ≡ suc i = omega arith in e)
 
 pub next_set : (g i x : ℕ) (cells : List ℕ) → slice_set (g ∷ cells) (cell_word i) x ≡ g ∷ slice_set cells i x
-next_set x0 x1 x2 x3 = grind (arith, suc)
+next_set = grind (arith, suc)
 
 -- ---- raise
 
 pub next_below : (g : ℕ) → g ≢ locked → g ≢ greatest → g < 2 ^ 64 → next_generation g ≡ one_more g
-next_below x0 x1 x2 x3 = grind (arith, greatest, one_more, nat_tests)
+next_below = grind (arith, greatest, one_more, nat_tests)
 
 pub next_there : (g : ℕ) → greatest ≤ g → next_generation g ≡ g
-next_there x0 x1 = grind (arith, greatest, false, nat_tests)
+next_there = grind (arith, greatest, false, nat_tests)
 
 module _ (g : ℕ) (cells : List ℕ) (small : g < 2 ^ 64) where
   -- the exchange of the counter succeeds
@@ -71,10 +71,10 @@ module _ (g : ℕ) (cells : List ℕ) (small : g < 2 ^ 64) where
   pub raise_walks : (P : ReleaseState → List ℕ → Type 0)
       → (g ≡ locked → P Locked (next_generation g ∷ cells)) → (g ≢ locked → P Unlocked (next_generation g ∷ cells))
       → Walks raise_want raise_after 2 (OnEnd P) raises.LoadsCounter (g ∷ cells)
-  raise_walks x0 x1 x2 = grind (arith, by_eq, locked, next_there, greatest, exchanged, one_more, next_below)
+  raise_walks = grind (arith, by_eq, locked, next_there, greatest, exchanged, one_more, next_below)
 
 pub next_small : (g : ℕ) → g < 2 ^ 64 → next_generation g < 2 ^ 64
-next_small x0 x1 = grind (arith, by_test, greatest, nat_tests)
+next_small = grind (arith, by_test, greatest, nat_tests)
 
 -- ---- words and owners
 
@@ -95,7 +95,7 @@ locking g cells =
     if (number cells == 0) && not (next_generation g == greatest) then locked else next_generation g
 
 pub locking_small : (g : ℕ) (cells : List ℕ) → g < 2 ^ 64 → locking g cells < 2 ^ 64
-locking_small x0 x1 x2 = grind (arith, by_test, greatest, locked, next_small)
+locking_small = grind (arith, by_test, greatest, locked, next_small)
 
 abbrev pub state_number : ℕ → ReleaseState
 state_number n = if n == locked then Locked else Unlocked
@@ -151,7 +151,7 @@ module _ (capacity g : ℕ) (cells : List ℕ) (small : g < 2 ^ 64) (long : leng
   -- ---- lock
 
   next_open : g ≢ locked → next_generation g ≢ locked
-  next_open x0 x1 = grind (arith, next_below, next_there)
+  next_open = grind (arith, next_below, next_there)
 
   pub lock_walks : (P : ReleaseState → List ℕ → Type 0) → P (state_number (locking g cells)) ((locking g cells) ∷ cells)
       → Walks lock_want (lock_after capacity) (plus (suc (suc (suc (length cells)))) 1) (OnEnd P) first_lock (g ∷ cells)

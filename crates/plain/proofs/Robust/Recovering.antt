@@ -47,7 +47,7 @@ taken_base i j (None ∷ os) = taken_base (i + 1) (j + 1) os
 taken_base i j (Some o ∷ os) = ap suc (taken_base (i + 1) (j + 1) os)
 
 taken_less : (i k : ℕ) (o : Option ℕ) (os : List (Option ℕ)) → length (taken_from i os) ≤ length (taken_from k (o ∷ os))
-taken_less x0 x1 x2 x3 = grind (arith, taken_base, length, taken_from, suc)
+taken_less = grind (arith, taken_base, length, taken_from, suc)
 
 -- the taken ones from a place on are among all
 taken_within : (n i k : ℕ) (cells : List ℕ) → length (taken_from i (map owner_in (drop n cells))) ≤ length (taken_from k (map owner_in cells))
@@ -63,7 +63,7 @@ none_left [] low = refl
 none_left (x ∷ xs) low = absurd (omega arith)
 
 next_opens : (g : ℕ) → g < 2 ^ 64 → g ≢ locked → next_generation g ≢ locked
-next_opens x0 x1 x2 x3 = grind (arith, greatest, next_there, false, next_below, eqb_tells)
+next_opens = grind (arith, greatest, next_there, false, next_below, eqb_tells)
 
 -- a lock leaves nothing to ask about
 pub locked_leaves : (mode : ReleaseMode) (g : ℕ) (emptied : List ℕ) (n i : ℕ) → g < 2 ^ 64 → g ≢ locked → counter_then mode g emptied ≡ locked
@@ -89,7 +89,7 @@ pub questions_more : (xs : List Asked) (a : Asked) → said.questions (xs ++ a �
 questions_more xs a = map-append (λ (a : Asked). a.of) xs (a ∷ [])
 
 agreed_more : (xs ys : List Asked) → agreed (xs ++ ys) ≡ agreed xs ++ agreed ys
-agreed_more x0 x1 = grind (arith, map, filter-append, map-append, filter)
+agreed_more = grind (arith, map, filter-append, map-append, filter)
 
 pub agreed_no : (xs : List Asked) (o : Owned) → agreed (xs ++ an_answer o false ∷ []) ≡ agreed xs
 agreed_no xs o = agreed_more xs (an_answer o false ∷ []) ∙ append-nil (agreed xs)
@@ -135,12 +135,12 @@ module _ {F S : Type 0} (step : F → ℕ → ℕ → Bool → F → Type 0) (te
 
     pub ended_so : (state : ReleaseState) (r : Unit {0}) (last : List ℕ)
         → StopsAlike want recover_after kept mode call tt words (stops.Ended state) r last → Gone state p q last
-    ended_so x0 x1 x2 x3 = grind (arith, stops_so, append-nil)
+    ended_so = grind (arith, stops_so, append-nil)
 
     pub asks_so : (question : Question (Unit {0})) (put : Recover) (r : Unit {0}) (last : List ℕ)
         → StopsAlike want recover_after kept mode call tt words (stops.Asked question put) r last
         → AsksAt capacity t.g t.cells t.left question put last
-    asks_so x0 x1 x2 x3 x4 = grind (arith, stops_so)
+    asks_so = grind (arith, stops_so)
 
   -- ---- at a question
 
@@ -159,13 +159,13 @@ module _ {F S : Type 0} (step : F → ℕ → ℕ → Bool → F → Type 0) (te
     asked_so = ap (λ l. said.questions t.asked ++ l) (sym at.left_is) ∙ t.joined
 
     joined_then : (b : Bool) → said.questions (t.asked ++ an_answer it b ∷ []) ++ left_then ≡ to_recover old
-    joined_then x0 = grind (arith, questions_more, append_assoc, asked_so)
+    joined_then = grind (arith, questions_more, append_assoc, asked_so)
 
     number_then : (b : Bool) → length (t.asked ++ an_answer it b ∷ []) ≡ done + 1
     number_then b = length-append t.asked (an_answer it b ∷ []) ∙ ap (λ n. n + 1) t.number
 
     opens : t.g ≢ locked
-    opens x0 = grind (arith, length, suc)
+    opens = grind (arith, length, suc)
 
     short : length at.rest ≤ capacity
     short = grind (arith, length-drop, length, long)
@@ -296,11 +296,11 @@ module _ {F S : Type 0} (step : F → ℕ → ℕ → Bool → F → Type 0) (te
 
       onward : (b : Bool) (p₂ : F) (q₂ : S) → step p owner index b p₂ → (IsTrue b → tell q owner index q₂) → (IsFalse b → q₂ ≡ q)
           → Onward p₂ q₂ (recover_after put mode (if b then 1 else 0))
-      onward x0 x1 x2 x3 x4 x5 = grind (arith, on_yes, owner_is, index_is, on_no)
+      onward = grind (arith, on_yes, owner_is, index_is, on_no)
 
       pub onward_so : (agrees : Bool) (p₂ : F) (q₂ : S) → step p owner index agrees p₂ → (IsTrue agrees → tell q owner index q₂) → (IsFalse agrees → q₂ ≡ q)
           → (answer : ℕ) → answer ≡ (if agrees then 1 else 0) → (b : After Recover ReleaseState) → b ≡ recover_after put mode answer → Onward p₂ q₂ b
-      onward_so x0 x1 x2 x3 x4 x5 x6 x7 x8 x9 = grind (arith, onward)
+      onward_so = grind (arith, onward)
 
 -- ---- as it begins
 

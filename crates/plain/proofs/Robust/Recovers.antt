@@ -104,7 +104,7 @@ module _ (capacity g : ℕ) (cells : List ℕ) (small : g < 2 ^ 64) (long : leng
   then_on : (mode : ReleaseMode) (n : ℕ)
       → Goes (λ c. recover_want c) (λ c old. recover_after c mode old) scan (StopsAt capacity n emptied left_then)
       (recover_comes_to (first_recover capacity) (index + 1)) (n ∷ emptied)
-  then_on x0 x1 = grind (arith, recovers_on, emptied_long, drop-set-lt, empty)
+  then_on = grind (arith, recovers_on, emptied_long, drop-set-lt, empty)
 
   locks_on : (counter : ℕ) → counter < 2 ^ 64
       → Ends LockIfLastIndex rounds (locking counter emptied) (at (recovers.Locks index first_lock)) (counter ∷ emptied)
@@ -136,4 +136,4 @@ module _ (capacity g : ℕ) (cells : List ℕ) (small : g < 2 ^ 64) (long : leng
   -- from a yes to the next question, or to the end
   pub frees_on : (mode : ReleaseMode) (owner : ℕ) → slice_index (g ∷ cells) (cell_word index) ≡ owner
       → Ends mode (suc (suc (suc rounds))) (counter_then mode g emptied) (at (recovers.EmptiesCell index owner)) (g ∷ cells)
-  frees_on x0 x1 x2 = grind (arith, by_eq, suc, empty, eq-eqb, next_set, raises_on)
+  frees_on = grind (arith, by_eq, suc, empty, eq-eqb, next_set, raises_on)

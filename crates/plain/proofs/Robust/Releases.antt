@@ -31,15 +31,15 @@ pick_generation false os m n = refl
 without_is : (g : ℕ) (cells : List ℕ) (index : ℕ)
     → without (owners_in (g ∷ cells)) index
     ≡ owners_in (next_generation g ∷ slice_set cells index empty)
-without_is x0 x1 x2 = grind (arith, map, empty, owner_free, map-set)
+without_is = grind (arith, map, empty, owner_free, map-set)
 
 pub given_back_is : (mode : ReleaseMode) (g : ℕ) (cells : List ℕ) (index : ℕ)
     → given_back mode (owners_in (g ∷ cells)) index
     ≡ owners_in (counter_then mode g (slice_set cells index empty) ∷ slice_set cells index empty)
-given_back_is x0 x1 x2 x3 = grind (arith, without_is, pick_generation, number, empty, greatest, map, locked)
+given_back_is = grind (arith, without_is, pick_generation, number, empty, greatest, map, locked)
 
 pub counter_small : (mode : ReleaseMode) (g : ℕ) (cells : List ℕ) → g < 2 ^ 64 → counter_then mode g cells < 2 ^ 64
-counter_small x0 x1 x2 x3 = grind (arith, next_small, locking_small)
+counter_small = grind (arith, next_small, locking_small)
 
 module _ (capacity index owner g : ℕ) (cells : List ℕ) (small : g < 2 ^ 64) (long : length cells ≡ capacity) (few : capacity < 2 ^ 32)
     (lives : owner < empty) (near : index < capacity) where
@@ -95,7 +95,7 @@ module _ (capacity index owner g : ℕ) (cells : List ℕ) (small : g < 2 ^ 64) 
       BehavesAs (Represents capacity) owners_in (λ s. released s index owner mode) (λ s. after_release s index owner mode) (g ∷ cells) end last
 
   owns_is : (w : ℕ) → owns (owner_in w) owner ≡ (w == owner)
-  owns_is x0 = grind (arith, by_eq, owns, empty, ne_eqb)
+  owns_is = grind (arith, by_eq, owns, empty, ne_eqb)
 
   has_is : has old index owner ≡ (slice_index (g ∷ cells) (cell_word index) == owner)
   has_is = grind (arith, owns, get_or-map, owns_is, next_cell)

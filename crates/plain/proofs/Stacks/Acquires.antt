@@ -31,11 +31,11 @@ module _ (capacity : ℕ) where
   -- ---- the three ways through
 
   finds_locked : (words : List ℕ) → says_locked (slice_index words 0) ≡ true → Ends 1 (Err failures.IsLocked) words (first_acquire capacity) words
-  finds_locked x0 x1 = grind (arith, by_test, true≢false)
+  finds_locked = grind (arith, by_test, true≢false)
 
   finds_none : (words : List ℕ) → says_locked (slice_index words 0) ≡ false → borrowed (slice_index words 0) ≡ capacity
       → Ends 1 (Err failures.OutOfIndices) words (first_acquire capacity) words
-  finds_none x0 x1 x2 = grind (arith, by_test, true≢false, by_eq, borrowed)
+  finds_none = grind (arith, by_test, true≢false, by_eq, borrowed)
 
   module _ (words : List ℕ) where
     abbrev h : ℕ
@@ -55,7 +55,7 @@ module _ (capacity : ℕ) where
 
     takes_top : says_locked h ≡ false → borrowed h ≢ capacity → p < capacity → claimed capacity headed p ≡ false
         → Ends 4 (Ok p) last (first_acquire capacity) words
-    takes_top x0 x1 x2 x3 = grind (arith, eq-eqb, by_test, true≢false, by_eq, borrowed, claimed, nat_tests)
+    takes_top = grind (arith, eq-eqb, by_test, true≢false, by_eq, borrowed, claimed, nat_tests)
 
   -- ---- what it makes of the stack
 
@@ -63,19 +63,19 @@ module _ (capacity : ℕ) where
   number_of words unlocked = ap (λ b. if b then 0 else borrowed (slice_index words 0)) unlocked
 
   stays_locked : (words : List ℕ) → Represents capacity words → says_locked (slice_index words 0) ≡ true → Took words (Err failures.IsLocked) tt words
-  stays_locked x0 x1 x2 = grind (arith, top, drop)
+  stays_locked = grind (arith, top, drop)
 
   -- an unlocked set answers with the top
   answers : (words : List ℕ) → says_locked (slice_index words 0) ≡ false → acquired (stack_in capacity words) ≡ top (free_in capacity words)
-  answers x0 x1 = grind (arith, top)
+  answers = grind (arith, top)
 
   leaves : (words : List ℕ) → says_locked (slice_index words 0) ≡ false
       → after_acquire (stack_in capacity words) ≡ record (stack_in capacity words) { free = drop 1 (free_in capacity words) }
-  leaves x0 x1 = grind (arith, drop)
+  leaves = grind (arith, drop)
 
   stays_empty : (words : List ℕ) → Represents capacity words → says_locked (slice_index words 0) ≡ false → borrowed (slice_index words 0) ≡ capacity
       → Took words (Err failures.OutOfIndices) tt words
-  stays_empty x0 x1 x2 x3 = grind (arith, number_of, chain, answers, top, leaves, drop, locked)
+  stays_empty = grind (arith, number_of, chain, answers, top, leaves, drop, locked)
 
   module _ (words : List ℕ) (fits : Represents capacity words) (unlocked : says_locked (slice_index words 0) ≡ false)
       (m : ℕ) (there : capacity - borrowed (slice_index words 0) ≡ suc m) where
@@ -119,7 +119,7 @@ module _ (capacity : ℕ) where
     last_unlocked = ap says_locked head_is ∙ new_unlocked
 
     kept_next : (i : ℕ) → i < capacity → slice_index (last words) (next_word i) ≡ slice_index words (next_word i)
-    kept_next x0 x1 = grind (arith, get_or-set_other, next_word, flag)
+    kept_next = grind (arith, get_or-set_other, next_word, flag)
 
     last_free : free_in capacity (last words) ≡ chain words (next words) m
     last_free =

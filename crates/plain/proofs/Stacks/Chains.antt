@@ -67,7 +67,7 @@ chain_length ws k (suc n) = ap suc (chain_length ws (slice_index ws (next_word k
 module _ (capacity : ℕ) (words : List ℕ) where
   -- a word that is no flag word changes
   pub claimed_elsewhere : (at new i : ℕ) → at ≤ capacity → claimed capacity (slice_set words at new) i ≡ claimed capacity words i
-  claimed_elsewhere x0 x1 x2 x3 = grind (arith, has_flag, get_or-set_other)
+  claimed_elsewhere = grind (arith, has_flag, get_or-set_other)
 
   module _ (p : ℕ) (near : flag_word capacity p < length words) where
     abbrev found : ℕ
@@ -82,7 +82,7 @@ module _ (capacity : ℕ) (words : List ℕ) where
     -- the other bits of the word, and the other words, are as they were
     leaves : (new i : ℕ) → i ≢ p → (p % 64 ≢ i % 64 → has_flag new i ≡ has_flag found i)
         → claimed capacity (slice_set words (flag_word capacity p) new) i ≡ claimed capacity words i
-    leaves x0 x1 x2 x3 = grind (arith, has_flag, get_or-set_same, get_or-set_other, eqb_tells)
+    leaves = grind (arith, has_flag, get_or-set_same, get_or-set_other, eqb_tells)
 
     pub claims_leave : (i : ℕ) → i ≢ p → claimed capacity (slice_set words (flag_word capacity p) (bit_or found (flag p))) i ≡ claimed capacity words i
     claims_leave i other = leaves (bit_or found (flag p)) i other (λ ne. with_leaves found p i ne)

@@ -17,7 +17,7 @@ module _ (capacity : ℕ) (words : List ℕ) where
       (λ end room last. BehavesAs (Represents capacity) (stack_in capacity) out (λ s. s) words end last) call tt words
 
   pub count_runs : (call : BorrowedIndices) → Represents capacity words → CountRuns call
-  count_runs x0 x1 = grind (arith, chain_length)
+  count_runs = grind (arith, chain_length)
 
   abbrev pub LookRuns : IsLocked → Type 0
   LookRuns call =
@@ -25,4 +25,4 @@ module _ (capacity : ℕ) (words : List ℕ) where
       (λ end room last. BehavesAs (Represents capacity) (stack_in capacity) (λ (s : Stack). s.locked) (λ s. s) words end last) call tt words
 
   pub look_runs : (call : IsLocked) → Represents capacity words → LookRuns call
-  look_runs x0 x1 = grind arith
+  look_runs = grind arith

@@ -18,7 +18,7 @@ pub record Linked (n capacity : ℕ) (words : List ℕ) : Type 0 where
 
 pub one_linked : (n capacity : ℕ) (words : List ℕ) → n < capacity → Linked n capacity words
     → Linked (n + 1) capacity (slice_set words (1 + n) (n + 1))
-one_linked x0 x1 x2 x3 x4 = grind (arith, length-set, get_or-set_other, get_or-set_same, false, eqb_tells)
+one_linked = grind (arith, length-set, get_or-set_other, get_or-set_same, false, eqb_tells)
 
 -- ---- the numbers of a range
 

@@ -36,7 +36,7 @@ module _ (lock : Bool) (capacity index : ℕ) (words : List ℕ) where
     -- the head stands while the flag is cleared and the index is linked
     goes : slice_index cleared 0 ≡ h → slice_index linked 0 ≡ h
         → Ends 4 (state_after lock h) (first_release {M = M} capacity) words
-    goes x0 x1 = grind (arith, by_eq, eq-eqb)
+    goes = grind (arith, by_eq, eq-eqb)
 
   -- ---- what it makes of the stack
 
@@ -90,7 +90,7 @@ module _ (lock : Bool) (capacity index : ℕ) (words : List ℕ) where
     link_is = grind (arith, get_or-set_other, next_word, get_or-set_same, cleared_long)
 
     kept_next : (i : ℕ) → i < capacity → i ≢ index → slice_index last (next_word i) ≡ slice_index words (next_word i)
-    kept_next x0 x1 x2 = grind (arith, get_or-set_other, next_word)
+    kept_next = grind (arith, get_or-set_other, next_word)
 
     apart : (i : ℕ) → is_in i free ≡ true → i ≢ index
     apart i there e = true≢false (sym there ∙ (ap (λ j. is_in j free) e ∙ is_out.1))
@@ -99,7 +99,7 @@ module _ (lock : Bool) (capacity index : ℕ) (words : List ℕ) where
     longer = grind (arith, chain, link_is, chain_same, kept_next, apart)
 
     flags_are : (i : ℕ) → i < capacity → claimed capacity last i ≡ not (is_in i (index ∷ free))
-    flags_are x0 x1 = grind (arith, claimed_elsewhere, next_word, claimed, frees, low, in_first, frees_leave, in_other, eqb_tells)
+    flags_are = grind (arith, claimed_elsewhere, next_word, claimed, frees, low, in_first, frees_leave, in_other, eqb_tells)
 
     -- the head says so many free ones, and this index first
     module _ (new : proposed (head_released lock h index) ≡ index) (counts : capacity - borrowed_number (head_released lock h index) ≡ suc count)

@@ -11,7 +11,7 @@ use Rattle.steps.specs.Bits.Words.{bit_stands, bit_of, element_of, with_flag, wi
 -- ---- one word
 
 bit_near : (p : ℕ) → bit_of p < 64
-bit_near p = omega arith
+bit_near = omega arith
 
 flag_fits : (p : ℕ) → 2 ^ bit_of p < 2 ^ 64
 flag_fits p = pow_below (bit_of p) 64 (bit_near p)

@@ -1,4 +1,4 @@
-use Rattle.lock_free_owners.proofs.ContainerSet.Meeting.{history_meets}
+use Rattle.lock_free_owners.proofs.ContainerSet.UpdateAnswers.{history_meets}
 use Rattle.lock_free_owners.proofs.laws.container_updates_meet_changes.Goals as goal
 
 pub returns : goal.returns

@@ -19,7 +19,7 @@ loop-init g c =
     c.in-GoOn.is c.requires.stops c.four_steps.ensures
 
 pub loop-preserved : goal.loop-preserved
-loop-preserved x0 x1 = grind (arith, goes_on)
+loop-preserved = grind (arith, goes_on)
 
 pub returns-in-Done-step : goal.returns-in-Done-step
 returns-in-Done-step g c = record {

@@ -5,10 +5,10 @@ use Rattle.plain.proofs.robust_unique_index_set.find.Goals as goal
 use Rattle.plain.proofs.robust_unique_index_set.find.Given as given
 
 pub loop-init : goal.loop-init
-loop-init x0 x1 = grind (arith, starts)
+loop-init = grind (arith, starts)
 
 pub drive_to_stop-requires : goal.drive_to_stop-requires
-drive_to_stop-requires x0 x1 = grind (arith, can_go)
+drive_to_stop-requires = grind (arith, can_go)
 
 pub returns-in-Ended-clause-words : goal.returns-in-Ended-clause-words
 returns-in-Ended-clause-words g c =

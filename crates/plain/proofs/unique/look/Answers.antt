@@ -4,7 +4,7 @@ use Rattle.plain.proofs.Stacks.Looks.{look_runs}
 use Rattle.plain.proofs.unique.look.Goals as goal
 
 pub drive-requires : goal.drive-requires
-drive-requires x0 = grind (arith, can_end, look_runs)
+drive-requires = grind (arith, can_end, look_runs)
 
 pub returns : goal.returns
 returns c = ends_so _ _ _ _ _ _ _ _ (look_runs c.args.capacity c.args.words.now.items _ c.requires) _ _ _ c.drive.ensures.alone

@@ -4,4 +4,4 @@ use Rattle.plain.proofs.Places.Flags.{flags_length}
 use Rattle.plain.proofs.bits.BitSet.capacity.Goals as goal
 
 pub returns : goal.returns
-returns x0 = grind (arith, flags_length, length)
+returns = grind (arith, flags_length, length)

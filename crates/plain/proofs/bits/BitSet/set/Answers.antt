@@ -3,4 +3,4 @@ use Rattle.plain.proofs.Places.Flags.{flags_length}
 use Rattle.plain.proofs.bits.BitSet.set.Goals as goal
 
 pub set-requires-clause-below : goal.set-requires-clause-below
-set-requires-clause-below x0 = grind (arith, flags_length, length)
+set-requires-clause-below = grind (arith, flags_length, length)

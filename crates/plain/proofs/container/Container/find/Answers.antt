@@ -4,7 +4,7 @@ use Rattle.plain.proofs.container.Container.find.Goals as goal
 use Rattle.plain.proofs.container.Container.find.Given as given
 
 pub find-requires-clause-visits : goal.find-requires-clause-visits
-find-requires-clause-visits x0 x1 = grind (arith, takes_at)
+find-requires-clause-visits = grind (arith, takes_at)
 
 pub returns-clause-found : goal.returns-clause-found
 returns-clause-found g c = found_at (λ p x h a q. given.F-step g p x h a q) c.self.view_is c.find.ensures.found

@@ -4,7 +4,7 @@ use Rattle.plain.proofs.container.Container.recover.Goals as goal
 use Rattle.plain.proofs.container.Container.recover.Given as given
 
 pub recover-requires-clause-questions : goal.recover-requires-clause-questions
-recover-requires-clause-questions x0 x1 = grind (arith, questions_at)
+recover-requires-clause-questions = grind (arith, questions_at)
 
 pub returns-clause-calls : goal.returns-clause-calls
 returns-clause-calls g c = recovered_at (λ p x b q. given.F-step g p x b q) c.self.view_is c.recover.ensures.calls

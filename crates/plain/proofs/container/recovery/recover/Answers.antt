@@ -6,16 +6,16 @@ use Rattle.plain.proofs.container.recovery.recover.Goals as goal
 use Rattle.plain.proofs.container.recovery.recover.Given as given
 
 pub loop-init : goal.loop-init
-loop-init x0 x1 = grind (arith, starts)
+loop-init = grind (arith, starts)
 
 pub drive_to_stop-requires : goal.drive_to_stop-requires
-drive_to_stop-requires x0 x1 = grind (arith, can_go)
+drive_to_stop-requires = grind (arith, can_go)
 
 pub returns-in-Ended-clause-holds : goal.returns-in-Ended-clause-holds
-returns-in-Ended-clause-holds x0 x1 = grind (arith, ended_so)
+returns-in-Ended-clause-holds = grind (arith, ended_so)
 
 pub returns-in-Ended-clause-state : goal.returns-in-Ended-clause-state
-returns-in-Ended-clause-state x0 x1 = grind (arith, ended_so)
+returns-in-Ended-clause-state = grind (arith, ended_so)
 
 pub returns-in-Ended-clause-calls : goal.returns-in-Ended-clause-calls
 returns-in-Ended-clause-calls g c =

@@ -6,7 +6,7 @@ use Rattle.plain.proofs.container.visits.find.Goals as goal
 use Rattle.plain.proofs.container.visits.find.Given as given
 
 pub loop-init : goal.loop-init
-loop-init x0 x1 = grind (arith, starts)
+loop-init = grind (arith, starts)
 
 pub drive_to_stop-requires : goal.drive_to_stop-requires
 drive_to_stop-requires g c =

@@ -3,4 +3,4 @@ use Rattle.plain.proofs.Robust.Looks.{opens}
 use Rattle.plain.proofs.robust_unique_index_set.RobustUniqueIndexSet.new_at.Goals as goal
 
 pub returns-clause-map : goal.returns-clause-map
-returns-clause-map x0 = grind (arith, opens)
+returns-clause-map = grind (arith, opens)

@@ -1,5 +1,5 @@
 use Rattle.std.proofs.Common.{rules, ◌∙◌}
-use Rattle.lock_free.specs.UniqueIndexSet.{value_of}
+use Rattle.lock_free_sets.specs.UniqueIndexSet.{value_of}
 use Rattle.zero_copy_loans.proofs.Shares.{joined_again}
 use Rattle.zero_copy_loans.proofs.pool.Lender.acquire.Goals as goal
 

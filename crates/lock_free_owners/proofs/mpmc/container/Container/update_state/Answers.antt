@@ -7,7 +7,7 @@ use Rattle.lock_free_owners.specs.Container.LookTurns.{LookAt}
 use Rattle.lock_free_owners.proofs.ContainerSet.Looks.{look_answered, look_begins, look_idle, look_goes, look_aside, look_made}
 use Rattle.lock_free_owners.proofs.ContainerSet.Looks.{latest_so, on_history, of_history, left_so, knows_so}
 use Rattle.lock_free_owners.proofs.ContainerSet.Began.{history_of}
-use Rattle.lock_free_owners.proofs.ContainerSet.Meeting.{has_met}
+use Rattle.lock_free_owners.proofs.ContainerSet.UpdateAnswers.{has_met}
 use Rattle.lock_free_owners.proofs.ContainerSet.SameStates.{decide}
 use Rattle.lock_free_owners.specs.Container.Steps.{LookTakes}
 use Rattle.lock_free_owners.proofs.ContainerSet.Steps.{look_takes}

@@ -1,0 +1,426 @@
+-- A find that ends has come to the indices of the whole container, or to those up to the one that it asked about where a no
+-- ends it; and in a well-formed run it has copied what stood at each that it has counted.
+use Rattle.laws_container.proofs.Names.{◌≡◌, ◌≢◌, ℕ, ◌+◌, ◌==◌, ◌<◌, ◌≤◌, if◌then◌else◌, nat_lt, Bool, true, false}
+use Rattle.laws_container.proofs.Names.{Option, Some, None, is_none, is_some, List, [], ◌∷◌, ◌++◌, refl, sym, ap}
+use Rattle.laws_container.proofs.Names.{subst, ◌∙◌, arith, nat_tests, append_cancel_left, After, GoOn, FindStage}
+use Rattle.laws_container.proofs.Names.{at_find, find_comes_to, is_even, empty, one_more, went_on, Answer, Number}
+use Rattle.laws_container.proofs.Names.{Event, Finished, Start, Container, Flight, Registry, ContainerStart}
+use Rattle.laws_container.proofs.Names.{ContainerFlight, Doing, Going, Over, Party, Turn, Begin}
+use Rattle.laws_container.proofs.Names.{Next, Decide, Die, Coding, want_of, ask_of, is_question, beside_of, step_of}
+use Rattle.laws_container.proofs.Names.{want, after, IsFoundWhole, question_in, question_at, contents_of, state_of}
+use Rattle.laws_container.proofs.Names.{effects, questions, IsFilledWith, IsCount, as_it_is, read_in, party_of, put}
+use Rattle.laws_container.proofs.Names.{doing_of, flight_of, IsParty, is_due, call_refusal, as_call, answer_in}
+use Rattle.laws_container.proofs.Names.{old_of, number_of, after_next, after_decision, after_answer, events_of_step}
+use Rattle.laws_container.proofs.Names.{events_of_answer, events_of_next, events_of_decision, events_of, ask_of_doing}
+use Rattle.laws_container.proofs.Names.{after_turn, Trace, flight_in, row_passed, StandsThere, stands_there, cell}
+use Rattle.laws_container.proofs.Names.{both_ways, through_now}
+use Rattle.steps.specs.declared.ask.After.TheVariants.{Done}
+use Rattle.steps.specs.declared.container.find.Find as find_calls
+use Rattle.steps.specs.declared.container.find.FindStage.TheVariants as finds
+use Rattle.steps.specs.declared.copied.Buffer as buffers
+use Rattle.model.specs.declared.families.Flight.TheVariants as flights
+use Rattle.model.specs.declared.families.container.ContainerStart.TheVariants.{Find}
+use Rattle.model.specs.declared.families.container.calls.ContainerFlight.TheVariants as calls
+use Rattle.model.proofs.Frame as frame
+use Rattle.laws_robust.proofs.FindCoverage.{IsEnd, ends_alone}
+use Rattle.laws_container.proofs.Finds.{nothing_stands, none_counts, found_none, found_past}
+use Rattle.laws_container.proofs.Invariant.{Scene, Inv, before, family_by}
+use Rattle.laws_container.proofs.Knows.{HasFoundBelow, Knows}
+use Rattle.laws_container.proofs.WellFormed.{IsWellFormedSoFar}
+use Rattle.laws_container.proofs.Sound.{MayGoOn, Shown, kept_now, scene_of, inv_with, is_there}
+use Rattle.laws_container.proofs.Stages.{IsHere, all, done, sees_now, any_call, was_well_formed}
+use Rattle.laws_container.proofs.CallProgress.{find_at, At, FindAt}
+use Rattle.laws_container.proofs.Terms.{Terms}
+use Rattle.laws_container.proofs.Turns.{WellFormed, count_in}
+use Rattle.laws_container.proofs.Writing.{even_is}
+use Rattle.laws_container.proofs.Written.{all_effects}
+use Rattle.laws_container.specs.ConditionalPromises.{CountsIf}
+use Rattle.laws_container.proofs.Allowed.{IsAllowed}
+
+-- ---- a find that ends
+
+module _ {T : Type 0} (scene : Scene T) (inv : Inv scene) (owner : ℕ) (fits : owner < empty) where
+  open scene use {coding as code, capacity as c, party as p, events as events}
+
+  -- so many indices below the bound have the owner, and in a well-formed run it has copied what stood at them
+  pub record Has (bound number : ℕ) : Type 0 where
+    pub count : IsCount p (IsFilledWith owner) bound number events
+    pub whole : WellFormed (before scene) → IsFoundWhole p owner bound number events
+
+  whole_of : (bound number : ℕ) → HasFoundBelow code c owner bound bound number (sees_now scene) → IsFoundWhole p owner bound number events
+  whole_of bound number h = record { count = h.count; copied = λ index less chosen through. h.copied index less chosen through }
+
+  abbrev as_find : buffers.Buffer 128 → After (find_calls.Find T (buffers.Buffer 128)) ℕ → After (Flight T) (Answer T)
+  as_find room r = any_call (as_call calls.Find Number (went_on as_it_is owner room r))
+
+  done_is : (room : buffers.Buffer 128) (number : ℕ) (r : After (find_calls.Find T (buffers.Buffer 128)) ℕ)
+      → answer_in (as_find room r) ≡ Some (Number number) → r ≡ Done number
+  done_is room number (GoOn call) e = absurd (cc)
+  done_is room number (Done found) e = cc
+
+  abbrev at_stage : FindStage → find_calls.Find T (buffers.Buffer 128)
+  at_stage stage = record { capacity = c; stage = stage; of = record {} }
+
+  -- it has come to the last cell
+  comes_is : (stage : FindStage) (k found number : ℕ) → find_comes_to (at_stage stage) (k + 1) found ≡ Done number → (c ≤ k + 1) × (found ≡ number)
+  comes_is stage k found number e = go (nat_lt (k + 1) c) refl e
+    where
+      go : (b : Bool) → nat_lt (k + 1) c ≡ b
+          → (if b then GoOn (at_find (at_stage stage) (finds.LoadsCell (k + 1) found)) else Done found) ≡ Done number
+          → (c ≤ k + 1) × (found ≡ number)
+      go true t e = absurd (cc)
+      go false t e = (grind (arith, nat_tests), cc)
+
+  ended : (k found number : ℕ) → k < c → (c ≤ k + 1) × (found ≡ number) → Has (k + 1) found → Has c number
+  ended x0 x1 x2 x3 x4 x5 = grind arith
+
+  abbrev Tells : ℕ → Bool → ContainerFlight T → Type 0
+  Tells number due flight =
+      IsHere scene (Find owner) flight → Knows code c flight (sees_now scene) → is_question (want code flight) ≡ due
+      → (answer : ℕ) → (due ≡ false → answer ≡ old_of scene.words (ask_of (want code flight)))
+      → (due ≡ true → answer ≢ 0)
+      → answer_in (any_call (after code (state_of p scene.states) flight answer)) ≡ Some (Number number) → Has c number
+
+  stage_tells : (number : ℕ) (due : Bool) (room : buffers.Buffer 128) (stage : FindStage)
+      → FindAt c code.size (all scene) (done scene) stage → Tells number due (find_at c owner room stage)
+  stage_tells number due room (finds.LoadsCell k found) at here h asks answer loads told e = go (answer == owner) refl (done_is _ number _ e)
+    where
+      go : (b : Bool) → (answer == owner) ≡ b
+          → (if b then GoOn (at_find (at_stage (finds.LoadsCell k found)) (finds.LoadsCount k (one_more found)))
+          else find_comes_to (at_stage (finds.LoadsCell k found)) (k + 1) found)
+          ≡ Done number
+          → Has c number
+      go true t r = absurd (cc)
+      go false t r =
+          let is : answer ≡ cell scene.words k = loads (sym asks) in
+          let other : cell scene.words k ≢ owner = grind (arith, nat_tests) in
+          ended k found number at.1 (comes_is (finds.LoadsCell k found) k found number r)
+          (record {
+            count = none_counts scene inv owner fits k found at.1 other h.1.1;
+            whole = λ well_formed. whole_of (k + 1) found (found_none scene inv owner fits k found at.1 other h.1.2 well_formed);
+          })
+  stage_tells number due room (finds.LoadsCount k found) at here h asks answer loads told e = go (is_even answer) refl (done_is _ number _ e)
+    where
+      go : (b : Bool) → is_even answer ≡ b
+          → (if b then find_comes_to (at_stage (finds.LoadsCount k found)) (k + 1) found else GoOn
+          (at_find (at_stage (finds.LoadsCount k found)) (finds.LoadsWord k found answer 0)))
+          ≡ Done number
+          → Has c number
+      go true t r =
+          let is : answer ≡ count_in code c (before scene) k = loads (sym asks) in
+          let even : is_even (count_in code c (before scene) k) ≡ true = subst (λ n. is_even n ≡ true) is t in
+          ended k found number at.1 (comes_is (finds.LoadsCount k found) k found number r)
+          (record {
+            count = h.1.0.1;
+            whole = λ well_formed. whole_of (k + 1) found
+                (found_past scene inv owner fits k found
+                (λ holds through. both_ways (is_some (contents_of k events))
+                (nothing_stands code c scene.words k (contents_of k events) (inv.elements.whole holds k at.1)
+                (even_is (count_in code c (before scene) k) even))
+                (through_now p (λ part. is_some (contents_of k part) ≡ true) events through))
+                h.1.0.2 well_formed);
+          })
+      go false t r = absurd (cc)
+  stage_tells number due room (finds.LoadsWord k found count word) at here h asks answer loads told e =
+      go (nat_lt (word + 1) code.size) (done_is _ number _ e)
+    where
+      go : (b : Bool)
+          → (if b then GoOn
+          (at_find (at_stage (finds.LoadsWord k found count word)) (finds.LoadsWord k found count (word + 1)))
+          else GoOn
+          (at_find (at_stage (finds.LoadsWord k found count word)) (finds.ChecksCount k found count)))
+          ≡ Done number
+          → Has c number
+      go true r = absurd (cc)
+      go false r = absurd (cc)
+  stage_tells number due room (finds.ChecksCount k found count) at here h asks answer loads told e =
+      go (answer == count) refl (done_is _ number _ e)
+    where
+      go : (b : Bool) → (answer == count) ≡ b
+          → (if b then GoOn (at_find (at_stage (finds.ChecksCount k found count)) (finds.Asks k found))
+          else find_comes_to (at_stage (finds.ChecksCount k found count)) (k + 1) found)
+          ≡ Done number
+          → Has c number
+      go true t r = absurd (cc)
+      go false t r =
+          let is : answer ≡ count_in code c (before scene) k = loads (sym asks) in
+          let other : count_in code c (before scene) k ≢ count = grind (arith, nat_tests) in
+          ended k found number at.1.0 (comes_is (finds.ChecksCount k found count) k found number r)
+          (record {
+            count = h.1.0.1;
+            whole =
+                λ well_formed. whole_of (k + 1) found
+                (found_past scene inv owner fits k found (λ holds through. other (h.1.1 holds through)) h.1.0.2 well_formed);
+          })
+  stage_tells number due room (finds.Asks k found) at here h asks answer loads told e = go (answer == 0) refl (done_is _ number _ e)
+    where
+      go : (b : Bool) → (answer == 0) ≡ b
+          → (if b then Done found else find_comes_to (at_stage (finds.Asks k found)) (k + 1) found) ≡ Done number
+          → Has c number
+      go x0 x1 x2 = grind (arith, ended, comes_is, whole_of, nat_tests)
+
+  -- a no ends it where it asked
+  abbrev Stops : ℕ → ℕ → T → ContainerFlight T → Type 0
+  Stops number index value flight =
+      Knows code c flight (sees_now scene)
+      → question_in code (Some (flights.Container flight)) ≡ Some (index, value)
+      → answer_in (any_call (after code (state_of p scene.states) flight 0)) ≡ Some (Number number)
+      → Has (index + 1) number
+
+  stage_stops : (number index : ℕ) (value : T) (room : buffers.Buffer 128) (stage : FindStage) → Stops number index value (find_at c owner room stage)
+  stage_stops x0 x1 x2 x3 x4 x5 x6 x7 = grind (arith, read_in, whole_of)
+
+module _ {T : Type 0} (scene : Scene T) (inv : Inv scene) (owner : ℕ) where
+  open scene use {coding as code, capacity as c, party as p, events as events}
+
+  -- the owner of a find is one
+  owner_fits : (flight : ContainerFlight T) → At c code.size (all scene) (done scene) (Find owner) flight → owner < empty
+  owner_fits (calls.Find run) at = at.2
+  owner_fits flight at = absurd at
+
+  find_tells : (number : ℕ) (due : Bool) (flight : ContainerFlight T)
+      → (at : At c code.size (all scene) (done scene) (Find owner) flight) → (fits : owner < empty)
+      → Tells scene inv owner fits number due flight
+  find_tells number due (calls.Find run) at fits =
+      subst (Tells scene inv owner fits number due)
+      (sym (ap (λ n. find_at n run.given run.room run.call.stage) at.0 ∙ ap (λ o. find_at c o run.room run.call.stage) at.1))
+      (stage_tells scene inv owner fits number due run.room run.call.stage at.3)
+  find_tells number due flight at fits = absurd at
+
+  find_stops : (number index : ℕ) (value : T) (flight : ContainerFlight T)
+      → At c code.size (all scene) (done scene) (Find owner) flight → (fits : owner < empty)
+      → Stops scene inv owner fits number index value flight
+  find_stops number index value (calls.Find run) at fits =
+      subst (Stops scene inv owner fits number index value)
+      (sym (ap (λ n. find_at n run.given run.room run.call.stage) at.0 ∙ ap (λ o. find_at c o run.room run.call.stage) at.1))
+      (stage_stops scene inv owner fits number index value run.room run.call.stage)
+  find_stops number index value flight at fits = absurd at
+
+module _ {T : Type 0} where
+  find_name : (start : ContainerStart T) (owner : ℕ) → ◌≡◌ {A = Start T} (Container start) (Container (Find owner)) → start ≡ Find owner
+  find_name start owner e = cc
+
+-- ---- a step of a party's call
+
+module _ {T : Type 0} (shown : Shown T) (terms : Terms) (code : Coding T) (c : ℕ) (t : Trace T)
+    (s : frame.Sound (family_by terms code c) t) (q : ℕ) (x : Party T) (since : ℕ) (may : MayGoOn terms t)
+    (found : party_of q t.world.latest ≡ Some x) (turn : Turn T)
+    (mine : IsParty turn q) (answer p owner number : ℕ) where
+  -- it wrote that a find is done, and nothing else
+  abbrev Wrote : Coding T → Registry T → Start T → Flight T → Type 0
+  Wrote y kept start flight =
+      events_of_step q start (step_of y t.world.words (beside_of t.world.words kept t.world.latest q) q start flight answer kept)
+      ≡ Finished p (Container (Find owner)) (Number number) ∷ []
+
+  abbrev end_of : ContainerFlight T → Option (Answer T)
+  end_of flight = answer_in (any_call (after code (state_of q s.state.states) flight answer))
+
+  wrote_end : (start : ContainerStart T) (flight : ContainerFlight T)
+      → Wrote code (kept_now shown terms code c t s) (Container start) (flights.Container flight)
+      → IsEnd q p (Container start) (Container (Find owner)) (end_of flight) (Number number)
+  wrote_end start flight e =
+      ends_alone turn q p (effects code q (state_of q s.state.states) flight answer ++ questions q flight answer)
+      (Container start) (Container (Find owner)) (end_of flight) (Number number)
+      (all_effects turn q mine code (state_of q s.state.states) flight answer) e
+
+  -- what is said of an ended find, and where its run was well-formed a turn ago
+  pub record Ends (bound : ℕ) : Type 0 where
+    pub party : q ≡ p
+    pub count : IsCount p (IsFilledWith owner) bound number t.events
+    pub whole : (y : Party T)
+        → IsWellFormedSoFar terms (put q y t.world.latest) (t.events ++ Finished p (Container (Find owner)) (Number number) ∷ [])
+        → IsFoundWhole p owner bound number t.events
+
+  ends_with : (bound : ℕ) (flight : ContainerFlight T) → q ≡ p
+      → IsHere (scene_of shown terms code c t s q x since) (Find owner) flight → (fits : owner < empty)
+      → Has (scene_of shown terms code c t s q x since) (inv_with shown terms code c t s q x since found may) owner fits bound number
+      → Ends bound
+  ends_with bound flight is here fits h =
+      record {
+        party = is;
+        count = subst (λ n. IsCount n (IsFilledWith owner) bound number t.events) is h.count;
+        whole = λ y well_formed.
+            subst (λ n. IsFoundWhole n owner bound number t.events) is
+            (h.whole
+            (was_well_formed (scene_of shown terms code c t s q x since) (Find owner) tt here.span s.state.words y
+            (Finished p (Container (Find owner)) (Number number) ∷ []) (ap Some (sym is), tt) well_formed));
+      }
+
+  counted : (due : Bool) → (due ≡ true → answer ≢ 0) → (start : Start T) (flight : Flight T)
+      → StandsThere (family_by terms code c) t s q x since start flight → is_question (want_of code flight) ≡ due
+      → (due ≡ false → answer ≡ old_of s.state.words (ask_of (want_of code flight)))
+      → Wrote code (kept_now shown terms code c t s) start flight → Ends c
+  counted due told (Container start) (flights.Container flight) h asks loads e =
+      let end = wrote_end start flight e in
+      let name = find_name start owner end.name in
+      let stands = subst (λ a. StandsThere (family_by terms code c) t s q x since (Container a) (flights.Container flight)) name h in
+      let there = is_there shown terms code c t s q x since found (Find owner) flight stands in
+      let scene = scene_of shown terms code c t s q x since in
+      let fits = owner_fits scene (inv_with shown terms code c t s q x since found may) owner flight there.at in
+      ends_with c flight end.party there.here fits
+      (find_tells scene (inv_with shown terms code c t s q x since found may) owner number due flight there.at fits
+      there.here there.knows asks answer loads told end.done)
+  counted due told start flight h asks loads e = absurd h.at
+
+  stopped : (index : ℕ) (value : T) → answer ≡ 0 → (start : Start T) (flight : Flight T)
+      → StandsThere (family_by terms code c) t s q x since start flight
+      → question_in code (Some flight) ≡ Some (index, value) → Wrote code (kept_now shown terms code c t s) start flight
+      → Ends (index + 1)
+  stopped index value zero (Container start) (flights.Container flight) h asks e =
+      let end = wrote_end start flight e in
+      let name = find_name start owner end.name in
+      let stands = subst (λ a. StandsThere (family_by terms code c) t s q x since (Container a) (flights.Container flight)) name h in
+      let there = is_there shown terms code c t s q x since found (Find owner) flight stands in
+      let scene = scene_of shown terms code c t s q x since in
+      let fits = owner_fits scene (inv_with shown terms code c t s q x since found may) owner flight there.at in
+      ends_with (index + 1) flight end.party there.here fits
+      (find_stops scene (inv_with shown terms code c t s q x since found may) owner number index value flight
+      there.at fits there.knows asks
+      (subst (λ n. answer_in (any_call (after code (state_of q s.state.states) flight n)) ≡ Some (Number number)) zero end.done))
+  stopped index value zero start flight h asks e = absurd h.at
+
+  own_end : (start : Start T) (flight : Flight T) → StandsThere (family_by terms code c) t s q x since start flight
+      → Wrote code (kept_now shown terms code c t s) start flight → q ≡ p
+  own_end x0 x1 x2 x3 = grind (arith, wrote_end)
+
+  -- by the words, and what is kept beside them
+  module _ (flight : Flight T) (doing : x.doing ≡ Going flight since) (e : Wrote t.world.coding t.world.kept x.start flight) where
+    there_is : StandsThere (family_by terms code c) t s q x since x.start flight
+    there_is = stands_there (family_by terms code c) t s q x since flight found doing
+
+    by_now : Wrote code (kept_now shown terms code c t s) x.start flight
+    by_now =
+        subst (λ kept. Wrote code kept x.start flight) s.fit.kept
+        (subst (λ y. Wrote y t.world.kept x.start flight) s.coding e)
+
+    pub own_party : q ≡ p
+    own_party = own_end x.start flight there_is by_now
+
+    pub all_counted : (due : Bool) → (due ≡ true → answer ≢ 0) → is_question (want_of t.world.coding flight) ≡ due
+        → (due ≡ false → answer ≡ old_of t.world.words (ask_of (want_of t.world.coding flight))) → Ends c
+    all_counted due told asks loads =
+        counted due told x.start flight there_is (subst (λ y. is_question (want_of y flight) ≡ due) s.coding asks)
+        (λ no. loads no
+        ∙ (ap (λ ws. old_of ws (ask_of (want_of t.world.coding flight))) s.fit.words
+        ∙ ap (λ y. old_of s.state.words (ask_of (want_of y flight))) s.coding))
+        by_now
+
+    pub all_stopped : (index : ℕ) (value : T) → answer ≡ 0 → question_in t.world.coding (Some flight) ≡ Some (index, value) → Ends (index + 1)
+    all_stopped index value zero asks =
+        stopped index value zero x.start flight there_is
+        (subst (λ y. question_in y (Some flight) ≡ Some (index, value)) s.coding asks) by_now
+
+-- ---- any turn
+
+module _ {T : Type 0} (shown : Shown T) (terms : Terms) (code : Coding T) (c : ℕ) (t : Trace T)
+    (s : frame.Sound (family_by terms code c) t) (p owner number : ℕ) where
+  abbrev Ended : List (Event T) → Type 0
+  Ended es = es ≡ Finished p (Container (Find owner)) (Number number) ∷ []
+
+  -- what the turn tells that leaves this machine
+  abbrev Told : ℕ → List (ℕ × Party T) → Type 0
+  Told bound latest =
+      IsCount p (IsFilledWith owner) bound number t.events
+      × (IsWellFormedSoFar terms latest (t.events ++ Finished p (Container (Find owner)) (Number number) ∷ [])
+      → IsFoundWhole p owner bound number t.events)
+
+  next_tells : (q : ℕ) → MayGoOn terms t → is_due t.world.coding (flight_in t.world q) ≡ false
+      → (o : Option (Party T)) → party_of q t.world.latest ≡ o → Ended (events_of_next t.world q o)
+      → Told c (after_next t.world q o).latest
+  next_tells q may free None found e = absurd (cc)
+  next_tells q may free (Some x) found e = go x.doing refl e
+    where
+      go : (doing : Doing T) → x.doing ≡ doing → Ended (events_of_answer t.world q x (old_of t.world.words (ask_of_doing t.world.coding doing)) doing)
+          → Told c (after_answer t.world q x (ask_of_doing t.world.coding doing) (old_of t.world.words (ask_of_doing t.world.coding doing)) doing).latest
+      go (Over others) d e = absurd (cc)
+      go (Going flight since) d e =
+          let here : flight_in t.world q ≡ Some flight = ap (λ o. flight_of (doing_of o)) found ∙ ap (λ d. flight_of (Some d)) d in
+          let h =
+          all_counted shown terms code c t s q x since may found (Next q) refl
+          (old_of t.world.words (ask_of (want_of t.world.coding flight))) p owner number flight d e false
+          (λ told. absurd (cc)) (rw here at free) (λ no. refl) in
+          (h.count, h.whole _)
+
+  decision_tells : (q : ℕ) (said : Bool) → MayGoOn terms t → is_due t.world.coding (flight_in t.world q) ≡ true
+      → ◌≢◌ {A = Turn T} (Decide q said) (Decide p false) → (o : Option (Party T)) → party_of q t.world.latest ≡ o
+      → Ended (events_of_decision t.world q said o)
+      → Told c (after_decision t.world q said o).latest
+  decision_tells q said may due ne None found e = absurd (cc)
+  decision_tells q said may due ne (Some x) found e = go x.doing refl e
+    where
+      go : (doing : Doing T) → x.doing ≡ doing → Ended (events_of_answer t.world q x (number_of said) doing)
+          → Told c (after_answer t.world q x None (number_of said) doing).latest
+      go (Over others) d e = absurd (cc)
+      go (Going flight since) d e = by said refl
+        where
+          by : (b : Bool) → said ≡ b → Told c (after_answer t.world q x None (number_of said) (Going flight since)).latest
+          by true is =
+              let here : flight_in t.world q ≡ Some flight = ap (λ o. flight_of (doing_of o)) found ∙ ap (λ d. flight_of (Some d)) d in
+              let h =
+              all_counted shown terms code c t s q x since may found (Decide q said) refl (number_of said) p owner
+              number flight d e true
+              (λ told zero. let one : number_of said ≡ 1 = ap number_of is in absurd (omega arith)) (rw here at due)
+              (λ no. absurd (cc)) in
+              (h.count, h.whole _)
+          by false is =
+              let party = own_party shown terms code c t s q x since may found (Decide q said) refl (number_of said) p owner number flight d e in
+              absurd (ne (ap (λ n. Decide n said) party ∙ ap (λ b. Decide p b) is))
+
+  stop_tells : (index : ℕ) (value : T) → MayGoOn terms t → (o : Option (Party T)) → party_of p t.world.latest ≡ o
+      → question_in t.world.coding (flight_of (doing_of o)) ≡ Some (index, value)
+      → Ended (events_of_decision t.world p false o) → Told (index + 1) (after_decision t.world p false o).latest
+  stop_tells index value may None found asks e = absurd (cc)
+  stop_tells index value may (Some x) found asks e = go x.doing refl asks e
+    where
+      go : (doing : Doing T) → x.doing ≡ doing
+          → question_in t.world.coding (flight_of (Some doing)) ≡ Some (index, value)
+          → Ended (events_of_answer t.world p x (number_of false) doing)
+          → Told (index + 1) (after_answer t.world p x None (number_of false) doing).latest
+      go (Over others) d asks e = absurd (cc)
+      go (Going flight since) d asks e =
+          let h =
+          all_stopped shown terms code c t s p x since may found (Decide p false) refl (number_of false) p owner
+          number flight d e index value refl asks in
+          (h.count, h.whole _)
+
+  -- no decision is due in a step
+  not_due : (q : ℕ) → call_refusal t.world (Next q) ≡ None → is_due t.world.coding (flight_in t.world q) ≡ false
+  not_due x0 x1 = grind (arith, row_passed, is_none)
+
+  tells : MayGoOn terms t → (turn : Turn T) → IsAllowed t.world turn → Ended (events_of t.world turn)
+      → turn ≢ Decide p false → Told c (after_turn t turn).world.latest
+  tells may (Begin q start) r e ne = absurd (cc)
+  tells may (Next q) r e ne = next_tells q may (not_due q r) (party_of q t.world.latest) refl e
+  tells may (Decide q said) r e ne =
+      decision_tells q said may r ne (party_of q t.world.latest) refl e
+  tells may (Die o) r e ne = absurd (cc)
+
+module _ {T : Type 0} (shown : Shown T) (terms : Terms) (code : Coding T) (t : Trace T)
+    (s : frame.Sound (family_by terms code t.world.capacity) t) (may : MayGoOn terms t) (turn : Turn T)
+    (r : IsAllowed t.world turn)
+    (well_formed : Type 0) (so_far : well_formed → IsWellFormedSoFar terms (after_turn t turn).world.latest (after_turn t turn).events) where
+  -- as the promise says it of the machine after the turn
+  right : (p owner number bound : ℕ)
+      → (after_turn t turn).events ≡ t.events ++ Finished p (Container (Find owner)) (Number number) ∷ []
+      → Told shown terms code t.world.capacity t s p owner number bound (after_turn t turn).world.latest
+      → CountsIf well_formed p owner bound number t.events
+  right x0 x1 x2 x3 x4 x5 = grind (arith, after_turn)
+
+  pub counts_all : (p owner number : ℕ)
+      → (after_turn t turn).events ≡ t.events ++ Finished p (Container (Find owner)) (Number number) ∷ []
+      → turn ≢ Decide p false → CountsIf well_formed p owner t.world.capacity number t.events
+  counts_all p owner number is ne =
+      right p owner number t.world.capacity is
+      (tells shown terms code t.world.capacity t s p owner number may turn r
+      (append_cancel_left t.events (events_of t.world turn) _ is) ne)
+
+  pub counts_up_to : (p owner number index : ℕ) (value : T)
+      → (after_turn t turn).events ≡ t.events ++ Finished p (Container (Find owner)) (Number number) ∷ []
+      → turn ≡ Decide p false → question_at t p ≡ Some (index, value)
+      → CountsIf well_formed p owner (index + 1) number t.events
+  counts_up_to p owner number index value is stops asks =
+      right p owner number (index + 1) is
+      (subst (λ u. Told shown terms code t.world.capacity t s p owner number (index + 1) (after_turn t u).world.latest) (sym stops)
+      (stop_tells shown terms code t.world.capacity t s p owner number index value may (party_of p t.world.latest) refl asks
+      (subst (λ u. events_of t.world u ≡ Finished p (Container (Find owner)) (Number number) ∷ []) stops
+      (append_cancel_left t.events (events_of t.world turn) _ is))))

@@ -1,0 +1,23 @@
+-- What the other calls go on to know where the receiver takes a step of a give-back, which changes the completion queue alone.
+use Rattle.laws_loan.proofs.Names.{◌≡◌, ◌≢◌, ℕ, false, List, Event, LoanStart, LoanFlight}
+use Rattle.laws_loan.proofs.Names.{one_word, has_died, Passing, spot_of, Core, KnowsPop}
+use native.Mathlib.Omega.{arith}
+use Rattle.steps.specs.declared.queues.ring.PopStage.{PopStage}
+use Rattle.laws_loan.proofs.Channel.{Channel}
+use Rattle.laws_loan.proofs.Knows.{At}
+
+module _ {T : Type 0} (slots queue : ℕ) (s : Channel T) (completion' : Core ℕ) (events' : List (Event T)) (p : ℕ) where
+  abbrev pub given_then : Channel T
+  given_then = record s { completion = completion'; events = events' }
+
+  -- the receiver lives, so no reclaim is under way; a pop of the sender's goes on; and another party's index stays in passing
+  pub record Gives : Type 0 where
+    pub receiver : p ≡ s.book.receiver
+    pub alive : has_died p s.book.dead ≡ false
+    pub pop : (room : List ℕ) (stage : PopStage) → KnowsPop one_word slots s.completion room stage → KnowsPop one_word slots completion' room stage
+    pub passes : (q index : ℕ) → q ≢ p → spot_of index s.events ≡ Passing q → spot_of index events' ≡ Passing q
+
+  module _ (gives : Gives) (q : ℕ) (ne : q ≢ p) where
+    pub at_given : (wrote : List (Event T)) (start : LoanStart) (flight : LoanFlight)
+        → At slots queue s q wrote start flight → At slots queue given_then q wrote start flight
+    at_given = grind arith

@@ -1,0 +1,207 @@
+-- A find that ends in another turn than a no has come to the indices of the whole set.
+use Rattle.laws_robust.proofs.Names.{◌≡◌, ◌≢◌, ℕ, ◌^◌, ◌-◌, ◌<◌, Bool, true, false, Option, Some, None, List, [], ◌∷◌}
+use Rattle.laws_robust.proofs.Names.{◌++◌, refl, sym, ap, subst, ◌∙◌, arith, append_cancel_left, AllByRecursion}
+use Rattle.laws_robust.proofs.Names.{After, GoOn, Done, FindStage, empty, went_on, Answer, Number, Event}
+use Rattle.laws_robust.proofs.Names.{Finished, Start, Robust, Flight, Registry, RobustStart, RobustFlight, Doing}
+use Rattle.laws_robust.proofs.Names.{Going, Over, Party, Turn, Begin, Next, Decide, Die, Coding, want_of, ask_of}
+use Rattle.laws_robust.proofs.Names.{is_question, beside_of, step_of, want, after, IsCount, IsFilledWith, FindsAll}
+use Rattle.laws_robust.proofs.Names.{effects, as_it_is, party_of, doing_of, flight_of, IsParty, IsEffectOf}
+use Rattle.laws_robust.proofs.Names.{refusal_of, is_due, call_refusal, as_call, answer_in, old_of, number_of}
+use Rattle.laws_robust.proofs.Names.{events_of_step, events_of_answer, events_of_next, events_of_decision, events_of}
+use Rattle.laws_robust.proofs.Names.{ask_of_doing, ending_of, after_turn, World, Trace, flight_in, passes}
+use Rattle.laws_robust.proofs.Names.{must_be_due, StandsThere, stands_there}
+use Rattle.steps.specs.declared.indices.robust.find.Find as find_calls
+use Rattle.model.specs.declared.families.Flight.TheVariants as flights
+use Rattle.model.specs.declared.families.Registry.TheVariants as registries
+use Rattle.model.specs.declared.families.indices.robust.RobustStart.TheVariants as starts
+use Rattle.model.specs.declared.families.indices.robust.calls.RobustFlight.TheVariants as calls
+use Rattle.model.proofs.Frame as frame
+use Rattle.laws_robust.proofs.Finds.{find_loads_all, find_asks_all}
+use Rattle.laws_robust.proofs.Invariant.{Scene, Inv, family}
+use Rattle.laws_robust.proofs.Knows.{Knows}
+use Rattle.laws_robust.proofs.CallProgress.{find_at, At, FindAt}
+use Rattle.laws_robust.specs.Gone.{Death}
+use Rattle.laws_robust.proofs.Sound.{scene_of, inv_of, is_there}
+use Rattle.laws_robust.proofs.Stages.{all, now, any_call}
+use Rattle.laws_robust.proofs.Written.{all_effects}
+
+module _ {T : Type 0} where
+  -- ---- a turn that writes an end alone
+
+  pub record IsEnd (q p : ℕ) (start start' : Start T) (outcome : Option (Answer T)) (answer : Answer T) : Type 0 where
+    pub party : q ≡ p
+    pub name : start ≡ start'
+    pub done : outcome ≡ Some answer
+
+  pub ends_alone : (turn : Turn T) (q p : ℕ) (es : List (Event T)) (start start' : Start T)
+      (outcome : Option (Answer T)) (answer : Answer T)
+      → AllByRecursion (IsEffectOf turn) es
+      → es ++ ending_of q start outcome ≡ Finished p start' answer ∷ [] → IsEnd q p start start' outcome answer
+  ends_alone turn q p [] start start' None answer are e = absurd (cc)
+  ends_alone turn q p [] start start' (Some a) answer are e =
+      let party : q ≡ p = cc in
+      let name : start ≡ start' = cc in
+      let same : a ≡ answer = cc in
+      record { party = party; name = name; done = ap Some same }
+  ends_alone turn q p (x ∷ xs) start start' outcome answer are e =
+      let is : x ≡ Finished p start' answer = cc in
+      absurd (subst (IsEffectOf turn) is are.0)
+
+  done_is : (owner number : ℕ) (r : After find_calls.Find ℕ)
+      → answer_in (any_call {T = T} (as_call calls.Find Number (went_on as_it_is owner tt r))) ≡ Some (Number number)
+      → r ≡ Done number
+  done_is owner number (GoOn call) e = absurd (cc)
+  done_is owner number (Done found) e = cc
+
+  -- ---- a find
+
+  module _ (scene : Scene T) (inv : Inv scene) (owner : ℕ) where
+    open scene use {capacity as c, party as p, events as events}
+
+    -- a find that is handed this answer, which is none of a question, or a yes
+    abbrev Tells : ℕ → Bool → RobustFlight → Type 0
+    Tells number due flight =
+        Knows c flight (now scene) → is_question (want flight) ≡ due → (answer : ℕ)
+        → (due ≡ false → answer ≡ old_of scene.set.words (ask_of (want flight))) → (due ≡ true → answer ≢ 0)
+        → answer_in
+        (any_call (after {T = T} flight answer)) ≡ Some (Number number) → IsCount p (IsFilledWith owner) c number events
+
+    stage_tells : (fits : owner < empty) (number : ℕ) (due : Bool) (stage : FindStage) → FindAt c (all scene) stage → Tells number due (find_at c owner stage)
+    stage_tells x0 x1 x2 x3 x4 x5 x6 x7 x8 x9 x10 = grind (arith, find_loads_all, done_is, find_asks_all)
+
+    find_tells : (number : ℕ) (due : Bool) (flight : RobustFlight) → At c (all scene) (starts.Find owner) flight → Tells number due flight
+    find_tells number due (calls.Find run) at =
+        subst (Tells number due) (sym (ap (λ n. find_at n run.given run.call.stage) at.0 ∙ ap (λ o. find_at c o run.call.stage) at.1))
+        (stage_tells at.2 number due run.call.stage at.3)
+    find_tells number due flight at = absurd at
+
+  robust_name : (start : RobustStart) (owner : ℕ)
+      → ◌≡◌ {A = Start T} (Robust start) (Robust (starts.Find owner))
+      → start ≡ starts.Find owner
+  robust_name start owner e = cc
+
+  -- ---- a step of a party's call
+
+  module _ (code : Coding T) (c : ℕ) (t : Trace T) (s : frame.Sound (family code c) t) (q : ℕ) (x : Party T)
+      (since : ℕ) (small : t.world.turns < 2 ^ 64 - 2) (found : party_of q t.world.latest ≡ Some x) (turn : Turn T)
+      (mine : IsParty turn q) (answer p owner number : ℕ) where
+    -- it wrote that a find is done, and nothing else
+    abbrev Wrote : Registry T → Start T → Flight T → Type 0
+    Wrote kept start flight =
+        events_of_step q start
+        (step_of t.world.coding t.world.words (beside_of t.world.words kept t.world.latest q) q start flight answer kept)
+        ≡ Finished p (Robust (starts.Find owner)) (Number number) ∷ []
+
+    wrote_end : (start : RobustStart) (flight : RobustFlight)
+        → Wrote (registries.Owners s.state.dead) (Robust start) (flights.Robust flight)
+        → IsEnd q p (Robust start) (Robust (starts.Find owner)) (answer_in (any_call (after {T = T} flight answer))) (Number number)
+    wrote_end start flight e =
+        ends_alone turn q p (effects q flight answer) (Robust start) (Robust (starts.Find owner)) _
+        (Number number) (all_effects turn q mine flight answer) e
+
+    own_end : (start : Start T) (flight : Flight T) → StandsThere (family code c) t s q x since start flight
+        → Wrote (registries.Owners s.state.dead) start flight → q ≡ p
+    own_end x0 x1 x2 x3 = grind (arith, wrote_end)
+
+    counted : (due : Bool) → (due ≡ true → answer ≢ 0) → (start : Start T) (flight : Flight T)
+        → StandsThere (family code c) t s q x since start flight → is_question (want_of t.world.coding flight) ≡ due
+        → (due ≡ false → answer ≡ old_of s.state.words (ask_of (want_of t.world.coding flight)))
+        → Wrote (registries.Owners s.state.dead) start flight
+        → IsCount p (IsFilledWith owner) c number t.events
+    counted due told (Robust start) (flights.Robust flight) h asks loads e =
+        let there = is_there Death code c t s q x since found start flight h in
+        let end = wrote_end start flight e in
+        let at = subst (λ a. At c (all (scene_of Death code c t s q x since)) a flight) (robust_name start owner end.name) there.at in
+        subst (λ n. IsCount n (IsFilledWith owner) c number t.events) end.party
+        (find_tells (scene_of Death code c t s q x since) (inv_of Death code c t s q x since found small) owner
+        number due flight at there.knows asks answer loads told end.done)
+    counted due told start flight h asks loads e = absurd h.at
+
+    -- by the words and what is kept beside them
+    module _ (flight : Flight T) (doing : x.doing ≡ Going flight since) (e : Wrote t.world.kept x.start flight) where
+      there : StandsThere (family code c) t s q x since x.start flight
+      there = stands_there (family code c) t s q x since flight found doing
+
+      by_owners : Wrote (registries.Owners s.state.dead) x.start flight
+      by_owners = subst (λ kept. Wrote kept x.start flight) s.fit.kept e
+
+      pub own_party : q ≡ p
+      own_party = own_end x.start flight there by_owners
+
+      pub all_counted : (due : Bool) → (due ≡ true → answer ≢ 0) → is_question (want_of t.world.coding flight) ≡ due
+          → (due ≡ false → answer ≡ old_of t.world.words (ask_of (want_of t.world.coding flight)))
+          → IsCount p (IsFilledWith owner) c number t.events
+      all_counted due told asks loads =
+          counted due told x.start flight there asks
+          (λ no. loads no
+          ∙ ap (λ ws. old_of ws (ask_of (want_of t.world.coding flight))) s.fit.words)
+          by_owners
+
+  -- ---- any turn
+
+  module _ (code : Coding T) (c : ℕ) (t : Trace T) (s : frame.Sound (family code c) t) (p owner number : ℕ) where
+    abbrev Ended : List (Event T) → Type 0
+    Ended es = es ≡ Finished p (Robust (starts.Find owner)) (Number number) ∷ []
+
+    next_tells : (q : ℕ) → t.world.turns < 2 ^ 64 - 2 → is_due t.world.coding (flight_in t.world q) ≡ false
+        → (o : Option (Party T)) → party_of q t.world.latest ≡ o → Ended (events_of_next t.world q o)
+        → IsCount p (IsFilledWith owner) c number t.events
+    next_tells q small free None found e = absurd (cc)
+    next_tells q small free (Some x) found e = go x.doing refl e
+      where
+        go : (doing : Doing T) → x.doing ≡ doing
+            → Ended (events_of_answer t.world q x (old_of t.world.words (ask_of_doing t.world.coding doing)) doing)
+            → IsCount p (IsFilledWith owner) c number t.events
+        go (Over others) d e = absurd (cc)
+        go (Going flight since) d e =
+            let here : flight_in t.world q ≡ Some flight = ap (λ o. flight_of (doing_of o)) found ∙ ap (λ d. flight_of (Some d)) d in
+            all_counted code c t s q x since small found (Next q) refl
+            (old_of t.world.words (ask_of (want_of t.world.coding flight))) p owner number flight d e false
+            (λ told. absurd (cc)) (rw here at free) (λ no. refl)
+
+    decision_tells : (q : ℕ) (said : Bool) → t.world.turns < 2 ^ 64 - 2
+        → is_due t.world.coding (flight_in t.world q) ≡ true → ◌≢◌ {A = Turn T} (Decide q said) (Decide p false)
+        → (o : Option (Party T))
+        → party_of q t.world.latest ≡ o → Ended (events_of_decision t.world q said o) → IsCount p (IsFilledWith owner) c number t.events
+    decision_tells q said small due ne None found e = absurd (cc)
+    decision_tells q said small due ne (Some x) found e = go x.doing refl e
+      where
+        go : (doing : Doing T) → x.doing ≡ doing → Ended (events_of_answer t.world q x (number_of said) doing)
+            → IsCount p (IsFilledWith owner) c number t.events
+        go (Over others) d e = absurd (cc)
+        go (Going flight since) d e = by said refl
+          where
+            by : (b : Bool) → said ≡ b → IsCount p (IsFilledWith owner) c number t.events
+            by true is =
+                let here : flight_in t.world q ≡ Some flight = ap (λ o. flight_of (doing_of o)) found ∙ ap (λ d. flight_of (Some d)) d in
+                all_counted code c t s q x since small found (Decide q said) refl (number_of said) p owner number
+                flight d e true
+                (λ told zero. let one : number_of said ≡ 1 = ap number_of is in absurd (omega arith))
+                (rw here at due) (λ no. absurd (cc))
+            by false is =
+                let party = own_party code c t s q x since small found (Decide q said) refl (number_of said) p owner number flight d e in
+                absurd (ne (ap (λ n. Decide n said) party ∙ ap (λ b. Decide p b) is))
+
+  -- no decision is due in a step
+  not_due : (w : World T) (q : ℕ) → call_refusal w (Next q) ≡ None → is_due w.coding (flight_in w q) ≡ false
+  not_due w q e = grind arith
+
+  tells : (code : Coding T) (c : ℕ) (t : Trace T) (turn : Turn T) → refusal_of t.world turn ≡ None → frame.Sound (family code c) t → (p owner number : ℕ)
+      → events_of t.world turn ≡ Finished p (Robust (starts.Find owner)) (Number number) ∷ []
+      → turn ≢ Decide p false → IsCount p (IsFilledWith owner) c number t.events
+  tells code c t (Begin q start) r s p owner number e ne = absurd (cc)
+  tells code c t (Next q) r s p owner number e ne =
+      next_tells code c t s p owner number q (passes t.world (Next q) r).turns
+      (not_due t.world q (passes t.world (Next q) r).on) (party_of q t.world.latest) refl e
+  tells code c t (Decide q said) r s p owner number e ne =
+      decision_tells code c t s p owner number q said (passes t.world (Decide q said) r).turns
+      (frame.is_true (is_due t.world.coding (flight_in t.world q)) (must_be_due t.world q said (passes t.world (Decide q said) r).on))
+      ne (party_of q t.world.latest) refl e
+  tells code c t (Die o) r s p owner number e ne = absurd (cc)
+
+  pub finds_all : (code : Coding T) (c : ℕ) (t : Trace T) (turn : Turn T) → refusal_of t.world turn ≡ None
+      → frame.Sound (family code c) t → FindsAll t turn (after_turn t turn)
+  finds_all code c t turn r s =
+      λ p owner number is ne.
+      subst (λ n. IsCount p (IsFilledWith owner) n number t.events) (sym s.capacity)
+      (tells code c t turn r s p owner number (append_cancel_left t.events (events_of t.world turn) _ is) ne)

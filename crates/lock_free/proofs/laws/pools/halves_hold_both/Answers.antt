@@ -1,7 +1,0 @@
-use Rattle.std.proofs.Common.{refl, ◌++◌}
-use Rattle.lock_free.proofs.Unique.Pools.{both_hold}
-use Rattle.lock_free.proofs.laws.pools.halves_hold_both.Goals as goal
-
-pub returns : goal.returns
-returns c start mine other one two joined is js cut of h g join same =
-    both_hold start mine other one two joined is js {all = is ++ js} cut of h g join same refl

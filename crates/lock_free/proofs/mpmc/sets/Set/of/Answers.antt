@@ -1,6 +1,0 @@
-use Rattle.lock_free.proofs.Names.{rules, arith}
-use Rattle.lock_free.proofs.Sets.Opens.{opens}
-use Rattle.lock_free.proofs.mpmc.sets.Set.of.Goals as goal
-
-pub open-requires : goal.open-requires
-open-requires g c = opens g.E.Kind.KIND c.args.capacity (omega arith) c.as_slice.result.now (search rules)

@@ -1,5 +1,0 @@
-use Rattle.history.proofs.KnownRuns.{known_history}
-use Rattle.lock_free.proofs.mpmc.sets.passes.Held+E+u64+SetRule+E.history.Goals as goal
-
-pub returns-clause-history : goal.returns-clause-history
-returns-clause-history g c = known_history c.args.self.now.knows

@@ -1,7 +1,0 @@
-use Rattle.lock_free.proofs.Names.{one_word, splits}
-use Rattle.lock_free.specs.Sets.Kinds.{machine_kind}
-use Rattle.lock_free.proofs.mpmc.sets.passes.Held+E+u64+SetRule+E.split.Goals as goal
-
-pub split-requires-clause-splits : goal.split-requires-clause-splits
-split-requires-clause-splits g c =
-    splits one_word (machine_kind g.E.Kind.KIND) _ c.args.self.now.seated.seat.id c.args.self.now.seated.seat.me.0

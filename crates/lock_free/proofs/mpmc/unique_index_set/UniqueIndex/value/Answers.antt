@@ -1,7 +1,0 @@
-use Rattle.lock_free.proofs.Names.{◌<◌, subst}
-use Rattle.lock_free.proofs.mpmc.unique_index_set.UniqueIndex.value.Goals as goal
-
-pub returns-clause-below : goal.returns-clause-below
-returns-clause-below c =
-    let index = c.args.self.now in
-    subst (λ n. index.index < n) index.pass.known (index.pass.sound.within index.index index.held)

@@ -1,9 +1,0 @@
-use Rattle.lock_free.proofs.Names.{◌≡◌, ◌∷◌, ◌+◌, ◌≤◌, range_with_len}
-use Rattle.std.specs.Prelude.{vec_len, vec_capacity}
-use Rattle.lock_free.proofs.mpmc.unique_index_set.UniqueIndexSet.of.Given as given
-
-abbrev pub invariant-loop-index : given.invariant-loop-index
-invariant-loop-index l =
-    (l.words.items ≡ 0 ∷ range_with_len 1 l.index)
-    × (vec_len l.words ≡ 1 + l.index)
-    × (1 + l.capacity + l.flags + 1 ≤ vec_capacity l.words)

@@ -1,6 +1,0 @@
--- The words of the contracts of bit sets.
-pub mod Callable
-pub mod Stages
-pub mod Contracts
-pub use Rattle.lock_free.specs.Sets.Calls
-pub use Rattle.lock_free.specs.Sets.Handles

@@ -1,7 +1,0 @@
--- The words of the contracts of counting bit sets.
-pub mod Callable
-pub mod Stages
-pub mod Contracts
-pub mod Sums
-pub use Rattle.lock_free.specs.Sets.Calls
-pub use Rattle.lock_free.specs.Sets.Handles

@@ -1,0 +1,2 @@
+-- The proofs of the contracts and of the laws.
+pub mod Loan

@@ -1,0 +1,130 @@
+-- A sender's book stays right.
+use Rattle.lock_free_sets.proofs.Names.{◌≡◌, ℕ, zero, suc, ◌+◌, ◌<◌, Bool, true, false, true≢false}
+use Rattle.lock_free_sets.proofs.Names.{List, [], ◌∷◌, ◌++◌, length, map, take, subst, sym, refl, ap, ◌∙◌, arith}
+use Rattle.lock_free_sets.proofs.Names.{ReleaseState, UniqueIndexSetAcquireFailure, View, frees, Holds}
+use Rattle.std.proofs.Common.{set, drop, replicate, count_by, sum_by, add-one}
+use Rattle.std.proofs.Common.{length-set}
+use Rattle.std.proofs.lemmas.List.{length-replicate}
+use Rattle.std.proofs.lemmas.List.Sums.{count_by_more_yes, count_by_more_no}
+use Rattle.lock_free_sets.specs.Unique.Held.{HoldsNothing}
+use Rattle.lock_free_sets.specs.Unique.Contracts.{HasAcquired, WasRefused, HasGiven}
+use Rattle.lock_free_sets.proofs.Unique.Tables as tables
+use Rattle.lock_free_sets.proofs.Unique.Tables.{as_number}
+use Rattle.lock_free_loans.specs.declared.spsc.loan.places.Place.{Place}
+use Rattle.lock_free_loans.specs.declared.spsc.loan.places.Place.TheVariants.{Free, Loaned, Sent}
+use Rattle.lock_free_loans.specs.Loan.Places.{IsBookOf, is_out, is_sent, place_at, reclaimed}
+
+-- ---- places
+
+-- what is out is within
+within : (ps : List Place) (i : ℕ) → is_out (place_at ps i) ≡ true → i < length ps
+within [] i h = absurd (true≢false (sym h))
+within (p ∷ ps) zero h = omega arith
+within (p ∷ ps) (suc i) h = let lt = within ps i h in omega arith
+
+-- what is not out is free
+pub is_free : (p : Place) → is_out p ≡ false → p ≡ Free
+is_free x0 x1 = grind arith
+
+-- what is sent is out
+pub sent_out : (p : Place) → is_sent p ≡ true → is_out p ≡ true
+sent_out Free h = h
+sent_out Loaned h = refl
+sent_out Sent h = refl
+
+-- ---- the book
+
+module _ {v : View ℕ} {ps : List Place} (book : IsBookOf v ps) where
+  pub out_within : (i : ℕ) → is_out (place_at ps i) ≡ true → i < length ps
+  out_within i out = within ps i out
+
+  -- what is out can be given back
+  pub out_held : (i : ℕ) → is_out (place_at ps i) ≡ true → Holds i v.made
+  out_held i out = book.held i ∙ ap (λ b. sum_by (frees i) v.made + as_number b) out
+
+  -- what is given back is free
+  pub is_freed : (i : ℕ) (state : ReleaseState) (w : View ℕ) → is_out (place_at ps i) ≡ true
+      → w.capacity ≡ v.capacity → HasGiven i state v w → IsBookOf w (set ps i Free)
+  is_freed i state w out same given =
+      record {
+        long = length-set ps i Free ∙ (book.long ∙ sym same);
+        held = tables.is_freed Free is_out v ps book.held i Free (within ps i out) w state out refl given;
+      }
+
+  -- what is acquired was free
+  pub was_free : (i : ℕ) (w : View ℕ) → HasAcquired i v w → is_out (place_at ps i) ≡ false
+  was_free i w taken = tables.was_free Free is_out v ps book.held i w taken
+
+  -- a refused loan leaves the book
+  pub is_refused : (e : UniqueIndexSetAcquireFailure) (w : View ℕ) → w.capacity ≡ v.capacity → WasRefused e v w → IsBookOf w ps
+  is_refused e w same refused =
+      record { long = book.long ∙ sym same; held = tables.is_refused Free is_out v ps book.held e w refused }
+
+  pub is_loaned : (i : ℕ) (w : View ℕ) → w.capacity ≡ v.capacity → i < v.capacity → HasAcquired i v w → IsBookOf w (set ps i Loaned)
+  is_loaned i w same below taken =
+      record {
+        long = length-set ps i Loaned ∙ (book.long ∙ sym same);
+        held = tables.is_taken Free is_out v ps book.held i Loaned (let n = book.long in omega arith) w refl taken;
+      }
+
+-- a sender that holds nothing
+pub book_opens : (v : View ℕ) (n : ℕ) → n ≡ v.capacity → HoldsNothing v.made → IsBookOf v (replicate n Free)
+book_opens v n same none =
+    record {
+      long = length-replicate n Free ∙ same;
+      held =
+          λ i. (let was = none i in
+          let out : is_out (place_at (replicate n Free) i) ≡ false = ap is_out (get_or-replicate_all n i) in
+          let z = ap as_number out in
+          omega arith);
+    }
+  where
+    get_or-replicate_all : (n i : ℕ) → place_at (replicate n Free) i ≡ Free
+    get_or-replicate_all zero i = refl
+    get_or-replicate_all (suc n) zero = refl
+    get_or-replicate_all (suc n) (suc i) = get_or-replicate_all n i
+
+-- ---- reclaiming
+
+-- all below i that were sent are free
+abbrev pub so_far : ℕ → List Place → List Place
+so_far i ps = map reclaimed (take i ps) ++ drop i ps
+
+at_so_far : (ps : List Place) (i : ℕ) → place_at (so_far i ps) i ≡ place_at ps i
+at_so_far [] zero = refl
+at_so_far [] (suc i) = refl
+at_so_far (p ∷ ps) zero = refl
+at_so_far (p ∷ ps) (suc i) = at_so_far ps i
+
+freed_one : (ps : List Place) (i : ℕ) → is_sent (place_at ps i) ≡ true → set (so_far i ps) i Free ≡ so_far (suc i) ps
+freed_one [] zero h = absurd (true≢false (sym h))
+freed_one [] (suc i) h = absurd (true≢false (sym h))
+freed_one (Free ∷ ps) zero h = refl
+freed_one (Loaned ∷ ps) zero h = absurd (true≢false (sym h))
+freed_one (Sent ∷ ps) zero h = refl
+freed_one (p ∷ ps) (suc i) h = ap (λ z. reclaimed p ∷ z) (freed_one ps i h)
+
+kept_one : (ps : List Place) (i : ℕ) → is_sent (place_at ps i) ≡ false → so_far i ps ≡ so_far (suc i) ps
+kept_one [] zero h = refl
+kept_one [] (suc i) h = refl
+kept_one (Free ∷ ps) zero h = refl
+kept_one (Loaned ∷ ps) zero h = refl
+kept_one (Sent ∷ ps) zero h = absurd (true≢false h)
+kept_one (p ∷ ps) (suc i) h = ap (λ z. reclaimed p ∷ z) (kept_one ps i h)
+
+-- what is not reached yet is as it was
+pub not_reached : (ps ys : List Place) (i : ℕ) (sent : Bool) → ys ≡ so_far i ps → is_sent (place_at ys i) ≡ sent → is_sent (place_at ps i) ≡ sent
+not_reached ps ys i sent e h = ap is_sent (sym (at_so_far ps i) ∙ ap (λ z. place_at z i) (sym e)) ∙ h
+
+module _ (ps ys : List Place) (i : ℕ) (e : ys ≡ so_far i ps) (lt : i < length ps) where
+  pub sent_step : is_sent (place_at ys i) ≡ true → (set ys i Free ≡ so_far (i + 1) ps) × (count_by is_sent (take (i + 1) ps) ≡ count_by is_sent (take i ps) + 1)
+  sent_step x0 = grind (arith, is_sent, place_at, at_so_far, set, add-one, freed_one, count_by_more_yes)
+
+  pub other_step : is_sent (place_at ys i) ≡ false → (ys ≡ so_far (i + 1) ps) × (count_by is_sent (take (i + 1) ps) ≡ count_by is_sent (take i ps))
+  other_step h =
+      let there = not_reached ps ys i false e h in
+      (subst (λ n. ys ≡ so_far n ps) (sym (add-one i)) (e ∙ kept_one ps i there), count_by_more_no is_sent ps i Free lt there)
+
+pub so_far_all : (ps : List Place) → so_far (length ps) ps ≡ map reclaimed ps
+so_far_all [] = refl
+so_far_all (p ∷ ps) = ap (λ z. reclaimed p ∷ z) (so_far_all ps)

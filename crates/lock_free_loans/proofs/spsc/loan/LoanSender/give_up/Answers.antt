@@ -1,0 +1,23 @@
+use Rattle.lock_free_sets.proofs.Names.{ap, sym, ◌∙◌}
+use Rattle.lock_free_sets.specs.UniqueIndexSet.{SetId, view}
+use Rattle.lock_free_loans.specs.Loan.Places.{is_out}
+use Rattle.lock_free_loans.proofs.Loan.Books.{out_held, is_freed}
+use Rattle.lock_free_loans.proofs.Loan.Contracts.{begins_before, set_goes}
+use Rattle.lock_free_loans.proofs.spsc.loan.LoanSender.give_up.Goals as goal
+
+pub release_raw_index-requires-clause-held : goal.release_raw_index-requires-clause-held
+release_raw_index-requires-clause-held c = out_held c.args.self.now.book c.args.index (ap is_out c.requires)
+
+pub invariant_of-self-clause-book : goal.invariant_of-self-clause-book
+invariant_of-self-clause-book c =
+    let mine = c.args.self.now in
+    let now = c.release_raw_index.new.pass in
+    is_freed mine.book c.args.index _ _ (ap is_out c.requires)
+    (now.known ∙ (ap (λ (z : SetId). z.capacity) c.release_raw_index.ensures.same.set ∙ sym mine.pass.known))
+    c.release_raw_index.ensures.given
+
+pub returns-clause-goes : goal.returns-clause-goes
+returns-clause-goes c =
+    let released = c.release_raw_index in
+    set_goes c.args.self.now.pass released.new.pass released.ensures.same
+    (begins_before _ _ _ _ (view c.args.self.now.pass) (view released.new.pass) released.ensures.given.called)

@@ -1,0 +1,53 @@
+use Rattle.lock_free_sets.proofs.Names.{◌+◌, ◌<◌, ℕ, rules, refl, sym, ap, subst, ◌∙◌, View}
+use Rattle.std.proofs.Common.{max}
+use Rattle.history.specs.Steps.{TakesAlone}
+use Rattle.lock_free_sets.specs.UniqueIndexSet.{SetId, view}
+use Rattle.lock_free_loans.proofs.Loan.Books.{is_loaned, was_free, is_free, is_refused}
+use Rattle.lock_free_loans.proofs.Loan.Contracts.{begins_before, set_goes}
+use Rattle.lock_free_loans.proofs.spsc.loan.LoanSender.loan.Goals as goal
+
+pub invariant_of-self-2-clause-book : goal.invariant_of-self-2-clause-book
+invariant_of-self-2-clause-book g c =
+    let mine = c.args.self.now in
+    let called = c.in_ok-index in
+    let now = c.acquire_raw_index.new.pass in
+    let size = mine.pass.known ∙ ap (λ (z : SetId). z.capacity) mine.of in
+    let same = now.known ∙ (ap (λ (z : SetId). z.capacity) c.acquire_raw_index.ensures.same.set ∙ sym mine.pass.known) in
+    is_loaned mine.book called.index _ same (subst (λ n. called.index < n) (sym size) called.ensures.within) called.ensures.acquired
+
+pub returns-clause-loaned : goal.returns-clause-loaned
+returns-clause-loaned g c = (is_free _ (was_free c.args.self.now.book c.in_ok-index.index _ c.in_ok-index.ensures.acquired), refl)
+
+pub invariant_of-self : goal.invariant_of-self
+invariant_of-self g c =
+    let mine = c.args.self.now in
+    let now = c.acquire_raw_index.new.pass in
+    let same = now.known ∙ (ap (λ (z : SetId). z.capacity) c.acquire_raw_index.ensures.same.set ∙ sym mine.pass.known) in
+    record { of = search rules; book = is_refused mine.book _ _ same c.in_err-index.ensures.refused }
+
+pub returns-clause-goes : goal.returns-clause-goes
+returns-clause-goes g c =
+    let acquired = c.acquire_raw_index in
+    set_goes c.args.self.now.pass acquired.new.pass acquired.ensures.same
+    (begins_before _ _ _ _ (view c.args.self.now.pass) (view acquired.new.pass) c.in_ok-index.ensures.acquired.taken.called)
+
+pub returns-in_err-index-clause-goes : goal.returns-in_err-index-clause-goes
+returns-in_err-index-clause-goes g c =
+    let acquired = c.acquire_raw_index in
+    set_goes c.args.self.now.pass acquired.new.pass acquired.ensures.same
+    (begins_before _ _ _ _ (view c.args.self.now.pass) (view acquired.new.pass) c.in_err-index.ensures.refused.taken.called)
+
+abbrev Steps : ℕ → View ℕ → View ℕ → Type 0
+Steps capacity old new = TakesAlone (4 + capacity) (max 2 capacity) old new
+
+pub returns-clause-steps : goal.returns-clause-steps
+returns-clause-steps g c =
+    let mine = c.args.self.now in
+    let acquired = c.acquire_raw_index in
+    subst (λ n. Steps n (view mine.pass) (view acquired.new.pass)) (sym (ap (λ (z : SetId). z.capacity) mine.of)) acquired.ensures.steps
+
+pub returns-in_err-index-clause-steps : goal.returns-in_err-index-clause-steps
+returns-in_err-index-clause-steps g c =
+    let mine = c.args.self.now in
+    let acquired = c.acquire_raw_index in
+    subst (λ n. Steps n (view mine.pass) (view acquired.new.pass)) (sym (ap (λ (z : SetId). z.capacity) mine.of)) acquired.ensures.steps

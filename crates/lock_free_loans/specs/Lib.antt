@@ -1,0 +1,2 @@
+-- The words of the public contracts.
+pub mod Loan

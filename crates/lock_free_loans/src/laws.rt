@@ -1,0 +1,3 @@
+//! Laws of a loan channel. `lock_free::laws` hands them on.
+
+pub mod loans;

@@ -1,0 +1,3 @@
+//! Structures that have one producer and one consumer.
+
+pub mod loan;

@@ -1,0 +1,304 @@
+-- Resetting all places: the closure is called with just those that the call clears.
+use Rattle.lock_free_sets.proofs.Names.{◌≡◌, ⊎_elim, true≢false, ◌==◌, ℕ, zero, suc, ◌+◌, ◌<◌, ◌≤◌, Bool, true, false, cond}
+use Rattle.lock_free_sets.proofs.Names.{List, [], ◌∷◌, ◌++◌, map, refl, sym, ap, subst, ◌∙◌, arith, append_assoc, append-nil}
+use Rattle.lock_free_sets.proofs.Names.{map-append, FoldsTo, All, range_with_len, cases_lt, sum_by-cons, FoldsTo-push}
+use Rattle.lock_free_sets.proofs.Names.{All-nil, All-cons, All-push, All-weaker, all_pairs_push, element_of, elements, has_flag, After}
+use Rattle.lock_free_sets.proofs.Names.{Emptying, OneWord, Event, Finished, one_word, IsBitSet, fresh, SinceBegin}
+use Rattle.lock_free_sets.proofs.Names.{bits_go_on, View, events_by, At}
+use Rattle.std.specs.List.{filter, count_by}
+use Rattle.std.proofs.lemmas.List.Elements.{All-append, All-head, All-tail, filter-append}
+use Rattle.steps.specs.Bits.Places.{first_place, places_in}
+use Rattle.steps.specs.Bits.ResetAll.{all_bits, reset_all_after, reset_all_kept}
+use Rattle.steps.proofs.Flags.Places.{place_named}
+use Rattle.steps.specs.declared.ask.After.TheVariants.{GoOn, Done}
+use Rattle.model.specs.declared.event.Answer.TheVariants as answers
+use Rattle.model.specs.declared.turn.Kind.TheVariants as kinds
+use Rattle.model.specs.Families.Bits.Promises.{HasCleared}
+use Rattle.model.specs.Families.Bits.Steps.{clear_events}
+use Rattle.model.specs.Families.Bits.Reading.{is_clear_of, clears}
+use Rattle.model.specs.Reading.{whose, is_party}
+use Rattle.laws_bits.proofs.Bits.Lists.{Rise, places_rise, clears_named}
+use Rattle.laws_bits.proofs.Bits.Core.{clears_more}
+use Rattle.history.specs.Stages.{opened}
+use Rattle.history.specs.Steps.{TakesAtMost}
+use Rattle.lock_free_sets.specs.Bits.Callable.{Ascends, Visited, TakesPlaces}
+use Rattle.lock_free_sets.specs.Driven.{HasMade, HasDone, IsIdle}
+use Rattle.lock_free_sets.specs.Sets.Kinds.{Flags}
+use Rattle.lock_free_sets.specs.Sets.Stages.{empties}
+use Rattle.lock_free_sets.specs.Bits.Contracts.{cleared_by, HasCleanedOut, MissedNoPlace}
+use Rattle.lock_free_sets.proofs.Ends.{before_end, to_end}
+use Rattle.lock_free_sets.proofs.Sets.Emptied.{emptying, Goes, Stepped, stepped, same_capacity, WroteSoFar}
+use Rattle.lock_free_sets.proofs.Sets.Emptied.{first_wrote, words_left, ends_all, wrote_on, wrote_all}
+use Rattle.lock_free_sets.proofs.Sets.Emptying.{goes_next}
+use Rattle.lock_free_sets.proofs.Steps.{bits_take}
+
+-- ---- the places of one word, one after another
+
+pub range_more : (a n : ℕ) → range_with_len a (n + 1) ≡ range_with_len a n ++ (a + n) ∷ []
+range_more a zero = let same : a ≡ a + 0 = omega arith in ap (λ z. z ∷ []) same
+range_more a (suc n) =
+    let up : suc n + 1 ≡ suc (n + 1) = omega arith in
+    let same : (a + 1) + n ≡ a + suc n = omega arith in
+    ap (range_with_len a) up ∙ ap (λ zs. a ∷ zs) (range_more (a + 1) n ∙ ap (λ z. range_with_len (a + 1) n ++ z ∷ []) same)
+
+rise_cons : (low first : ℕ) (rest : List ℕ) (t : Bool) → low ≤ first → Rise (first + 1) rest → Rise low rest → Rise low (cond t (first ∷ rest) rest)
+rise_cons low first rest true le up all = (le, up)
+rise_cons low first rest false le up all = all
+
+rise_some : (test : ℕ → Bool) (low first n : ℕ) → low ≤ first → Rise low (filter test (range_with_len first n))
+rise_some test low first zero le = tt
+rise_some test low first (suc n) le =
+    rise_cons low first (filter test (range_with_len (first + 1) n)) (test first) le
+    (rise_some test (first + 1) (first + 1) n (omega arith)) (rise_some test low (first + 1) n (omega arith))
+
+kept_cons : (Q : ℕ → Type 0) (first : ℕ) (rest : List ℕ) (t : Bool) → (t ≡ true → Q first) → All Q rest → All Q (cond t (first ∷ rest) rest)
+kept_cons Q first rest true h all = All-cons Q first rest (h refl) all
+kept_cons Q first rest false h all = all
+
+kept_all : (Q : ℕ → Type 0) (test : ℕ → Bool) (first n : ℕ)
+    → ((p : ℕ) → first ≤ p → p < first + n → test p ≡ true → Q p) → All Q (filter test (range_with_len first n))
+kept_all Q test first zero h = All-nil Q
+kept_all Q test first (suc n) h =
+    kept_cons Q first (filter test (range_with_len (first + 1) n)) (test first)
+    (h first (omega arith) (omega arith))
+    (kept_all Q test (first + 1) n (λ p low high t. h p (omega arith) (omega arith) t))
+
+-- places that rise from here are handed on after those that came before
+ascends_more : (cap low : ℕ) (xs ys : List ℕ) → Ascends cap xs → All (λ x. x < low) xs → Rise low ys → All (λ y. y < cap) ys → Ascends cap (xs ++ ys)
+ascends_more cap low xs [] up below rise within = subst (Ascends cap) (sym (append-nil xs)) up
+ascends_more cap low xs (y ∷ ys) up below rise within =
+    let r = rise.0 in
+    let under : All (λ x. x < y) xs = All-weaker (λ x. x < low) (λ x. x < y) (λ x l. omega arith) xs below in
+    let more : Ascends cap (xs ++ y ∷ []) =
+    (all_pairs_push (λ a b. a < b) xs y up.0 under, All-push (λ x. x < cap) xs y up.1 (All-head (λ z. z < cap) y ys within)) in
+    subst (Ascends cap) (append_assoc xs (y ∷ []) ys)
+    (ascends_more cap (y + 1) (xs ++ y ∷ []) ys more
+    (All-push (λ x. x < y + 1) xs y (All-weaker (λ x. x < y) (λ x. x < y + 1) (λ x l. omega arith) xs under) (omega arith))
+    rise.1 (All-tail (λ z. z < cap) y ys within))
+
+folds_more : {F : Type 0} (R : F → ℕ → F → Type 0) (xs ys : List ℕ) (v p q : F) → FoldsTo R v xs p → FoldsTo R p ys q → FoldsTo R v (xs ++ ys) q
+folds_more R [] ys v p q a b = subst (λ z. FoldsTo R z ys q) (sym a) b
+folds_more R (x ∷ xs) ys v p q a b = (a.0, a.1, folds_more R xs ys a.0 p q a.2 b)
+
+pub visited_more : {F : Type 0} (R : F → ℕ → F → Type 0) (found first n : ℕ) (v p q : F) (t : Bool)
+    → has_flag found (first + n) ≡ t → (t ≡ true → R p (first + n) q) → (t ≡ false → q ≡ p)
+    → Visited R found first v n p → Visited R found first v (n + 1) q
+visited_more {F} R found first n v p q t is hit miss h =
+    subst (λ xs. FoldsTo R v xs q) (sym whole) (go t is hit miss)
+  where
+    has : ℕ → Bool
+    has place = has_flag found place
+
+    whole : filter has (range_with_len first (n + 1)) ≡ filter has (range_with_len first n) ++ cond (has (first + n)) ((first + n) ∷ []) []
+    whole = ap (filter has) (range_more first n) ∙ filter-append has (range_with_len first n) ((first + n) ∷ [])
+
+    go : (u : Bool) → has (first + n) ≡ u → (u ≡ true → R p (first + n) q) → (u ≡ false → q ≡ p)
+        → FoldsTo R v (filter has (range_with_len first n) ++ cond (has (first + n)) ((first + n) ∷ []) []) q
+    go true e hits misses = rw e (FoldsTo-push R v (filter has (range_with_len first n)) p (first + n) q h (hits refl))
+    go false e hits misses =
+        rw e (subst (λ xs. FoldsTo R v xs q) (sym (append-nil (filter has (range_with_len first n))))
+        (subst (λ z. FoldsTo R v (filter has (range_with_len first n)) z) (sym (misses refl)) h))
+
+-- no flag stands from here on
+pub visited_rest : {F : Type 0} (R : F → ℕ → F → Type 0) (found first n m : ℕ) (v p : F)
+    → ((i : ℕ) → n ≤ i → i < n + m → has_flag found (first + i) ≡ false) → Visited R found first v n p
+    → Visited R found first v (n + m) p
+visited_rest R found first n zero v p none h =
+    let same : n ≡ n + 0 = omega arith in subst (λ k. Visited R found first v k p) same h
+visited_rest R found first n (suc m) v p none h =
+    let up : (n + m) + 1 ≡ n + suc m = omega arith in
+    subst (λ k. Visited R found first v k p) up
+    (visited_more R found first (n + m) v p p false (none (n + m) (omega arith) (omega arith))
+    (λ e. absurd (true≢false (sym e))) (λ e. refl)
+    (visited_rest R found first n m v p (λ i low high. none i low (omega arith)) h))
+
+-- ---- no place past the capacity is found
+
+clears_cons : (b : ℕ) (e : Event ℕ) (own all : List (Event ℕ)) (t : Bool) → clears b own ≤ clears b all
+    → clears b (cond t (e ∷ []) [] ++ own) ≤ clears b (e ∷ all)
+clears_cons b e own all true less =
+    let more = sum_by-cons (λ x. cond (is_clear_of b x) 1 0) e own in
+    let whole = sum_by-cons (λ x. cond (is_clear_of b x) 1 0) e all in
+    omega arith
+clears_cons b e own all false less =
+    let whole = sum_by-cons (λ x. cond (is_clear_of b x) 1 0) e all in
+    omega arith
+
+clears_of_party : (b p : ℕ) (es : List (Event ℕ)) → clears b (events_by p es) ≤ clears b es
+clears_of_party b p [] = omega arith
+clears_of_party b p (e ∷ es) = clears_cons b e (events_by p es) es (is_party p (whose e)) (clears_of_party b p es)
+
+pub found_clear : (cap word : ℕ) (v w : View ℕ) (room : OneWord) → 1 ≤ word
+    → (s : Stepped Flags v w word room) → v.capacity ≡ cap → (place : ℕ) → element_of place ≡ word
+    → cap ≤ place → has_flag room.0 place ≡ false
+found_clear cap word v w room low s size place here past = go (has_flag room.0 place) refl
+  where
+    h : IsBitSet s.history.trace
+    h = bits_go_on s.history.trace s.history.run.of_kind s.history.run.reached
+
+    none : clears place w.seen ≡ 0
+    none =
+        let sets_none = h.within place (let same = s.history.run.sized in omega arith) in
+        let all = h.conserved place in
+        let zero : clears place s.history.trace.events ≡ 0 = omega arith in
+        ap (clears place) s.history.is ∙ zero
+
+    named : clears place (clear_events {T = ℕ} s.party word room.0) ≡ count_by (λ q. q == place) (places_in word room.0)
+    named = clears_named ℕ s.party place (places_in word room.0)
+
+    some : clears place (clear_events {T = ℕ} s.party word room.0) ≤ clears place w.seen
+    some =
+        let within = clears_of_party place s.party s.since.during in
+        let own : clears place (events_by s.party s.since.during) ≡ clears place (clear_events {T = ℕ} s.party word room.0) =
+        ap (clears place) (s.since.during_own ∙ s.is) in
+        let opens = opened s.party emptying v.going in
+        let one = clears_more place (v.seen ++ s.since.others) (opens ++ (s.since.during ++ s.last)) in
+        let two = clears_more place opens (s.since.during ++ s.last) in
+        let three = clears_more place s.since.during s.last in
+        let is = ap (clears place) s.since.is in
+        omega arith
+
+    go : (t : Bool) → has_flag room.0 place ≡ t → has_flag room.0 place ≡ false
+    go false e = e
+    go true e =
+        let times : count_by (λ q. q == place) (places_in word room.0) ≡ cond (has_flag room.0 place) 1 0 = place_named word room.0 place here in
+        let is_one : count_by (λ q. q == place) (places_in word room.0) ≡ 1 = times ∙ ap (λ t. cond t 1 0) e in
+        let n = named in
+        let s = some in
+        let z = none in
+        absurd (omega arith)
+
+-- ---- the call and its closure
+
+module _ {F : Type 0} (R : F → ℕ → F → Type 0) (cap : ℕ) (visit : F) where
+  -- the call stands here, and the closure was called with what it has cleared
+  pub record SoFar (base v : View ℕ) (c : Emptying) (m : OneWord) (f : F) : Type 0 where
+    pub places : List ℕ
+    pub call : WroteSoFar Flags cap (λ p. map (cleared_by p) places) base v c m
+    pub ascend : Ascends cap places
+    pub below : All (λ x. x < first_place c.word) places
+    pub folds : FoldsTo R visit places f
+
+  pub first_so_far : (v : View ℕ) → IsIdle cap v → 0 < cap → SoFar v v (all_bits cap) fresh visit
+  first_so_far v idle some =
+      record {
+        places = [];
+        call = first_wrote Flags cap v idle some;
+        ascend = ((λ i j d lt within. absurd (omega arith)), All-nil (λ x. x < cap));
+        below = All-nil (λ x. x < first_place 1);
+        folds = refl;
+      }
+
+  module _ (base v w : View ℕ) (c : Emptying) (m room : OneWord) (n : ℕ) (f : F)
+      (h : SoFar base v c m f) (kept : room ≡ reset_all_kept m n) (a : After Emptying (Unit {0}))
+      (goes_so : reset_all_after c n ≡ a)
+      (told : (b : View ℕ) → At one_word kinds.Bits (empties Flags) b v c m → Goes Flags b a room w) where
+    its_step : Stepped Flags v w c.word room
+    its_step = stepped Flags base v w c m room n h.call.at a goes_so told
+
+    low : 1 ≤ c.word
+    low = (words_left Flags cap (λ p. map (cleared_by p) h.places) base v c m h.call).1
+
+    -- a flag that was found is of a place below the capacity
+    place_within : (place : ℕ) → first_place c.word ≤ place → place < first_place c.word + 64 → has_flag room.0 place ≡ true → place < cap
+    place_within place from to stood =
+        ⊎_elim (λ l. l)
+        (λ past. absurd
+        (true≢false (sym stood ∙ found_clear cap c.word v w room low its_step (same_capacity Flags base v c m h.call.at ∙ h.call.size) place
+        (let above = low in let is : element_of place ≡ c.word = omega arith in is) past)))
+        (cases_lt place cap)
+
+    -- the closure may be called there
+    pub may_visit : {pre : F → ℕ → Type 0} → TakesPlaces pre R cap visit → (k : ℕ) (now : F) → k < 64
+        → has_flag room.0 (first_place c.word + k) ≡ true → Visited R room.0 (first_place c.word) f k now
+        → pre now (first_place c.word + k)
+    may_visit {pre} takes k now few stood visited =
+        let first = first_place c.word in
+        let ys = filter (λ place. has_flag room.0 place) (range_with_len first k) in
+        takes.at (h.places ++ ys) now (first + k) (folds_more R h.places ys visit f now h.folds visited)
+        (ascends_more cap first h.places ys h.ascend h.below (rise_some (λ place. has_flag room.0 place) first first k (omega arith))
+        (kept_all (λ y. y < cap) (λ place. has_flag room.0 place) first k (λ p from to t. place_within p from (omega arith) t)))
+        (All-append (λ x. x < first + k) h.places ys (All-weaker (λ x. x < first) (λ x. x < first + k) (λ x l. omega arith) h.places h.below)
+        (kept_all (λ y. y < first + k) (λ place. has_flag room.0 place) first k (λ p from to t. to)))
+        (place_within (first + k) (omega arith) (omega arith) stood)
+
+    -- it has taken one step for each word
+    pub cleared_steps : a ≡ Done tt → TakesAtMost (elements cap) base w
+    cleared_steps is =
+        let wrote : ℕ → List (Event ℕ) = λ p. map (cleared_by p) h.places in
+        let left = words_left Flags cap wrote base v c m h.call in
+        let most = left.0 in
+        let above = left.1 in
+        let below = left.2 in
+        let all =
+        ends_all Flags base v w c m room n wrote h.call.idle h.call.made h.call.at kept (goes_so ∙ is)
+        (λ b at. subst (λ z. Goes Flags b z room w) is (told b at)) in
+        bits_take (empties Flags) base w tt room h.call.idle cap h.call.size (omega arith) all.0
+
+    module _ (g : F) (visited : Visited R room.0 (first_place c.word) f 64 g) where
+      abbrev all_places : List ℕ
+      all_places = h.places ++ places_in c.word room.0
+
+      up : Ascends cap all_places
+      up =
+          ascends_more cap (first_place c.word) h.places (places_in c.word room.0) h.ascend h.below (places_rise c.word room.0)
+          (kept_all (λ y. y < cap) (λ place. has_flag room.0 place) (first_place c.word) 64 (λ p from to t. place_within p from to t))
+
+      all_folds : FoldsTo R visit all_places g
+      all_folds = folds_more R h.places (places_in c.word room.0) visit f g h.folds visited
+
+      same_events : (p : ℕ) → map (cleared_by p) h.places ++ clear_events p c.word room.0 ≡ map (cleared_by p) all_places
+      same_events p = sym (map-append (cleared_by p) h.places (places_in c.word room.0))
+
+      pub so_far_on : (next : Emptying) → a ≡ GoOn next → SoFar base w next room g
+      so_far_on next is =
+          let word : next.word ≡ c.word + 1 = ap (λ (z : Emptying). z.word) (goes_next c n next (goes_so ∙ is)).0 in
+          record {
+            places = all_places;
+            call =
+                subst (λ z. WroteSoFar Flags cap z base w next room) (λ i p. same_events p i)
+                (wrote_on Flags cap (λ p. map (cleared_by p) h.places) base v c m h.call w room n kept a goes_so told next is);
+            ascend = up;
+            below = (
+                let above = low in
+                let far : first_place c.word + 64 ≡ first_place next.word = omega arith in
+                All-append (λ x. x < first_place next.word) h.places (places_in c.word room.0)
+                (All-weaker (λ x. x < first_place c.word) (λ x. x < first_place next.word) (λ x l. omega arith) h.places h.below)
+                (kept_all (λ y. y < first_place next.word) (λ place. has_flag room.0 place) (first_place c.word) 64 (λ p from to t. omega arith)));
+            folds = all_folds;
+          }
+
+      pub cleared_all : a ≡ Done tt → HasCleanedOut R cap visit g base w × HasDone kinds.Bits base w
+      cleared_all is =
+          let all = wrote_all Flags cap (λ p. map (cleared_by p) h.places) base v c m h.call w room n kept a goes_so told is in (
+            record {
+              places = all_places;
+              ascend = up;
+              calls = all_folds;
+              made = subst (λ z. HasMade emptying answers.Done z base w) (λ i p. same_events p i) all.0;
+            },
+            all.1,
+          )
+
+-- nothing that stood was missed
+pub missed_none : (cap : ℕ) (base w : View ℕ) (wrote : ℕ → List (Event ℕ)) → base.capacity ≡ cap → HasDone kinds.Bits base w
+    → HasMade emptying answers.Done wrote base w → MissedNoPlace cap w
+missed_none cap base w wrote size over made =
+    let h = over.history in
+    let before = before_end made.called in
+    let is = to_end made.called in
+    let set : IsBitSet h.trace = bits_go_on h.trace h.run.of_kind h.run.reached in
+    let right : SinceBegin made.by (HasCleared h.trace.world.capacity) before =
+    set.answers before [] (Finished made.by emptying answers.Done) (sym h.is ∙ is) in
+    record { by = made.by; before = before; is = is; cleared = subst (λ n. SinceBegin made.by (HasCleared n) before) (h.run.sized ∙ size) right }
+
+-- where there is no place, nothing is cleared and the closure is not called
+pub cleared_none : {F : Type 0} (R : F → ℕ → F → Type 0) (visit : F) (base w : View ℕ)
+    → HasMade emptying answers.Done (λ by. []) base w → HasCleanedOut R 0 visit visit base w
+cleared_none R visit base w made =
+    record {
+      places = [];
+      ascend = ((λ i j d lt within. absurd (omega arith)), All-nil (λ x. x < 0));
+      calls = refl;
+      made = made;
+    }

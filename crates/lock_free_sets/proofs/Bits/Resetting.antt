@@ -1,0 +1,167 @@
+-- Resetting the next place: a call of the model, and what it answers.
+use Rattle.lock_free_sets.proofs.Names.{◌≡◌, ℕ, ◌+◌, ◌<◌, ◌≤◌, ◌==◌, nat_lt, Bool, true, false, Option, Some, None}
+use Rattle.lock_free_sets.proofs.Names.{IfSome, List, [], ◌++◌, refl, sym, ap, subst, ◌∙◌, arith, nat_tests, by_test}
+use Rattle.lock_free_sets.proofs.Names.{element_of, elements, has_flag, Ask, After, ResetNone, Event, Finished, Bits}
+use Rattle.lock_free_sets.proofs.Names.{ResetNext, one_word, after_of, IsBitSet, bits_go_on, answered, KeepsRule, View}
+use Rattle.lock_free_sets.proofs.Names.{IsMachine, At, Ends, IsCallOf, goes, keeps_all}
+use Rattle.steps.specs.Queues.Ring.{after_position}
+use Rattle.steps.specs.Bits.BitSet.{first_reset, place_after, at_most, reset_asks, reset_want, reset_comes_to, reset_tests, reset_takes, reset_after}
+use Rattle.steps.specs.Bits.Words.{without_flag}
+use Rattle.steps.specs.declared.ask.Op.TheVariants.{Load, Store, Exchange}
+use Rattle.steps.specs.declared.ask.After.TheVariants.{GoOn, Done}
+use Rattle.steps.specs.declared.ask.Want.TheVariants as wants
+use Rattle.steps.specs.declared.bits.bit_set.ResetNext.{ResetNext as Resetting}
+use Rattle.steps.specs.declared.bits.bit_set.ResetNextStage.{ResetNextStage}
+use Rattle.steps.specs.declared.bits.bit_set.ResetNextStage.TheVariants as resets
+use Rattle.model.specs.declared.event.Answer.TheVariants.{Reset}
+use Rattle.model.specs.declared.turn.Kind.TheVariants as kinds
+use Rattle.model.specs.Families.Bits.Promises.{CameTo}
+use Rattle.model.specs.Families.Bits.Reading.{standing}
+use Rattle.model.specs.Moments.{HeldSometime}
+use Rattle.history.proofs.Sets.{bits_starts, set_effects, bits_owe}
+use Rattle.lock_free_sets.specs.Driven.{IsIdle}
+use Rattle.lock_free_sets.specs.Bits.Stages.{ResetStands, reset_so_far, reset_wrote, IsPlace, resets_next}
+use Rattle.lock_free_sets.specs.Bits.Contracts.{HasReset, AllClearOnce, CameFromPosition}
+use Rattle.lock_free_sets.proofs.Ends.{has_made, before_end, to_end}
+
+place_below : (cap start passed : ℕ) → start ≤ cap → passed < cap → place_after cap start passed < cap
+place_below x0 x1 x2 x3 x4 = grind (arith, by_test, nat_lt, nat_tests)
+
+at_most_below : (cap position : ℕ) → at_most cap position ≤ cap
+at_most_below x0 x1 = grind (arith, by_test, nat_lt, nat_tests)
+
+abbrev at_stage : ℕ → ResetNextStage → Resetting
+at_stage cap stage = record { capacity = cap; stage = stage }
+
+-- ---- how it goes on
+
+-- where it goes on it stands, and it has written this
+abbrev Stands : ℕ → ℕ → After Resetting (Option ℕ) → List (Event ℕ) → Type 0
+Stands cap p (GoOn d) es = (d.capacity ≡ cap) × ResetStands cap d.stage × (es ≡ reset_so_far p d.stage)
+Stands cap p (Done o) es = IsPlace cap o × (es ≡ reset_wrote p o)
+
+comes_to : (cap p start passed : ℕ) (from : ResetNextStage) → start ≤ cap → Stands cap p (reset_comes_to (at_stage cap from) start passed) []
+comes_to x0 x1 x2 x3 x4 x5 = grind (arith, by_test, nat_lt, nat_tests)
+
+tests : (cap p start passed k : ℕ) (from : ResetNextStage) → start ≤ cap → passed < cap → Stands cap p (reset_tests (at_stage cap from) start passed k) []
+tests x0 x1 x2 x3 x4 x5 x6 x7 = grind (arith, by_test, has_flag, place_after, reset_comes_to, comes_to)
+
+-- what a step makes of what the call had written
+takes : (cap p n : ℕ) (m : Unit {0}) (stage : ResetNextStage) → ResetStands cap stage
+    → Stands cap p (reset_after (at_stage cap stage) n)
+    (reset_so_far p stage ++ set_effects p (resets_next.flight (at_stage cap stage) m) n)
+takes cap p n m resets.LoadsPosition h = comes_to cap p (at_most cap n) 0 resets.LoadsPosition (at_most_below cap n)
+takes cap p n m (resets.LoadsElement start passed) h = tests cap p start passed n (resets.LoadsElement start passed) h.0 h.1
+takes cap p n m (resets.ExchangesElement start passed found) h = go (n == found) refl
+  where
+    go : (b : Bool) → (n == found) ≡ b
+        → Stands cap p (reset_after (at_stage cap (resets.ExchangesElement start passed found)) n)
+        ([] ++ set_effects p (resets_next.flight (at_stage cap (resets.ExchangesElement start passed found)) m) n)
+    go true t = rw t (refl, place_below cap start passed h.0 h.1, refl)
+    go false t = rw t (tests cap p start passed n (resets.ExchangesElement start passed found) h.0 h.1)
+takes cap p n m (resets.StoresPosition place) h = (h, refl)
+
+stands_on : (cap p n : ℕ) (m : Unit {0}) (c : Resetting) → (c.capacity ≡ cap) × ResetStands cap c.stage
+    → Stands cap p (reset_after c n) (reset_so_far p c.stage ++ set_effects p (resets_next.flight c m) n)
+stands_on x0 x1 x2 x3 x4 x5 = grind (arith, reset_after, reset_so_far, set_effects, resets_next, takes)
+
+-- ---- it is a call of the model
+
+abbrev Goes : Resetting → Unit {0} → ℕ → After Resetting (Option ℕ) → Type 0
+Goes c m n a = after_of one_word ((resets_next {T = ℕ}).flight c m) n ≡ goes resets_next a m
+
+same_after : (c : Resetting) (m : Unit {0}) (n : ℕ) → Goes c m n (reset_after c n)
+same_after c m n = go (reset_after c n) refl
+  where
+    go : (a : After Resetting (Option ℕ)) → reset_after c n ≡ a → Goes c m n a
+    go (GoOn d) e = rw e refl
+    go (Done o) e = rw e refl
+
+asks : (cap : ℕ) (c : Resetting) → (c.capacity ≡ cap) × ResetStands cap c.stage → (a : Ask) × (a.word < 1 + elements cap) × (reset_want c ≡ wants.Ask a)
+asks cap c h = subst (λ k. (a : Ask) × (a.word < 1 + elements cap) × (reset_asks k c.stage ≡ wants.Ask a)) (sym h.0) (at c.stage h.1)
+  where
+    near : (place : ℕ) → place < cap → element_of place < 1 + elements cap
+    near place below = omega arith
+
+    at : (stage : ResetNextStage) → ResetStands cap stage → (a : Ask) × (a.word < 1 + elements cap) × (reset_asks cap stage ≡ wants.Ask a)
+    at resets.LoadsPosition s = (record { word = 0; op = Load }, omega arith, refl)
+    at (resets.LoadsElement start passed) s = (
+      record { word = element_of (place_after cap start passed); op = Load },
+      near (place_after cap start passed) (place_below cap start passed s.0 s.1),
+      refl,
+    )
+    at (resets.ExchangesElement start passed found) s = (
+      record { word = element_of (place_after cap start passed); op = Exchange found (without_flag found (place_after cap start passed)) },
+      near (place_after cap start passed) (place_below cap start passed s.0 s.1),
+      refl,
+    )
+    at (resets.StoresPosition place) s = (record { word = 0; op = Store (after_position place) }, omega arith, refl)
+
+-- a load and an exchange tell what they found, and a store is heard by nobody
+hears : (c : Resetting) (a : Ask) (n : ℕ) → reset_want c ≡ wants.Ask a → reset_after c (answered a.op n) ≡ reset_after c n
+hears c a n e = at c.stage e
+  where
+    at : (stage : ResetNextStage) → reset_asks c.capacity stage ≡ wants.Ask a → reset_takes c stage (answered a.op n) ≡ reset_takes c stage n
+    at resets.LoadsPosition w =
+        let same : record { word = 0; op = Load } ≡ a = cc in
+        ap (λ (z : Ask). reset_takes c resets.LoadsPosition (answered z.op n)) (sym same)
+    at (resets.LoadsElement start passed) w =
+        let same : record { word = element_of (place_after c.capacity start passed); op = Load } ≡ a = cc in
+        ap (λ (z : Ask). reset_takes c (resets.LoadsElement start passed) (answered z.op n)) (sym same)
+    at (resets.ExchangesElement start passed found) w =
+        let same : record {
+          word = element_of (place_after c.capacity start passed);
+          op = Exchange found (without_flag found (place_after c.capacity start passed));
+        } ≡ a =
+        cc in
+        ap (λ (z : Ask). reset_takes c (resets.ExchangesElement start passed found) (answered z.op n)) (sym same)
+    at (resets.StoresPosition place) w = refl
+
+is_call : IsCallOf one_word set_effects (λ capacity. 1 + elements capacity) reset_want reset_after (λ c m n. m) (resets_next {T = ℕ})
+is_call = grind (arith, same_after, hears, reset_so_far, set_effects, resets_next, stands_on, asks)
+
+pub next_keeps : KeepsRule (λ (z : View ℕ). z.asked) (λ (z : View ℕ). z.capacity) (At one_word kinds.Bits resets_next)
+    (Ends one_word kinds.Bits resets_next) (λ key. 1 + elements key + 1) (λ key. key)
+    (λ key. IsMachine one_word kinds.Bits key) reset_want reset_after (λ c m n. m)
+next_keeps =
+    keeps_all one_word kinds.Bits set_effects (λ capacity. 1 + elements capacity) (bits_owe one_word) reset_want
+    reset_after (λ c m n. m) resets_next is_call (λ c n. refl)
+
+pub next_first : (v : View ℕ) (m : Unit {0}) → IsIdle v.capacity v → At one_word kinds.Bits resets_next v v (first_reset v.capacity) m
+next_first x0 x1 x2 = grind (arith, bits_starts, one_word, resets_next, first_reset)
+
+module _ (base w : View ℕ) (o : Option ℕ) (m : Unit {0}) (idle : base.going ≡ None) (ends : Ends one_word kinds.Bits resets_next base o m w) where
+  pub cleared : HasReset o base w
+  cleared =
+      has_made kinds.Bits resets_next base w o m ends idle (λ by. reset_wrote by o) (ends.tells.1 idle)
+
+  pub place_in : IfSome o (λ place. place < base.capacity)
+  place_in = go o ends.tells.0
+    where
+      go : (x : Option ℕ) → IsPlace base.capacity x → IfSome x (λ place. place < base.capacity)
+      go None h = tt
+      go (Some place) h = h
+
+  pub all_clear : o ≡ None → AllClearOnce base.capacity w
+  all_clear none =
+      let h = ends.history in
+      let made : HasReset None base w = subst (λ z. HasReset z base w) none cleared in
+      let p = made.by in
+      let before = before_end made.called in
+      let is = to_end made.called in
+      let set : IsBitSet h.trace = bits_go_on h.trace h.run.of_kind h.run.reached in
+      let right : (b : ℕ) → b < h.trace.world.capacity → HeldSometime p (λ part. standing b part ≡ 0) before =
+      set.answers before [] (Finished p (Bits ResetNext) ResetNone) (sym h.is ∙ is) in
+      record { by = p; before = before; is = is; clear = λ place below. right place (subst (λ n. place < n) (sym h.run.sized) below) }
+
+  pub came_from : (place : ℕ) → o ≡ Some place → CameFromPosition base.capacity place w
+  came_from place some =
+      let h = ends.history in
+      let made : HasReset (Some place) base w = subst (λ z. HasReset z base w) some cleared in
+      let p = made.by in
+      let before = before_end made.called in
+      let is = to_end made.called in
+      let set : IsBitSet h.trace = bits_go_on h.trace h.run.of_kind h.run.reached in
+      let right : CameTo p h.trace.world.capacity place before =
+      set.answers before [] (Finished p (Bits ResetNext) (Reset place)) (sym h.is ∙ is) in
+      record { by = p; before = before; is = is; came = subst (λ n. CameTo p n place before) h.run.sized right }

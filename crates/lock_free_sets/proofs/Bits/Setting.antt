@@ -1,0 +1,124 @@
+-- Setting a place: a call of the model, and what it answers.
+use Rattle.lock_free_sets.proofs.Names.{◌≡◌, ℕ, ◌+◌, ◌<◌, ◌==◌, nat_le, Bool, true, false, None, List, [], refl}
+use Rattle.lock_free_sets.proofs.Names.{sym, ap, subst, ◌∙◌, arith, nat_tests, element_of, elements, has_flag, Ask, After}
+use Rattle.lock_free_sets.proofs.Names.{Truth, Event, Finished, Bits, Set, one_word, after_of, IsBitSet, bits_go_on}
+use Rattle.lock_free_sets.proofs.Names.{answered, KeepsRule, View, IsMachine, At, Ends, IsCallOf, goes, keeps_all}
+use Rattle.steps.specs.Bits.BitSet.{first_set, set_want, set_tests, set_after}
+use Rattle.steps.specs.Bits.Words.{with_flag}
+use Rattle.steps.specs.declared.ask.Op.TheVariants.{Load, Exchange}
+use Rattle.steps.specs.declared.ask.After.TheVariants.{GoOn, Done}
+use Rattle.steps.specs.declared.ask.Want.TheVariants as wants
+use Rattle.steps.specs.declared.bits.bit_set.Set.{Set as Setting}
+use Rattle.steps.specs.declared.bits.bit_set.SetStage.{SetStage}
+use Rattle.steps.specs.declared.bits.bit_set.SetStage.TheVariants as sets
+use Rattle.model.specs.declared.turn.Kind.TheVariants as kinds
+use Rattle.history.proofs.Sets.{bits_starts, set_effects, bits_owe}
+use Rattle.lock_free_sets.specs.Driven.{IsIdle}
+use Rattle.lock_free_sets.specs.Bits.Stages.{set_wrote, sets_place}
+use Rattle.lock_free_sets.specs.Bits.Contracts.{HasSet, StoodOnce}
+use Rattle.lock_free_sets.proofs.Ends.{has_made, before_end, to_end}
+
+module _ (place : ℕ) where
+  same_after : (c : Setting) (m : Unit {0}) (n : ℕ)
+      → after_of one_word ((sets_place {T = ℕ} place).flight c m) n ≡ goes (sets_place place) (set_after c place n) m
+  same_after c m n = at c.stage
+    where
+      tests : (b : Bool) → has_flag n place ≡ b → (k : SetStage)
+          → after_of one_word ((sets_place {T = ℕ} place).flight (record { stage = sets.LoadsElement }) m) n
+          ≡ goes (sets_place place) (set_tests place n) m
+      tests true t k = rw t refl
+      tests false t k = rw t refl
+
+      at : (stage : SetStage) → after_of one_word ((sets_place {T = ℕ} place).flight (record { stage = stage }) m) n
+          ≡ goes (sets_place place) (set_after (record { stage = stage }) place n) m
+      at sets.LoadsElement = tests (has_flag n place) refl sets.LoadsElement
+      at (sets.ExchangesElement found) = go (n == found) refl
+        where
+          go : (b : Bool) → (n == found) ≡ b
+              → after_of one_word ((sets_place {T = ℕ} place).flight (record { stage = sets.ExchangesElement found }) m) n
+              ≡ goes (sets_place place) (set_after (record { stage = sets.ExchangesElement found }) place n) m
+          go true t = rw t refl
+          go false t = test (has_flag n place) refl
+            where
+              test : (b : Bool) → has_flag n place ≡ b
+                  → after_of one_word ((sets_place {T = ℕ} place).flight (record { stage = sets.ExchangesElement found }) m) n
+                  ≡ goes (sets_place place) (set_after (record { stage = sets.ExchangesElement found }) place n) m
+              test true u = rw (t, u) refl
+              test false u = rw (t, u) refl
+
+  asks : (capacity : ℕ) (c : Setting) → place < capacity → (a : Ask) × (a.word < 1 + elements capacity) × (set_want c place ≡ wants.Ask a)
+  asks capacity c below = at c.stage
+    where
+      near : element_of place < 1 + elements capacity
+      near = omega arith
+
+      at : (stage : SetStage) → (a : Ask) × (a.word < 1 + elements capacity) × (set_want (record { stage = stage }) place ≡ wants.Ask a)
+      at sets.LoadsElement = (record { word = element_of place; op = Load }, near, refl)
+      at (sets.ExchangesElement found) = (record { word = element_of place; op = Exchange found (with_flag found place) }, near, refl)
+
+  hears : (c : Setting) (a : Ask) (n : ℕ) → set_want c place ≡ wants.Ask a → set_after c place (answered a.op n) ≡ set_after c place n
+  hears c a n e = at c.stage e
+    where
+      at : (stage : SetStage) → set_want (record { stage = stage }) place ≡ wants.Ask a
+          → set_after (record { stage = stage }) place (answered a.op n) ≡ set_after (record { stage = stage }) place n
+      at sets.LoadsElement w =
+          let same : record { word = element_of place; op = Load } ≡ a = cc in
+          ap (λ (z : Ask). set_after (record { stage = sets.LoadsElement }) place (answered z.op n)) (sym same)
+      at (sets.ExchangesElement found) w =
+          let same : record { word = element_of place; op = Exchange found (with_flag found place) } ≡ a = cc in
+          ap (λ (z : Ask). set_after (record { stage = sets.ExchangesElement found }) place (answered z.op n)) (sym same)
+
+  -- what a step writes, by how it goes on
+  abbrev Wrote : ℕ → After Setting Bool → List (Event ℕ) → Type 0
+  Wrote p (GoOn d) es = es ≡ []
+  Wrote p (Done b) es = es ≡ set_wrote p place b
+
+  tested : (p n : ℕ) → Wrote p (set_tests place n) []
+  tested p n = go (has_flag n place) refl
+    where
+      go : (b : Bool) → has_flag n place ≡ b → Wrote p (set_tests place n) []
+      go true t = rw t refl
+      go false t = rw t refl
+
+  writes : (p : ℕ) (c : Setting) (m : Unit {0}) (n : ℕ) → Wrote p (set_after c place n) (set_effects p ((sets_place place).flight c m) n)
+  writes p c m n = at c.stage
+    where
+      at : (stage : SetStage) → Wrote p (set_after (record { stage = stage }) place n)
+          (set_effects p ((sets_place place).flight (record { stage = stage }) m) n)
+      at sets.LoadsElement = tested p n
+      at (sets.ExchangesElement found) = go (n == found) refl
+        where
+          go : (b : Bool) → (n == found) ≡ b
+              → Wrote p (set_after (record { stage = sets.ExchangesElement found }) place n)
+              (set_effects p ((sets_place place).flight (record { stage = sets.ExchangesElement found }) m) n)
+          go true t = rw t refl
+          go false t = rw t (tested p n)
+
+  is_call : IsCallOf one_word set_effects (λ capacity. 1 + elements capacity) (λ c. set_want c place)
+      (λ c n. set_after c place n) (λ c m n. m) (sets_place {T = ℕ} place)
+  is_call = grind (arith, same_after, hears, asks, set_effects, sets_place, writes)
+
+  pub set_keeps : KeepsRule (λ (z : View ℕ). z.asked) (λ (z : View ℕ). z.capacity) (At one_word kinds.Bits (sets_place place))
+      (Ends one_word kinds.Bits (sets_place place)) (λ key. 1 + elements key + 1) (λ key. key)
+      (λ key. IsMachine one_word kinds.Bits key) (λ c. set_want c place) (λ c n. set_after c place n) (λ c m n. m)
+  set_keeps =
+      keeps_all one_word kinds.Bits set_effects (λ capacity. 1 + elements capacity) (bits_owe one_word)
+      (λ c. set_want c place) (λ c n. set_after c place n) (λ c m n. m) (sets_place place) is_call (λ c n. refl)
+
+  pub set_first : (v : View ℕ) (m : Unit {0}) → IsIdle v.capacity v → place < v.capacity → At one_word kinds.Bits (sets_place place) v v first_set m
+  set_first x0 x1 x2 x3 = grind (arith, nat_le, nat_tests, bits_starts, one_word, sets_place, first_set)
+
+  module _ (base w : View ℕ) (b : Bool) (m : Unit {0}) (idle : base.going ≡ None) (ends : Ends one_word kinds.Bits (sets_place place) base b m w) where
+    pub added : HasSet place b base w
+    added =
+        has_made kinds.Bits (sets_place place) base w b m ends idle (λ by. set_wrote by place b) ends.tells
+
+    pub stood : b ≡ false → StoodOnce place w
+    stood not =
+        let h = ends.history in
+        let made : HasSet place false base w = subst (λ z. HasSet place z base w) not added in
+        let before = before_end made.called in
+        let is = to_end made.called in
+        let set : IsBitSet h.trace = bits_go_on h.trace h.run.of_kind h.run.reached in
+        let right = set.answers before [] (Finished made.by (Bits (Set place)) (Truth false)) (sym h.is ∙ is) in
+        record { by = made.by; before = before; is = is; stood = right }

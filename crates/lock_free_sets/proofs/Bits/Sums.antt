@@ -1,0 +1,137 @@
+-- For clients: what each call on a bit set adds to what its pass made, place by place, and that nothing stands where a
+-- pass with the whole share found none to reset.
+use Rattle.lock_free_sets.proofs.Names.{◌≡◌, ◌==◌, ℕ, ◌+◌, ◌<◌, ◌≤◌, Bool, true, false, cond, Some, None, List, [], ◌∷◌}
+use Rattle.lock_free_sets.proofs.Names.{◌++◌, refl, sym, ap, subst, ◌∙◌, append_assoc, arith, ⊎_elim, cases_lt, nat_tests}
+use Rattle.lock_free_sets.proofs.Names.{Truth, ResetNone, Event, Begun, Finished, Cleared, Bits, Set, ResetNext, one_word}
+use Rattle.lock_free_sets.proofs.Names.{IsBitSet, BeginsNone, bits_go_on, View, IsHistory}
+use Rattle.std.specs.List.{sum_by}
+use Rattle.model.specs.declared.event.Event.TheVariants as events
+use Rattle.model.specs.declared.turn.Kind.TheVariants as kinds
+use Rattle.model.specs.Families.Bits.Calls.{reset_answer}
+use Rattle.model.specs.Families.Bits.Reading.{is_set_of, is_clear_of, sets, clears}
+use Rattle.model.proofs.Moments.{begins_none_more}
+use Rattle.laws_bits.proofs.Bits.Core.{sets_more, clears_more}
+use Rattle.lock_free_sets.specs.Bits.Contracts.{HasSet, StoodOnce, HasReset, AllClearOnce}
+use Rattle.lock_free_sets.proofs.Sums.{sum_made, sum_seen, same_last, reaches}
+
+-- each place was set as often as it was cleared, or once more
+pub clears_within : (capacity : ℕ) (events : List (Event ℕ)) → IsHistory one_word kinds.Bits capacity events → (b : ℕ) → clears b events ≤ sets b events
+clears_within capacity events h b =
+    let set : IsBitSet h.trace = bits_go_on h.trace h.run.of_kind h.run.reached in
+    let all = set.conserved b in
+    let s = ap (sets b) h.is in
+    let c = ap (clears b) h.is in
+    omega arith
+
+-- no place past the capacity was set
+pub sets_within : (capacity : ℕ) (events : List (Event ℕ)) → IsHistory one_word kinds.Bits capacity events → (b : ℕ) → capacity ≤ b → sets b events ≡ 0
+sets_within capacity events h b past =
+    let set : IsBitSet h.trace = bits_go_on h.trace h.run.of_kind h.run.reached in
+    ap (sets b) h.is ∙ set.within b (let same = h.run.sized in omega arith)
+
+module _ (old new : View ℕ) where
+  -- ---- a set
+
+  pub set_adds : (place : ℕ) → HasSet place true old new → (b : ℕ)
+      → (sets b new.made ≡ sets b old.made + cond (place == b) 1 0) × (clears b new.made ≡ clears b old.made)
+  set_adds place h b =
+      let wrote : List (Event ℕ) = events.Set h.by place ∷ [] in
+      let s = sum_made (λ e. cond (is_set_of b e) 1 0) h.by (Bits (Set place)) (Truth true) wrote old new h.called in
+      let c = sum_made (λ e. cond (is_clear_of b e) 1 0) h.by (Bits (Set place)) (Truth true) wrote old new h.called in
+      (omega arith, omega arith)
+
+  pub set_adds_none : (place : ℕ) → HasSet place false old new → (b : ℕ) → (sets b new.made ≡ sets b old.made) × (clears b new.made ≡ clears b old.made)
+  set_adds_none place h b =
+      let s = sum_made (λ e. cond (is_set_of b e) 1 0) h.by (Bits (Set place)) (Truth false) [] old new h.called in
+      let c = sum_made (λ e. cond (is_clear_of b e) 1 0) h.by (Bits (Set place)) (Truth false) [] old new h.called in
+      (omega arith, omega arith)
+
+  -- a place that stood was set
+  pub stood_was_set : (place : ℕ) → StoodOnce place new → 1 ≤ sets place new.seen
+  stood_was_set place h =
+      let end : List (Event ℕ) = Finished h.by (Bits (Set place)) (Truth false) ∷ [] in
+      let e = ap (sets place) h.is ∙ sets_more place h.before end in
+      let m = ap (sets place) h.stood.is ∙ sets_more place h.stood.part h.stood.rest in
+      let stood = h.stood.held in
+      omega arith
+
+  -- a place that somebody called to set was set, by that call or before its end
+  pub was_set : (place : ℕ) (answer : Bool) → HasSet place answer old new → (answer ≡ false → StoodOnce place new) → 1 ≤ sets place new.seen
+  was_set place false h stood = stood_was_set place (stood refl)
+  was_set place true h stood =
+      let wrote : List (Event ℕ) = events.Set h.by place ∷ [] in
+      let some = sum_seen (λ e. cond (is_set_of place e) 1 0) h.by (Bits (Set place)) (Truth true) wrote old new h.called in
+      let t : (place == place) ≡ true = grind (arith, nat_tests) in
+      let one : sets place wrote ≡ 1 = rw t refl in
+      omega arith
+
+  -- ---- a reset of the next place
+
+  pub reset_adds : (place : ℕ) → HasReset (Some place) old new → (b : ℕ)
+      → (sets b new.made ≡ sets b old.made) × (clears b new.made ≡ clears b old.made + cond (place == b) 1 0)
+  reset_adds place h b =
+      let wrote : List (Event ℕ) = Cleared h.by place ∷ [] in
+      let s = sum_made (λ e. cond (is_set_of b e) 1 0) h.by (Bits ResetNext) (reset_answer (Some place)) wrote old new h.called in
+      let c = sum_made (λ e. cond (is_clear_of b e) 1 0) h.by (Bits ResetNext) (reset_answer (Some place)) wrote old new h.called in
+      (omega arith, omega arith)
+
+  pub reset_adds_none : HasReset None old new → (b : ℕ) → (sets b new.made ≡ sets b old.made) × (clears b new.made ≡ clears b old.made)
+  reset_adds_none h b =
+      let s = sum_made (λ e. cond (is_set_of b e) 1 0) h.by (Bits ResetNext) ResetNone [] old new h.called in
+      let c = sum_made (λ e. cond (is_clear_of b e) 1 0) h.by (Bits ResetNext) ResetNone [] old new h.called in
+      (omega arith, omega arith)
+
+  -- where it found none and all that was seen is what its pass made, nothing stands: each place was cleared as often as set
+  pub none_left : (capacity : ℕ) → IsHistory one_word kinds.Bits capacity new.seen
+      → ((f : Event ℕ → ℕ) → sum_by f old.seen ≡ sum_by f old.made)
+      → ((f : Event ℕ → ℕ) → sum_by f new.seen ≡ sum_by f new.made)
+      → HasReset None old new → AllClearOnce capacity new → (b : ℕ) → sets b new.made ≡ clears b new.made
+  none_left capacity history before after h clear b = ⊎_elim below past (cases_lt b capacity)
+    where
+      sets_seen : sets b new.seen ≡ sets b new.made
+      sets_seen = after (λ e. cond (is_set_of b e) 1 0)
+
+      clears_seen : clears b new.seen ≡ clears b new.made
+      clears_seen = after (λ e. cond (is_clear_of b e) 1 0)
+
+      sets_before : sets b old.seen ≡ sets b new.made
+      sets_before = before (λ e. cond (is_set_of b e) 1 0) ∙ sym (reset_adds_none h b).0
+
+      past : capacity ≤ b → sets b new.made ≡ clears b new.made
+      past far =
+          let none = sets_within capacity new.seen history b far in
+          let within = clears_within capacity new.seen history b in
+          let s = sets_seen in
+          let c = clears_seen in
+          omega arith
+
+      below : b < capacity → sets b new.made ≡ clears b new.made
+      below near =
+          let p = h.by in
+          let q = clear.by in
+          let end : List (Event ℕ) = Finished p (Bits ResetNext) ResetNone ∷ [] in
+          let end_there : List (Event ℕ) = Finished q (Bits ResetNext) ResetNone ∷ [] in
+          let front = old.seen ++ h.called.others in
+          let once = clear.clear b near in
+          let whole : front ++ Begun p (Bits ResetNext) ∷ (h.called.during ++ end) ≡ once.part ++ (once.rest ++ end_there) =
+          sym h.called.is ∙ (clear.is ∙ (ap (λ es. es ++ end_there) once.is ∙ append_assoc once.part once.rest end_there)) in
+          let ends : (front ++ Begun p (Bits ResetNext) ∷ h.called.during) ++ end ≡ clear.before ++ end_there =
+          append_assoc front (Begun p (Bits ResetNext) ∷ h.called.during) end ∙ (sym h.called.is ∙ clear.is) in
+          let last =
+          same_last (front ++ Begun p (Bits ResetNext) ∷ h.called.during) clear.before
+          (Finished p (Bits ResetNext) ResetNone) (Finished q (Bits ResetNext) ResetNone) ends in
+          let party : q ≡ p = cc in
+          let none : BeginsNone p (once.rest ++ end_there) =
+          begins_none_more p once.rest end_there (subst (λ z. BeginsNone z once.rest) party once.within) tt in
+          let reached =
+          reaches (λ e. cond (is_set_of b e) 1 0) p (Bits ResetNext) front (h.called.during ++ end) once.part
+          (once.rest ++ end_there) whole none in
+          let grown = sets_more b old.seen h.called.others in
+          let later = clears_more b once.part (once.rest ++ end_there) in
+          let all : clears b new.seen ≡ clears b (once.part ++ (once.rest ++ end_there)) = ap (clears b) (h.called.is ∙ whole) in
+          let clear_then = once.held in
+          let within = clears_within capacity new.seen history b in
+          let s = sets_seen in
+          let c = clears_seen in
+          let o = sets_before in
+          omega arith

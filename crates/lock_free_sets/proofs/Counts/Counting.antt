@@ -1,0 +1,64 @@
+-- Counting a place: a call of the model in one step, and what it answers.
+use Rattle.lock_free_sets.proofs.Names.{◌≡◌, ℕ, ◌+◌, ◌<◌, nat_le, None, List, [], ◌∷◌, ◌++◌, refl, sym, ap, ◌∙◌}
+use Rattle.lock_free_sets.proofs.Names.{arith, nat_tests, Ask, Number, Event, Finished, Bits, Set, one_word, IsCountingOn}
+use Rattle.lock_free_sets.proofs.Names.{counts_go_on, answered, KeepsRule, View, IsMachine, At, Ends, IsCallOf, keeps_all}
+use Rattle.steps.specs.Bits.Counts.{set_want, set_after}
+use Rattle.steps.specs.declared.ask.Op.TheVariants.{Add}
+use Rattle.steps.specs.declared.ask.Want.TheVariants as wants
+use Rattle.steps.specs.declared.bits.counting_bit_set.Set as counting
+use Rattle.model.specs.declared.event.Event.TheVariants.{Counted}
+use Rattle.model.specs.declared.turn.Kind.TheVariants as kinds
+use Rattle.model.specs.Families.Bits.Promises.{AnswersCountOn}
+use Rattle.history.proofs.Sets.{counts_starts, set_effects, counts_owe}
+use Rattle.lock_free_sets.specs.Driven.{IsIdle}
+use Rattle.lock_free_sets.specs.Counts.Stages.{counts_place}
+use Rattle.lock_free_sets.specs.Counts.Contracts.{HasCounted, AnswersCount}
+use Rattle.lock_free_sets.proofs.Ends.{has_made, before_end, to_end}
+
+module _ (place : ℕ) where
+  is_call : IsCallOf one_word set_effects (λ capacity. capacity) (λ c. set_want c place) (λ c n. set_after c n) (λ c m n. m) (counts_place {T = ℕ} place)
+  is_call =
+      record {
+        same_want = λ c m. refl;
+        same_after = λ capacity c m n h. refl;
+        hears = λ c m a n e. (hears c a n e, refl);
+        stays = λ capacity c d n stands e. absurd (cc);
+        asks = λ capacity c stands. (record { word = place; op = Add 1 }, stands, refl);
+        past = λ capacity c d n k h e. refl;
+        finds = λ c m n small t. tt;
+        leaves = λ c a n t e. absurd (cc);
+        tells = λ capacity p from c d m n es stands wrote e. absurd (cc);
+        tells_all = λ capacity p from c e m n es stands skip wrote is still. ap (λ zs. zs ++ Counted p place ∷ []) wrote;
+      }
+    where
+      hears : (c : counting.Set) (a : Ask) (n : ℕ) → set_want c place ≡ wants.Ask a → set_after c (answered a.op n) ≡ set_after c n
+      hears c a n e =
+          let same : record { word = place; op = Add 1 } ≡ a = cc in
+          ap (λ (z : Ask). set_after c (answered z.op n)) (sym same)
+
+  pub count_keeps : KeepsRule (λ (z : View ℕ). z.asked) (λ (z : View ℕ). z.capacity) (At one_word kinds.Counts (counts_place place))
+      (Ends one_word kinds.Counts (counts_place place)) (λ key. key + 1) (λ key. key)
+      (λ key. IsMachine one_word kinds.Counts key) (λ c. set_want c place) (λ c n. set_after c n) (λ c m n. m)
+  count_keeps =
+      keeps_all one_word kinds.Counts set_effects (λ capacity. capacity) (counts_owe one_word) (λ c. set_want c place)
+      (λ c n. set_after c n) (λ c m n. m) (counts_place place) is_call (λ c n. refl)
+
+  pub count_first : (v : View ℕ) (c : counting.Set) (m : Unit {0}) → IsIdle v.capacity v → place < v.capacity
+      → At one_word kinds.Counts (counts_place place) v v c m
+  count_first x0 x1 x2 x3 x4 = grind (arith, nat_le, nat_tests, counts_starts, one_word, counts_place)
+
+  module _ (base w : View ℕ) (number : ℕ) (m : Unit {0}) (idle : base.going ≡ None)
+      (ends : Ends one_word kinds.Counts (counts_place place) base number m w) where
+    pub counted : HasCounted place number base w
+    counted = grind (arith, has_made, counts_place)
+
+    pub answers : AnswersCount place number w
+    answers =
+        let p = counted.by in
+        let h = ends.history in
+        let last : Event ℕ = Finished p (Bits (Set place)) (Number number) in
+        let before : List (Event ℕ) = before_end counted.called in
+        let whole : w.seen ≡ before ++ last ∷ [] = to_end counted.called in
+        let set : IsCountingOn h.trace = counts_go_on h.trace h.run.of_kind h.run.reached in
+        let right : AnswersCountOn p place number before = set.answers before [] last (sym h.is ∙ whole) in
+        record { by = p; before = right.before; is = whole ∙ ap (λ es. es ++ last ∷ []) right.is; count = right.count }

@@ -1,0 +1,110 @@
+-- Taking all counts out: the closure is called with just what the call takes.
+use Rattle.lock_free_sets.proofs.Names.{◌≡◌, ℕ, List, ◌+◌, ◌^◌, ◌<◌, [], ◌++◌, map, refl, sym, ap, subst, ◌∙◌, arith, map-append}
+use Rattle.lock_free_sets.proofs.Names.{All-nil, After, BitState, Emptying, OneWord, Event, Finished, one_word, IsCountingOn}
+use Rattle.lock_free_sets.proofs.Names.{fresh, SinceBegin, counts_go_on, View, At}
+use Rattle.steps.specs.Bits.ResetAll.{all_counts, reset_all_after, reset_all_kept}
+use Rattle.steps.specs.declared.ask.After.TheVariants.{GoOn, Done}
+use Rattle.model.specs.declared.event.Answer.TheVariants as answers
+use Rattle.model.specs.declared.turn.Kind.TheVariants as kinds
+use Rattle.model.specs.Families.Bits.Promises.{HasTakenOn}
+use Rattle.model.specs.Families.Bits.Steps.{take_events}
+use Rattle.history.specs.Steps.{TakesAtMost}
+use Rattle.lock_free_sets.specs.Driven.{HasMade, HasDone, IsIdle}
+use Rattle.lock_free_sets.specs.Sets.Kinds.{Counts}
+use Rattle.lock_free_sets.specs.Sets.Stages.{empties}
+use Rattle.lock_free_sets.specs.Counts.Contracts.{taken_by, HasTakenOut, MissedNoCount}
+use Rattle.lock_free_sets.proofs.Ends.{before_end, to_end}
+use Rattle.lock_free_sets.proofs.Sets.Emptying.{goes_next}
+use Rattle.lock_free_sets.proofs.Steps.{counts_take}
+use Rattle.lock_free_sets.proofs.Sets.Emptied.{emptying, Goes, WroteSoFar, first_wrote, words_left, ends_all, wrote_on, wrote_all}
+use Rattle.lock_free_sets.proofs.Counts.Handed.{Counted, none_counted, none_states, counted_found, found, found_events}
+
+module _ {F : Type 0} (R : F → BitState → F → Type 0) (cap : ℕ) (visit : F) where
+  -- the call stands here, and the closure was called with what it has taken
+  pub record SoFar (base v : View ℕ) (c : Emptying) (m : OneWord) (f : F) : Type 0 where
+    pub handed : Counted R cap c.word visit f
+    pub call : WroteSoFar Counts cap (λ p. map (taken_by p) handed.states) base v c m
+
+  pub first_so_far : (v : View ℕ) → IsIdle cap v → 0 < cap → SoFar v v (all_counts cap) fresh visit
+  first_so_far v idle some =
+      record {
+        handed = none_counted R cap visit 0;
+        call =
+            subst (λ z. WroteSoFar Counts cap z v v (all_counts cap) fresh)
+            (λ i p. sym (ap (map (taken_by p)) (none_states R cap visit 0)) i) (first_wrote Counts cap v idle some);
+      }
+
+  module _ (base v w : View ℕ) (c : Emptying) (m room : OneWord) (n : ℕ) (f : F)
+      (h : SoFar base v c m f) (kept : room ≡ reset_all_kept m n) (a : After Emptying (Unit {0}))
+      (goes_so : reset_all_after c n ≡ a)
+      (told : (b : View ℕ) → At one_word kinds.Counts (empties Counts) b v c m → Goes Counts b a room w) where
+    pub within : c.word < cap
+    within = grind (arith, words_left, map, taken_by)
+
+    -- it has taken one step for each place
+    pub taken_steps : a ≡ Done tt → TakesAtMost cap base w
+    taken_steps is =
+        let wrote : ℕ → List (Event ℕ) = λ p. map (taken_by p) h.handed.states in
+        let left = words_left Counts cap wrote base v c m h.call in
+        let most = left.0 in
+        let below = left.2 in
+        let all =
+        ends_all Counts base v w c m room n wrote h.call.idle h.call.made h.call.at kept (goes_so ∙ is)
+        (λ b at. subst (λ z. Goes Counts b z room w) is (told b at)) in
+        counts_take (empties Counts) base w tt room h.call.idle cap h.call.size (omega arith) all.0
+
+    module _ (small : room.0 < 2 ^ 64) (g : F) (hit : 0 < room.0 → R f (record { bit = c.word; count = room.0 }) g) (miss : room.0 ≡ 0 → g ≡ f) where
+      next_handed : (x : Counted R cap (c.word + 1) visit g) × (x.states ≡ h.handed.states ++ found R cap visit c.word room.0)
+      next_handed = counted_found R cap visit c.word room.0 f g within small hit miss h.handed
+
+      same_events : (p : ℕ) → map (taken_by p) h.handed.states ++ take_events p c.word room.0 ≡ map (taken_by p) next_handed.0.states
+      same_events x0 = grind (arith, map, taken_by, found_events, map-append, found, next_handed)
+
+      pub so_far_on : (next : Emptying) → a ≡ GoOn next → SoFar base w next room g
+      so_far_on next is =
+          record {
+            handed = moved.0;
+            call =
+                subst (λ z. WroteSoFar Counts cap z base w next room) (λ i p. (same_events p ∙ ap (map (taken_by p)) (sym moved.1)) i)
+                (wrote_on Counts cap (λ p. map (taken_by p) h.handed.states) base v c m h.call w room n kept a goes_so told next is);
+          }
+        where
+          moved : (x : Counted R cap next.word visit g) × (x.states ≡ next_handed.0.states)
+          moved =
+              subst (λ k. (x : Counted R cap k visit g) × (x.states ≡ next_handed.0.states))
+              (sym (ap (λ (z : Emptying). z.word) (goes_next c n next (goes_so ∙ is)).0)) (next_handed.0, refl)
+
+      pub taken_all : a ≡ Done tt → HasTakenOut R cap visit g base w × HasDone kinds.Counts base w
+      taken_all is =
+          let all = wrote_all Counts cap (λ p. map (taken_by p) h.handed.states) base v c m h.call w room n kept a goes_so told is in (
+            record {
+              states = next_handed.0.states;
+              ascend = next_handed.0.ascend;
+              calls = next_handed.0.folds;
+              made = subst (λ z. HasMade emptying answers.Done z base w) (λ i p. same_events p i) all.0;
+            },
+            all.1,
+          )
+
+-- nothing that counted was missed
+pub missed_none : (cap : ℕ) (base w : View ℕ) (wrote : ℕ → List (Event ℕ)) → base.capacity ≡ cap → HasDone kinds.Counts base w
+    → HasMade emptying answers.Done wrote base w → MissedNoCount cap w
+missed_none cap base w wrote size over made =
+    let h = over.history in
+    let before = before_end made.called in
+    let is = to_end made.called in
+    let set : IsCountingOn h.trace = counts_go_on h.trace h.run.of_kind h.run.reached in
+    let right : SinceBegin made.by (HasTakenOn h.trace.world.capacity) before =
+    set.answers before [] (Finished made.by emptying answers.Done) (sym h.is ∙ is) in
+    record { by = made.by; before = before; is = is; taken = subst (λ n. SinceBegin made.by (HasTakenOn n) before) (h.run.sized ∙ size) right }
+
+-- where there is no place, nothing is taken and the closure is not called
+pub taken_none : {F : Type 0} (R : F → BitState → F → Type 0) (visit : F) (base w : View ℕ)
+    → HasMade emptying answers.Done (λ by. []) base w → HasTakenOut R 0 visit visit base w
+taken_none R visit base w made =
+    record {
+      states = [];
+      ascend = ((λ i j d lt within. absurd (omega arith)), All-nil (λ (x : BitState). (x.bit < 0) × (0 < x.count) × (x.count < 2 ^ 64)));
+      calls = refl;
+      made = made;
+    }

@@ -1,0 +1,47 @@
+-- What is known of a whole call on a set, whichever it is.
+use Rattle.std.proofs.Common.{◌⊎◌, inr, arith}
+use Rattle.lock_free_sets.proofs.Names.{◌≡◌, ◌≤◌, ◌+◌, inl, ℕ, Option, Some, None, IfSome, List, [], ◌∷◌, ◌++◌, sym, ap, ◌∙◌}
+use Rattle.lock_free_sets.proofs.Names.{append_assoc, Answer, Event, Begun, Finished, Start, Kind, one_word, View, Called}
+use Rattle.lock_free_sets.proofs.Names.{Calling, Ends, called}
+use Rattle.lock_free_sets.specs.Driven.{HasDone, HasMade}
+
+-- one operation aside at most
+pub aside_most : {n m : ℕ} → (m ≡ n) ⊎ (m ≡ n + 1) → m ≤ n + 1
+aside_most (inl same) = omega arith
+aside_most (inr more) = omega arith
+
+module _ {C M E : Type 0} (kind : Kind) (call : Calling ℕ C M E)
+    (own : (o : Option ℕ) (p : ℕ) → call.by o p → IfSome o (λ q. q ≡ p)) (base w : View ℕ) (e : E) (m : M)
+    (ends : Ends one_word kind call base e m w) where
+  pub done : HasDone kind base w
+  done =
+      record {
+        capacity = ends.capacity;
+        share = ends.share;
+        party = go base.party (own base.party ends.party ends.same);
+        idle = ends.idle;
+        alone = ends.alone;
+        history = ends.history;
+        ran = ends.ran;
+        aside = aside_most ends.aside;
+        all = ends.all;
+      }
+    where
+      go : (o : Option ℕ) → IfSome o (λ p. p ≡ ends.party) → IfSome o (λ p. w.party ≡ Some p)
+      go None h = tt
+      go (Some p) h = ends.mine ∙ ap Some (sym h)
+
+module _ {C M E : Type 0} (kind : Kind) (call : Calling ℕ C M E) (base w : View ℕ) (e : E) (m : M) (ends : Ends one_word kind call base e m w)
+    (idle : base.going ≡ None) (wrote : ℕ → List (Event ℕ)) where
+  pub has_made : ends.wrote ≡ wrote ends.party → HasMade call.start (call.answer e m) wrote base w
+  has_made x0 = grind (arith, called, one_word)
+
+-- all that was seen before the end of the call
+abbrev pub before_end : {p : ℕ} {start : Start ℕ} {answer : Answer ℕ} {wrote : List (Event ℕ)} {old new : View ℕ}
+    → Called p start answer wrote old new → List (Event ℕ)
+before_end {p} {start} {answer} {wrote} {old} {new} c = (old.seen ++ c.others) ++ Begun p start ∷ c.during
+
+pub to_end : {p : ℕ} {start : Start ℕ} {answer : Answer ℕ} {wrote : List (Event ℕ)} {old new : View ℕ}
+    (c : Called p start answer wrote old new)
+    → new.seen ≡ before_end c ++ Finished p start answer ∷ []
+to_end {p} {start} {answer} {wrote} {old} {new} c = c.is ∙ sym (append_assoc (old.seen ++ c.others) (Begun p start ∷ c.during) (Finished p start answer ∷ []))

@@ -1,0 +1,73 @@
+-- A call that needs no word is one look at any word, which the view counts.
+use Rattle.lock_free_sets.proofs.Names.{◌≡◌, inl, ℕ, ◌+◌, ◌<◌, ◌≤◌, Some, List, [], ◌++◌, refl, sym, ap, subst, ◌∙◌, arith}
+use Rattle.lock_free_sets.proofs.Names.{Event, Kind, View, Calling, Ends, IsMachine, OwesAsk, after_of}
+use Rattle.std.proofs.Common.{None, inr, slice_set}
+use Rattle.atomic_table.specs.Table as table
+use Rattle.steps.specs.declared.ask.Op.TheVariants.{Load}
+use Rattle.steps.specs.declared.ask.After.TheVariants.{Done}
+use Rattle.steps.specs.declared.ask.Want.TheVariants as wants
+use Rattle.model.specs.declared.families.Flight.{Flight}
+use Rattle.model.specs.declared.turn.Turn.TheVariants.{Next}
+use Rattle.model.specs.Coding.{Coding}
+use Rattle.model.specs.Families.{want_of}
+use Rattle.model.specs.Turns.{after_turn}
+use Rattle.history.specs.Known.{events_by}
+use Rattle.history.specs.Stages.{IsFirst}
+use Rattle.history.proofs.CallReady.{ready}
+use Rattle.history.proofs.CallTurns.{then_gained, next_between, view_then, gains_then, ends_then}
+use Rattle.history.proofs.Drives.{NeverPushes, all_laws, all_kept_laws}
+use Rattle.history.proofs.Known.{by_mine, AreOf}
+use Rattle.history.proofs.Passes.{set_same}
+use Rattle.history.proofs.Steps.{settle}
+use Rattle.history.proofs.Turns.{KindLaws, goes_on_alike}
+
+as_much : (n : ℕ) → n ≤ n
+as_much n = omega arith
+
+module _ {T C M E : Type 0} (code : Coding T) (kind : Kind) (effects : ℕ → Flight T → ℕ → List (Event T))
+    (size_of : ℕ → ℕ) (laws : (capacity : ℕ) → KindLaws code kind capacity (size_of capacity) effects) (call : Calling T C M E) where
+  pub owes_once : (v : View T) (c : C) (m m' : M) (end : E) → IsFirst code kind call v v c m
+      → want_of code (call.flight c m) ≡ wants.Nothing → NeverPushes call.flight
+      → after_of code (call.flight c m) 0 ≡ Done (call.answer end m')
+      → ((p : ℕ) → call.wrote_all v.capacity p v.going end m' ([] ++ effects p (call.flight c m) 0))
+      → ((p : ℕ) (wrote : List (Event T)) → call.wrote v.capacity p v.going c m wrote → wrote ≡ [])
+      → (words slots id word : ℕ) → word < words
+      → OwesAsk (λ (z : View T). z.asked) (IsMachine code kind v.capacity) words slots id (λ u n w. Ends code kind call u end m' w) word Load (v, [])
+  owes_once v c m m' end first asks_none never ends_so tells none words slots id word below = (
+    below,
+    λ s r long at small. (
+        let finds = never c m 0 in
+        let there = all_kept_laws code kind effects size_of laws in
+        let y = ready code kind (λ w. effects) size_of there call s v v.capacity id c m r at refl v (inl first) in
+        let u = after_turn y.u (Next y.p) in
+        let own : AreOf y.p (effects y.p (call.flight c m) 0) =
+        ((laws v.capacity).goes_on y.u y.between.run y.p call.start (call.flight c m) y.there).own 0 in (
+          view_then code kind (λ w. effects) size_of there call s v v.capacity id c m at refl y None tt asks_none finds,
+          table.keeps,
+          tt,
+          subst (λ ws. IsMachine code kind v.capacity
+              (record {
+                words = ws;
+                homes = s.homes;
+                views = slice_set s.views id (view_then code kind (λ w. effects) size_of there call s v v.capacity id c m at refl y None tt asks_none finds);
+              }))
+              (sym (set_same s.words word))
+              (settle code kind v.capacity id y.p y.owner (v.asked + 1) (v.aside + 1) s.words s v
+              (then_gained code kind (λ w. effects) size_of there call s v v.capacity id c m at refl y None tt asks_none finds) u at first.some
+              (next_between code kind (λ w. effects) size_of there call s v v.capacity id c m at refl y None tt asks_none finds)
+              (gains_then code kind (λ w. effects) size_of there call s v v.capacity id c m at refl y None tt asks_none finds)),
+          (
+            ends_then code kind (λ w. effects) size_of there call s v v.capacity id c m at refl y None tt asks_none finds v (inl first) end m'
+                (goes_on_alike code kind v.capacity (size_of v.capacity) (λ w. effects)
+                (all_laws code kind effects size_of laws v.capacity) y.u y.between.run y.p (call.flight c m) 0 ∙ ends_so)
+                (λ es late h waits met.
+                subst (λ ws. call.wrote_all v.capacity y.p v.going end m' ws)
+                (sym (ap (λ zs. (zs ++ late) ++ events_by y.p (effects y.p (call.flight c m) 0)) (none y.p es h)
+                ∙ (ap (λ zs. zs ++ events_by y.p (effects y.p (call.flight c m) 0)) ((laws v.capacity).alone (Some (call.start, call.flight c m)) late waits)
+                ∙ by_mine y.p (effects y.p (call.flight c m) 0) own))) (tells y.p))
+                (inr (as_much (v.asked + 1))),
+            refl,
+            refl,
+          ),
+        )),
+  )

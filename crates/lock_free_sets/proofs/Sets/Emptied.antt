@@ -1,0 +1,196 @@
+-- What one step of the call that empties a set adds to what it has made, for either kind.
+use Rattle.lock_free_sets.proofs.Names.{◌≡◌, inl, ℕ, ◌+◌, ◌<◌, ◌≤◌, Some, None, List, [], ◌∷◌, ◌++◌, refl, sym, ap, subst}
+use Rattle.lock_free_sets.proofs.Names.{◌∙◌, arith, After, Emptying, OneWord, Event, Begun, Finished, Start, Bits, ResetAll}
+use Rattle.lock_free_sets.proofs.Names.{one_word, opening_of, first_of, fresh, View, IsHistory, At, Ends, called}
+use Rattle.std.proofs.Common.{inr}
+use Rattle.steps.specs.Bits.ResetAll.{reset_all_after, reset_all_kept}
+use Rattle.steps.specs.declared.ask.After.TheVariants.{GoOn, Done}
+use Rattle.model.specs.declared.event.Answer.TheVariants as answers
+use Rattle.threaded.specs.Driver.{Next}
+use Rattle.history.specs.Stages.{Since}
+use Rattle.history.proofs.Drives.{at_itself}
+use Rattle.history.proofs.Made.{MadeSoFar, made_with, made_more, same_between}
+use Rattle.lock_free_sets.specs.Driven.{HasMade, HasDone, IsIdle}
+use Rattle.lock_free_sets.specs.Sets.Kinds.{SetKind, Flags, Counts, machine_kind, first_word, words_of}
+use Rattle.lock_free_sets.specs.Sets.Stages.{all_words, flight_word, word_of, flight_at, emptied, empties}
+use Rattle.lock_free_sets.proofs.Ends.{done, has_made}
+use Rattle.lock_free_sets.proofs.Sets.Emptying.{goes_next, ends_last, begins, first_at}
+
+abbrev pub emptying : Start ℕ
+emptying = Bits ResetAll
+
+has_word : (kind : SetKind) (c : Emptying) (m : OneWord) → flight_word (flight_at {T = ℕ} kind c m) ≡ c.word
+has_word Flags c m = refl
+has_word Counts c m = refl
+
+word_at_first : (kind : SetKind) (n : ℕ) → (all_words kind n).word ≡ first_word kind
+word_at_first Flags n = refl
+word_at_first Counts n = refl
+
+begins_at : (kind : SetKind) (n : ℕ) (c : Emptying) (m : OneWord)
+    → first_of (machine_kind kind) n emptying ((opening_of (machine_kind kind)).kept n) ≡ Some (flight_at kind c m) → c.word ≡ first_word kind
+begins_at x0 x1 x2 x3 x4 = grind (arith, flight_at, all_words, fresh, begins, has_word, flight_word, word_at_first)
+
+-- the call stands here, and has written this
+pub record WroteSoFar (kind : SetKind) (cap : ℕ) (wrote : ℕ → List (Event ℕ)) (base v : View ℕ) (c : Emptying) (m : OneWord) : Type 0 where
+  pub at : At one_word (machine_kind kind) (empties kind) base v c m
+  pub size : base.capacity ≡ cap
+  pub idle : base.going ≡ None
+  pub made : MadeSoFar emptying base v wrote
+
+-- what one step wrote, whichever way it went on
+pub record Stepped (kind : SetKind) (v w : View ℕ) (word : ℕ) (room : OneWord) : Type 0 where
+  pub party : ℕ
+  pub es : List (Event ℕ)
+  pub last : List (Event ℕ)
+  pub since : Since party emptying es last v w
+  pub is : es ≡ emptied kind party word room.0
+  pub history : IsHistory one_word (machine_kind kind) v.capacity w.seen
+
+module _ (kind : SetKind) where
+  abbrev pub AtWord : View ℕ → View ℕ → Emptying → OneWord → Type 0
+  AtWord = At one_word (machine_kind kind) (empties kind)
+
+  abbrev pub EndsAll : View ℕ → Unit {0} → OneWord → View ℕ → Type 0
+  EndsAll = Ends one_word (machine_kind kind) (empties kind)
+
+  abbrev pub Goes : View ℕ → After Emptying (Unit {0}) → OneWord → View ℕ → Type 0
+  Goes base a m w = Next (λ (z : View ℕ). z.capacity) AtWord EndsAll base a m w
+
+  -- it stands so as of its own view too
+  pub itself : (base v : View ℕ) (c : Emptying) (m : OneWord) → AtWord base v c m → AtWord v v c m
+  itself x0 x1 x2 x3 x4 = grind (arith, at_itself, one_word, machine_kind, empties, has_word)
+
+  -- where it stands is its word
+  pub word_now : (base v : View ℕ) (c : Emptying) (m : OneWord) → base.going ≡ v.going → AtWord base v c m → word_of (first_word kind) v.going ≡ c.word
+  word_now x0 x1 x2 x3 x4 x5 = grind (arith, word_of, first_word, begins_at, has_word)
+
+  pub stands : (base v : View ℕ) (c : Emptying) (m : OneWord) → AtWord base v c m
+      → (c.end ≡ words_of kind base.capacity) × (first_word kind ≤ c.word) × (c.word < c.end)
+  stands base v c m (inl now) = now.standing
+  stands base v c m (inr under) = under.standing
+
+  pub same_capacity : (base v : View ℕ) (c : Emptying) (m : OneWord) → AtWord base v c m → v.capacity ≡ base.capacity
+  same_capacity x0 x1 x2 x3 x4 = grind arith
+
+  module _ (base v w : View ℕ) (c : Emptying) (m room : OneWord) (n : ℕ) (f : ℕ → List (Event ℕ))
+      (idle : base.going ≡ None) (so_far : MadeSoFar emptying base v f) (at : AtWord base v c m)
+      (kept : room ≡ reset_all_kept m n) where
+    abbrev more : ℕ → List (Event ℕ)
+    more p = emptied kind p c.word room.0
+
+    from : word_of (first_word kind) v.going ≡ c.word
+    from = word_now v v c m refl (itself base v c m at)
+
+    -- it has come to the next word
+    pub goes_on : (next : Emptying) → reset_all_after c n ≡ GoOn next
+        → ((b : View ℕ) → AtWord b v c m → AtWord b w next room)
+        → MadeSoFar emptying base w (λ p. f p ++ emptied kind p c.word room.0) × AtWord base w next room
+    goes_on next e told = (go (told v (itself base v c m at)), told base at)
+      where
+        word : next.word ≡ c.word + 1
+        word = ap (λ (z : Emptying). z.word) (goes_next c n next e).0
+
+        go : AtWord v w next room → MadeSoFar emptying base w (λ p. f p ++ emptied kind p c.word room.0)
+        go (inl now) =
+            let none = begins_at kind v.capacity next room now.first in
+            let low = (stands base v c m at).1 in
+            let further = word in
+            absurd (omega arith)
+        go (inr under) =
+            let is : under.wrote ≡ more under.party = under.tells.2 (word ∙ ap (λ z. z + 1) (sym from)) ∙ ap (λ z. emptied kind under.party z room.0) from in
+            made_more emptying base v w f more under.wrote under.party (flight_at kind next room) idle so_far under.same under.mine under.going under.since is
+
+    -- it has emptied the last
+    pub ends_all : reset_all_after c n ≡ Done tt → ((b : View ℕ) → AtWord b v c m → EndsAll b tt room w)
+        → (ends : EndsAll base tt room w) × (ends.wrote ≡ f ends.party ++ emptied kind ends.party c.word room.0)
+    ends_all e told =
+        let here = told v (itself base v c m at) in
+        let all = told base at in
+        let far = ends_last c n tt e in
+        let mine = stands v v c m (itself base v c m at) in
+        let last : word_of (first_word kind) v.going + 1 ≡ words_of kind v.capacity = (let w = from in let i = mine.2 in let e = mine.0 in omega arith) in
+        let is : here.wrote ≡ more here.party = here.tells last ∙ ap (λ z. emptied kind here.party z room.0) from in
+        let same : here.party ≡ all.party = (let both : Some here.party ≡ Some all.party = sym here.mine ∙ all.mine in cc) in
+        let one : w.made ≡ base.made ++ Begun here.party emptying ∷ ((f here.party ++ more here.party) ++ Finished here.party emptying answers.Done ∷ []) =
+        made_with emptying base v w f more (Finished here.party emptying answers.Done ∷ []) here.wrote here.party idle so_far here.same here.since is
+        in
+        let mine_all = called one_word (machine_kind kind) (empties kind) base w tt room idle all in
+        let two : w.made ≡ base.made ++ Begun all.party emptying ∷ ((f all.party ++ more all.party) ++ Finished all.party emptying answers.Done ∷ []) =
+        subst (λ p. w.made ≡ base.made ++ Begun p emptying ∷ ((f p ++ more p) ++ Finished p emptying answers.Done ∷ [])) same one
+        in (
+          all,
+          same_between base.made all.wrote (f all.party ++ more all.party) (Begun all.party emptying)
+              (Finished all.party emptying answers.Done) (sym mine_all.made ∙ two),
+        )
+
+  pub stepped : (base v w : View ℕ) (c : Emptying) (m room : OneWord) (n : ℕ)
+      → AtWord base v c m → (a : After Emptying (Unit {0})) → reset_all_after c n ≡ a
+      → ((b : View ℕ) → AtWord b v c m → Goes b a room w) → Stepped kind v w c.word room
+  stepped base v w c m room n at (GoOn next) e told = go (told v mine)
+    where
+      mine : AtWord v v c m
+      mine = itself base v c m at
+
+      from : word_of (first_word kind) v.going ≡ c.word
+      from = word_now v v c m refl mine
+
+      word : next.word ≡ c.word + 1
+      word = ap (λ (z : Emptying). z.word) (goes_next c n next e).0
+
+      go : AtWord v w next room → Stepped kind v w c.word room
+      go (inl now) =
+          let none = begins_at kind v.capacity next room now.first in
+          let low = (stands base v c m at).1 in
+          let further = word in
+          absurd (omega arith)
+      go (inr under) =
+          record {
+            party = under.party;
+            es = under.wrote;
+            last = [];
+            since = under.since;
+            is = under.tells.2 (word ∙ ap (λ z. z + 1) (sym from)) ∙ ap (λ z. emptied kind under.party z room.0) from;
+            history = under.history;
+          }
+  stepped base v w c m room n at (Done end) e told =
+      let mine = itself base v c m at in
+      let here = told v mine in
+      let from = word_now v v c m refl mine in
+      let far = ends_last c n end e in
+      let st = stands v v c m mine in
+      let last : word_of (first_word kind) v.going + 1 ≡ words_of kind v.capacity = (let w = from in let i = st.2 in let e = st.0 in omega arith) in
+      record {
+        party = here.party;
+        es = here.wrote;
+        last = Finished here.party emptying answers.Done ∷ [];
+        since = here.since;
+        is = here.tells last ∙ ap (λ z. emptied kind here.party z room.0) from;
+        history = here.history;
+      }
+
+  pub first_wrote : (cap : ℕ) (v : View ℕ) → IsIdle cap v → 0 < cap → WroteSoFar kind cap (λ p. []) v v (all_words kind cap) fresh
+  first_wrote x0 x1 x2 x3 = grind (arith, all_words, fresh, first_at)
+
+  module _ (cap : ℕ) (wrote : ℕ → List (Event ℕ)) (base v : View ℕ) (c : Emptying) (m : OneWord) (h : WroteSoFar kind cap wrote base v c m) where
+    pub words_left : (c.end ≡ words_of kind cap) × (first_word kind ≤ c.word) × (c.word < c.end)
+    words_left = grind (arith, words_of, first_word, stands)
+
+    module _ (w : View ℕ) (room : OneWord) (n : ℕ) (kept : room ≡ reset_all_kept m n) (a : After Emptying (Unit {0}))
+        (goes_so : reset_all_after c n ≡ a) (told : (b : View ℕ) → AtWord b v c m → Goes b a room w) where
+      pub wrote_on : (next : Emptying) → a ≡ GoOn next → WroteSoFar kind cap (λ p. wrote p ++ emptied kind p c.word room.0) base w next room
+      wrote_on next is =
+          let on =
+          goes_on base v w c m room n wrote h.idle h.made h.at kept next (goes_so ∙ is)
+          (λ b at. subst (λ z. Goes b z room w) is (told b at)) in
+          record { at = on.1; size = h.size; idle = h.idle; made = on.0 }
+
+      pub wrote_all : a ≡ Done tt
+          → HasMade emptying answers.Done (λ p. wrote p ++ emptied kind p c.word room.0) base w × HasDone (machine_kind kind) base w
+      wrote_all is =
+          let all =
+          ends_all base v w c m room n wrote h.idle h.made h.at kept (goes_so ∙ is)
+          (λ b at. subst (λ z. Goes b z room w) is (told b at)) in (
+            has_made (machine_kind kind) (empties kind) base w tt room all.0 h.idle (λ p. wrote p ++ emptied kind p c.word room.0) all.1,
+            done (machine_kind kind) (empties kind) (λ o p h. h) base w tt room all.0,
+          )

@@ -1,0 +1,197 @@
+-- The call that empties a set: a call of the model, a word at each step.
+use Rattle.lock_free_sets.proofs.Names.{◌≡◌, ℕ, ◌+◌, ◌<◌, ◌≤◌, nat_lt, Bool, true, false, Option, Some}
+use Rattle.lock_free_sets.proofs.Names.{None, IfSome, List, [], ◌++◌, map, refl, ap, subst, ◌∙◌, arith, nat_tests}
+use Rattle.lock_free_sets.proofs.Names.{by_test, elements, Ask, Emptying, OneWord, Event, Cleared, Bits, ResetAll}
+use Rattle.lock_free_sets.proofs.Names.{one_word, Trace, after_of, opening_of, first_of, fresh, answered, KeepsRule}
+use Rattle.lock_free_sets.proofs.Names.{View, IsMachine, Calling, At, Ends, IsCallOf, goes, keeps_all, OwesAsk}
+use Rattle.std.specs.List.{sum_by}
+use Rattle.steps.specs.Bits.ResetAll.{reset_all_want, reset_all_after, reset_all_kept}
+use Rattle.steps.specs.declared.ask.Op.TheVariants.{Load, Swap}
+use Rattle.steps.specs.declared.ask.After.TheVariants.{GoOn, Done}
+use Rattle.steps.specs.declared.ask.Want.{Want}
+use Rattle.steps.specs.declared.ask.Want.TheVariants as wants
+use Rattle.model.specs.Rows.{first_row}
+use Rattle.model.specs.Families.{want_of, begin_rows}
+use Rattle.laws_bits.proofs.Bits.Lists.{no_places}
+use Rattle.history.specs.History.{IsRun}
+use Rattle.history.specs.Known.{owned}
+use Rattle.history.specs.Stages.{Starts, IsFirst}
+use Rattle.history.proofs.Drives.{NeverPushes}
+use Rattle.history.proofs.Sets.{bits_starts, counts_starts, set_effects, bits_owe, counts_owe}
+use Rattle.history.proofs.Turns.{KindLaws}
+use Rattle.lock_free_sets.specs.Driven.{IsIdle}
+use Rattle.lock_free_sets.specs.Sets.Kinds.{SetKind, Flags, Counts, machine_kind, first_word, words_of}
+use Rattle.lock_free_sets.specs.Sets.Stages.{all_words, word_of, flight_at, emptied, empties, empties_none}
+use Rattle.lock_free_sets.proofs.Sets.AtOnce.{owes_once}
+
+-- ---- how it goes on
+
+module _ (c : Emptying) (n : ℕ) where
+  pub goes_next : (d : Emptying) → reset_all_after c n ≡ GoOn d → (d ≡ record { word = c.word + 1; end = c.end }) × (d.word < d.end)
+  goes_next x0 = grind (arith, by_test, nat_lt, nat_tests)
+
+  pub ends_last : (end : Unit {0}) → reset_all_after c n ≡ Done end → c.end ≤ c.word + 1
+  ends_last x0 = grind (arith, by_test, nat_lt, nat_tests)
+
+wants_word : (c : Emptying) → c.word < c.end → reset_all_want c ≡ wants.Ask (record { word = c.word; op = Swap 0 })
+wants_word c less = let t : nat_lt c.word c.end ≡ true = grind (arith, nat_tests) in rw t refl
+
+hears_word : (c : Emptying) (m : OneWord) (a : Ask) (n : ℕ) → reset_all_want c ≡ wants.Ask a
+    → (reset_all_after c (answered a.op n) ≡ reset_all_after c n) × (reset_all_kept m (answered a.op n) ≡ reset_all_kept m n)
+hears_word c m a n e = go (nat_lt c.word c.end) refl
+  where
+    go : (b : Bool) → nat_lt c.word c.end ≡ b
+        → (reset_all_after c (answered a.op n) ≡ reset_all_after c n) × (reset_all_kept m (answered a.op n) ≡ reset_all_kept m n)
+    go true t =
+        let asks : wants.Ask (record { word = c.word; op = Swap 0 }) ≡ wants.Ask a = rw t at e in
+        let same : record { word = c.word; op = Swap 0 } ≡ a = cc in
+        subst (λ (z : Ask). (reset_all_after c (answered z.op n) ≡ reset_all_after c n)
+        × (reset_all_kept m (answered z.op n) ≡ reset_all_kept m n))
+        same (refl, refl)
+    go false t =
+        let asks : ◌≡◌ {A = Want (Unit {0})} wants.Nothing (wants.Ask a) = rw t at e in
+        absurd (cc)
+
+-- ---- it is a call of the model, of either kind
+
+owes : (kind : SetKind) (capacity : ℕ) → KindLaws one_word (machine_kind kind) capacity (words_of kind capacity) set_effects
+owes Flags = bits_owe one_word
+owes Counts = counts_owe one_word
+
+same_want : (kind : SetKind) (c : Emptying) (m : OneWord) → want_of one_word (flight_at {T = ℕ} kind c m) ≡ reset_all_want c
+same_want Flags c m = refl
+same_want Counts c m = refl
+
+same_after : (kind : SetKind) (c : Emptying) (m : OneWord) (n : ℕ)
+    → after_of one_word (flight_at {T = ℕ} kind c m) n ≡ goes (empties kind) (reset_all_after c n) (reset_all_kept m n)
+same_after kind c m n = go kind (nat_lt (c.word + 1) c.end) refl
+  where
+    go : (k : SetKind) (b : Bool) → nat_lt (c.word + 1) c.end ≡ b
+        → after_of one_word (flight_at {T = ℕ} k c m) n ≡ goes (empties k) (reset_all_after c n) (reset_all_kept m n)
+    go Flags true t = rw t refl
+    go Flags false t = rw t refl
+    go Counts true t = rw t refl
+    go Counts false t = rw t refl
+
+same_effects : (kind : SetKind) (p : ℕ) (c : Emptying) (m : OneWord) (n : ℕ) → set_effects {T = ℕ} p (flight_at kind c m) n ≡ emptied kind p c.word n
+same_effects Flags p c m n = refl
+same_effects Counts p c m n = refl
+
+never : (kind : SetKind) → NeverPushes (flight_at {T = ℕ} kind)
+never Flags c m n = tt
+never Counts c m n = tt
+
+module _ (kind : SetKind) where
+  is_call : IsCallOf one_word set_effects (words_of kind) reset_all_want reset_all_after (λ c m n. reset_all_kept m n) (empties {T = ℕ} kind)
+  is_call =
+      record {
+        same_want = same_want kind;
+        same_after = λ capacity c m n h. same_after kind c m n;
+        hears = hears_word;
+        stays = λ capacity c d n stands e. (
+            let next = goes_next c n d e in
+            let word : d.word ≡ c.word + 1 = ap (λ (z : Emptying). z.word) next.0 in
+            let end : d.end ≡ c.end = ap (λ (z : Emptying). z.end) next.0 in
+            let low = stands.1 in
+            (end ∙ stands.0, omega arith, next.1));
+        asks = λ capacity c stands. (record { word = c.word; op = Swap 0 }, subst (λ z. c.word < z) stands.0 stands.2, wants_word c stands.2);
+        past = λ capacity c d n k h e. refl;
+        finds = λ c m n small t. never kind c m n;
+        leaves = λ c a n t e. absurd (cc);
+        tells = λ capacity p from c d m n es stands wrote e. (
+            let next = goes_next c n d e in
+            let word : d.word ≡ c.word + 1 = ap (λ (z : Emptying). z.word) next.0 in
+            let low : word_of (first_word kind) from ≤ c.word = wrote.0 in (
+              omega arith,
+              λ is. absurd (omega arith),
+              λ is.
+                  let here : c.word ≡ word_of (first_word kind) from = omega arith in
+                  all_of p c m n (word_of (first_word kind) from) here es (wrote.1 here),
+            ));
+        tells_all = λ capacity p from c e m n es stands skip wrote is still last. (
+            let far = ends_last c n e is in
+            let within = stands.2 in
+            let end : c.end ≡ words_of kind capacity = stands.0 in
+            let here : c.word ≡ word_of (first_word kind) from = omega arith in
+            all_of p c m n (word_of (first_word kind) from) here es (wrote.1 here));
+      }
+    where
+      all_of : (p : ℕ) (c : Emptying) (m : OneWord) (n from : ℕ) → c.word ≡ from → (es : List (Event ℕ)) → es ≡ []
+          → es ++ set_effects p (flight_at kind c m) n ≡ emptied kind p from n
+      all_of p c m n from here es none =
+          ap (λ zs. zs ++ set_effects p (flight_at kind c m) n) none ∙ (same_effects kind p c m n ∙ ap (λ z. emptied kind p z n) here)
+
+  pub keeps : KeepsRule (λ (z : View ℕ). z.asked) (λ (z : View ℕ). z.capacity) (At one_word (machine_kind kind) (empties kind))
+      (Ends one_word (machine_kind kind) (empties kind)) (λ key. words_of kind key + 1) (λ key. key)
+      (λ key. IsMachine one_word (machine_kind kind) key) reset_all_want reset_all_after (λ c m n. reset_all_kept m n)
+  keeps =
+      keeps_all one_word (machine_kind kind) set_effects (words_of kind) (owes kind) reset_all_want reset_all_after
+      (λ c m n. reset_all_kept m n) (empties kind) is_call (λ c n. refl)
+
+-- ---- its begin
+
+-- the model begins it so
+pub begins : (kind : SetKind) (n : ℕ)
+    → first_of (machine_kind kind) n (Bits ResetAll) ((opening_of (machine_kind kind)).kept n) ≡ Some (flight_at {T = ℕ} kind (all_words kind n) fresh)
+begins Flags n = refl
+begins Counts n = refl
+
+may : (kind : SetKind) (n p : ℕ)
+    → first_row (begin_rows {T = ℕ} (machine_kind kind) n ((opening_of (machine_kind kind)).kept n) p (Bits ResetAll)) ≡ None
+may Flags n p = refl
+may Counts n p = refl
+
+stands_first : (kind : SetKind) (n : ℕ) → 0 < n
+    → ((all_words kind n).end ≡ words_of kind n) × (first_word kind ≤ (all_words kind n).word) × ((all_words kind n).word < (all_words kind n).end)
+stands_first x0 x1 x2 = grind (arith, elements)
+
+wrote_first : (kind : SetKind) (n p : ℕ) → (empties {T = ℕ} kind).wrote n p None (all_words kind n) fresh []
+wrote_first x0 x1 x2 = grind arith
+
+-- it may begin at any time, as the party that the pass was last
+starts : (kind : SetKind) (call : Calling ℕ Emptying OneWord (Unit {0})) (v : View ℕ) (c : Emptying) (m : OneWord)
+    → ((o : Option ℕ) (p : ℕ) → IfSome o (λ q. q ≡ p) → call.by o p)
+    → first_of (machine_kind kind) v.capacity call.start ((opening_of (machine_kind kind)).kept v.capacity) ≡ Some (call.flight c m)
+    → ((p : ℕ) → first_row (begin_rows (machine_kind kind) v.capacity ((opening_of (machine_kind kind)).kept v.capacity) p call.start) ≡ None)
+    → (t : Trace ℕ) (owner : ℕ → ℕ) (j : ℕ) → IsRun one_word (machine_kind kind) v.capacity t → owner j ≡ j
+    → IfSome v.party (λ p. owner p ≡ j)
+    → ((f : Event ℕ → ℕ) → sum_by f v.made ≡ sum_by (owned owner j f) t.events)
+    → Starts one_word (machine_kind kind) call v c m t owner j
+starts Flags = bits_starts one_word
+starts Counts = counts_starts one_word
+
+module _ (kind : SetKind) (v : View ℕ) (idle : IsIdle v.capacity v) where
+  pub first_at : 0 < v.capacity → At one_word (machine_kind kind) (empties kind) v v (all_words kind v.capacity) fresh
+  first_at x0 = grind (arith, stands_first, begins, starts, empties, all_words, fresh, may, wrote_first)
+
+  -- ---- a set of no place
+
+  none_first : IsFirst one_word (machine_kind kind) (empties_none kind) v v (all_words kind v.capacity) fresh
+  none_first = grind (arith, begins, starts, empties_none, all_words, fresh, may)
+
+  -- as what a seat owes for it
+  pub owes_none : v.capacity ≡ 0 → (words slots id word : ℕ) → word < words
+      → OwesAsk (λ (z : View ℕ). z.asked) (IsMachine one_word (machine_kind kind) v.capacity) words slots id
+      (λ u n w. Ends one_word (machine_kind kind) (empties_none kind) u tt (record { 0 = 0 }) w) word Load (v, [])
+  owes_none none =
+      owes_once one_word (machine_kind kind) set_effects (words_of kind) (owes kind) (empties_none kind) v
+      (all_words kind v.capacity) fresh fresh tt none_first (asks_none kind) (never kind)
+      (ends_so kind) (writes_none kind) (λ p wrote h. h)
+    where
+      asks_none : (k : SetKind) → want_of one_word (flight_at {T = ℕ} k (all_words k v.capacity) fresh) ≡ wants.Nothing
+      asks_none Flags =
+          let few : elements v.capacity ≡ 0 = omega arith in
+          let t : nat_lt 1 (1 + elements v.capacity) ≡ false = grind (arith, nat_tests) in
+          rw t refl
+      asks_none Counts = let t : nat_lt 0 v.capacity ≡ false = grind (arith, nat_tests) in rw t refl
+
+      ends_so : (k : SetKind) → after_of one_word (flight_at {T = ℕ} k (all_words k v.capacity) fresh) 0 ≡ Done ((empties_none k).answer tt fresh)
+      ends_so Flags =
+          let few : elements v.capacity ≡ 0 = omega arith in
+          let t : nat_lt 2 (1 + elements v.capacity) ≡ false = grind (arith, nat_tests) in
+          rw t refl
+      ends_so Counts = let t : nat_lt 1 v.capacity ≡ false = grind (arith, nat_tests) in rw t refl
+
+      writes_none : (k : SetKind) (p : ℕ) → [] ++ set_effects {T = ℕ} p (flight_at k (all_words k v.capacity) fresh) 0 ≡ []
+      writes_none Flags p = ap (map (λ b. Cleared p b)) (no_places 1)
+      writes_none Counts p = refl

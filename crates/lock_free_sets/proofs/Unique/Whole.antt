@@ -1,0 +1,196 @@
+-- What the answers of calls say of what passes hold: of any pass, and of one that has the whole share.
+use Rattle.lock_free_sets.proofs.Names.{◌≡◌, ℕ, ◌<◌, ◌≤◌, Bool, true, false, None, Ok, Err, List, [], ◌∷◌, length}
+use Rattle.lock_free_sets.proofs.Names.{refl, sym, ap, subst, ◌∙◌, arith, fold-append, Acquired, ReleaseState}
+use Rattle.lock_free_sets.proofs.Names.{Locked, Unlocked, UniqueIndexSetAcquireFailure, Answer, NoIndex, State, Number}
+use Rattle.lock_free_sets.proofs.Names.{Truth, Event, Finished, Indices, one_word, IsAll, View, IsBeginning}
+use Rattle.lock_free_sets.proofs.Names.{takes_index, gives_or_locks, counts_out, looks_locked, Ends}
+use Rattle.std.proofs.Common.{IfOk, IfErr}
+use Rattle.std.proofs.Common.{sum_by}
+use Rattle.steps.specs.declared.indices.enums.ReleaseMode.TheVariants as modes
+use Rattle.steps.specs.declared.indices.enums.UniqueIndexSetAcquireFailure.TheVariants.{OutOfIndices, IsLocked as WasLocked}
+use Rattle.model.specs.declared.families.indices.IndexStart.{IndexStart}
+use Rattle.model.specs.declared.families.indices.IndexStart.TheVariants.{Acquire, Release, BorrowedIndices, IsLocked}
+use Rattle.model.specs.declared.turn.Kind.TheVariants as kinds
+use Rattle.model.specs.Families.Indices.Reading.{is_locked, locked_after, Tally, tally_after, tally_of}
+use Rattle.lock_free_sets.specs.Unique.Held.{HeldBy, HoldsNothing, HoldsAll, HoldsSome, IsSound, IsDone}
+use Rattle.lock_free_sets.specs.Unique.Contracts.{HasTaken, HasGiven, HasGivenOrLocked, HasCounted, HasLooked, Answered, HasAcquired, WasRefused}
+use Rattle.lock_free_sets.proofs.Whole.Alone.{still_done}
+use Rattle.history.proofs.Locks.{lock_stays, not_locked}
+use Rattle.lock_free_sets.proofs.Unique.Facts.{taken, taken_answered, free, holds, open_still}
+use Rattle.lock_free_sets.proofs.Unique.Facts.{given_or_locked, locked_answered, counted, counted_answered, looked_answered}
+use Rattle.lock_free_sets.proofs.Unique.Facts.{sound}
+use Rattle.lock_free_sets.proofs.Unique.Machine.{tally_is, few, none_left, own_few}
+
+-- ---- a call that was begun has ended
+
+module _ (base w : View ℕ) where
+  pub taken_done : (answer : Acquired) → HasTaken answer base w → IsDone base.made → IsDone w.made
+  taken_done (Ok i) h = still_done h.by _ _ _ base w h.called (tt, tt)
+  taken_done (Err e) h = still_done h.by _ _ _ base w h.called tt
+
+  pub given_done : (index : ℕ) (state : ReleaseState) → HasGiven index state base w → IsDone base.made → IsDone w.made
+  given_done index state h = still_done h.by _ _ _ base w h.called (tt, tt)
+
+  pub locked_done : (index : ℕ) (state : ReleaseState) → HasGivenOrLocked index state base w → IsDone base.made → IsDone w.made
+  locked_done index Unlocked h = still_done h.by _ _ _ base w h.called (tt, tt)
+  locked_done index Locked h = still_done h.by _ _ _ base w h.called (tt, (tt, tt))
+
+  pub counted_done : (n : ℕ) → HasCounted n base w → IsDone base.made → IsDone w.made
+  counted_done n h = still_done h.by _ _ _ base w h.called tt
+
+  pub looked_done : (b : Bool) → HasLooked b base w → IsDone base.made → IsDone w.made
+  looked_done b h = still_done h.by _ _ _ base w h.called tt
+
+-- ---- what an answer says of what is held
+
+last_of : {start : IndexStart} {answer : Answer ℕ} {old new : View ℕ} → (a : Answered start answer old new) → IsBeginning a.before new.seen
+last_of {start} {answer} {old} {new} a = record { rest = Finished a.by (Indices start) answer ∷ []; is = a.is }
+
+module _ (base w : View ℕ) (m : Unit {0}) (idle : base.going ≡ None) where
+  pub acquired : (i : ℕ) → Ends one_word kinds.Indices takes_index base (Ok i) m w → IsSound base → HasAcquired i base w
+  acquired i ends was = record { taken = taken base w m idle (Ok i) ends; free = free base w m idle i ends; holds = holds base w m idle i ends was }
+
+  -- who finds none left, with the whole share, holds as many as there are
+  none_is_left : Ends one_word kinds.Indices takes_index base (Err OutOfIndices) m w → IsDone base.made → HoldsAll base.capacity w
+  none_is_left ends done whole is held =
+      let a = taken_answered base w m idle (Err OutOfIndices) ends in
+      let h = ends.history in
+      let all = ends.all (subst IsAll ends.share whole) in
+      let now = taken_done base w (Err OutOfIndices) (taken base w m idle (Err OutOfIndices) ends) done in
+      let tally =
+      sym (ap tally_of a.is ∙ fold-append tally_after _ a.before (Finished a.by (Indices Acquire) (NoIndex OutOfIndices) ∷ []))
+      ∙ tally_is base.capacity w.seen h w.made all now is held in
+      let x = ap (λ (t : Tally). t.held) tally in
+      let y = ap (λ (t : Tally). t.taking) tally in
+      let z = ap (λ (t : Tally). t.giving) tally in
+      let right = a.right in
+      let size = ends.capacity in
+      let most = few base.capacity w.seen h w.made all now is held in
+      omega arith
+
+  -- who finds the lock holds none
+  none_is_held : Ends one_word kinds.Indices takes_index base (Err WasLocked) m w → HoldsNothing w.made
+  none_is_held ends =
+      let a = taken_answered base w m idle (Err WasLocked) ends in
+      (sound base.capacity w ends.capacity ends.history ends.parties).lock (lock_stays (last_of a) a.right)
+
+  pub refused : (e : UniqueIndexSetAcquireFailure) → Ends one_word kinds.Indices takes_index base (Err e) m w → IsDone base.made → WasRefused e base w
+  refused OutOfIndices ends done =
+      let t = taken base w m idle (Err OutOfIndices) ends in
+      record {
+        taken = t;
+        answered = taken_answered base w m idle (Err OutOfIndices) ends;
+        unlocked = λ same. open_still base w ends.capacity ends.history t.by [] t.called;
+        whole = λ same. none_is_left ends done;
+        nothing = λ same. absurd (cc);
+      }
+  refused WasLocked ends done =
+      record {
+        taken = taken base w m idle (Err WasLocked) ends;
+        answered = taken_answered base w m idle (Err WasLocked) ends;
+        unlocked = λ same. absurd (cc);
+        whole = λ same. absurd (cc);
+        nothing = λ same. none_is_held ends;
+      }
+
+  pub acquired_if : (answer : Acquired) → Ends one_word kinds.Indices takes_index base answer m w → IsSound base → IfOk answer (λ i. HasAcquired i base w)
+  acquired_if (Ok i) ends was = acquired i ends was
+  acquired_if (Err e) ends was = tt
+
+  pub refused_if : (answer : Acquired) → Ends one_word kinds.Indices takes_index base answer m w → IsDone base.made → IfErr answer (λ e. WasRefused e base w)
+  refused_if (Ok i) ends done = tt
+  refused_if (Err e) ends done = refused e ends done
+
+  pub within_if : (answer : Acquired) → Ends one_word kinds.Indices takes_index base answer m w → (capacity : ℕ)
+      → base.capacity ≡ capacity → IfOk answer (λ i. i < capacity)
+  within_if (Ok i) ends capacity size = subst (λ n. i < n) (ends.capacity ∙ size) (free base w m idle i ends).within
+  within_if (Err e) ends capacity size = tt
+
+  -- who locks the set holds none
+  pub locked_nothing : (index : ℕ) (state : ReleaseState)
+      → Ends one_word kinds.Indices (gives_or_locks index) base state m w → state ≡ Locked → HoldsNothing w.made
+  locked_nothing index Locked ends =
+      λ same. (let a = locked_answered base w m idle index Locked ends in
+      (sound base.capacity w ends.capacity ends.history ends.parties).lock (lock_stays (last_of a) a.right))
+  locked_nothing index Unlocked ends = λ same. absurd (cc)
+
+  -- who does not lock, with the whole share, holds some index
+  pub locked_whole : (index : ℕ) (state : ReleaseState)
+      → Ends one_word kinds.Indices (gives_or_locks index) base state m w → IsDone base.made → state ≡ Unlocked
+      → HoldsSome w
+  locked_whole index Locked ends done = λ same. absurd (cc)
+  locked_whole index Unlocked ends done = λ same whole held. (
+      let a = locked_answered base w m idle index Unlocked ends in
+      let h = ends.history in
+      let all = ends.all (subst IsAll ends.share whole) in
+      let now = locked_done base w index Unlocked (given_or_locked base w m idle index Unlocked ends) done in
+      let tally =
+      sym (ap tally_of a.is
+      ∙ fold-append tally_after _ a.before (Finished a.by (Indices (Release index modes.LockIfLastIndex)) (State Unlocked) ∷ []))
+      ∙ tally_is base.capacity w.seen h w.made all now [] held in
+      let x = ap (λ (t : Tally). t.held) tally in
+      let y = ap (λ (t : Tally). t.taking) tally in
+      let z = ap (λ (t : Tally). t.giving) tally in
+      let right = a.right in
+      absurd (omega arith))
+
+  module _ (n : ℕ) (ends : Ends one_word kinds.Indices counts_out base n m w) where
+    abbrev a : Answered BorrowedIndices (Number n) base w
+    a = counted_answered base w m idle n ends
+
+    same_tally : tally_of w.seen ≡ tally_of a.before
+    same_tally = grind (arith, tally_of, fold-append, tally_after)
+
+    same_lock : is_locked w.seen ≡ is_locked a.before
+    same_lock = grind (arith, is_locked, fold-append, locked_after)
+
+    -- no less than a pass holds are counted
+    pub counted_least : (is : List ℕ) → HeldBy is w.made → length is ≤ n
+    counted_least is held = go (is_locked a.before) refl
+      where
+        own : (length is ≤ (tally_of w.seen).held) × (is_locked w.seen ≡ true → length is ≡ 0)
+        own = own_few base.capacity w ends.history ends.parties is held
+
+        go : (b : Bool) → is_locked a.before ≡ b → length is ≤ n
+        go true t = let none = own.1 (same_lock ∙ t) in omega arith
+        go false t =
+            let less = own.0 in
+            let low = (a.right.1 t).0 in
+            let same = ap (λ (t : Tally). t.held) same_tally in
+            omega arith
+
+    -- with the whole share it is what the pass holds
+    pub counted_whole : IsDone base.made → HoldsAll n w
+    counted_whole done whole is held = go (is_locked a.before) refl
+      where
+        all : (f : Event ℕ → ℕ) → sum_by f w.seen ≡ sum_by f w.made
+        all = ends.all (subst IsAll ends.share whole)
+
+        now : IsDone w.made
+        now = counted_done base w n (counted base w m idle n ends) done
+
+        go : (b : Bool) → is_locked a.before ≡ b → length is ≡ n
+        go true t =
+            let none = none_left base.capacity w.seen ends.history w.made all now is held (same_lock ∙ t) in
+            let zero_is = a.right.0 t in
+            omega arith
+        go false t =
+            let tally = sym same_tally ∙ tally_is base.capacity w.seen ends.history w.made all now is held in
+            let x = ap (λ (t : Tally). t.held) tally in
+            let y = ap (λ (t : Tally). t.taking) tally in
+            let z = ap (λ (t : Tally). t.giving) tally in
+            let low = (a.right.1 t).0 in
+            let high = (a.right.1 t).1 in
+            omega arith
+
+  module _ (b : Bool) (ends : Ends one_word kinds.Indices looks_locked base b m w) where
+    abbrev l : Answered IsLocked (Truth b) base w
+    l = looked_answered base w m idle b ends
+
+    -- who sees the lock holds none
+    pub looked_nothing : b ≡ true → HoldsNothing w.made
+    looked_nothing t = (sound base.capacity w ends.capacity ends.history ends.parties).lock (lock_stays (last_of l) (sym l.right ∙ t))
+
+    -- and who does not had not seen it
+    pub looked_unlocked : b ≡ false → is_locked base.seen ≡ false
+    looked_unlocked t = not_locked l.since (sym l.right ∙ t)

@@ -1,0 +1,9 @@
+use Rattle.lock_free_sets.proofs.Unique.Pools.{holds_apart, none_out}
+use Rattle.lock_free_sets.proofs.laws.pools.holders_are_apart.Goals as goal
+
+pub returns-clause-apart : goal.returns-clause-apart
+returns-clause-apart c start now is h sound = holds_apart {start = start} {now = now} is h sound
+
+pub returns-clause-none : goal.returns-clause-none
+returns-clause-none c first was given now is n all taken gave goes counted whole =
+    none_out first was {given = given} {now = now} {n = n} is all taken gave goes counted whole

@@ -1,0 +1,13 @@
+use Rattle.lock_free_sets.proofs.Names.{◌≡◌, ◌-◌, seen}
+use Rattle.threaded.specs.Seats.{IsSame}
+use Rattle.lock_free_sets.proofs.Bits.Cleared.{SoFar}
+use Rattle.lock_free_sets.proofs.mpmc.bit_set.calls.clear_all.Given as given
+
+abbrev pub invariant-loop-next : given.invariant-loop-next
+invariant-loop-next g l =
+    IsSame l.fn.seated l.seated
+    × ((seen l.seated).capacity ≡ (seen l.fn.seated).capacity)
+    × SoFar (λ p x q. given.F-step g p x tt q) l.fn.capacity l.fn.visit (seen l.fn.seated) (seen l.seated) l.call l.room l.visit
+
+abbrev pub decreases-loop-next : given.decreases-loop-next
+decreases-loop-next g l = l.call.end - l.call.word

@@ -1,0 +1,71 @@
+use Rattle.lock_free_sets.proofs.Names.{refl, sym, subst, ◌∙◌, fresh, seen}
+use Rattle.lock_free_sets.specs.Sets.Kinds.{Counts}
+use Rattle.lock_free_sets.proofs.Sets.Emptying.{keeps}
+use Rattle.lock_free_sets.proofs.Counts.Taken.{SoFar, first_so_far, within, so_far_on, taken_all, taken_steps}
+use Rattle.lock_free_sets.proofs.mpmc.counting_bit_set.calls.take_all.Goals as goal
+use Rattle.lock_free_sets.proofs.mpmc.counting_bit_set.calls.take_all.Given as given
+
+pub step-after-requires-clause-rule : goal.step-after-requires-clause-rule
+step-after-requires-clause-rule g c = keeps Counts
+
+pub step-after-requires-clause-at : goal.step-after-requires-clause-at
+step-after-requires-clause-at g c = (seen c.args.seated.now, c.loop-next.invariant.2.call.at)
+
+pub call_where-requires : goal.call_where-requires
+call_where-requires g c some small =
+    let h = c.loop-next.invariant.2 in
+    c.requires.states.at h.handed.states c.loop-next.visit
+    (record { bit = c.loop-next.call.word; count = c.step-after.new.room.0 }) h.handed.folds h.handed.ascend h.handed.below
+    (within (λ p x q. given.F-step g p x tt q) c.args.capacity c.args.visit.now (seen c.args.seated.now)
+    (seen c.loop-next.seated) (seen c.step-after.new.self) c.loop-next.call c.loop-next.room c.step-after.new.room
+    c.step-after.ensures.taken.0 c.loop-next.visit c.loop-next.invariant.2 c.step-after.ensures.taken.2
+    c.step-after.result (sym c.step-after.ensures.taken.1) c.step-after.ensures.told)
+    some small
+
+pub loop-next-preserved : goal.loop-next-preserved
+loop-next-preserved g c = (
+  (
+    c.step-after.ensures.same.0 ∙ c.loop-next.invariant.0.0,
+    c.step-after.ensures.same.1 ∙ c.loop-next.invariant.0.1,
+    c.step-after.ensures.same.2 ∙ c.loop-next.invariant.0.2,
+  ),
+  c.step-after.ensures.capacity ∙ c.loop-next.invariant.1,
+  so_far_on (λ p x q. given.F-step g p x tt q) c.args.capacity c.args.visit.now (seen c.args.seated.now)
+      (seen c.loop-next.seated) (seen c.step-after.new.self) c.loop-next.call c.loop-next.room c.step-after.new.room
+      c.step-after.ensures.taken.0 c.loop-next.visit c.loop-next.invariant.2 c.step-after.ensures.taken.2
+      c.step-after.result (sym c.step-after.ensures.taken.1) c.step-after.ensures.told
+      c.call_where.ensures.small c.call_where.new.visit c.call_where.ensures.called c.call_where.ensures.passed c.in-GoOn.next c.in-GoOn.is,
+)
+
+pub loop-next-init : goal.loop-next-init
+loop-next-init g c =
+    let start = first_so_far (λ p x q. given.F-step g p x tt q) c.args.capacity c.args.visit.now (seen c.args.seated.now) c.requires.idle c.requires.places in (
+      (refl, refl, refl),
+      refl,
+      subst (λ call. SoFar (λ p x q. given.F-step g p x tt q) c.args.capacity c.args.visit.now (seen c.args.seated.now)
+          (seen c.args.seated.now) call fresh c.args.visit.now)
+          (sym c.counts-call.ensures) start,
+    )
+
+pub returns-in-Done-clause-done : goal.returns-in-Done-clause-done
+returns-in-Done-clause-done g c =
+    (taken_all (λ p x q. given.F-step g p x tt q) c.args.capacity c.args.visit.now (seen c.args.seated.now)
+    (seen c.loop-next.seated) (seen c.step-after.new.self) c.loop-next.call c.loop-next.room c.step-after.new.room
+    c.step-after.ensures.taken.0 c.loop-next.visit c.loop-next.invariant.2 c.step-after.ensures.taken.2
+    c.step-after.result (sym c.step-after.ensures.taken.1) c.step-after.ensures.told
+    c.call_where.ensures.small c.call_where.new.visit c.call_where.ensures.called c.call_where.ensures.passed c.in-Done.is).1
+
+pub returns-in-Done-clause-taken : goal.returns-in-Done-clause-taken
+returns-in-Done-clause-taken g c =
+    (taken_all (λ p x q. given.F-step g p x tt q) c.args.capacity c.args.visit.now (seen c.args.seated.now)
+    (seen c.loop-next.seated) (seen c.step-after.new.self) c.loop-next.call c.loop-next.room c.step-after.new.room
+    c.step-after.ensures.taken.0 c.loop-next.visit c.loop-next.invariant.2 c.step-after.ensures.taken.2
+    c.step-after.result (sym c.step-after.ensures.taken.1) c.step-after.ensures.told
+    c.call_where.ensures.small c.call_where.new.visit c.call_where.ensures.called c.call_where.ensures.passed c.in-Done.is).0
+
+pub returns-in-Done-clause-steps : goal.returns-in-Done-clause-steps
+returns-in-Done-clause-steps g c =
+    taken_steps (λ p x q. given.F-step g p x tt q) c.args.capacity c.args.visit.now (seen c.args.seated.now)
+    (seen c.loop-next.seated) (seen c.step-after.new.self) c.loop-next.call c.loop-next.room c.step-after.new.room
+    c.step-after.ensures.taken.0 c.loop-next.visit c.loop-next.invariant.2
+    c.step-after.ensures.taken.2 c.step-after.result (sym c.step-after.ensures.taken.1) c.step-after.ensures.told c.in-Done.is

@@ -1,0 +1,5 @@
+use Rattle.history.proofs.KnownRuns.{known_history}
+use Rattle.lock_free_sets.proofs.mpmc.unique_index_set.Pass.history.Goals as goal
+
+pub returns-clause-history : goal.returns-clause-history
+returns-clause-history c = known_history c.args.self.now.knows

@@ -1,0 +1,89 @@
+use Rattle.lock_free_sets.proofs.Names.{◌≡◌, ◌<◌, ℕ, ◌++◌, rules, sym, ap, subst, ◌∙◌, arith, TableId, one_word, View, seen}
+use Rattle.lock_free_sets.proofs.Names.{joined_view, Looks, IsAll, joins}
+use Rattle.model.specs.declared.turn.Kind.TheVariants as kinds
+use Rattle.history.specs.History.{Knows}
+use Rattle.threaded.specs.Seats.{table_of, key_of}
+use Rattle.threaded.proofs.Shares.{positive}
+use Rattle.lock_free_sets.specs.Unique.Held.{IsDone}
+use Rattle.lock_free_sets.proofs.Looks.{look_owed}
+use Rattle.lock_free_sets.proofs.Unique.Facts.{apart, sound}
+use Rattle.lock_free_sets.proofs.Whole.Alone.{joined_done}
+use Rattle.lock_free_sets.proofs.mpmc.unique_index_set.Pass.join.Goals as goal
+
+pub join-requires-clause-joins : goal.join-requires-clause-joins
+join-requires-clause-joins c =
+    let mine = c.args.self.now in
+    joins one_word kinds.Indices _ mine.seated.seat.id c.args.other.seated.seat.id mine.seated.seat.me.0
+    c.args.other.seated.seat.me.0 mine.some.0 c.args.other.some.0 c.args.other.idle mine.alone c.args.other.alone
+
+pub look-requires-clause-owes : goal.look-requires-clause-owes
+look-requires-clause-owes c =
+    let mine = c.args.self.now in
+    let s = c.join.new.self in
+    let v = mine.seated.seat.me.0 in
+    let w = c.args.other.seated.seat.me.0 in
+    let same : (table_of s).words ≡ (table_of mine.seated).words = ap (λ (t : TableId). t.words) c.join.ensures.same.0 in
+    let below : 0 < (table_of s).words = (let wide = mine.sized in omega arith) in
+    let key : key_of s ≡ key_of mine.seated = search rules in
+    let more = positive v.share.part w.share.parts mine.some.0 c.args.other.some.1 in
+    let some : 0 < (joined_view v w).share.part = omega arith in
+    look_owed kinds.Indices (table_of s).words (table_of s).slots s.seat.id 0 (key_of s) (joined_view v w) (seen s) s.seat.me.1
+    below c.join.ensures.joined s.bare (mine.known ∙ (sym mine.keyed ∙ sym key)) mine.idle some
+
+pub invariant_of-self-clause-sound : goal.invariant_of-self-clause-sound
+invariant_of-self-clause-sound c = sound _ c.look.new.self.seat.me.0 c.look.ensures.told.0.capacity c.look.ensures.told.0.history c.look.ensures.told.0.parties
+
+pub returns-clause-apart : goal.returns-clause-apart
+returns-clause-apart c i mine theirs =
+    let v = c.args.self.now.seated.seat.me.0 in
+    let other = c.args.other.seated.seat.me.0 in
+    let w = c.look.new.self.seat.me.0 in
+    let is : c.join.new.self.seat.me.0 ≡ joined_view v other = c.join.ensures.joined in
+    let looks : Looks one_word kinds.Indices (joined_view v other).capacity (joined_view v other) w =
+    subst (λ (z : View ℕ). Looks one_word kinds.Indices z.capacity z w) is c.look.ensures.told.0 in
+    apart v other w i looks mine theirs
+
+pub returns-clause-same : goal.returns-clause-same
+returns-clause-same c =
+    let mine = c.args.self.now in
+    let v = mine.seated.seat.me.0 in
+    let other = c.args.other.seated.seat.me.0 in
+    let w = c.look.new.self.seat.me.0 in
+    let is : c.join.new.self.seat.me.0 ≡ joined_view v other = c.join.ensures.joined in
+    let looks : Looks one_word kinds.Indices (joined_view v other).capacity (joined_view v other) w =
+    subst (λ (z : View ℕ). Looks one_word kinds.Indices z.capacity z w) is c.look.ensures.told.0 in
+    record {
+      set = search rules;
+      joined = record {
+        made = looks.made;
+        party = looks.party;
+        share = looks.share;
+        ours = looks.mine;
+        others = looks.theirs;
+        ours_ran = looks.ran.first;
+        theirs_ran = looks.theirs_ran;
+        aside = (let all = looks.aside in omega arith);
+        whole = λ all. looks.whole (subst IsAll looks.share all);
+      };
+      sound = sound _ w looks.capacity looks.history looks.parties;
+      all = λ whole. looks.all (subst IsAll looks.share whole);
+    }
+
+pub invariant_of-self-clause-done : goal.invariant_of-self-clause-done
+invariant_of-self-clause-done c =
+    let v = c.args.self.now.seated.seat.me.0 in
+    let other = c.args.other.seated.seat.me.0 in
+    let is : c.join.new.self.seat.me.0 ≡ joined_view v other = c.join.ensures.joined in
+    let made : c.look.new.self.seat.me.0.made ≡ v.made ++ other.made = c.look.ensures.told.0.made ∙ ap (λ (z : View ℕ). z.made) is in
+    subst IsDone (sym made) (joined_done v.made other.made c.args.self.now.done c.args.other.done)
+
+pub invariant_of-self-clause-knows : goal.invariant_of-self-clause-knows
+invariant_of-self-clause-knows c =
+    let mine = c.args.self.now in
+    let v = mine.seated.seat.me.0 in
+    let other = c.args.other.seated.seat.me.0 in
+    let w = c.look.new.self.seat.me.0 in
+    let is : c.join.new.self.seat.me.0 ≡ joined_view v other = c.join.ensures.joined in
+    let looks : Looks one_word kinds.Indices (joined_view v other).capacity (joined_view v other) w =
+    subst (λ (z : View ℕ). Looks one_word kinds.Indices z.capacity z w) is c.look.ensures.told.0 in
+    subst (λ n. Knows one_word kinds.Indices n w) mine.known looks.ran.knows

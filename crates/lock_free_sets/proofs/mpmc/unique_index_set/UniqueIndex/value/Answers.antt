@@ -1,0 +1,7 @@
+use Rattle.lock_free_sets.proofs.Names.{◌<◌, subst}
+use Rattle.lock_free_sets.proofs.mpmc.unique_index_set.UniqueIndex.value.Goals as goal
+
+pub returns-clause-below : goal.returns-clause-below
+returns-clause-below c =
+    let index = c.args.self.now in
+    subst (λ n. index.index < n) index.pass.known (index.pass.sound.within index.index index.held)

@@ -1,0 +1,49 @@
+use Rattle.lock_free_sets.proofs.Names.{◌≡◌, ℕ, zero, suc, ◌+◌, ◌-◌, [], ◌∷◌, ◌++◌, length, take, sym, ap, ◌∙◌, append_assoc}
+use Rattle.lock_free_sets.proofs.Names.{arith, range_with_len}
+use Rattle.std.proofs.Common.{◌/◌}
+use Rattle.std.proofs.lemmas.List.{take_all}
+use Rattle.std.proofs.lemmas.List.FromFn.{length-range_with_len}
+use Rattle.std.specs.Prelude.{vec_len, replicate}
+use Rattle.history.proofs.Passes.{one_more}
+use Rattle.lock_free_sets.proofs.Unique.Opens.{indices_open}
+use Rattle.lock_free_sets.proofs.mpmc.unique_index_set.UniqueIndexSet.of.Goals as goal
+
+-- one number more
+longer : (n a : ℕ) → range_with_len a (suc n) ≡ range_with_len a n ++ (a + n) ∷ []
+longer zero a = let e : a ≡ a + 0 = omega arith in ap (λ x. x ∷ []) e
+longer (suc n) a =
+    let e : a + 1 + n ≡ a + suc n = omega arith in
+    ap (λ l. a ∷ l) (longer n (a + 1) ∙ ap (λ x. range_with_len (a + 1) n ++ x ∷ []) e)
+
+pub loop-index-preserved : goal.loop-index-preserved
+loop-index-preserved c =
+    let len = c.loop-index.invariant.1 in
+    let room = c.loop-index.invariant.2 in
+    let next : c.loop-index.index + 1 ≡ 1 + c.loop-index.index = omega arith in
+    let here =
+    c.push_reserved-in-loop-index.ensures.items
+    ∙ (ap (λ ws. ws ++ (c.loop-index.index + 1) ∷ []) c.loop-index.invariant.0
+    ∙ ap (λ n. (0 ∷ range_with_len 1 c.loop-index.index) ++ n ∷ []) next) in
+    let suc_is : suc c.loop-index.index ≡ c.loop-index.index + 1 = omega arith in
+    let grown : range_with_len 1 (c.loop-index.index + 1) ≡ range_with_len 1 c.loop-index.index ++ (1 + c.loop-index.index) ∷ [] =
+    ap (range_with_len 1) (sym suc_is) ∙ longer c.loop-index.index 1 in
+    (here ∙ ap (λ ws. 0 ∷ ws) (sym grown), omega arith, omega arith)
+
+pub open-requires : goal.open-requires
+open-requires c =
+    let end : c.loop-index.index ≡ c.args.capacity = omega arith in
+    let len = c.loop-index.invariant.1 in
+    let flags = (c.args.capacity + 63) / 64 in
+    let size = 1 + c.args.capacity + flags + 1 in
+    let here : c.loop-index.words.items ≡ 0 ∷ range_with_len 1 c.args.capacity = c.loop-index.invariant.0 ∙ ap (λ n. 0 ∷ range_with_len 1 n) end in
+    let long : length (0 ∷ range_with_len 1 c.args.capacity) ≡ suc c.args.capacity = ap suc (length-range_with_len 1 c.args.capacity) in
+    let left : size - vec_len c.loop-index.words ≡ flags + 1 = omega arith in
+    let first = 0 ∷ range_with_len 1 c.args.capacity in
+    let items =
+    c.in_ok-resize.ensures.items
+    ∙ (ap (λ ws. take size ws ++ replicate (size - vec_len c.loop-index.words) 0) here
+    ∙ (ap (λ ws. ws ++ replicate (size - vec_len c.loop-index.words) 0) (take_all size first (omega arith))
+    ∙ (ap (λ n. first ++ replicate n 0) left
+    ∙ (ap (λ zs. first ++ zs) (one_more flags) ∙ sym (append_assoc first (replicate flags 0) (0 ∷ []))))))
+    in
+    indices_open c.args.capacity c.requires.some c.requires.few c.as_slice.result.now (c.as_slice.ensures.value ∙ items)

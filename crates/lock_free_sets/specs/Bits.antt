@@ -1,0 +1,6 @@
+-- The words of the contracts of bit sets.
+pub mod Callable
+pub mod Stages
+pub mod Contracts
+pub use Rattle.lock_free_sets.specs.Sets.Calls
+pub use Rattle.lock_free_sets.specs.Sets.Handles

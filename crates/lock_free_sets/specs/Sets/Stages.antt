@@ -1,0 +1,90 @@
+-- The call that empties a set as a call of the model, a word at each step: where it stands, and what it has written there.
+use Rattle.std.specs.Prelude.{◌≡◌, ℕ, ◌+◌, ◌<◌, ◌≤◌, Option, Some, None, IfSome, List, [], false}
+use Rattle.steps.specs.Bits.ResetAll.{all_bits, all_counts}
+use Rattle.steps.specs.declared.bits.reset_all.ResetAll.{ResetAll as Emptying}
+use Rattle.steps.specs.declared.copied.OneWord.{OneWord}
+use Rattle.model.specs.declared.event.Answer.TheVariants.{Done}
+use Rattle.model.specs.declared.event.Event.{Event}
+use Rattle.model.specs.declared.event.Start.{Start}
+use Rattle.model.specs.declared.event.Start.TheVariants.{Bits}
+use Rattle.model.specs.declared.families.Flight.{Flight}
+use Rattle.model.specs.declared.families.Flight.TheVariants as flights
+use Rattle.model.specs.declared.families.bits.BitsStart.TheVariants.{ResetAll}
+use Rattle.model.specs.declared.families.bits.calls.BitsFlight.{BitsFlight}
+use Rattle.model.specs.declared.families.bits.calls.BitsFlight.TheVariants as calls
+use Rattle.model.specs.Families.Bits.Steps.{clear_events, take_events}
+use Rattle.history.specs.Stages.{Calling}
+use Rattle.lock_free_sets.specs.Sets.Kinds.{SetKind, Flags, Counts, first_word, words_of}
+
+-- the call as it begins
+abbrev pub all_words : SetKind → ℕ → Emptying
+all_words Flags capacity = all_bits capacity
+all_words Counts capacity = all_counts capacity
+
+-- the word to which the call had come
+abbrev pub set_word : BitsFlight → ℕ
+set_word (calls.ResetAll run) = run.call.word
+set_word (calls.TakeAll run) = run.call.word
+set_word flight = 0
+
+module _ {T : Type 0} where
+  abbrev pub flight_word : Flight T → ℕ
+  flight_word (flights.Bits flight) = set_word flight
+  flight_word flight = 0
+
+  abbrev pub word_of : ℕ → Option (Start T × Flight T) → ℕ
+  word_of first None = first
+  word_of first (Some at) = flight_word at.1
+
+  -- the call on its way
+  abbrev pub flight_at : SetKind → Emptying → OneWord → Flight T
+  flight_at Flags c m =
+      flights.Bits
+      (calls.ResetAll (record { call = c; given = tt; room = m }))
+  flight_at Counts c m =
+      flights.Bits
+      (calls.TakeAll (record { call = c; given = tt; room = m }))
+
+  -- what emptying a word that held this writes
+  abbrev pub emptied : SetKind → ℕ → ℕ → ℕ → List (Event T)
+  emptied Flags p word old = clear_events p word old
+  emptied Counts p word old = take_events p word old
+
+  -- what it wrote since it stood at the word `from`: nothing where it stands there, and what
+  -- stood in that word, which lies in the room, where it has come to the next
+  abbrev pub HasEmptied : SetKind → ℕ → ℕ → ℕ → OneWord → List (Event T) → Type 0
+  HasEmptied kind p from word m es =
+      (from ≤ word) × (word ≡ from → es ≡ []) × (word ≡ from + 1 → es ≡ emptied kind p from m.0)
+
+  abbrev pub empties : SetKind → Calling T Emptying OneWord (Unit {0})
+  empties kind =
+      record {
+        start = Bits ResetAll;
+        by = λ was p. IfSome was (λ q. q ≡ p);
+        stands = λ capacity c.
+            (c.end ≡ words_of kind capacity) × (first_word kind ≤ c.word) × (c.word < c.end);
+        flight = flight_at kind;
+        answer = λ e m. Done;
+        skips = λ c n. false;
+        left = λ e. ⊥;
+        wrote = λ capacity p from c m es.
+            HasEmptied kind p (word_of (first_word kind) from) c.word m es;
+        wrote_all = λ capacity p from e m es.
+            word_of (first_word kind) from + 1 ≡ words_of kind capacity
+            → es ≡ emptied kind p (word_of (first_word kind) from) m.0;
+      }
+
+  -- where there is no word to empty, it is done at once
+  abbrev pub empties_none : SetKind → Calling T Emptying OneWord (Unit {0})
+  empties_none kind =
+      record {
+        start = Bits ResetAll;
+        by = λ was p. IfSome was (λ q. q ≡ p);
+        stands = λ capacity c. Unit {0};
+        flight = flight_at kind;
+        answer = λ e m. Done;
+        skips = λ c n. false;
+        left = λ e. ⊥;
+        wrote = λ capacity p from c m es. es ≡ [];
+        wrote_all = λ capacity p from e m es. es ≡ [];
+      }

@@ -1,0 +1,17 @@
+-- A handle of a unique index set: the set, and the pass that its calls are made with.
+use Rattle.std.specs.Prelude.{ℕ}
+use Rattle.history.specs.declared.view.View.{View}
+use Rattle.lock_free_sets.specs.declared.mpmc.unique_index_set.UniqueIndexSet.{UniqueIndexSet}
+use Rattle.lock_free_sets.specs.declared.mpmc.unique_index_set.Pass.{Pass}
+use Rattle.lock_free_sets.specs.declared.mpmc.unique_index_set.handles.Handle.{Handle}
+use Rattle.lock_free_sets.specs.UniqueIndexSet.{view}
+
+abbrev pub set_in : Handle → UniqueIndexSet
+set_in h = h.set.now
+
+abbrev pub pass_in : Handle → Pass
+pass_in h = h.pass
+
+-- all that its pass knows
+abbrev pub knows : Handle → View ℕ
+knows h = view h.pass

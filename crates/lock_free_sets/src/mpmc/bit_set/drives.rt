@@ -1,0 +1,36 @@
+//! What the calls on bit sets say of the views at their steps. These types are for the proofs alone.
+ghost use Rattle.model.specs.Coding.{one_word};
+ghost use Rattle.model.specs.declared.turn.Kind.TheVariants as kinds;
+
+use history::view::View;
+use steps::bits::bit_set::{ResetNext, ResetNextStage, Set};
+use threaded::driver::rule::Drives;
+
+/// Setting a place.
+pub struct SetsPlace;
+
+impl Drives<View<u64>, Set> for SetsPlace {
+    ghost use Rattle.history.specs.Stages.{At, Ends};
+    ghost use Rattle.lock_free_sets.specs.Bits.Stages.{sets_place};
+
+    ghost at = { λ place. At one_word kinds.Bits (sets_place place) };
+
+    ghost ends = { λ place. Ends one_word kinds.Bits (sets_place place) };
+}
+
+/// Resetting the next place.
+pub struct ResetsNext;
+
+impl Drives<View<u64>, ResetNext> for ResetsNext {
+    ghost use Rattle.history.specs.Stages.{At, Ends};
+    ghost use Rattle.lock_free_sets.specs.Bits.Stages.{resets_next};
+
+    ghost at = { λ given. At one_word kinds.Bits resets_next };
+
+    ghost ends = { λ given. Ends one_word kinds.Bits resets_next };
+
+    #[inline(always)]
+    fn repeats(call: ResetNext) -> bool {
+        matches!(call.stage, ResetNextStage::LoadsElement { .. })
+    }
+}

@@ -1,0 +1,55 @@
+//! The calls by a handle: those of its set.
+ghost use Rattle.std.specs.Prelude.{◌≡◌, ◌+◌, ◌<◌, None, IfSome, IsFalse};
+ghost use Rattle.lock_free_sets.specs.Sets.Calls.{capacity_of, SamePass};
+ghost use Rattle.lock_free_sets.specs.Bits.Callable.{TakesPlaces};
+ghost use Rattle.lock_free_sets.specs.Bits.Contracts.{HasSet, StoodOnce, HasReset, CameFromPosition, AllClearOnce};
+ghost use Rattle.lock_free_sets.specs.Bits.Contracts.{HasCleanedOut, MissedNoPlace};
+ghost use Rattle.lock_free_sets.specs.Sets.Handles.{set_in, pass_in, knows};
+ghost use Rattle.steps.specs.Bits.Words.{elements};
+ghost use Rattle.history.specs.Steps.{TakesAtMost, TakesAlone};
+
+use super::Handle;
+use std::sync::Wait;
+
+impl<'a> Handle<'a> {
+    /// Calls `BitSet::set`, with its pass.
+    pub fn set(&mut self, rt: &impl Wait, id: usize) -> bool
+        requires { id < capacity_of (set_in self.old) }
+        ensures set { set_in self.new ≡ set_in self.old }
+        ensures same { SamePass (pass_in self.old) (pass_in self.new) }
+        ensures added { HasSet id result (knows self.old) (knows self.new) }
+        ensures stood { IsFalse result → StoodOnce id (knows self.new) }
+        ensures steps { TakesAlone 2 1 (knows self.old) (knows self.new) }
+    {
+        self.set.set(rt, id, &mut self.pass)
+    }
+
+    /// Calls `BitSet::reset_next`, with its pass.
+    pub fn reset_next(&mut self, rt: &impl Wait) -> Option<usize>
+        ensures set { set_in self.new ≡ set_in self.old }
+        ensures same { SamePass (pass_in self.old) (pass_in self.new) }
+        ensures place { IfSome result (λ place. place < capacity_of (set_in self.old)) }
+        ensures cleared { HasReset result (knows self.old) (knows self.new) }
+        ensures came { IfSome result
+            (λ place. CameFromPosition (capacity_of (set_in self.old)) place (knows self.new)) }
+        ensures clear { result ≡ None → AllClearOnce (capacity_of (set_in self.old)) (knows self.new) }
+        ensures steps { TakesAlone (3 + capacity_of (set_in self.old)) 1 (knows self.old) (knows self.new) }
+    {
+        self.set.reset_next(rt, &mut self.pass)
+    }
+
+    /// Calls `BitSet::reset_all`, with its pass.
+    pub fn reset_all<F: FnMut(usize)>(&mut self, visit: &mut F)
+        requires { TakesPlaces F.pre (λ p x q. F.step p x tt q) (capacity_of (set_in self.old)) visit.old }
+        ensures set { set_in self.new ≡ set_in self.old }
+        ensures same { SamePass (pass_in self.old) (pass_in self.new) }
+        ensures cleared { HasCleanedOut (λ p x q. F.step p x tt q) (capacity_of (set_in self.old)) visit.old visit.new
+            (knows self.old) (knows self.new) }
+        ensures stood { MissedNoPlace (capacity_of (set_in self.old)) (knows self.new) }
+        ensures steps { 0 < capacity_of (set_in self.old)
+            → TakesAtMost (elements (capacity_of (set_in self.old))) (knows self.old) (knows self.new) }
+        ensures one_step { capacity_of (set_in self.old) ≡ 0 → TakesAtMost 1 (knows self.old) (knows self.new) }
+    {
+        self.set.reset_all(visit, &mut self.pass)
+    }
+}

@@ -1,0 +1,19 @@
+//! What the call that counts says of the views at its step. This type is for the proofs alone.
+ghost use Rattle.model.specs.Coding.{one_word};
+ghost use Rattle.model.specs.declared.turn.Kind.TheVariants as kinds;
+
+use history::view::View;
+use steps::bits::counting_bit_set;
+use threaded::driver::rule::Drives;
+
+/// Counting a place.
+pub struct CountsPlace;
+
+impl Drives<View<u64>, counting_bit_set::Set> for CountsPlace {
+    ghost use Rattle.history.specs.Stages.{At, Ends};
+    ghost use Rattle.lock_free_sets.specs.Counts.Stages.{counts_place};
+
+    ghost at = { λ place. At one_word kinds.Counts (counts_place place) };
+
+    ghost ends = { λ place. Ends one_word kinds.Counts (counts_place place) };
+}

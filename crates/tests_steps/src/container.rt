@@ -1,0 +1,165 @@
+//! The container: handles, errors and states alone, and values of one word and of 128.
+use crate::drive::ends;
+use std::test::Fail;
+use steps::ask::{After, Want};
+use steps::container::add::{Add, Owned};
+use steps::container::enums::{ContainerAddFailure, ContainerStateError};
+use steps::container::handle::ContainerHandle;
+use steps::container::look::Look;
+use steps::container::replace::{Replace, Replacement};
+use steps::container::state::ContainerState;
+use steps::enums::{CallbackProgression, OwnerId};
+use steps::indices::enums::UniqueIndexSetAcquireFailure;
+use steps::indices::robust::parts::EMPTY;
+use steps::routine::{Routine, Running};
+use steps::words::Words;
+use tests_calls::long_values::Greatest;
+
+fn add<T: Words + Drop>(capacity: u32, value: T, owner: OwnerId) -> Running<Add<T>, Owned<T>, ()> {
+    Running {
+        call: Add::new(capacity),
+        given: Owned { value, owner },
+        room: (),
+    }
+}
+
+fn replace<T: Words + Drop>(
+    capacity: u32,
+    index: u32,
+    owner: OwnerId,
+    value: T,
+) -> Running<Replace<T>, Replacement<T>, ()> {
+    Running {
+        call: Replace::new(capacity, index),
+        given: Replacement {
+            index,
+            owner,
+            value,
+        },
+        room: (),
+    }
+}
+
+/// Takes at most so many steps of a look of the state. Where it has ended, these are what it answers and its steps.
+fn looks<T: Words>(
+    state: &mut ContainerState<T>,
+    most: u64,
+    words: &mut [u64],
+) -> Option<(bool, u64)> {
+    let mut call = Look::new(state.capacity);
+    for taken in 0..most {
+        let answer = match call.ask(&state.seen) {
+            Want::Ask(ask) if ask.word < words.len() => {
+                let old = words[ask.word];
+                words[ask.word] = ask.op.apply(old);
+                old
+            }
+            _ => 0,
+        };
+        match call.take(&state.seen, &mut state.shown, answer) {
+            After::GoOn(next) => call = next,
+            After::Done(changed) => {
+                state.settle();
+                return Some((changed, taken + 1));
+            }
+        }
+    }
+    None
+}
+
+#[test]
+fn handles(rt: HostRuntime) -> Result<(), Fail> {
+    let owner = OwnerId::new(7)?;
+    let handle = ContainerHandle {
+        index: 2,
+        owner,
+        container: 5,
+    };
+    let other = ContainerHandle {
+        index: 2,
+        owner,
+        container: 6,
+    };
+    assert!(rt; handle.index() == 2 && handle != other && handle < other);
+    Ok(())
+}
+
+#[test]
+fn add_failures(rt: HostRuntime) {
+    let rows = [
+        (
+            UniqueIndexSetAcquireFailure::OutOfIndices,
+            ContainerAddFailure::OutOfSpace,
+        ),
+        (
+            UniqueIndexSetAcquireFailure::IsLocked,
+            ContainerAddFailure::IsLocked,
+        ),
+    ];
+    for (failure, told) in rows {
+        assert!(rt; ContainerAddFailure::from(failure) == told);
+    }
+}
+
+#[test]
+fn whose_state_it_is(rt: HostRuntime) -> Result<(), Fail> {
+    let state: Result<ContainerState<u64>, ContainerStateError> = ContainerState::new(
+        rt.alloc(),
+        5,
+        3,
+    );
+    let state = state?;
+    for (container, capacity, is_its) in [(5, 3, true), (5, 4, false), (4, 3, false)] {
+        assert!(rt; state.is_of(container, capacity) == is_its, "{container}");
+    }
+    Ok(())
+}
+
+#[test]
+fn visits_of_a_state(rt: HostRuntime) -> Result<(), Fail> {
+    let mut words = [3, 1, 2, 1, 3, 1, 2, 5, 10, 11, 20, 21, 30, 31];
+    let mut state = ContainerState::new(rt.alloc(), 0, 3)?;
+    assert!(rt; looks(&mut state, 20, &mut words) == Some((true, 10)));
+    let mut seen = [(9, (0, 0)); 3];
+    let mut number = 0usize;
+    state.for_each(|index, value: &(u64, u64)| {
+        if number < 3 {
+            seen[number] = (index, *value);
+        }
+        number = number.wrapping_add(1);
+        CallbackProgression::Continue
+    });
+    assert!(rt; number == 2);
+    assert!(rt; seen[0] == (0, (10, 11)) && seen[1] == (2, (30, 31)));
+    let mut visited = 0u32;
+    state.for_each(|_, _| {
+        visited = visited.wrapping_add(1);
+        CallbackProgression::Stop
+    });
+    assert!(rt; visited == 1);
+    Ok(())
+}
+
+#[test]
+fn values_of_one_word(rt: HostRuntime) -> Result<(), Fail> {
+    let owner = OwnerId::new(7)?;
+    let mut words = [0, EMPTY, 0, 0, 0];
+    assert!(rt; ends(add(1, 9u64, owner), &mut words, Ok(0), 8));
+    assert!(rt; ends(replace(1, 0, owner, 10u64), &mut words, Ok(()), 6));
+    assert!(rt; words == [1, 7, 2, 3, 10]);
+    Ok(())
+}
+
+#[test]
+fn values_of_128_words(rt: HostRuntime) -> Result<(), Fail> {
+    let owner = OwnerId::new(7)?;
+    let mut words = [0; 132];
+    words[1] = EMPTY;
+    let wide = Greatest(3, 9, 4);
+    assert!(rt; ends(add(1, wide, owner), &mut words, Ok(0), 135));
+    let mut state = ContainerState::new(rt.alloc(), 0, 1)?;
+    assert!(rt; looks(&mut state, 200, &mut words) == Some((true, 131)));
+    assert!(rt; state.get(0).copied() == Some(wide));
+    assert!(rt; ends(replace(1, 0, owner, wide), &mut words, Ok(()), 133));
+    Ok(())
+}

@@ -1,0 +1,74 @@
+//! Bounded queues of values of one word, of a pair, of three words and of 128.
+use crate::drive::{ends, with};
+use crate::driven::{overflow_pop, overflow_push, pop, pop_one};
+use crate::rows::{Row, fills_and_empties, play};
+use steps::ask::{Call, Want};
+use tests_calls::long_values::{Greatest, Three};
+
+const ONE_WORD: [Row<u64>; 3] = [
+    Row::Push(7, true, 4),
+    Row::Push(8, true, 4),
+    Row::Push(9, false, 2),
+];
+
+const PAIR: [Row<(u64, u64)>; 3] = [
+    Row::Push((5, 6), true, 5),
+    Row::Pop(Some((5, 6)), 5),
+    Row::Pop(None, 2),
+];
+
+#[test]
+fn rows(rt: HostRuntime) {
+    let words = [0, 0, 1, 1, 0, 0];
+    play(&rt, "ONE_WORD", 2, words, &ONE_WORD, [2, 0, 1, 1, 7, 8]);
+    let after = [1, 1, 1, 1, 3, 4];
+    play(&rt, "PAIR", 1, after, &PAIR, [2, 2, 1, 1, 5, 6]);
+}
+
+#[test]
+fn a_pop_into_one_word_is_a_pop(rt: HostRuntime) {
+    let mut words = [2, 0, 1, 1, 7, 8];
+    for (value, steps) in [(Some(7), 4), (Some(8), 4), (None, 2)] {
+        let mut same = words;
+        assert!(rt; ends(pop::<u64>(2), &mut words, value, steps), "{steps}");
+        assert!(rt; ends(pop_one(2), &mut same, value, steps), "{steps}");
+        assert!(rt; same == words, "{steps}");
+    }
+    assert!(rt; words == [2, 2, 1, 1, 7, 8]);
+}
+
+#[test]
+fn values_of_three_words_and_of_128(rt: HostRuntime) {
+    // From position 5, so that the first value stands in the last of the three cells.
+    let mut words = with([0; 13], &[(0, 5), (1, 5)]);
+    let values = [Three(1, 2, 3), Three(4, 5, 6), Three(7, 8, 9)];
+    assert!(rt; fills_and_empties(3, &values, &mut words));
+    assert!(rt; words == [11, 11, 0, 0, 4, 5, 6, 7, 8, 9, 1, 2, 3]);
+    let mut words = with([0; 388], &[(0, 5), (1, 5)]);
+    let values = [Greatest(1, 9, 2), Greatest(3, 9, 4), Greatest(5, 9, 6)];
+    assert!(rt; fills_and_empties(3, &values, &mut words));
+    let wanted = with(
+        [9; 388],
+        &[
+            (0, 11),
+            (1, 11),
+            (2, 0),
+            (3, 0),
+            (4, 3),
+            (131, 4),
+            (132, 5),
+            (259, 6),
+            (260, 1),
+            (387, 2),
+        ],
+    );
+    assert!(rt; words == wanted);
+}
+
+#[test]
+fn without_capacity_nothing_is_asked(rt: HostRuntime) {
+    assert!(rt; matches!(overflow_push(0, 7).ask(), Want::Nothing));
+    assert!(rt; matches!(overflow_push(0, 7).want(), Want::Nothing));
+    assert!(rt; matches!(overflow_pop(0).ask(), Want::Nothing));
+    assert!(rt; matches!(overflow_pop(0).want(), Want::Nothing));
+}
