@@ -2,10 +2,10 @@ use Rattle.std.proofs.Common.{◌∙◌}
 use Rattle.tests_bus.proofs.rejoins.takes_two.Goals as goal
 
 pub returns-clause-place : goal.returns-clause-place
-returns-clause-place g c = c.receive-_kept.ensures.same.2 ∙ (c.give_back-is_back.ensures.same.2 ∙ c.receive.ensures.same.2)
+returns-clause-place g c = c.receive-kept.ensures.same.2 ∙ (c.give_back-is_back.ensures.same.2 ∙ c.receive.ensures.same.2)
 
 pub returns-clause-queue : goal.returns-clause-queue
-returns-clause-queue g c = c.receive-_kept.ensures.had.1.queue ∙ (c.give_back-is_back.ensures.receives.0 ∙ c.receive.ensures.had.1.queue)
+returns-clause-queue g c = c.receive-kept.ensures.had.1.queue ∙ (c.give_back-is_back.ensures.receives.0 ∙ c.receive.ensures.had.1.queue)
 
 pub returns-in_default-clause-queue : goal.returns-in_default-clause-queue
 returns-in_default-clause-queue g c = c.receive.ensures.had.1.queue
