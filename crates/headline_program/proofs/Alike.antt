@@ -6,13 +6,13 @@ use Rattle.model.specs.declared.turn.Refusal.{Refusal}
 use Rattle.model.specs.declared.turn.Refusal.TheVariants.{NoMemory}
 use Rattle.model.specs.declared.turn.Turn.{Turn}
 use Rattle.model.specs.declared.turn.Turn.TheVariants.{Next}
-use Rattle.model.specs.World.{World}
+use Rattle.model.specs.World.{World, kind_in}
 use Rattle.model.specs.Refusals.{refusal_of}
 use Rattle.texts.specs.declared.error.Cause.{Cause}
 use Rattle.texts.specs.declared.grammar.Command.{Command}
 use Rattle.texts.specs.declared.grammar.Command.TheVariants.{Once, Times}
 use Rattle.texts.specs.declared.grammar.Setup.{Setup}
-use Rattle.texts.specs.Grammar.{kind_in, command_of}
+use Rattle.texts.specs.Grammar.{command_of}
 use Rattle.texts.specs.Print.{refusal_text}
 use Rattle.texts.specs.Text.{lines, words}
 use Rattle.schedule.specs.Output.{outcome, outcome_as, refusal_where, Outcome, State, is_short, later}

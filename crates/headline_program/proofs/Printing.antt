@@ -10,25 +10,25 @@ use Rattle.model.specs.declared.event.Event.{Event}
 use Rattle.model.specs.declared.turn.Kind.{Kind}
 use Rattle.model.specs.declared.turn.Refusal.{Refusal}
 use Rattle.model.specs.declared.turn.Refusal.TheVariants.{NoMemory}
+use Rattle.model.specs.declared.turn.Shape.{Shape}
+use Rattle.model.specs.declared.turn.Shape.TheVariants as shapes
 use Rattle.model.specs.declared.turn.Turn.{Turn}
 use Rattle.model.specs.declared.turn.Turn.TheVariants.{Next}
 use Rattle.model.specs.Coding.{IsCoding}
 use Rattle.model.specs.Refusals.{refusal_of}
 use Rattle.model.specs.Turns.{IsReached, world_after, events_of}
-use Rattle.model.specs.World.{World, Trace, capacity_error, loan_error}
-use Rattle.model.proofs.Reached.{SameMaking, turn_making, reached_more, reached_opening, reached_loan}
+use Rattle.model.specs.World.{World, Trace, kind_in, capacity_in, shape_error}
+use Rattle.model.proofs.Reached.{SameMaking, turn_making, reached_more, reached_as}
 use Rattle.texts.specs.declared.error.Cause.{Cause}
 use Rattle.texts.specs.declared.grammar.Command.{Command}
 use Rattle.texts.specs.declared.grammar.Command.TheVariants.{Once, Times}
 use Rattle.texts.specs.declared.grammar.Setup.{Setup}
-use Rattle.texts.specs.declared.grammar.Shape.{Shape}
-use Rattle.texts.specs.declared.grammar.Shape.TheVariants as shapes
-use Rattle.texts.specs.Grammar.{◌>>=◌, kind_in, capacity_in, setup_of, command_of}
+use Rattle.texts.specs.Grammar.{◌>>=◌, setup_of, command_of}
 use Rattle.texts.specs.Text.{lines, words}
 use Rattle.schedule.specs.Output.{two_words, outcome, outcome_as, refusal_where, Outcome, State, is_short, later}
 use Rattle.schedule.specs.Output.{Printed, after_text, printed as printed_now, next_outcome, goes_on, nexts}
 use Rattle.schedule.specs.Output.{commanded, Output, stopped, before as behind, lines_from, capacity_cause, admitted}
-use Rattle.schedule.specs.Output.{shape_error, setup_error, machine_of, trace_of, opened, output_of_lines, output_of}
+use Rattle.schedule.specs.Output.{setup_error, machine_of, trace_of, opened, output_of_lines, output_of}
 use Rattle.headline_program.specs.Printing.{Line, Wrote, Refused, text_of, events_in, IsOfMachine}
 
 -- ---- what is printed as a world becomes another, behind these events
@@ -188,23 +188,20 @@ no_memory_of true b e = cc
 no_memory_of false true e = cc
 no_memory_of false false e = cc
 
+never_memory : (shape : Shape) → shape_error shape ≡ Some creation.NoMemory → ⊥
+never_memory (shapes.Of kind capacity) e = no_memory_of _ _ e
+never_memory (shapes.Loan slots queue) e = no_memory_of _ _ e
+
 pub record Made (setup : Setup) : Type 0 where
   pub reached : IsReached (machine_in (trace_of setup).world [])
   pub kind : (trace_of setup).world.kind ≡ kind_in setup.shape
   pub capacity : (trace_of setup).world.capacity ≡ capacity_in setup.shape
   pub parties : (trace_of setup).world.parties ≡ setup.parties
 
-made : (parties : ℕ) (shape : Shape) → capacity_cause (shape_error shape) ≡ None → Made (record { shape = shape; parties = parties })
-made parties (shapes.Of kind capacity) e =
+made : (setup : Setup) → capacity_cause (setup_error setup) ≡ None → Made setup
+made setup e =
     record {
-      reached = reached_opening two_words kind capacity parties coded (no_cause (capacity_error kind capacity) (no_memory_of _ _) e);
-      kind = refl;
-      capacity = refl;
-      parties = refl;
-    }
-made parties (shapes.Loan slots queue) e =
-    record {
-      reached = reached_loan two_words slots queue parties coded (no_cause (loan_error slots queue) (no_memory_of _ _) e);
+      reached = reached_as two_words setup.shape setup.parties coded (no_cause (setup_error setup) (never_memory setup.shape) e);
       kind = refl;
       capacity = refl;
       parties = refl;
@@ -218,7 +215,7 @@ after_setup (Ok s) setup e = go (capacity_cause (setup_error s)) refl e
     go : (c : Option Cause) → capacity_cause (setup_error s) ≡ c → admitted s c ≡ Ok setup → Made setup
     go None none is =
         let same : s ≡ setup = cc in
-        subst Made same (made s.parties s.shape none)
+        subst Made same (made s none)
     go (Some cause) some is = absurd (cc)
 
 reads : (first : List ℕ) (setup : Setup) → machine_of (words first) ≡ Ok setup → Made setup

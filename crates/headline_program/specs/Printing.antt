@@ -4,9 +4,8 @@ use Rattle.std.specs.List.{flat_map}
 use Rattle.model.specs.declared.event.Event.{Event}
 use Rattle.model.specs.declared.turn.Refusal.{Refusal}
 use Rattle.model.specs.Turns.{IsReached}
-use Rattle.model.specs.World.{Trace}
+use Rattle.model.specs.World.{Trace, kind_in, capacity_in}
 use Rattle.texts.specs.declared.grammar.Setup.{Setup}
-use Rattle.texts.specs.Grammar.{kind_in, capacity_in}
 use Rattle.texts.specs.Print.{events_text, refusal_text}
 
 -- what is printed for a turn: its events, or why it was refused

@@ -2,13 +2,13 @@
 //! happened.
 #![tactic(auto)]
 
-ghost use Rattle.std.specs.Prelude.{◌≡◌, [], ◌≤◌, ◌<◌, None, OnOk, OnErr, IfOk, IfErr, IfSome, length, replicate, take, slice_get, option_copied};
+ghost use Rattle.std.specs.Prelude.{◌≡◌, ℕ, [], ◌≤◌, ◌<◌, None, OnOk, OnErr, IfOk, IfErr, IfSome, length, replicate, take, slice_get, option_copied};
+ghost use Rattle.model.specs.Coding.{coding_by};
 
 pub mod theorems;
 
 use event::Event;
 use families::Registry;
-use model::coding::Coded;
 pub use model::{event, families, party, turn};
 use parts::parts::Parts;
 use party::Progress;
@@ -17,7 +17,7 @@ use std::marker::Model;
 use steps::container::state::ContainerState;
 use steps::enums::UniqueIndexCreationError;
 use steps::words::Words;
-use turn::{Kind, Refusal, Turn};
+use turn::{Refusal, Shape, Turn};
 use turns::families::is_asking;
 use turns::party::{flight_of, progress_of};
 
@@ -54,7 +54,7 @@ pub struct Stopped {
 }
 
 impl<T: Words> Model for Machine<T> {
-    ghost use Rattle.model.specs.Coding.{coding_of};
+    ghost use Rattle.model.specs.Coding.{coding_by};
     ghost use Rattle.model.specs.World.{State};
     ghost use Rattle.parts.specs.Parts.{state_of, trace_of};
     ghost use Rattle.model.specs.Turns.{IsReached};
@@ -64,17 +64,18 @@ impl<T: Words> Model for Machine<T> {
     ghost view = { λ m. state_of m.parts };
 
     ghost invariant = { λ m.
-        IsReached (trace_of (coding_of T.WORDS T.words_of T.value_of) m.parts) };
+        IsReached (trace_of (coding_by T.Words) m.parts) };
 }
 
 impl<T: Words> Machine<T> {
-    ghost use Rattle.model.specs.World.{opening, loan_opening, capacity_error, loan_error, IsCreationError, IsLoanError, trace_in, world_in, progress_in};
+    ghost use Rattle.model.specs.World.{opening_as, shape_error, IsCreationError, trace_in, world_in, progress_in};
     ghost use Rattle.model.specs.Refusals.{refusal_of, IsRefusal, is_going};
     ghost use Rattle.model.specs.Turns.{after_turn, after_turns, AreAllowed, IsReached};
     ghost use Rattle.model.specs.Linearized.{IsLinearizableRun};
     ghost use Rattle.model.specs.Progress.{KeepsGuarantees};
     ghost use Rattle.model.specs.declared.families.Registry.TheVariants as registries;
     ghost use Rattle.model.specs.declared.families.loan.Book.{Book};
+    ghost use Rattle.model.specs.declared.turn.Shape.TheVariants as shapes;
     ghost use Rattle.steps.specs.declared.enums.UniqueIndexCreationError.TheVariants.{NoMemory};
     ghost use Rattle.parts.specs.Parts.{trace_of};
     ghost use Rattle.machine.specs.States.{IsStateIn};
@@ -82,55 +83,36 @@ impl<T: Words> Machine<T> {
     ghost use Rattle.model.specs.Promises.{IsKept, WritesEvents, TellsBeside, AreTurns};
     ghost use Rattle.model.specs.Promises.Turns.{IsOneTurnLater, WritesOneWord, GoesOn, CountsTurn, CountsOthers};
 
-    /// A structure that is empty, or has the value that words of zeros make, with its roles free, and this many
-    /// parties, numbered from 0. Of a set of indices or a container no index is held, and no owner is dead. Room for a
-    /// party is made as it first begins a call, and room for its state of a container as it first looks.
+    /// A structure of this shape that is empty, or has the value that words of zeros make, with its roles free, and this
+    /// many parties, numbered from 0. Of a set of indices or a container no index is held, and no owner is dead. Of a loan
+    /// channel each index is free, party 0 is the sender, party 1 the receiver, and no party is dead. Room for a party is
+    /// made as it first begins a call, and room for its state of a container as it first looks.
     ///
     /// Refused are, in this order, a capacity above the greatest of the kind (`ProvidedCapacityGreaterThanMaxCapacity`:
-    /// 1 for a value, 2^24 - 2 for unique indices and a loan channel, else 2^32 - 1), one below the least
-    /// (`ProvidedCapacityIsZero`: 1, for queues, bits and counts 0), and memory (`NoMemory`).
+    /// 1 for a value, 2^24 - 2 for unique indices and the slots of a loan channel, else 2^32 - 1, also for a channel's
+    /// queue), one below the least (`ProvidedCapacityIsZero`: 0 for a queue, bits and counts, else 1, also for a channel's
+    /// queue), and memory (`NoMemory`).
     pub fn new(
         alloc: Global,
-        kind: Kind,
-        capacity: usize,
+        shape: Shape,
         parties: u32,
     ) -> Result<Machine<T>, UniqueIndexCreationError>
-        ensures ok { IfOk result (λ m. trace_in ⟦<T as Coded>⟧.coding m
-            ≡ opening ⟦<T as Coded>⟧.coding kind capacity parties) }
-        ensures admitted { OnOk result (capacity_error kind capacity ≡ None) }
-        ensures refused { IfErr result (IsCreationError kind capacity) }
+        ensures ok { IfOk result (λ m. trace_in (coding_by T.Words) m
+            ≡ opening_as (coding_by T.Words) shape parties) }
+        ensures queue { IfOk result (λ m. (slots queue : ℕ) → shape ≡ shapes.Loan slots queue
+            → (book : Book) × (m.kept ≡ registries.Loan book) × (book.queue ≡ queue)) }
+        ensures admitted { OnOk result (shape_error shape ≡ None) }
+        ensures refused { IfErr result (IsCreationError shape) }
     {
-        let parts = Parts::new(alloc, kind, capacity, parties)?;
-        Self::made(alloc, parts)
-    }
-
-    /// A loan channel of so many slots, with a submission queue of this capacity. Each index is free, party 0 is the
-    /// sender, party 1 the receiver, and no party is dead. `new` of this kind makes one with as long a queue as it has
-    /// slots.
-    ///
-    /// Refused are, in this order, slots above 2^24 - 2 or a queue above 2^32 - 1, then one of them that is 0, and memory,
-    /// by the same names.
-    pub fn new_loan(
-        alloc: Global,
-        slots: usize,
-        queue: usize,
-        parties: u32,
-    ) -> Result<Machine<T>, UniqueIndexCreationError>
-        ensures ok { IfOk result (λ m. trace_in ⟦<T as Coded>⟧.coding m
-            ≡ loan_opening ⟦<T as Coded>⟧.coding slots queue parties) }
-        ensures queue { IfOk result (λ m. (book : Book) × (m.kept ≡ registries.Loan book) × (book.queue ≡ queue)) }
-        ensures admitted { OnOk result (loan_error slots queue ≡ None) }
-        ensures refused { IfErr result (IsLoanError slots queue) }
-    {
-        let parts = Parts::new_loan(alloc, slots, queue, parties)?;
+        let parts = Parts::new(alloc, shape, parties)?;
         Self::made(alloc, parts)
     }
 
     // The machine of these parts, unless memory for the state before a first look is refused.
     fn made(alloc: Global, parts: Parts<T>) -> Result<Machine<T>, UniqueIndexCreationError>
-        requires { IsReached (trace_of ⟦<T as Coded>⟧.coding parts) }
-        ensures ok { IfOk result (λ m. trace_in ⟦<T as Coded>⟧.coding m
-            ≡ trace_of ⟦<T as Coded>⟧.coding parts) }
+        requires { IsReached (trace_of (coding_by T.Words) parts) }
+        ensures ok { IfOk result (λ m. trace_in (coding_by T.Words) m
+            ≡ trace_of (coding_by T.Words) parts) }
         ensures refused { IfErr result (λ e. e ≡ NoMemory) }
     {
         let Ok(mut state) = ContainerState::new(alloc, 0, 0) else {
@@ -162,33 +144,33 @@ impl<T: Words> Machine<T> {
     pub fn step(&mut self, turn: Turn<T>) -> Result<(), Refusal>
         // Whether it is taken, or why not.
         ensures allowed { OnOk result
-            (refusal_of (world_in ⟦<T as Coded>⟧.coding self.old) turn ≡ None) }
+            (refusal_of (world_in (coding_by T.Words) self.old) turn ≡ None) }
         ensures refused { IfErr result
-            (IsRefusal (world_in ⟦<T as Coded>⟧.coding self.old) turn) }
+            (IsRefusal (world_in (coding_by T.Words) self.old) turn) }
         ensures err { OnErr result (self.new ≡ self.old) }
 
         // What the turn makes of the machine, and what it writes down.
-        ensures ok { OnOk result (trace_in ⟦<T as Coded>⟧.coding self.new
-            ≡ after_turn (trace_in ⟦<T as Coded>⟧.coding self.old) turn) }
+        ensures ok { OnOk result (trace_in (coding_by T.Words) self.new
+            ≡ after_turn (trace_in (coding_by T.Words) self.old) turn) }
 
         // The same, in its own words.
-        ensures later { OnOk result (IsOneTurnLater (world_in ⟦<T as Coded>⟧.coding self.old)
-            (world_in ⟦<T as Coded>⟧.coding self.new)) }
-        ensures word { OnOk result (WritesOneWord (world_in ⟦<T as Coded>⟧.coding self.old)
-            turn (world_in ⟦<T as Coded>⟧.coding self.new)) }
-        ensures call { OnOk result (GoesOn (world_in ⟦<T as Coded>⟧.coding self.old)
-            turn (world_in ⟦<T as Coded>⟧.coding self.new)) }
-        ensures counts { OnOk result (CountsTurn (world_in ⟦<T as Coded>⟧.coding self.old)
-            turn (world_in ⟦<T as Coded>⟧.coding self.new)) }
-        ensures others { OnOk result (CountsOthers (world_in ⟦<T as Coded>⟧.coding self.old)
-            turn (world_in ⟦<T as Coded>⟧.coding self.new)) }
-        ensures tells { OnOk result (TellsBeside (trace_in ⟦<T as Coded>⟧.coding self.old)
-            turn (trace_in ⟦<T as Coded>⟧.coding self.new)) }
-        ensures events { OnOk result (WritesEvents (trace_in ⟦<T as Coded>⟧.coding self.old)
-            turn (trace_in ⟦<T as Coded>⟧.coding self.new)) }
+        ensures later { OnOk result (IsOneTurnLater (world_in (coding_by T.Words) self.old)
+            (world_in (coding_by T.Words) self.new)) }
+        ensures word { OnOk result (WritesOneWord (world_in (coding_by T.Words) self.old)
+            turn (world_in (coding_by T.Words) self.new)) }
+        ensures call { OnOk result (GoesOn (world_in (coding_by T.Words) self.old)
+            turn (world_in (coding_by T.Words) self.new)) }
+        ensures counts { OnOk result (CountsTurn (world_in (coding_by T.Words) self.old)
+            turn (world_in (coding_by T.Words) self.new)) }
+        ensures others { OnOk result (CountsOthers (world_in (coding_by T.Words) self.old)
+            turn (world_in (coding_by T.Words) self.new)) }
+        ensures tells { OnOk result (TellsBeside (trace_in (coding_by T.Words) self.old)
+            turn (trace_in (coding_by T.Words) self.new)) }
+        ensures events { OnOk result (WritesEvents (trace_in (coding_by T.Words) self.old)
+            turn (trace_in (coding_by T.Words) self.new)) }
 
         // The promises of every run.
-        ensures kept { IsKept (trace_in ⟦<T as Coded>⟧.coding self.new) }
+        ensures kept { IsKept (trace_in (coding_by T.Words) self.new) }
     {
         self.parts.step(turn)?;
         Ok(())
@@ -198,13 +180,13 @@ impl<T: Words> Machine<T> {
     /// it change nothing. It is `run_all` that takes them and says why one was refused.
     pub fn run(&mut self, turns: &[Turn<T>]) -> usize
         ensures count { result ≤ length turns.now }
-        ensures allowed { AreAllowed (trace_in ⟦<T as Coded>⟧.coding self.old)
+        ensures allowed { AreAllowed (trace_in (coding_by T.Words) self.old)
             (take result turns.now) }
-        ensures taken { trace_in ⟦<T as Coded>⟧.coding self.new
-            ≡ after_turns (trace_in ⟦<T as Coded>⟧.coding self.old) (take result turns.now) }
-        ensures each { AreTurns (trace_in ⟦<T as Coded>⟧.coding self.old)
+        ensures taken { trace_in (coding_by T.Words) self.new
+            ≡ after_turns (trace_in (coding_by T.Words) self.old) (take result turns.now) }
+        ensures each { AreTurns (trace_in (coding_by T.Words) self.old)
             (take result turns.now) }
-        ensures kept { IsKept (trace_in ⟦<T as Coded>⟧.coding self.new) }
+        ensures kept { IsKept (trace_in (coding_by T.Words) self.new) }
     {
         match self.run_all(turns) {
             Ok(()) => turns.len(),
@@ -215,22 +197,22 @@ impl<T: Words> Machine<T> {
     /// Takes the turns, all of them or up to the first that is refused, with why it was. That turn and those behind it
     /// change nothing.
     pub fn run_all(&mut self, turns: &[Turn<T>]) -> Result<(), Stopped>
-        ensures all { OnOk result (AreAllowed (trace_in ⟦<T as Coded>⟧.coding self.old) turns.now) }
-        ensures ok { OnOk result (trace_in ⟦<T as Coded>⟧.coding self.new
-            ≡ after_turns (trace_in ⟦<T as Coded>⟧.coding self.old) turns.now) }
-        ensures each { OnOk result (AreTurns (trace_in ⟦<T as Coded>⟧.coding self.old) turns.now) }
+        ensures all { OnOk result (AreAllowed (trace_in (coding_by T.Words) self.old) turns.now) }
+        ensures ok { OnOk result (trace_in (coding_by T.Words) self.new
+            ≡ after_turns (trace_in (coding_by T.Words) self.old) turns.now) }
+        ensures each { OnOk result (AreTurns (trace_in (coding_by T.Words) self.old) turns.now) }
         ensures before { IfErr result (λ stopped. stopped.taken < length turns.now) }
         ensures allowed { IfErr result (λ stopped. AreAllowed
-            (trace_in ⟦<T as Coded>⟧.coding self.old) (take stopped.taken turns.now)) }
-        ensures taken { IfErr result (λ stopped. trace_in ⟦<T as Coded>⟧.coding self.new
-            ≡ after_turns (trace_in ⟦<T as Coded>⟧.coding self.old)
+            (trace_in (coding_by T.Words) self.old) (take stopped.taken turns.now)) }
+        ensures taken { IfErr result (λ stopped. trace_in (coding_by T.Words) self.new
+            ≡ after_turns (trace_in (coding_by T.Words) self.old)
             (take stopped.taken turns.now)) }
         ensures each_before { IfErr result (λ stopped. AreTurns
-            (trace_in ⟦<T as Coded>⟧.coding self.old) (take stopped.taken turns.now)) }
+            (trace_in (coding_by T.Words) self.old) (take stopped.taken turns.now)) }
         ensures refused { IfErr result (λ stopped.
             IfSome (slice_get turns.now stopped.taken)
-            (λ turn. IsRefusal (world_in ⟦<T as Coded>⟧.coding self.new) turn stopped.refusal)) }
-        ensures kept { IsKept (trace_in ⟦<T as Coded>⟧.coding self.new) }
+            (λ turn. IsRefusal (world_in (coding_by T.Words) self.new) turn stopped.refusal)) }
+        ensures kept { IsKept (trace_in (coding_by T.Words) self.new) }
     {
         let _ = &self.parts;
         for (taken, turn) in turns.iter().enumerate() {
@@ -245,23 +227,23 @@ impl<T: Words> Machine<T> {
     /// makes of a list of as many `Next`, in less time: a call that is done, or waits for a decision, is refused its next
     /// one.
     pub fn nexts(&mut self, party: u32, most: u64) -> Result<(), Stopped>
-        ensures all { OnOk result (AreAllowed (trace_in ⟦<T as Coded>⟧.coding self.old)
+        ensures all { OnOk result (AreAllowed (trace_in (coding_by T.Words) self.old)
             (replicate most (Next party))) }
-        ensures ok { OnOk result (trace_in ⟦<T as Coded>⟧.coding self.new
-            ≡ after_turns (trace_in ⟦<T as Coded>⟧.coding self.old) (replicate most (Next party))) }
-        ensures each { OnOk result (AreTurns (trace_in ⟦<T as Coded>⟧.coding self.old)
+        ensures ok { OnOk result (trace_in (coding_by T.Words) self.new
+            ≡ after_turns (trace_in (coding_by T.Words) self.old) (replicate most (Next party))) }
+        ensures each { OnOk result (AreTurns (trace_in (coding_by T.Words) self.old)
             (replicate most (Next party))) }
         ensures before { IfErr result (λ stopped. stopped.taken < most) }
         ensures allowed { IfErr result (λ stopped. AreAllowed
-            (trace_in ⟦<T as Coded>⟧.coding self.old) (replicate stopped.taken (Next party))) }
-        ensures taken { IfErr result (λ stopped. trace_in ⟦<T as Coded>⟧.coding self.new
-            ≡ after_turns (trace_in ⟦<T as Coded>⟧.coding self.old)
+            (trace_in (coding_by T.Words) self.old) (replicate stopped.taken (Next party))) }
+        ensures taken { IfErr result (λ stopped. trace_in (coding_by T.Words) self.new
+            ≡ after_turns (trace_in (coding_by T.Words) self.old)
             (replicate stopped.taken (Next party))) }
         ensures each_before { IfErr result (λ stopped. AreTurns
-            (trace_in ⟦<T as Coded>⟧.coding self.old) (replicate stopped.taken (Next party))) }
+            (trace_in (coding_by T.Words) self.old) (replicate stopped.taken (Next party))) }
         ensures refused { IfErr result (λ stopped. IsRefusal
-            (world_in ⟦<T as Coded>⟧.coding self.new) (Next party) stopped.refusal) }
-        ensures kept { IsKept (trace_in ⟦<T as Coded>⟧.coding self.new) }
+            (world_in (coding_by T.Words) self.new) (Next party) stopped.refusal) }
+        ensures kept { IsKept (trace_in (coding_by T.Words) self.new) }
     {
         let _ = &self.parts;
         let first = self.at_once(party, most);
@@ -279,11 +261,11 @@ impl<T: Words> Machine<T> {
     // Some of these turns, in one loop.
     fn at_once(&mut self, party: u32, most: u64) -> u64
         ensures most { result ≤ most }
-        ensures allowed { AreAllowed (trace_in ⟦<T as Coded>⟧.coding self.old)
+        ensures allowed { AreAllowed (trace_in (coding_by T.Words) self.old)
             (replicate result (Next party)) }
-        ensures taken { trace_in ⟦<T as Coded>⟧.coding self.new
-            ≡ after_turns (trace_in ⟦<T as Coded>⟧.coding self.old) (replicate result (Next party)) }
-        ensures kept { IsKept (trace_in ⟦<T as Coded>⟧.coding self.new) }
+        ensures taken { trace_in (coding_by T.Words) self.new
+            ≡ after_turns (trace_in (coding_by T.Words) self.old) (replicate result (Next party)) }
+        ensures kept { IsKept (trace_in (coding_by T.Words) self.new) }
     {
         self.parts.steps(party, most)
     }
@@ -298,15 +280,15 @@ impl<T: Words> Machine<T> {
     /// A law of every machine, which does nothing: the pushes and pops so far of a queue are linearizable as those of a
     /// bounded or an overflowing list, and the stores and loads of the single value as those of one value.
     pub fn linearizable(&self)
-        ensures { IsLinearizableRun (trace_in ⟦<T as Coded>⟧.coding self.now) }
+        ensures { IsLinearizableRun (trace_in (coding_by T.Words) self.now) }
     {
         let _ = &self.parts;
     }
 
     /// A law of every machine, which does nothing: turns have led to it. So every law of reached machines is one of it: those of
-    /// the crate `headline`, which is what all machines do in one statement, and those of `laws_turns`.
+    /// the crate `headline`, which is what all machines do in one statement, and those of `laws_machine`.
     pub fn reached(&self)
-        ensures { IsReached (trace_in ⟦<T as Coded>⟧.coding self.now) }
+        ensures { IsReached (trace_in (coding_by T.Words) self.now) }
     {
         let _ = &self.parts;
     }
@@ -314,7 +296,7 @@ impl<T: Words> Machine<T> {
     /// A law of every machine, which does nothing: each party's latest call has taken no more steps than a wait-free call
     /// of its name may take, or than an obstruction-free one may that pays for its retries by changes of others.
     pub fn keeps_guarantees(&self)
-        ensures { KeepsGuarantees (trace_in ⟦<T as Coded>⟧.coding self.now) }
+        ensures { KeepsGuarantees (trace_in (coding_by T.Words) self.now) }
     {
         let _ = &self.parts;
     }
@@ -357,14 +339,14 @@ impl<T: Words> Machine<T> {
 
     /// How far the party's latest call has come, or None where it has begun none.
     pub fn under_way(&self, party: u32) -> Option<Progress>
-        ensures { result ≡ progress_in (world_in ⟦<T as Coded>⟧.coding self.now) party }
+        ensures { result ≡ progress_in (world_in (coding_by T.Words) self.now) party }
     {
         progress_of(&self.parts.latest, self.parts.changes, party)
     }
 
     /// Whether the party has a call under way that needs no decision to go on.
     pub fn is_going(&self, party: u32) -> bool
-        ensures { result ≡ is_going (world_in ⟦<T as Coded>⟧.coding self.now) party }
+        ensures { result ≡ is_going (world_in (coding_by T.Words) self.now) party }
     {
         match flight_of(&self.parts.latest, party) {
             Some(flight) => !is_asking(flight),

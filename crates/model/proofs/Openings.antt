@@ -4,7 +4,9 @@ use Rattle.model.proofs.Names.{nat_tests, opened, opening, queue_error, refl, tr
 use Rattle.steps.specs.declared.enums.UniqueIndexCreationError.{UniqueIndexCreationError}
 use Rattle.steps.specs.declared.enums.UniqueIndexCreationError.TheVariants.{ProvidedCapacityGreaterThanMaxCapacity, ProvidedCapacityIsZero}
 use Rattle.model.specs.declared.turn.Kind.TheVariants.{Loan}
-use Rattle.model.specs.World.{loan_error}
+use Rattle.model.specs.declared.turn.Shape.{Shape}
+use Rattle.model.specs.declared.turn.Shape.TheVariants as shapes
+use Rattle.model.specs.World.{loan_error, shape_error, kind_in, capacity_in, queue_in}
 
 -- ---- the same machine, made with one number and with two
 
@@ -43,5 +45,10 @@ pub queue_admitted : (kind : Kind) (c : ℕ) → capacity_error kind c ≡ None 
 queue_admitted Loan c e = wide_enough c e
 queue_admitted kind c e = refl
 
-pub loan_admitted : (slots queue : ℕ) → loan_error slots queue ≡ None → (capacity_error Loan slots ≡ None) × (queue_error Loan queue ≡ None)
+loan_admitted : (slots queue : ℕ) → loan_error slots queue ≡ None → (capacity_error Loan slots ≡ None) × (queue_error Loan queue ≡ None)
 loan_admitted = grind (arith, passed_both, neither, passes)
+
+pub shape_admitted : (shape : Shape) → shape_error shape ≡ None
+    → (capacity_error (kind_in shape) (capacity_in shape) ≡ None) × (queue_error (kind_in shape) (queue_in shape) ≡ None)
+shape_admitted (shapes.Of kind capacity) e = (e, queue_admitted kind capacity e)
+shape_admitted (shapes.Loan slots queue) e = loan_admitted slots queue e

@@ -6,9 +6,10 @@ use Rattle.model.proofs.Names.{call_refusal, capacity_error, first_of, get_or, l
 use Rattle.model.proofs.Names.{queue_error, refl, refusal_of, run, subst, sym, take, unless_refused, world_after, ℕ}
 use Rattle.model.proofs.Names.{◌++◌, ◌+◌, ◌<◌, ◌∙◌, ◌∷◌, ◌≡◌}
 use Rattle.std.proofs.lemmas.List.{take_more}
-use Rattle.model.specs.World.{loan_opening, loan_error}
+use Rattle.model.specs.declared.turn.Shape.{Shape}
+use Rattle.model.specs.World.{opening_as, shape_error, queue_in}
 use Rattle.model.specs.Turns.{attempt_by, run_by, IsReachedBy}
-use Rattle.model.proofs.Openings.{opened_at_one, queue_admitted, loan_admitted}
+use Rattle.model.proofs.Openings.{opened_at_one, queue_admitted, shape_admitted}
 
 module _ {T : Type 0} where
   -- ---- what a machine is made with stays
@@ -96,9 +97,18 @@ module _ {T : Type 0} where
         is = sym (opened_at_one code kind capacity parties);
       }
 
-  pub reached_loan : (code : Coding T) (slots queue parties : ℕ) → IsCoding code → loan_error slots queue ≡ None
-      → IsReached (loan_opening code slots queue parties)
-  reached_loan = grind (arith, loan_admitted)
+  pub reached_as : (code : Coding T) (shape : Shape) (parties : ℕ) → IsCoding code → shape_error shape ≡ None
+      → IsReached (opening_as code shape parties)
+  reached_as code shape parties coded e =
+      let admits = shape_admitted shape e in
+      record {
+        coded = coded;
+        admitted = admits.0;
+        queue = queue_in shape;
+        queued = admits.1;
+        turns = [];
+        is = refl;
+      }
 
   pub reached_is : (t u : Trace T) → t ≡ u → IsReached u → IsReached t
   reached_is t u e r = subst IsReached (sym e) r

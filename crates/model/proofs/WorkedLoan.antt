@@ -9,9 +9,10 @@ use Rattle.model.specs.declared.event.Item.TheVariants as items
 use Rattle.model.specs.declared.event.Start.TheVariants as starts
 use Rattle.model.specs.declared.families.loan.LoanStart.TheVariants.{Loan, Send, Receive, GiveBack, Reclaim}
 use Rattle.model.specs.declared.turn.Refusal.TheVariants.{NoParty, NoRole, NotHeld}
+use Rattle.model.specs.declared.turn.Shape.TheVariants as shapes
 use Rattle.model.specs.Families.Loan.Promises.{LivesRight}
 use Rattle.model.specs.Families.Loan.Reading.{Free, Passing, With, spot_of, place_of, receiver_of}
-use Rattle.model.specs.World.{loan_opening}
+use Rattle.model.specs.World.{opening_as}
 use Rattle.model.proofs.Readings.{AreRight, Each-append, Each-nil}
 use Rattle.model.proofs.Runs.{two_words, begins}
 
@@ -32,7 +33,7 @@ reclaim = starts.Loan Reclaim
 
 -- two slots, a submission queue of capacity 1, and three parties
 abbrev ran_on : List (Turn ℕ) → Trace ℕ
-ran_on turns = run turns (loan_opening two_words 2 1 3)
+ran_on turns = run turns (opening_as two_words (shapes.Loan 2 1) 3)
 
 -- ---- the opening: head, next indices and flags; and the positions, roles and cells of both queues
 

@@ -1,5 +1,6 @@
 -- How the values of a machine are written in words.
 use Rattle.std.specs.Prelude.{◌≡◌, ◌≤◌, ℕ, List, [], ◌∷◌, length, slice_index}
+use Rattle.steps.specs.declared.words.Words.{Ghosts}
 
 pub record Coding (T : Type 0) : Type 0 where
   pub size : ℕ  -- how many words a value has
@@ -10,6 +11,10 @@ pub record Coding (T : Type 0) : Type 0 where
 abbrev pub coding_of : {T : Type 0} → ℕ → (T → List ℕ) → (List ℕ → T) → Coding T
 coding_of size words_of value_of =
     record { size = size; words_of = words_of; value_of = value_of }
+
+-- the coding of a type, by the members of its `Words`
+abbrev pub coding_by : {T : Type 0} → Ghosts T → Coding T
+coding_by words = coding_of words.WORDS words.words_of words.value_of
 
 -- every value has that many words, from 1 to 128, and they give it back
 pub record IsCoding {T : Type 0} (code : Coding T) : Type 0 where

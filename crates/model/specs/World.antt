@@ -10,6 +10,8 @@ use Rattle.model.specs.declared.party.Party.{Party}
 use Rattle.model.specs.declared.party.Progress.{Progress}
 use Rattle.model.specs.declared.turn.Kind.{Kind}
 use Rattle.model.specs.declared.turn.Kind.TheVariants.{Loan}
+use Rattle.model.specs.declared.turn.Shape.{Shape}
+use Rattle.model.specs.declared.turn.Shape.TheVariants as shapes
 use Rattle.model.specs.Coding.{Coding}
 use Rattle.model.specs.Families.{opening_of}
 use Rattle.model.specs.Families.Loan.Opening.{opening_words, opening_kept}
@@ -43,19 +45,28 @@ pub record Trace (T : Type 0) : Type 0 where
   pub world : World T
   pub events : List (Event T)
 
+-- ---- a structure: its kind, and its one or two numbers
+
+abbrev pub kind_in : Shape → Kind
+kind_in (shapes.Of kind capacity) = kind
+kind_in (shapes.Loan slots queue) = Loan
+
+-- its capacity, of a loan channel its slots
+abbrev pub capacity_in : Shape → ℕ
+capacity_in (shapes.Of kind capacity) = capacity
+capacity_in (shapes.Loan slots queue) = slots
+
+-- the capacity of a loan channel's submission queue, of any other kind the capacity again
+abbrev pub queue_in : Shape → ℕ
+queue_in (shapes.Of kind capacity) = capacity
+queue_in (shapes.Loan slots queue) = queue
+
 -- the refusal of a capacity that is not admitted
 abbrev pub capacity_error : Kind → ℕ → Option UniqueIndexCreationError
 capacity_error kind capacity =
     capacity_refusal (opening_of kind).least (opening_of kind).greatest capacity
 
--- why no machine is made: its capacity, or where that is admitted, memory
-abbrev pub IsCreationError : Kind → ℕ → UniqueIndexCreationError → Type 0
-IsCreationError kind capacity e =
-    (capacity_error kind capacity ≡ Some e) ⊎ (capacity_error kind capacity ≡ None) × (e ≡ NoMemory)
-
--- ---- a loan channel is made with two numbers: its slots, and the capacity of its submission queue
-
--- the refusal of the second number, which no other kind has
+-- the refusal of a submission queue's, which no other kind has
 abbrev pub queue_error : Kind → ℕ → Option UniqueIndexCreationError
 queue_error Loan queue = capacity_refusal 1 (2 ^ 32 - 1) queue
 queue_error kind queue = None
@@ -69,9 +80,14 @@ loan_error slots queue =
     then Some ProvidedCapacityIsZero
     else None
 
-abbrev pub IsLoanError : ℕ → ℕ → UniqueIndexCreationError → Type 0
-IsLoanError slots queue e =
-    (loan_error slots queue ≡ Some e) ⊎ (loan_error slots queue ≡ None) × (e ≡ NoMemory)
+abbrev pub shape_error : Shape → Option UniqueIndexCreationError
+shape_error (shapes.Of kind capacity) = capacity_error kind capacity
+shape_error (shapes.Loan slots queue) = loan_error slots queue
+
+-- why no machine is made: its numbers, or where they are admitted, memory
+abbrev pub IsCreationError : Shape → UniqueIndexCreationError → Type 0
+IsCreationError shape e =
+    (shape_error shape ≡ Some e) ⊎ (shape_error shape ≡ None) × (e ≡ NoMemory)
 
 -- the words at the opening, by the number of words of a value, the capacity and the second number
 abbrev pub words_opened : Kind → ℕ → ℕ → ℕ → List ℕ
@@ -143,9 +159,10 @@ module _ {T : Type 0} where
         events = [];
       }
 
-  -- a loan channel of so many slots, with a submission queue of this capacity
-  abbrev pub loan_opening : Coding T → ℕ → ℕ → ℕ → Trace T
-  loan_opening code slots queue parties = opened code Loan slots queue parties
+  -- the machine of a structure in which nothing has happened
+  abbrev pub opening_as : Coding T → Shape → ℕ → Trace T
+  opening_as code shape parties =
+      opened code (kind_in shape) (capacity_in shape) (queue_in shape) parties
 
   -- the party's call under way
   abbrev pub flight_in : World T → ℕ → Option (Flight T)

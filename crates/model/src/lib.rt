@@ -2,7 +2,6 @@
 //! believe, stands in `specs/`, and the functions that do so in the crate `turns`.
 #![tactic(auto)]
 
-pub mod coding;
 pub mod event;
 pub mod families;
 pub mod party;

@@ -1,6 +1,6 @@
 //! What a machine is made of, its turns, and why one is refused.
 ghost use Rattle.std.specs.Prelude.{◌≡◌, ◌-◌, ◌^◌, ◌≤◌, None, ⊤};
-ghost use Rattle.model.specs.World.{capacity_error, loan_error};
+ghost use Rattle.model.specs.World.{kind_in, capacity_in, queue_in, capacity_error, loan_error, shape_error};
 
 use crate::event::Start;
 use crate::families::capacities;
@@ -32,19 +32,56 @@ pub enum Kind {
     Loan,
 }
 
-/// Why a machine of this kind is not made with this capacity, or None. A queue and a set of bits or counts have from 0
-/// to 2^32 - 1, the single value 1, the unique index set and the loan channel from 1 to 2^24 - 2, and the robust one and the
-/// container from 1 to 2^32 - 1.
-pub fn capacity_error(kind: Kind, capacity: usize) -> Option<UniqueIndexCreationError>
-    ensures { result ≡ capacity_error kind capacity }
-{
-    let (least, greatest) = capacities(kind);
-    capacity_refusal(capacity as u64, least, greatest)
+/// A structure: its kind and its numbers, which are not tested here.
+#[derive(Clone, Copy)]
+pub enum Shape {
+    /// One of this kind and capacity. The submission queue of a loan channel is then as long as it has slots.
+    Of(Kind, u64),
+    /// A loan channel of so many slots, with a submission queue of this capacity.
+    Loan(u64, u64),
 }
 
-/// Why a loan channel of so many slots, with a submission queue of this capacity, is not made, or None. It has from 1 to
-/// 2^24 - 2 slots, and its queue from 1 to 2^32 - 1. A number above its greatest is refused before one below its least.
-pub fn loan_error(slots: usize, queue: usize) -> Option<UniqueIndexCreationError>
+impl Shape {
+    /// The kind of the structure.
+    pub fn kind(self) -> Kind
+        ensures { result ≡ kind_in self }
+    {
+        match self {
+            Shape::Of(kind, _) => kind,
+            Shape::Loan(_, _) => Kind::Loan,
+        }
+    }
+
+    /// The capacity, of a loan channel its slots.
+    pub fn capacity(self) -> u64
+        ensures { result ≡ capacity_in self }
+    {
+        match self {
+            Shape::Of(_, capacity) => capacity,
+            Shape::Loan(slots, _) => slots,
+        }
+    }
+
+    /// The capacity of a loan channel's submission queue. Of any other kind it is the capacity again.
+    pub fn queue(self) -> u64
+        ensures { result ≡ queue_in self }
+    {
+        match self {
+            Shape::Of(_, capacity) => capacity,
+            Shape::Loan(_, queue) => queue,
+        }
+    }
+}
+
+fn capacity_error(kind: Kind, capacity: u64) -> Option<UniqueIndexCreationError>
+    ensures error { result ≡ capacity_error kind capacity }
+    ensures capacity { result ≡ None → capacity ≤ 2 ^ 32 - 1 }
+{
+    let (least, greatest) = capacities(kind);
+    capacity_refusal(capacity, least, greatest)
+}
+
+fn loan_error(slots: u64, queue: u64) -> Option<UniqueIndexCreationError>
     ensures error { result ≡ loan_error slots queue }
     ensures slots { result ≡ None → slots ≤ 2 ^ 24 - 2 }
     ensures queue { result ≡ None → queue ≤ 2 ^ 32 - 1 }
@@ -56,6 +93,21 @@ pub fn loan_error(slots: usize, queue: usize) -> Option<UniqueIndexCreationError
         return Some(UniqueIndexCreationError::ProvidedCapacityIsZero);
     }
     None
+}
+
+/// Why no machine of this shape is made, or None. A queue and a set of bits or counts have a capacity from 0 to 2^32 - 1,
+/// the single value 1, the unique index set from 1 to 2^24 - 2, and the robust one and the container from 1 to 2^32 - 1.
+/// A loan channel has from 1 to 2^24 - 2 slots, and its queue from 1 to 2^32 - 1. A number above its greatest is refused
+/// before one below its least.
+pub fn shape_error(shape: Shape) -> Option<UniqueIndexCreationError>
+    ensures error { result ≡ shape_error shape }
+    ensures capacity { result ≡ None → capacity_in shape ≤ 2 ^ 32 - 1 }
+    ensures queue { result ≡ None → queue_in shape ≤ 2 ^ 32 - 1 }
+{
+    match shape {
+        Shape::Of(kind, capacity) => capacity_error(kind, capacity),
+        Shape::Loan(slots, queue) => loan_error(slots, queue),
+    }
 }
 
 /// One turn of a run. The number is the party's.

@@ -38,9 +38,10 @@ ghost use Rattle.pages.specs.Value.{value, register};
 ghost use Rattle.pages.specs.Value as single;
 ghost use Rattle.pages.specs.ValueBridge.{LoadsByTable, StoresByTable, ValueDoesAsTheCode, ValueRunsAsTheMachine};
 ghost use Rattle.pages.specs.ValueBridge as single_bridge;
+ghost use Rattle.model.specs.Coding.{coding_by};
 
 use machine::Machine;
-use model::coding::Coded;
+use steps::words::Words;
 
 /// The index queue, with one producer and one consumer: the theorem of its page. The function does nothing: its contract is
 /// a law.
@@ -82,8 +83,8 @@ pub fn single_value_is_the_code()
 /// function does nothing.
 pub fn a_machine_runs_the_page(machine: &Machine<u64>)
     ensures { (capacity : ℕ) (turns : List (Turn queue.Call)) → capacity < 2 ^ 32 → length turns < 2 ^ 63
-        → trace_in ⟦<u64 as Coded>⟧.coding machine.now ≡ run (map as_turn turns) (acquired capacity)
-        → IsSame reading roles_told (trace_in ⟦<u64 as Coded>⟧.coding machine.now)
+        → trace_in (coding_by ⟦<u64 as Words>⟧) machine.now ≡ run (map as_turn turns) (acquired capacity)
+        → IsSame reading roles_told (trace_in (coding_by ⟦<u64 as Words>⟧) machine.now)
         (fold (turned (index_queue capacity)) (opening (index_queue capacity)) turns) }
 {}
 
@@ -163,9 +164,9 @@ pub fn unique_index_set_is_the_code()
 /// turns, where the response of a reset of all says what its steps have handed out. Of a unique index set this is so if each
 /// index was released by its holder. The function does nothing.
 pub fn a_machine_runs_the_sets(machine: &Machine<u64>)
-    ensures bits { bits_bridge.BitSetIsRun (trace_in ⟦<u64 as Coded>⟧.coding machine.now) }
-    ensures counts { counts_bridge.CountingIsRun (trace_in ⟦<u64 as Coded>⟧.coding machine.now) }
-    ensures unique { unique_bridge.UniqueIsRun (trace_in ⟦<u64 as Coded>⟧.coding machine.now) }
+    ensures bits { bits_bridge.BitSetIsRun (trace_in (coding_by ⟦<u64 as Words>⟧) machine.now) }
+    ensures counts { counts_bridge.CountingIsRun (trace_in (coding_by ⟦<u64 as Words>⟧) machine.now) }
+    ensures unique { unique_bridge.UniqueIsRun (trace_in (coding_by ⟦<u64 as Words>⟧) machine.now) }
 {}
 
 /// The queue of values of any type that is written in 1 to 128 words, with one producer and one consumer: the theorem of its

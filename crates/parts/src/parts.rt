@@ -2,19 +2,19 @@
 ghost use Rattle.std.specs.Prelude.{◌≡◌, [], ◌+◌, ◌-◌, ◌^◌, ◌≤◌, ◌<◌, true, false, None, OnOk, OnErr, IfOk, IfErr, replicate};
 ghost use Rattle.model.specs.Families.{kept_after_begin};
 ghost use Rattle.model.specs.Parties.{put};
-ghost use Rattle.model.specs.World.{opening, loan_opening, capacity_error, loan_error, IsCreationError, IsLoanError};
+ghost use Rattle.model.specs.World.{opening_as, shape_error, IsCreationError};
 ghost use Rattle.model.specs.Refusals.{refusal_of, IsRefusal};
 ghost use Rattle.model.specs.Small.{IsSmall, HasSmallCounts};
 ghost use Rattle.model.specs.declared.party.Doing.TheVariants.{Over};
 ghost use Rattle.model.specs.Turns.{turn_of, number_of, one_if, after_turn, after_turns, AreAllowed};
 ghost use Rattle.model.specs.declared.turn.Turn.TheVariants.{Next};
 ghost use Rattle.parts.specs.Parts.{state_of, trace_of, going_refusal, IsGoingRefusal, around, after_turn_of, StandsAlone, Steps};
+ghost use Rattle.model.specs.Coding.{coding_by};
 
-use model::coding::Coded;
 use model::event::{Event, Start};
 use model::families::{Beside, Registry};
 use model::party::{Doing, Latest, Party, Seat};
-use model::turn::{Kind, Refusal, Turn, capacity_error, loan_error};
+use model::turn::{Kind, Refusal, Shape, Turn, shape_error};
 use std::alloc::Global;
 use std::collections::BTreeMap;
 use steps::ask::Want;
@@ -90,7 +90,7 @@ fn enter<T: Words>(
 ) -> bool
     ensures latest { result ≡ true → latest.new.entries ≡ put number party latest.old.entries }
     ensures kept { result ≡ true → kept.new
-        ≡ kept_after_begin ⟦<T as Coded>⟧.coding capacity party.start number kept.old }
+        ≡ kept_after_begin (coding_by T.Words) capacity party.start number kept.old }
     ensures latest_stays { result ≡ false → latest.new.entries ≡ latest.old.entries }
     ensures kept_stays { result ≡ false → kept.new ≡ kept.old }
 {
@@ -140,11 +140,11 @@ fn take_step<T: Words>(
     requires changes { changes.old ≤ turns }
     requires small { HasSmallCounts turns changes.old party.old }
     ensures allowed { OnOk result
-        (going_refusal ⟦<T as Coded>⟧.coding kept.old party.old.doing said ≡ None) }
+        (going_refusal (coding_by T.Words) kept.old party.old.doing said ≡ None) }
     ensures refused { IfErr result
-        (IsGoingRefusal ⟦<T as Coded>⟧.coding kept.old party.old.doing said) }
+        (IsGoingRefusal (coding_by T.Words) kept.old party.old.doing said) }
     ensures ok { OnOk result (around party.new words.new.items kept.new changes.new events.new.items
-        ≡ after_turn_of ⟦<T as Coded>⟧.coding number said beside party.old.doing
+        ≡ after_turn_of (coding_by T.Words) number said beside party.old.doing
         (around party.old words.old.items kept.old changes.old events.old.items)) }
     ensures party { OnErr result (party.new ≡ party.old) }
     ensures words { OnErr result (words.new.items ≡ words.old.items) }
@@ -221,7 +221,7 @@ fn take_steps<T: Words>(
     requires changes { changes.old ≤ turns }
     requires small { HasSmallCounts turns changes.old party.old }
     ensures most { result ≤ most }
-    ensures steps { Steps ⟦<T as Coded>⟧.coding number result
+    ensures steps { Steps (coding_by T.Words) number result
         (around party.old words.old.items kept.old changes.old events.old.items)
         (around party.new words.new.items kept.new changes.new events.new.items) }
 {
@@ -282,62 +282,40 @@ fn made<T>(
 }
 
 impl<T: Words> Parts<T> {
-    /// The parts of a machine in which nothing has happened.
+    /// The parts of a machine of this shape in which nothing has happened.
     pub fn new(
         alloc: Global,
-        kind: Kind,
-        capacity: usize,
+        shape: Shape,
         parties: u32,
     ) -> Result<Parts<T>, UniqueIndexCreationError>
-        ensures ok { IfOk result (λ m. trace_of ⟦<T as Coded>⟧.coding m
-            ≡ opening ⟦<T as Coded>⟧.coding kind capacity parties) }
-        ensures admitted { OnOk result (capacity_error kind capacity ≡ None) }
-        ensures refused { IfErr result (IsCreationError kind capacity) }
+        ensures ok { IfOk result (λ m. trace_of (coding_by T.Words) m
+            ≡ opening_as (coding_by T.Words) shape parties) }
+        ensures admitted { OnOk result (shape_error shape ≡ None) }
+        ensures refused { IfErr result (IsCreationError shape) }
     {
-        if let Some(error) = capacity_error(kind, capacity) {
+        if let Some(error) = shape_error(shape) {
             return Err(error);
         }
-        let capacity = capacity as u32;
-        let Ok((words, kept)) = families::opening::<T>(alloc, kind, capacity) else {
+        let kind = shape.kind();
+        let capacity = shape.capacity() as u32;
+        let queue = shape.queue() as u32;
+        let Ok((words, kept)) = families::opening::<T>(alloc, kind, capacity, queue) else {
             return Err(UniqueIndexCreationError::NoMemory);
         };
         Ok(made(alloc, kind, capacity, parties, words, kept))
-    }
-
-    /// The same of a loan channel of so many slots, with a submission queue of this capacity.
-    pub fn new_loan(
-        alloc: Global,
-        slots: usize,
-        queue: usize,
-        parties: u32,
-    ) -> Result<Parts<T>, UniqueIndexCreationError>
-        ensures ok { IfOk result (λ m. trace_of ⟦<T as Coded>⟧.coding m
-            ≡ loan_opening ⟦<T as Coded>⟧.coding slots queue parties) }
-        ensures admitted { OnOk result (loan_error slots queue ≡ None) }
-        ensures refused { IfErr result (IsLoanError slots queue) }
-    {
-        if let Some(error) = loan_error(slots, queue) {
-            return Err(error);
-        }
-        let capacity = slots as u32;
-        let opened = families::loan::opening::open::<T>(alloc, capacity, queue as u32);
-        let Ok((words, kept)) = opened else {
-            return Err(UniqueIndexCreationError::NoMemory);
-        };
-        Ok(made(alloc, Kind::Loan, capacity, parties, words, kept))
     }
 
     /// The party begins this call, unless that is refused.
     fn begin(&mut self, number: u32, start: Start<T>) -> Result<(), Refusal>
         requires { self.old.turns < 2 ^ 64 - 2 }
         ensures allowed { OnOk result
-            (refusal_of (trace_of ⟦<T as Coded>⟧.coding self.old).world
+            (refusal_of (trace_of (coding_by T.Words) self.old).world
             (Turn.Begin number start) ≡ None) }
         ensures refused { IfErr result
-            (IsRefusal (trace_of ⟦<T as Coded>⟧.coding self.old).world (Turn.Begin number start)) }
+            (IsRefusal (trace_of (coding_by T.Words) self.old).world (Turn.Begin number start)) }
         ensures ok { OnOk result
-            (trace_of ⟦<T as Coded>⟧.coding self.new
-            ≡ after_turn (trace_of ⟦<T as Coded>⟧.coding self.old) (Turn.Begin number start)) }
+            (trace_of (coding_by T.Words) self.new
+            ≡ after_turn (trace_of (coding_by T.Words) self.old) (Turn.Begin number start)) }
         ensures err { OnErr result (state_of self.new ≡ state_of self.old) }
     {
         if number >= self.parties {
@@ -375,15 +353,15 @@ impl<T: Words> Parts<T> {
     /// The party's call takes its step, or is handed a decision, unless that is refused.
     fn resume(&mut self, number: u32, said: Option<bool>) -> Result<(), Refusal>
         requires turns { self.old.turns < 2 ^ 64 - 2 }
-        requires small { IsSmall (trace_of ⟦<T as Coded>⟧.coding self.old).world }
+        requires small { IsSmall (trace_of (coding_by T.Words) self.old).world }
         ensures allowed { OnOk result
-            (refusal_of (trace_of ⟦<T as Coded>⟧.coding self.old).world (turn_of number said)
+            (refusal_of (trace_of (coding_by T.Words) self.old).world (turn_of number said)
             ≡ None) }
         ensures refused { IfErr result
-            (IsRefusal (trace_of ⟦<T as Coded>⟧.coding self.old).world (turn_of number said)) }
+            (IsRefusal (trace_of (coding_by T.Words) self.old).world (turn_of number said)) }
         ensures ok { OnOk result
-            (trace_of ⟦<T as Coded>⟧.coding self.new
-            ≡ after_turn (trace_of ⟦<T as Coded>⟧.coding self.old) (turn_of number said)) }
+            (trace_of (coding_by T.Words) self.new
+            ≡ after_turn (trace_of (coding_by T.Words) self.old) (turn_of number said)) }
         ensures err { OnErr result (state_of self.new ≡ state_of self.old) }
     {
         if number >= self.parties {
@@ -418,12 +396,12 @@ impl<T: Words> Parts<T> {
     fn die(&mut self, owner: OwnerId) -> Result<(), Refusal>
         requires { self.old.turns < 2 ^ 64 - 2 }
         ensures allowed { OnOk result
-            (refusal_of (trace_of ⟦<T as Coded>⟧.coding self.old).world (Turn.Die owner) ≡ None) }
+            (refusal_of (trace_of (coding_by T.Words) self.old).world (Turn.Die owner) ≡ None) }
         ensures refused { IfErr result
-            (IsRefusal (trace_of ⟦<T as Coded>⟧.coding self.old).world (Turn.Die owner)) }
+            (IsRefusal (trace_of (coding_by T.Words) self.old).world (Turn.Die owner)) }
         ensures ok { OnOk result
-            (trace_of ⟦<T as Coded>⟧.coding self.new
-            ≡ after_turn (trace_of ⟦<T as Coded>⟧.coding self.old) (Turn.Die owner)) }
+            (trace_of (coding_by T.Words) self.new
+            ≡ after_turn (trace_of (coding_by T.Words) self.old) (Turn.Die owner)) }
         ensures err { OnErr result (state_of self.new ≡ state_of self.old) }
     {
         if families::lacks_party(&self.kept, self.parties, owner) {
@@ -445,13 +423,13 @@ impl<T: Words> Parts<T> {
 
     /// One turn.
     pub fn step(&mut self, turn: Turn<T>) -> Result<(), Refusal>
-        requires { IsSmall (trace_of ⟦<T as Coded>⟧.coding self.old).world }
+        requires { IsSmall (trace_of (coding_by T.Words) self.old).world }
         ensures allowed { OnOk result
-            (refusal_of (trace_of ⟦<T as Coded>⟧.coding self.old).world turn ≡ None) }
+            (refusal_of (trace_of (coding_by T.Words) self.old).world turn ≡ None) }
         ensures ok { OnOk result
-            (trace_of ⟦<T as Coded>⟧.coding self.new ≡ after_turn (trace_of ⟦<T as Coded>⟧.coding self.old) turn) }
+            (trace_of (coding_by T.Words) self.new ≡ after_turn (trace_of (coding_by T.Words) self.old) turn) }
         ensures refused { IfErr result
-            (IsRefusal (trace_of ⟦<T as Coded>⟧.coding self.old).world turn) }
+            (IsRefusal (trace_of (coding_by T.Words) self.old).world turn) }
         ensures err { OnErr result (state_of self.new ≡ state_of self.old) }
     {
         if self.turns >= MOST_TURNS {
@@ -467,12 +445,12 @@ impl<T: Words> Parts<T> {
 
     /// Steps of the party's call, one after another, some of so many or none. How many.
     pub fn steps(&mut self, number: u32, most: u64) -> u64
-        requires { IsSmall (trace_of ⟦<T as Coded>⟧.coding self.old).world }
+        requires { IsSmall (trace_of (coding_by T.Words) self.old).world }
         ensures most { result ≤ most }
-        ensures allowed { AreAllowed (trace_of ⟦<T as Coded>⟧.coding self.old)
+        ensures allowed { AreAllowed (trace_of (coding_by T.Words) self.old)
             (replicate result (Next number)) }
-        ensures ok { trace_of ⟦<T as Coded>⟧.coding self.new
-            ≡ after_turns (trace_of ⟦<T as Coded>⟧.coding self.old) (replicate result (Next number)) }
+        ensures ok { trace_of (coding_by T.Words) self.new
+            ≡ after_turns (trace_of (coding_by T.Words) self.old) (replicate result (Next number)) }
     {
         if number >= self.parties {
             return 0;

@@ -7,7 +7,7 @@ use Rattle.texts.specs.Container as container
 use Rattle.texts.specs.Indices.{mode_at, release, any_index_call, index_call}
 use Rattle.texts.specs.Indices.Robust as robust
 use Rattle.texts.specs.Loan as loan
-use Rattle.texts.specs.Queues.{push_index, push_value, item_call, any_call, queue_call}
+use Rattle.texts.specs.Queues.{push_index, push_value, any_queue_call, index_queue_call, value_queue_call}
 use Rattle.texts.specs.Grammar.{number_at, setup_of, begin_of, next_of, decision_of, turn_of, death_of, command_of}
 use Rattle.texts.specs.Print.{event_text, refusal_text}
 use Rattle.schedule.specs.Output.{Output, outcome, nexts, lines_from, machine_of, output_of_lines, output_of, stopped}
@@ -20,8 +20,8 @@ stopped_push : output_of (codes
     "index_queue 1 2\n0 begin acquire_producer\n0 next\n1 begin acquire_consumer\n1 next\n0 begin push 5\n0 next 3\n1 begin pop\n1 next 4\n0 next\n") []
     ≡ printed_whole (codes
     "0 begun acquire_producer\n0 finished acquire_producer -> true\n1 begun acquire_consumer\n1 finished acquire_consumer -> true\n0 begun push 5\n1 begun pop\n1 acted pop -> none\n1 finished pop -> none\n0 published 5\n0 acted push 5 -> true\n0 finished push 5 -> true\n")
-unfolding output_of_lines machine_of setup_of number_at lines_from command_of turn_of begin_of queue_call any_call
-    item_call push_index next_of nexts outcome event_text digits
+unfolding output_of_lines machine_of setup_of number_at lines_from command_of turn_of begin_of index_queue_call any_queue_call
+    push_index next_of nexts outcome event_text digits
 stopped_push = refl
 
 -- a push of a value of two words that stops inside its cell
@@ -31,8 +31,8 @@ stopped_in_a_cell : output_of
     []
     ≡ printed_whole (codes
     "0 begun acquire_producer\n0 finished acquire_producer -> true\n1 begun acquire_consumer\n1 finished acquire_consumer -> true\n0 begun push 18446744073709551618\n1 begun pop\n1 acted pop -> none\n1 finished pop -> none\n0 published 18446744073709551618\n0 acted push 18446744073709551618 -> true\n0 finished push 18446744073709551618 -> true\n0 begun len\n0 finished len -> 1\n")
-unfolding output_of_lines machine_of setup_of number_at lines_from command_of turn_of begin_of queue_call any_call
-    item_call push_value next_of nexts outcome event_text digits
+unfolding output_of_lines machine_of setup_of number_at lines_from command_of turn_of begin_of value_queue_call any_queue_call
+    push_value next_of nexts outcome event_text digits
 stopped_in_a_cell = refl
 
 -- a length between the cell and the publication of a push, and one after it
@@ -40,8 +40,8 @@ lengths : output_of (codes
     "index_queue 1 2\n0 begin acquire_producer\n0 next\n0 begin push 5\n0 next 3\n1 begin len\n1 next 9\n0 next\n1 begin is_full\n1 next 9\n") []
     ≡ printed_whole (codes
     "0 begun acquire_producer\n0 finished acquire_producer -> true\n0 begun push 5\n1 begun len\n1 finished len -> 0\n0 published 5\n0 acted push 5 -> true\n0 finished push 5 -> true\n1 begun is_full\n1 finished is_full -> true\n")
-unfolding output_of_lines machine_of setup_of number_at lines_from command_of turn_of begin_of queue_call any_call
-    item_call push_index next_of nexts outcome event_text digits
+unfolding output_of_lines machine_of setup_of number_at lines_from command_of turn_of begin_of index_queue_call any_queue_call
+    push_index next_of nexts outcome event_text digits
 lengths = refl
 
 -- two flags are set, and a reset of all clears both in one turn
@@ -141,7 +141,7 @@ no_room_to_send = refl
 -- memory is refused to the second turn, and the run goes on with the next line
 short_turn : output_of (codes "index_queue 1 1\n0 begin acquire_producer\n0 next\n0 next") (false ∷ true ∷ [])
     ≡ printed_whole (codes "0 begun acquire_producer\nrefused NoMemory\n0 finished acquire_producer -> true\n")
-unfolding output_of_lines machine_of setup_of number_at lines_from command_of turn_of begin_of queue_call any_call
+unfolding output_of_lines machine_of setup_of number_at lines_from command_of turn_of begin_of index_queue_call any_queue_call
     next_of outcome event_text refusal_text digits
 short_turn = refl
 
@@ -157,15 +157,15 @@ short_of_several = refl
 -- a turn that is refused for another reason is not for memory, and one that lacked memory can be tried again
 refused_first : output_of (codes "index_queue 1 1\n0 next\n0 begin len\n0 begin len\n0 next 9") (true ∷ true ∷ false ∷ true ∷ [])
     ≡ printed_whole (codes "refused Idle\nrefused NoMemory\n0 begun len\nrefused NoMemory\n")
-unfolding output_of_lines machine_of setup_of number_at lines_from command_of turn_of begin_of queue_call any_call
-    item_call push_index next_of nexts outcome event_text refusal_text digits
+unfolding output_of_lines machine_of setup_of number_at lines_from command_of turn_of begin_of index_queue_call any_queue_call
+    push_index next_of nexts outcome event_text refusal_text digits
 refused_first = refl
 
 -- the lines behind a refused turn are read as ever
 short_and_malformed : output_of (codes "index_queue 1 1\n0 begin len\n0 begin push") (true ∷ [])
     ≡ record { text = codes "refused NoMemory\n"; end = Err (3, causes.MissingValue) }
-unfolding output_of_lines machine_of setup_of number_at lines_from command_of turn_of begin_of queue_call any_call
-    item_call push_index outcome refusal_text
+unfolding output_of_lines machine_of setup_of number_at lines_from command_of turn_of begin_of index_queue_call any_queue_call
+    push_index outcome refusal_text
 short_and_malformed = refl
 
 missing : output_of [] [] ≡ stopped 1 causes.MissingValue
@@ -183,6 +183,6 @@ extra = refl
 
 -- the lines before a malformed one are printed, and empty lines are counted
 malformed : output_of (codes "index_queue 1 1\n\ndie 1\n0 begin push") [] ≡ record { text = codes "refused WrongCall\n"; end = Err (4, causes.MissingValue) }
-unfolding output_of_lines machine_of setup_of number_at lines_from command_of turn_of death_of begin_of queue_call
-    any_call item_call push_index outcome refusal_text
+unfolding output_of_lines machine_of setup_of number_at lines_from command_of turn_of death_of begin_of index_queue_call
+    push_index outcome refusal_text
 malformed = refl

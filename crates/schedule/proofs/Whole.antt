@@ -1,21 +1,23 @@
 -- A whole text, and a whole run.
-use Rattle.std.proofs.Common.{◌≡◌, ℕ, ◌≤◌, ◌==◌, Bool, Option, Result, Ok, Err, List, [], ◌∷◌, sym, ap, ◌∙◌, subst, append-nil, length, arith, IfSome, IfErr}
+use Rattle.std.proofs.Common.{◌≡◌, ◌⊎◌, inl, inr, ℕ, ◌≤◌, ◌==◌, Bool, Option, Some, None, Result, Ok, Err, List, [], ◌∷◌, sym, ap, ◌∙◌, subst}
+use Rattle.std.proofs.Common.{append-nil, length, arith, IfSome, IfErr}
 use Rattle.std.specs.Io.KnownBytes.{Appends, Keeps}
-use Rattle.std.proofs.KnownBytes.{Appends-nil, Appends-kept}
+use Rattle.std.proofs.KnownBytes.{Appends-nil, Appends-kept, Keeps-refl}
 use Rattle.std.proofs.lemmas.List.Splits.{length-slice_split}
 use Rattle.std.proofs.lemmas.List.Sums.{count_by-le-length}
 use Rattle.model.specs.declared.turn.Kind.{Kind}
-use Rattle.model.specs.World.{World}
+use Rattle.model.specs.World.{World, kind_in}
 use Rattle.texts.specs.declared.error.Cause.{Cause}
 use Rattle.texts.specs.declared.error.Cause.TheVariants.{MissingValue}
 use Rattle.texts.specs.declared.error.ScheduleError.{ScheduleError}
 use Rattle.texts.specs.declared.error.ScheduleError.TheVariants.{Malformed, ReadFailed, WriteFailed, NoMemory}
 use Rattle.texts.specs.declared.grammar.Setup.{Setup}
-use Rattle.texts.specs.Grammar.{kind_in}
+use Rattle.texts.specs.Grammar.{◌>>=◌, setup_of}
 use Rattle.texts.specs.Text.{lines, words}
 use Rattle.schedule.specs.Written.{AppendsPart}
-use Rattle.schedule.specs.Output.{Output, stopped, machine_of, trace_of, lines_from, opened, output_of_lines, output_of}
-use Rattle.schedule.specs.Run.{IsOutput, IsRun}
+use Rattle.schedule.specs.Output.{Output, stopped, capacity_cause, admitted, setup_error, machine_of, trace_of}
+use Rattle.schedule.specs.Output.{lines_from, opened, output_of_lines, output_of}
+use Rattle.schedule.specs.Run.{IsUnopened, IsOutput, IsRun}
 use Rattle.schedule.proofs.Lines.{output_from}
 
 -- a text has at most one line more than bytes
@@ -45,6 +47,33 @@ first_read input first rest refusals e = ap (output_of_lines refusals) e
 pub text_malformed : (input first : List ℕ) (rest : List (List ℕ)) (b : Option (List ℕ)) (cause : Cause) → lines input ≡ first ∷ rest
     → machine_of (words first) ≡ Err cause → IsOutput (output_of input) b b (Err (Malformed 1 cause))
 text_malformed input first rest b cause e read = stops input b cause (first_read input first rest [] e ∙ ap (first_as rest []) read)
+
+-- a capacity is tested once the line is read, as its machine is made
+
+abbrev tested : Result Setup Cause → Result Setup Cause
+tested read = read >>= λ setup. admitted setup (capacity_cause (setup_error setup))
+
+read_so : (ws : List (List ℕ)) (read : Result Setup Cause) → setup_of ws ≡ read → machine_of ws ≡ tested read
+unfolding machine_of
+read_so ws read is = ap tested is
+
+pub first_admitted : (ws : List (List ℕ)) (setup : Setup) → setup_of ws ≡ Ok setup → setup_error setup ≡ None → machine_of ws ≡ Ok setup
+first_admitted ws setup is none = read_so ws (Ok setup) is ∙ ap (λ o. admitted setup (capacity_cause o)) none
+
+pub first_malformed : (ws : List (List ℕ)) (cause : Cause) → setup_of ws ≡ Err cause → machine_of ws ≡ Err cause
+first_malformed ws cause is = read_so ws (Err cause) is
+
+first_refused : (ws : List (List ℕ)) (setup : Setup) (cause : Cause) → setup_of ws ≡ Ok setup → capacity_cause (setup_error setup) ≡ Some cause
+    → machine_of ws ≡ Err cause
+first_refused ws setup cause is refused = read_so ws (Ok setup) is ∙ ap (admitted setup) refused
+
+pub text_unopened : (input first : List ℕ) (rest : List (List ℕ)) (b : Option (List ℕ)) (setup : Setup) (e : ScheduleError) → lines input ≡ first ∷ rest
+    → setup_of (words first) ≡ Ok setup → IsUnopened setup e → IsOutput (output_of input) b b (Err e)
+text_unopened input first rest b setup e split read (inl memory) =
+    subst (λ x. IsOutput (output_of input) b b (Err x)) (sym memory) (Keeps-refl b)
+text_unopened input first rest b setup e split read (inr (cause, refused, is)) =
+    subst (λ x. IsOutput (output_of input) b b (Err x)) (sym is)
+    (text_malformed input first rest b cause split (first_refused (words first) setup cause read refused))
 
 -- ---- the other lines
 

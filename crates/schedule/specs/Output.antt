@@ -10,7 +10,7 @@ use Rattle.model.specs.declared.turn.Turn.TheVariants.{Next}
 use Rattle.steps.specs.Words.{words_of_u128, value_of_u128}
 use Rattle.model.specs.Coding.{Coding, coding_of}
 use Rattle.model.specs.World as machines
-use Rattle.model.specs.World.{World, Trace, opening, loan_opening, capacity_error, loan_error, world_in}
+use Rattle.model.specs.World.{World, Trace, kind_in, opening_as, shape_error, world_in}
 use Rattle.model.specs.Refusals.{refusal_of, is_going}
 use Rattle.model.specs.Turns.{world_after, events_of}
 use Rattle.texts.specs.declared.error.Cause.{Cause}
@@ -18,10 +18,8 @@ use Rattle.texts.specs.declared.error.Cause.TheVariants as causes
 use Rattle.texts.specs.declared.grammar.Command.{Command}
 use Rattle.texts.specs.declared.grammar.Command.TheVariants.{Once, Times}
 use Rattle.texts.specs.declared.grammar.Setup.{Setup}
-use Rattle.texts.specs.declared.grammar.Shape.{Shape}
-use Rattle.texts.specs.declared.grammar.Shape.TheVariants as shapes
 use Rattle.texts.specs.Text.{lines, words}
-use Rattle.texts.specs.Grammar.{◌>>=◌, kind_in, setup_of, command_of}
+use Rattle.texts.specs.Grammar.{◌>>=◌, setup_of, command_of}
 use Rattle.texts.specs.Print.{events_text, refusal_text}
 
 -- ---- one turn
@@ -143,11 +141,6 @@ abbrev pub admitted : Setup → Option Cause → Result Setup Cause
 admitted setup None = Ok setup
 admitted setup (Some cause) = Err cause
 
--- of a loan channel both its numbers are tested
-abbrev pub shape_error : Shape → Option UniqueIndexCreationError
-shape_error (shapes.Of kind capacity) = capacity_error kind capacity
-shape_error (shapes.Loan slots queue) = loan_error slots queue
-
 abbrev pub setup_error : Setup → Option UniqueIndexCreationError
 setup_error setup = shape_error setup.shape
 
@@ -156,14 +149,9 @@ machine_of ws = do
   setup ← setup_of ws
   admitted setup (capacity_cause (setup_error setup))
 
--- the machine of a structure, before its first turn
-abbrev pub trace_with : ℕ → Shape → Trace ℕ
-trace_with parties (shapes.Of kind capacity) = opening two_words kind capacity parties
-trace_with parties (shapes.Loan slots queue) = loan_opening two_words slots queue parties
-
--- the machine of a first line
+-- the machine of a first line, before its first turn
 abbrev pub trace_of : Setup → Trace ℕ
-trace_of setup = trace_with setup.parties setup.shape
+trace_of setup = opening_as two_words setup.shape setup.parties
 
 abbrev pub opened : Setup → List Bool → State
 opened setup refusals = record { world = (trace_of setup).world; refusals = refusals }

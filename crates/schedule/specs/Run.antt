@@ -1,10 +1,12 @@
 -- What a run wrote, and how it ended.
-use Rattle.std.specs.Prelude.{◌≡◌, ℕ, Bool, Option, Result, Ok, Err, List, ◌++◌, IfSome}
+use Rattle.std.specs.Prelude.{◌≡◌, ◌⊎◌, ℕ, Bool, Option, Some, Result, Ok, Err, List, ◌++◌, IfSome}
 use Rattle.std.specs.Io.KnownBytes.{Appends, Keeps}
 use Rattle.model.specs.World.{World}
+use Rattle.texts.specs.declared.error.Cause.{Cause}
 use Rattle.texts.specs.declared.error.ScheduleError.{ScheduleError}
 use Rattle.texts.specs.declared.error.ScheduleError.TheVariants as errors
-use Rattle.schedule.specs.Output.{Outcome, State, Printed, Output, output_of}
+use Rattle.texts.specs.declared.grammar.Setup.{Setup}
+use Rattle.schedule.specs.Output.{Outcome, State, Printed, Output, capacity_cause, setup_error, output_of}
 use Rattle.schedule.specs.Written.{AppendsPart}
 
 -- ---- a turn
@@ -35,6 +37,12 @@ Prints f old new before after (Err e) =
     × AppendsPart before after (f (record { world = old; refusals = refusals })).text
 
 -- ---- a run
+
+-- why the machine of a first line is not made: its capacity, or memory
+abbrev pub IsUnopened : Setup → ScheduleError → Type 0
+IsUnopened setup e =
+    (e ≡ errors.NoMemory)
+    ⊎ (cause : Cause) × (capacity_cause (setup_error setup) ≡ Some cause) × (e ≡ errors.Malformed 1 cause)
 
 -- The run ended as the output does, and its text was written. After a failed write it was a
 -- beginning of the text, and where there was no memory for the machine, nothing. All was read

@@ -5,7 +5,7 @@ use crate::runs::{self, machine_of, run_and_tell, run_in};
 use crate::told::status;
 use machine::event::Event;
 use machine::party::Progress;
-use machine::turn::{Kind, Refusal, Turn};
+use machine::turn::{Kind, Refusal, Shape, Turn};
 use machine::{Machine, Stopped};
 use std::alloc::{Allocator, Global};
 use std::io::{Read, Write};
@@ -62,26 +62,20 @@ impl<T: Words> TakesTurns<T> for Machine<T> {
 /// A new machine.
 pub fn made_of<T: Words>(
     alloc: Global,
-    kind: Kind,
-    capacity: usize,
+    shape: Shape,
     parties: u32,
 ) -> Result<Machine<T>, UniqueIndexCreationError> {
-    Machine::new(alloc, kind, capacity, parties)
+    Machine::new(alloc, shape, parties)
 }
 
-/// A new loan channel.
-pub fn made_loan<T: Words>(
-    alloc: Global,
-    slots: usize,
-    queue: usize,
-    parties: u32,
-) -> Result<Machine<T>, UniqueIndexCreationError> {
-    Machine::new_loan(alloc, slots, queue, parties)
-}
-
-/// The machine of a first line that was read, or None where there is no memory.
+/// The machine of a first line that was read, or None where its capacity is not admitted or there is no memory.
 pub fn made(alloc: Global, setup: Setup) -> Option<Machine<u128>> {
-    runs::made_of(alloc, setup).ok()
+    made_of(alloc, setup.shape, setup.parties).ok()
+}
+
+/// The machine of a first line that was read. The error says why there is none.
+pub fn opened(alloc: Global, setup: Setup) -> Result<Machine<u128>, ScheduleError> {
+    runs::opened(alloc, setup)
 }
 
 /// Takes one turn. The error says why it was refused.
@@ -124,7 +118,7 @@ pub fn read_words(line: &[u8]) -> Result<Setup, Cause> {
     setup_of(line)
 }
 
-/// Reads the first line.
+/// Reads the first line, where no machine is made of it. The capacity is tested last.
 pub fn read_setup(line: &[u8]) -> Result<Setup, Cause> {
     machine_of(line)
 }

@@ -1,9 +1,11 @@
 //! A whole run: the input is read, the machine is made, and the lines are done one after another.
-ghost use Rattle.std.specs.Prelude.{◌≡◌, ◌-◌, ◌^◌, ◌<◌, ◌≤◌, ℕ, Bool, Option, List, Result, IfOk, length, take, drop};
+ghost use Rattle.std.specs.Prelude.{◌≡◌, ◌-◌, ◌^◌, ◌<◌, ◌≤◌, ℕ, Bool, Option, Some, None, List, Result, OnOk, IfOk, IfErr};
+ghost use Rattle.std.specs.Prelude.{length, take, drop};
 ghost use Rattle.texts.specs.Grammar.{Gives};
-ghost use Rattle.schedule.specs.Output.{world_of, outcome, nexts, commanded, lines_from, setup_error, machine_of, trace_of, output_of};
+ghost use Rattle.schedule.specs.Output.{world_of, outcome, nexts, commanded, lines_from, capacity_cause, setup_error};
+ghost use Rattle.schedule.specs.Output.{machine_of, trace_of, output_of};
 ghost use Rattle.schedule.specs.Told.{exit_of, message_text};
-ghost use Rattle.schedule.specs.Run.{IsTurn, Prints, IsOutput, IsRun};
+ghost use Rattle.schedule.specs.Run.{IsTurn, Prints, IsUnopened, IsOutput, IsRun};
 ghost use Rattle.texts.specs.Text.{words, words_left};
 ghost use Rattle.schedule.specs.Written.{AppendsPart};
 ghost use Rattle.texts.specs.declared.error.ScheduleError.{ScheduleError};
@@ -13,12 +15,12 @@ use crate::output::{flush, put_events, put_refusal};
 use crate::told::status;
 use machine::Machine;
 use machine::event::Event;
-use machine::turn::{Kind, Turn, capacity_error, loan_error};
+use machine::turn::{Kind, Turn, shape_error};
 use std::alloc::{Allocator, Global};
 use std::io::{BufWriter, Read, Write};
 use steps::enums::UniqueIndexCreationError;
 use texts::error::{Cause, ScheduleError};
-use texts::grammar::{Command, Setup, Shape, command_of, setup_of};
+use texts::grammar::{Command, Setup, command_of, setup_of};
 use texts::line::Line;
 use texts::text::{Rest, lines};
 
@@ -125,42 +127,47 @@ fn do_lines<W: Write>(
     Ok(())
 }
 
-// Why no machine is made with these numbers, or None.
-fn setup_error(setup: Setup) -> Option<UniqueIndexCreationError>
-    ensures { result ≡ setup_error setup }
+// What a refusal of the machine says of the first line; refused memory says nothing.
+fn capacity_cause(error: UniqueIndexCreationError) -> Option<Cause>
+    ensures { result ≡ capacity_cause (Some error) }
 {
-    match setup.shape {
-        Shape::Of(kind, capacity) => capacity_error(kind, capacity as usize),
-        Shape::Loan(slots, queue) => loan_error(slots as usize, queue as usize),
-    }
-}
-
-/// The machine of a first line.
-pub fn made_of(alloc: Global, setup: Setup) -> Result<Machine<u128>, UniqueIndexCreationError>
-    ensures { IfOk result (λ machine. world_of machine ≡ (trace_of setup).world) }
-{
-    match setup.shape {
-        Shape::Of(kind, capacity) => Machine::new(alloc, kind, capacity as usize, setup.parties),
-        Shape::Loan(slots, queue) => {
-            Machine::new_loan(alloc, slots as usize, queue as usize, setup.parties)
+    match error {
+        UniqueIndexCreationError::ProvidedCapacityGreaterThanMaxCapacity => {
+            Some(Cause::ProvidedCapacityGreaterThanMaxCapacity)
         }
+        UniqueIndexCreationError::ProvidedCapacityIsZero => Some(Cause::ProvidedCapacityIsZero),
+        UniqueIndexCreationError::NoMemory => None,
     }
 }
 
-/// Reads the first line. The error is the first from the left, and last comes a capacity that the kind does not admit.
+/// Makes the machine of a first line that was read. It is here that its capacity is tested.
+pub fn opened(alloc: Global, setup: Setup) -> Result<Machine<u128>, ScheduleError>
+    ensures ok { IfOk result (λ machine. world_of machine ≡ (trace_of setup).world) }
+    ensures admitted { OnOk result (setup_error setup ≡ None) }
+    ensures refused { IfErr result (IsUnopened setup) }
+{
+    match Machine::new(alloc, setup.shape, setup.parties) {
+        Ok(machine) => Ok(machine),
+        Err(error) => match capacity_cause(error) {
+            Some(cause) => Err(ScheduleError::Malformed(1, cause)),
+            None => Err(ScheduleError::NoMemory),
+        },
+    }
+}
+
+/// Reads the first line where no machine is made of it. The error is the first from the left, and last comes a capacity
+/// that the kind does not admit.
 #[tactic(auto, unfolding(crate::specs::Output::machine_of))]
 pub fn machine_of(line: &[u8]) -> Result<Setup, Cause>
     ensures { Gives (λ setup. setup) result (machine_of (words line.now)) }
 {
     let setup = setup_of(line)?;
-    match setup_error(setup) {
-        Some(UniqueIndexCreationError::ProvidedCapacityGreaterThanMaxCapacity) => {
-            Err(Cause::ProvidedCapacityGreaterThanMaxCapacity)
-        }
-        Some(UniqueIndexCreationError::ProvidedCapacityIsZero) => {
-            Err(Cause::ProvidedCapacityIsZero)
-        }
-        Some(UniqueIndexCreationError::NoMemory) | None => Ok(setup),
+    match shape_error(setup.shape) {
+        None => Ok(setup),
+        Some(error) => match capacity_cause(error) {
+            Some(cause) => Err(cause),
+            None => Ok(setup),
+        },
     }
 }
 
@@ -172,13 +179,13 @@ fn do_text<W: Write>(alloc: Global, input: &[u8], writer: &mut W) -> Result<(), 
     let Some((first, rest)) = lines(input).first() else {
         return Err(ScheduleError::Malformed(1, Cause::MissingValue));
     };
-    let setup = match machine_of(first) {
+    let setup = match setup_of(first) {
         Ok(setup) => setup,
         Err(cause) => return Err(ScheduleError::Malformed(1, cause)),
     };
-    match made_of(alloc, setup) {
+    match opened(alloc, setup) {
         Ok(mut machine) => do_lines(setup.shape.kind(), rest, &mut machine, writer),
-        Err(_) => Err(ScheduleError::NoMemory),
+        Err(e) => Err(e),
     }
 }
 

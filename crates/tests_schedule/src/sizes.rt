@@ -2,7 +2,7 @@
 use machine::Machine;
 use machine::event::{Answer, Event, Start};
 use machine::families::container::ContainerStart;
-use machine::turn::{Kind, Turn};
+use machine::turn::{Kind, Shape, Turn};
 use schedule::bare::{made_of, state, step};
 use std::alloc::Global;
 use steps::enums::OwnerId;
@@ -79,7 +79,7 @@ fn holds<T: Words + PartialEq>(alloc: Global, first: T, second: T) -> bool {
     let Ok(owner) = OwnerId::new(7) else {
         return false;
     };
-    let Ok(mut machine) = made_of(alloc, Kind::Container, 2, 1) else {
+    let Ok(mut machine) = made_of(alloc, Shape::Of(Kind::Container, 2), 1) else {
         return false;
     };
     goes_on(&mut machine, first, second, owner)

@@ -3,7 +3,7 @@ use machine::Machine;
 use machine::event::{Answer, Event, Item, Start};
 use machine::families::atomic::AtomicStart;
 use machine::families::queues::QueueStart;
-use machine::turn::{Kind, Turn};
+use machine::turn::{Kind, Shape, Turn};
 use schedule::bare::{is_going, made_of, step};
 use std::alloc::Global;
 use std::test::Fail;
@@ -261,7 +261,7 @@ fn wrong_of(machine: &mut Machine<Reading>, kind: Kind) -> Option<usize> {
 /// What comes out otherwise on a new machine. It is made apart from what it does: each way out of a body that holds one
 /// has a proof that it is let go there.
 fn wrong(alloc: Global, kind: Kind) -> Option<usize> {
-    match made_of(alloc, kind, 1, 2) {
+    match made_of(alloc, Shape::Of(kind, 1), 2) {
         Ok(mut machine) => wrong_of(&mut machine, kind),
         Err(_) => Some(0),
     }

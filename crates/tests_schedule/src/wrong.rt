@@ -5,7 +5,7 @@ use machine::families::bits::BitsStart;
 use machine::families::indices::IndexStart;
 use machine::families::indices::robust::RobustStart;
 use machine::families::queues::QueueStart;
-use machine::turn::{Kind, Refusal, Turn};
+use machine::turn::{Kind, Refusal, Shape, Turn};
 use schedule::bare::{made_of, step};
 use std::alloc::Global;
 use std::test::Fail;
@@ -28,7 +28,7 @@ const WRONG: [(Kind, Start<u128>); 10] = [
 
 /// Whether the call is refused so on a new machine, and nothing is written down.
 fn is_wrong(alloc: Global, kind: Kind, start: Start<u128>) -> bool {
-    match made_of(alloc, kind, 1, 2) {
+    match made_of(alloc, Shape::Of(kind, 1), 2) {
         Ok(mut machine) => {
             step(&mut machine, Turn::Begin(0, start)) == Err(Refusal::WrongCall)
                 && machine.events().is_empty()

@@ -1,7 +1,8 @@
 -- What a line says, read from left to right: a value, or the first cause that is met.
 use Rattle.std.specs.Prelude.{ℕ, ◌-◌, ◌^◌, ◌==◌, Bool, true, false, List, [], ◌∷◌, Some, None, Result, Ok, Err, if◌then◌else◌, bytes_eq, codes}
 use Rattle.model.specs.declared.turn.Kind.{Kind}
-use Rattle.model.specs.declared.turn.Kind.TheVariants as kinds
+use Rattle.model.specs.declared.turn.Shape.{Shape}
+use Rattle.model.specs.declared.turn.Shape.TheVariants as shapes
 use Rattle.model.specs.declared.turn.Turn.TheVariants.{Begin, Next, Decide, Die}
 use Rattle.model.specs.Families.Loan.Opening.{is_loan}
 use Rattle.texts.specs.declared.error.Cause.{Cause}
@@ -9,23 +10,11 @@ use Rattle.texts.specs.declared.error.Cause.TheVariants.{BadValue, UnknownKind, 
 use Rattle.texts.specs.declared.grammar.Command.{Command}
 use Rattle.texts.specs.declared.grammar.Command.TheVariants.{Once, Times}
 use Rattle.texts.specs.declared.grammar.Setup.{Setup}
-use Rattle.texts.specs.declared.grammar.Shape.{Shape}
-use Rattle.texts.specs.declared.grammar.Shape.TheVariants as shapes
 use Rattle.texts.specs.Families.{kind_named, call_named}
 unfoldable pub use Rattle.texts.specs.Reading.{Gives, ◌>>=◌, next_word, ended, number_at, owner_at}
 use Rattle.texts.specs.Text.{number_of}
 
 -- ---- the first line
-
--- the kind of a structure
-abbrev pub kind_in : Shape → Kind
-kind_in (shapes.Of kind capacity) = kind
-kind_in (shapes.Loan slots queue) = kinds.Loan
-
--- its capacity, of a loan channel its slots
-abbrev pub capacity_in : Shape → ℕ
-capacity_in (shapes.Of kind capacity) = capacity
-capacity_in (shapes.Loan slots queue) = slots
 
 abbrev pub kind_of : List ℕ → Result Kind Cause
 kind_of name = elim (kind_named name) [ Some kind ↦ Ok kind | None ↦ Err UnknownKind ]

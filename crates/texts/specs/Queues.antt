@@ -1,5 +1,5 @@
 -- The calls of the queues, as a schedule names them and as they print.
-use Rattle.std.specs.Prelude.{ℕ, ◌-◌, ◌^◌, Bool, true, false, List, ◌++◌, Option, Some, None, Result, Ok, Err, if◌then◌else◌, bytes_eq, codes, decimal}
+use Rattle.std.specs.Prelude.{ℕ, ◌-◌, ◌^◌, List, ◌++◌, Option, Some, None, Result, Ok, Err, if◌then◌else◌, bytes_eq, codes, decimal}
 use Rattle.model.specs.declared.event.Item.{Item}
 use Rattle.model.specs.declared.event.Item.TheVariants.{Index, Value}
 use Rattle.model.specs.declared.event.Start.{Start}
@@ -14,59 +14,43 @@ use Rattle.texts.specs.Reading.{◌>>=◌, number_at}
 
 -- ---- how they are read
 
-abbrev pub role_call : List ℕ → Option (QueueStart ℕ)
-role_call name =
+-- a call on a role, a pop, or a question of length: no value follows its name
+abbrev pub call_without_value : List ℕ → Option (QueueStart ℕ)
+call_without_value name =
     if bytes_eq name (codes "acquire_producer") then Some AcquireProducer
     else if bytes_eq name (codes "release_producer") then Some ReleaseProducer
     else if bytes_eq name (codes "acquire_consumer") then Some AcquireConsumer
     else if bytes_eq name (codes "release_consumer") then Some ReleaseConsumer
-    else None
-
-abbrev pub length_call : List ℕ → Option (QueueStart ℕ)
-length_call name =
-    if bytes_eq name (codes "len") then Some Len
+    else if bytes_eq name (codes "pop") then Some Pop
+    else if bytes_eq name (codes "len") then Some Len
     else if bytes_eq name (codes "is_empty") then Some IsEmpty
     else if bytes_eq name (codes "is_full") then Some IsFull
     else None
 
 -- a push of an index, or of a value of the machine's own type
-unfoldable pub push_index : List (List ℕ) → Result (QueueStart ℕ × List (List ℕ)) Cause
+unfoldable pub push_index : List (List ℕ) → Result (Start ℕ × List (List ℕ)) Cause
 push_index ws = do
   index ← number_at (2 ^ 64 - 1) ws
-  Ok (PushIndex index.0, index.1)
+  Ok (Queues (PushIndex index.0), index.1)
 
-unfoldable pub push_value : List (List ℕ) → Result (QueueStart ℕ × List (List ℕ)) Cause
+unfoldable pub push_value : List (List ℕ) → Result (Start ℕ × List (List ℕ)) Cause
 push_value ws = do
   value ← number_at (2 ^ 128 - 1) ws
-  Ok (Push value.0, value.1)
+  Ok (Queues (Push value.0), value.1)
 
-abbrev pub push_call : Bool → List (List ℕ) → Result (QueueStart ℕ × List (List ℕ)) Cause
-push_call is_value ws = if is_value then push_value ws else push_index ws
-
--- a call on the values of a queue that is no call on a role
-unfoldable pub item_call : Bool → List ℕ → List (List ℕ)
-    → Result (QueueStart ℕ × List (List ℕ)) Cause
-item_call is_value name ws =
-    if bytes_eq name (codes "push") then push_call is_value ws
-    else if bytes_eq name (codes "pop") then Ok (Pop, ws)
-    else elim (length_call name) [ Some start ↦ Ok (start, ws) | None ↦ Err UnknownCall ]
-
-unfoldable pub any_call : Bool → List ℕ → List (List ℕ)
-    → Result (QueueStart ℕ × List (List ℕ)) Cause
-any_call is_value name ws =
-    elim (role_call name) [ Some start ↦ Ok (start, ws) | None ↦ item_call is_value name ws ]
+-- the calls that every queue has
+unfoldable pub any_queue_call : List ℕ → List (List ℕ) → Result (Start ℕ × List (List ℕ)) Cause
+any_queue_call name ws =
+    elim (call_without_value name) [ Some start ↦ Ok (Queues start, ws) | None ↦ Err UnknownCall ]
 
 -- the calls of a queue of indices, and of one of values
-unfoldable pub queue_call : Bool → List ℕ → List (List ℕ) → Result (Start ℕ × List (List ℕ)) Cause
-queue_call is_value name ws = do
-  call ← any_call is_value name ws
-  Ok (Queues call.0, call.1)
+unfoldable pub index_queue_call : List ℕ → List (List ℕ) → Result (Start ℕ × List (List ℕ)) Cause
+index_queue_call name ws =
+    if bytes_eq name (codes "push") then push_index ws else any_queue_call name ws
 
-abbrev pub index_queue_call : List ℕ → List (List ℕ) → Result (Start ℕ × List (List ℕ)) Cause
-index_queue_call name ws = queue_call false name ws
-
-abbrev pub value_queue_call : List ℕ → List (List ℕ) → Result (Start ℕ × List (List ℕ)) Cause
-value_queue_call name ws = queue_call true name ws
+unfoldable pub value_queue_call : List ℕ → List (List ℕ) → Result (Start ℕ × List (List ℕ)) Cause
+value_queue_call name ws =
+    if bytes_eq name (codes "push") then push_value ws else any_queue_call name ws
 
 -- ---- how they print
 

@@ -1,49 +1,18 @@
 //! What a line says, read word by word.
 ghost use Rattle.std.specs.Prelude.{◌≡◌, ◌≤◌, ◌-◌, ◌==◌, IfOk};
 ghost use Rattle.texts.specs.Text.{words_left, words};
-ghost use Rattle.texts.specs.Grammar.{Gives, next_word, ended, number_at, owner_at, kind_in, capacity_in, kind_of, shape_at, setup_of};
+ghost use Rattle.texts.specs.Grammar.{Gives, next_word, ended, number_at, owner_at, kind_of, shape_at, setup_of};
 ghost use Rattle.texts.specs.Grammar.{begin_of, count_of, next_of, decision_of, turn_of, death_of, command_of};
 
 use crate::error::Cause;
 use crate::families;
 use crate::text::{Rest, number_of, words};
 use model::families::loan::is_loan;
-use model::turn::{Kind, Turn};
+use model::turn::{Kind, Shape, Turn};
 use steps::enums::OwnerId;
 
 /// The greatest number of an owner.
 const GREATEST_OWNER: u128 = 0xffff_ffff_ffff_fffe;
-
-/// A structure, before its capacity is tested.
-#[derive(Clone, Copy)]
-pub enum Shape {
-    /// One of this kind and capacity. No text gives a loan channel so; it would have as long a queue as slots.
-    Of(Kind, u64),
-    /// A loan channel of so many slots, with a submission queue of this capacity.
-    Loan(u64, u64),
-}
-
-impl Shape {
-    /// The kind of the structure.
-    pub fn kind(self) -> Kind
-        ensures { result ≡ kind_in self }
-    {
-        match self {
-            Shape::Of(kind, _) => kind,
-            Shape::Loan(_, _) => Kind::Loan,
-        }
-    }
-
-    /// The capacity, of a loan channel its slots.
-    pub fn capacity(self) -> u64
-        ensures { result ≡ capacity_in self }
-    {
-        match self {
-            Shape::Of(_, capacity) => capacity,
-            Shape::Loan(slots, _) => slots,
-        }
-    }
-}
 
 /// The first line: the machine, before its capacity is tested.
 #[derive(Clone, Copy)]

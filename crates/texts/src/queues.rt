@@ -2,8 +2,8 @@
 ghost use Rattle.std.specs.Prelude.{◌≡◌, ◌+◌, ◌≤◌, ◌++◌, length, decimal};
 ghost use Rattle.texts.specs.Text.{words_left};
 ghost use Rattle.texts.specs.Grammar.{Gives};
-ghost use Rattle.texts.specs.Queues.{role_call, length_call, push_index, push_value, push_call, item_call};
-ghost use Rattle.texts.specs.Queues.{any_call, queue_call, index_queue_call, value_queue_call, call_text, item_text};
+ghost use Rattle.texts.specs.Queues.{call_without_value, push_index, push_value, any_queue_call};
+ghost use Rattle.texts.specs.Queues.{index_queue_call, value_queue_call, call_text, item_text};
 
 use crate::error::Cause;
 use crate::grammar::number_at;
@@ -12,8 +12,8 @@ use crate::text::Rest;
 use model::event::{Item, Start};
 use model::families::queues::QueueStart;
 
-fn role_call(name: &[u8]) -> Option<QueueStart<u128>>
-    ensures { result ≡ role_call name.now }
+fn call_without_value(name: &[u8]) -> Option<QueueStart<u128>>
+    ensures { result ≡ call_without_value name.now }
 {
     if name == b"acquire_producer".as_slice() {
         Some(QueueStart::AcquireProducer)
@@ -23,15 +23,9 @@ fn role_call(name: &[u8]) -> Option<QueueStart<u128>>
         Some(QueueStart::AcquireConsumer)
     } else if name == b"release_consumer".as_slice() {
         Some(QueueStart::ReleaseConsumer)
-    } else {
-        None
-    }
-}
-
-fn length_call(name: &[u8]) -> Option<QueueStart<u128>>
-    ensures { result ≡ length_call name.now }
-{
-    if name == b"len".as_slice() {
+    } else if name == b"pop".as_slice() {
+        Some(QueueStart::Pop)
+    } else if name == b"len".as_slice() {
         Some(QueueStart::Len)
     } else if name == b"is_empty".as_slice() {
         Some(QueueStart::IsEmpty)
@@ -43,95 +37,56 @@ fn length_call(name: &[u8]) -> Option<QueueStart<u128>>
 }
 
 #[tactic(auto, unfolding(crate::specs::Queues::push_index))]
-fn push_index(words: Rest<'_>) -> Result<(QueueStart<u128>, Rest<'_>), Cause>
+fn push_index(words: Rest<'_>) -> Result<(Start<u128>, Rest<'_>), Cause>
     ensures { Gives (λ x. (x.0, words_left x.1)) result (push_index (words_left words.entry)) }
 {
     let (index, rest) = number_at(u128::from(u64::MAX), words)?;
-    Ok((QueueStart::PushIndex(index as u64), rest))
+    Ok((Start::Queues(QueueStart::PushIndex(index as u64)), rest))
 }
 
 #[tactic(auto, unfolding(crate::specs::Queues::push_value))]
-fn push_value(words: Rest<'_>) -> Result<(QueueStart<u128>, Rest<'_>), Cause>
+fn push_value(words: Rest<'_>) -> Result<(Start<u128>, Rest<'_>), Cause>
     ensures { Gives (λ x. (x.0, words_left x.1)) result (push_value (words_left words.entry)) }
 {
     let (value, rest) = number_at(u128::MAX, words)?;
-    Ok((QueueStart::Push(value), rest))
+    Ok((Start::Queues(QueueStart::Push(value)), rest))
 }
 
-fn push_call(is_value: bool, words: Rest<'_>) -> Result<(QueueStart<u128>, Rest<'_>), Cause>
+#[tactic(auto, unfolding(crate::specs::Queues::any_queue_call))]
+fn any_queue_call<'a>(name: &[u8], words: Rest<'a>) -> Result<(Start<u128>, Rest<'a>), Cause>
     ensures { Gives (λ x. (x.0, words_left x.1)) result
-        (push_call is_value (words_left words.entry)) }
+        (any_queue_call name.now (words_left words.entry)) }
 {
-    if is_value {
-        push_value(words)
-    } else {
-        push_index(words)
+    match call_without_value(name) {
+        Some(start) => Ok((Start::Queues(start), words)),
+        None => Err(Cause::UnknownCall),
     }
-}
-
-#[tactic(auto, unfolding(crate::specs::Queues::item_call))]
-fn item_call<'a>(
-    is_value: bool,
-    name: &[u8],
-    words: Rest<'a>,
-) -> Result<(QueueStart<u128>, Rest<'a>), Cause>
-    ensures { Gives (λ x. (x.0, words_left x.1)) result
-        (item_call is_value name.now (words_left words.entry)) }
-{
-    if name == b"push".as_slice() {
-        push_call(is_value, words)
-    } else if name == b"pop".as_slice() {
-        Ok((QueueStart::Pop, words))
-    } else {
-        match length_call(name) {
-            Some(start) => Ok((start, words)),
-            None => Err(Cause::UnknownCall),
-        }
-    }
-}
-
-#[tactic(auto, unfolding(crate::specs::Queues::any_call))]
-fn any_call<'a>(
-    is_value: bool,
-    name: &[u8],
-    words: Rest<'a>,
-) -> Result<(QueueStart<u128>, Rest<'a>), Cause>
-    ensures { Gives (λ x. (x.0, words_left x.1)) result
-        (any_call is_value name.now (words_left words.entry)) }
-{
-    match role_call(name) {
-        Some(start) => Ok((start, words)),
-        None => item_call(is_value, name, words),
-    }
-}
-
-#[tactic(auto, unfolding(crate::specs::Queues::queue_call))]
-fn queue_call<'a>(
-    is_value: bool,
-    name: &[u8],
-    words: Rest<'a>,
-) -> Result<(Start<u128>, Rest<'a>), Cause>
-    ensures { Gives (λ x. (x.0, words_left x.1)) result
-        (queue_call is_value name.now (words_left words.entry)) }
-{
-    let (start, rest) = any_call(is_value, name, words)?;
-    Ok((Start::Queues(start), rest))
 }
 
 /// A call of a queue of indices.
+#[tactic(auto, unfolding(crate::specs::Queues::index_queue_call))]
 pub fn index_queue_call<'a>(name: &[u8], words: Rest<'a>) -> Result<(Start<u128>, Rest<'a>), Cause>
     ensures { Gives (λ x. (x.0, words_left x.1)) result
         (index_queue_call name.now (words_left words.entry)) }
 {
-    queue_call(false, name, words)
+    if name == b"push".as_slice() {
+        push_index(words)
+    } else {
+        any_queue_call(name, words)
+    }
 }
 
 /// A call of a queue of values.
+#[tactic(auto, unfolding(crate::specs::Queues::value_queue_call))]
 pub fn value_queue_call<'a>(name: &[u8], words: Rest<'a>) -> Result<(Start<u128>, Rest<'a>), Cause>
     ensures { Gives (λ x. (x.0, words_left x.1)) result
         (value_queue_call name.now (words_left words.entry)) }
 {
-    queue_call(true, name, words)
+    if name == b"push".as_slice() {
+        push_value(words)
+    } else {
+        any_queue_call(name, words)
+    }
 }
 
 impl Line {

@@ -3,7 +3,7 @@
 use machine::party::Progress;
 use machine::turn::{Refusal, Turn};
 use schedule::bare::{
-    TakesTurns, line_of, line_of_refusal, made, read_command, read_setup, text_of,
+    TakesTurns, line_of, line_of_refusal, opened, read_command, read_words, text_of,
 };
 use schedule::error::{Cause, ScheduleError};
 use schedule::grammar::{Command, Setup};
@@ -201,13 +201,13 @@ fn run<R: Read, W: Write>(
     let Some((first, rest)) = lines(&input).first() else {
         return Err(ScheduleError::Malformed(1, Cause::MissingValue));
     };
-    let setup = match read_setup(first) {
+    let setup = match read_words(first) {
         Ok(setup) => setup,
         Err(cause) => return Err(ScheduleError::Malformed(1, cause)),
     };
-    match made(alloc, setup) {
-        Some(machine) => run_on(alloc, has_words, setup, machine, input.len(), rest, output),
-        None => Err(ScheduleError::NoMemory),
+    match opened(alloc, setup) {
+        Ok(machine) => run_on(alloc, has_words, setup, machine, input.len(), rest, output),
+        Err(e) => Err(e),
     }
 }
 

@@ -1,12 +1,13 @@
 //! The families of calls. Each has files of its own, and here one line where a machine passes on to it.
 ghost use Rattle.std.specs.Prelude.{◌≡◌, ◌+◌, ◌≤◌, ◌⊎◌, true, false, None, Some, OnOk, IfOk, IfErr, vec_len, vec_capacity};
-ghost use Rattle.model.specs.Families.{opening_of, first_of, begin_rows, want_of, is_question, most_of, beside_of};
+ghost use Rattle.model.specs.Families.{first_of, begin_rows, want_of, is_question, most_of, beside_of};
 ghost use Rattle.model.specs.Families.{step_of, going_rows, lacks_party, death_rows, kept_after_death, kept_after_begin};
 ghost use Rattle.model.specs.Rows.{first_row};
+ghost use Rattle.model.specs.World.{words_opened, kept_opened};
 ghost use Rattle.model.specs.declared.turn.Refusal.TheVariants.{NoMemory};
 ghost use Rattle.turns.specs.Went.{IsOfStep};
+ghost use Rattle.model.specs.Coding.{coding_by};
 
-use model::coding::Coded;
 use model::event::{Event, Start};
 use model::families::queues::QueueKind;
 use model::families::{Beside, Flight, Registry, Went};
@@ -24,15 +25,17 @@ pub mod indices;
 pub mod loan;
 pub mod queues;
 
-/// The words at the opening of a structure of this kind and capacity, and what its family keeps beside them.
+/// The words at the opening of a structure of this kind and capacity, and what its family keeps beside them. Of a loan
+/// channel `queue` is the capacity of the submission queue, and no other kind has one.
 pub fn opening<T: Words>(
     alloc: Global,
     kind: Kind,
     capacity: u32,
+    queue: u32,
 ) -> Result<(Vec<u64>, Registry<T>), AllocError>
     ensures words { IfOk result
-        (λ opened. opened.0.items ≡ (opening_of kind).words ⟦<T as Coded>⟧.coding.size capacity) }
-    ensures kept { IfOk result (λ opened. opened.1 ≡ (opening_of kind).kept capacity) }
+        (λ opened. opened.0.items ≡ words_opened kind (coding_by T.Words).size capacity queue) }
+    ensures kept { IfOk result (λ opened. opened.1 ≡ kept_opened kind capacity queue) }
 {
     match kind {
         Kind::IndexQueue => queues::opening::open::<T>(alloc, QueueKind::IndexQueue, capacity),
@@ -44,11 +47,12 @@ pub fn opening<T: Words>(
         Kind::Indices => indices::opening::open::<T>(alloc, capacity),
         Kind::Robust => indices::robust::opening::open::<T>(alloc, capacity),
         Kind::Container => container::opening::open::<T>(alloc, capacity),
-        Kind::Loan => loan::opening::open::<T>(alloc, capacity, capacity),
+        Kind::Loan => loan::opening::open::<T>(alloc, capacity, queue),
     }
 }
 
-/// The call that this party begins, or why it may not, unless memory for its room is refused.
+/// The call that this party begins, or why it may not, unless memory for its room is refused. Whether the kind has the
+/// call is decided by one function of the call's family.
 pub fn admit<T: Words>(
     alloc: Global,
     kind: Kind,
@@ -102,7 +106,7 @@ pub fn admit<T: Words>(
 /// changes.
 pub fn keep<T: Words>(kept: &mut Registry<T>, capacity: u32, start: &Start<T>, number: u32) -> bool
     ensures keeps { result ≡ true → kept.new
-        ≡ kept_after_begin ⟦<T as Coded>⟧.coding capacity start.now number kept.old }
+        ≡ kept_after_begin (coding_by T.Words) capacity start.now number kept.old }
     ensures same { result ≡ false → kept.new ≡ kept.old }
 {
     match (start, kept) {
@@ -188,8 +192,8 @@ pub fn look_beside<T>(
 
 /// What the call wants next, and the most events that its next step writes, apart from the end of the call.
 pub fn going<T: Words>(flight: &Flight<T>) -> (Want<()>, usize)
-    ensures want { result.0 ≡ want_of ⟦<T as Coded>⟧.coding flight.now }
-    ensures most { result.1 ≡ most_of ⟦<T as Coded>⟧.coding flight.now }
+    ensures want { result.0 ≡ want_of (coding_by T.Words) flight.now }
+    ensures most { result.1 ≡ most_of (coding_by T.Words) flight.now }
     ensures few { result.1 ≤ 64 }
 {
     match flight {
@@ -211,7 +215,7 @@ pub fn going<T: Words>(flight: &Flight<T>) -> (Want<()>, usize)
 
 /// Whether a decision is due.
 pub fn is_asking<T: Words>(flight: &Flight<T>) -> bool
-    ensures { result ≡ is_question (want_of ⟦<T as Coded>⟧.coding flight.now) }
+    ensures { result ≡ is_question (want_of (coding_by T.Words) flight.now) }
 {
     let (want, _) = going(flight);
     match want {
@@ -226,7 +230,7 @@ pub fn going_refusal<T: Words>(
     kept: &Registry<T>,
     said: Option<bool>,
 ) -> Option<Refusal>
-    ensures { result ≡ first_row (going_rows ⟦<T as Coded>⟧.coding kept.now (Some flight.now) said) }
+    ensures { result ≡ first_row (going_rows (coding_by T.Words) kept.now (Some flight.now) said) }
 {
     match (flight, kept) {
         (Flight::Robust(call), Registry::Owners(dead)) => {
@@ -252,12 +256,12 @@ pub fn advance<T: Words>(
     kept: &mut Registry<T>,
     events: &mut Vec<Event<T>>,
 ) -> Went<T>
-    requires { vec_len events.old + most_of ⟦<T as Coded>⟧.coding flight.old
+    requires { vec_len events.old + most_of (coding_by T.Words) flight.old
         ≤ vec_capacity events.old }
-    ensures step { IsOfStep (step_of ⟦<T as Coded>⟧.coding words.now.items beside number start.now flight.old answer
+    ensures step { IsOfStep (step_of (coding_by T.Words) words.now.items beside number start.now flight.old answer
         kept.old) result flight.new kept.new events.old.items events.new.items }
     ensures few { vec_len events.new
-        ≤ vec_len events.old + most_of ⟦<T as Coded>⟧.coding flight.old }
+        ≤ vec_len events.old + most_of (coding_by T.Words) flight.old }
     ensures room { vec_capacity events.new ≡ vec_capacity events.old }
 {
     match (flight, start, kept) {

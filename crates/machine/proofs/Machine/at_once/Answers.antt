@@ -1,5 +1,5 @@
 use Rattle.std.proofs.Common.{replicate, sym, subst}
-use Rattle.model.specs.Coding.{coding_of}
+use Rattle.model.specs.Coding.{coding_by}
 use Rattle.model.specs.declared.turn.Turn.TheVariants.{Next}
 use Rattle.model.specs.Turns.{after_turns, IsReached}
 use Rattle.model.specs.Promises.{IsKept}
@@ -11,18 +11,18 @@ use Rattle.machine.proofs.Laws.{laws_of, reached_all}
 use Rattle.machine.proofs.Machine.at_once.Goals as goal
 
 pub steps-requires : goal.steps-requires
-steps-requires g c = reached_small (trace_of (coding_of g.T.Words.WORDS g.T.Words.words_of g.T.Words.value_of) c.self.inside.parts) c.self.invariant
+steps-requires g c = reached_small (trace_of (coding_by g.T.Words) c.self.inside.parts) c.self.invariant
 
 pub invariant_of-self : goal.invariant_of-self
 invariant_of-self g c =
-    let inside = trace_of (coding_of g.T.Words.WORDS g.T.Words.words_of g.T.Words.value_of) c.self.inside.parts in
-    reached_is (trace_of (coding_of g.T.Words.WORDS g.T.Words.words_of g.T.Words.value_of) c.steps.new.self)
+    let inside = trace_of (coding_by g.T.Words) c.self.inside.parts in
+    reached_is (trace_of (coding_by g.T.Words) c.steps.new.self)
     (after_turns inside (replicate c.steps.result (Next c.args.party))) c.steps.ensures.ok
     (reached_all inside (replicate c.steps.result (Next c.args.party)) c.steps.ensures.allowed c.self.invariant)
 
 pub returns-clause-kept : goal.returns-clause-kept
 returns-clause-kept g c =
-    let inside = trace_of (coding_of g.T.Words.WORDS g.T.Words.words_of g.T.Words.value_of) c.self.inside.parts in
+    let inside = trace_of (coding_by g.T.Words) c.self.inside.parts in
     let reached : IsReached (after_turns inside (replicate c.steps.result (Next c.args.party))) =
     reached_all inside (replicate c.steps.result (Next c.args.party)) c.steps.ensures.allowed c.self.invariant in
     subst IsKept (sym c.steps.ensures.ok) (reached_kept laws_of (after_turns inside (replicate c.steps.result (Next c.args.party))) reached)

@@ -1,5 +1,5 @@
 use Rattle.std.proofs.Common.{subst}
-use Rattle.model.specs.Coding.{coding_of}
+use Rattle.model.specs.Coding.{coding_by}
 use Rattle.model.specs.Turns.{IsReached}
 use Rattle.model.specs.World.{State, trace_in}
 use Rattle.model.proofs.Progress as laws
@@ -9,6 +9,6 @@ use Rattle.machine.proofs.Machine.keeps_guarantees.Goals as goal
 
 pub returns : goal.returns
 returns g c =
-    let code = coding_of g.T.Words.WORDS g.T.Words.words_of g.T.Words.value_of in
+    let code = coding_by g.T.Words in
     laws.keeps_guarantees (trace_in code c.args.self.now)
     (reached_kept laws_of (trace_in code c.args.self.now) (subst (λ (s : State _). IsReached (trace_in code s)) c.self.view_is c.self.invariant))

@@ -1,5 +1,5 @@
 use Rattle.std.proofs.Common.{◌≡◌, replicate, subst, arith}
-use Rattle.model.specs.Coding.{coding_of}
+use Rattle.model.specs.Coding.{coding_by}
 use Rattle.model.specs.declared.turn.Turn.TheVariants.{Next}
 use Rattle.model.specs.Turns.{AreAllowed, IsReached}
 use Rattle.model.specs.World.{State, trace_in}
@@ -9,18 +9,18 @@ use Rattle.machine.proofs.Machine.nexts.Goals as goal
 
 pub returns-in-Err-clause-each_before : goal.returns-in-Err-clause-each_before
 returns-in-Err-clause-each_before g c =
-    reached_turns laws_of (trace_in (coding_of g.T.Words.WORDS g.T.Words.words_of g.T.Words.value_of) c.args.self.now)
+    reached_turns laws_of (trace_in (coding_by g.T.Words) c.args.self.now)
     (replicate c.loop-taken.taken (Next c.args.party))
-    (subst (λ (s : State _). IsReached (trace_in (coding_of g.T.Words.WORDS g.T.Words.words_of g.T.Words.value_of) s))
+    (subst (λ (s : State _). IsReached (trace_in (coding_by g.T.Words) s))
     c.self.view_is c.self.invariant)
     c.loop-taken.invariant.allowed
 
 pub loop-taken-preserved : goal.loop-taken-preserved
 loop-taken-preserved g c =
     let more =
-    once_more (trace_in (coding_of g.T.Words.WORDS g.T.Words.words_of g.T.Words.value_of) c.args.self.now)
-    (trace_in (coding_of g.T.Words.WORDS g.T.Words.words_of g.T.Words.value_of) c.loop-taken.self)
-    (trace_in (coding_of g.T.Words.WORDS g.T.Words.words_of g.T.Words.value_of) c.step.new.self)
+    once_more (trace_in (coding_by g.T.Words) c.args.self.now)
+    (trace_in (coding_by g.T.Words) c.loop-taken.self)
+    (trace_in (coding_by g.T.Words) c.step.new.self)
     c.loop-taken.taken (Next c.args.party)
     c.loop-taken.invariant.allowed
     c.loop-taken.invariant.taken
@@ -32,10 +32,10 @@ loop-taken-preserved g c =
 pub returns-clause-each : goal.returns-clause-each
 returns-clause-each g c =
     let all : c.loop-taken.taken ≡ c.args.most = omega (arith, c.at_once-first.ensures.most) in
-    reached_turns laws_of (trace_in (coding_of g.T.Words.WORDS g.T.Words.words_of g.T.Words.value_of) c.args.self.now)
+    reached_turns laws_of (trace_in (coding_by g.T.Words) c.args.self.now)
     (replicate c.args.most (Next c.args.party))
-    (subst (λ (s : State _). IsReached (trace_in (coding_of g.T.Words.WORDS g.T.Words.words_of g.T.Words.value_of) s))
+    (subst (λ (s : State _). IsReached (trace_in (coding_by g.T.Words) s))
     c.self.view_is c.self.invariant)
-    (subst (λ n. AreAllowed (trace_in (coding_of g.T.Words.WORDS g.T.Words.words_of g.T.Words.value_of) c.args.self.now)
+    (subst (λ n. AreAllowed (trace_in (coding_by g.T.Words) c.args.self.now)
     (replicate n (Next c.args.party)))
     all c.loop-taken.invariant.allowed)

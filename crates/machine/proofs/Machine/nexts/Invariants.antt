@@ -1,5 +1,5 @@
 use Rattle.std.proofs.Common.{◌≡◌, replicate}
-use Rattle.model.specs.Coding.{coding_of}
+use Rattle.model.specs.Coding.{coding_by}
 use Rattle.model.specs.declared.turn.Turn.TheVariants.{Next}
 use Rattle.model.specs.Turns.{after_turns, AreAllowed}
 use Rattle.model.specs.Promises.{IsKept}
@@ -9,10 +9,10 @@ use Rattle.machine.proofs.Machine.nexts.Given as given
 abbrev pub invariant-loop-taken : given.invariant-loop-taken
 invariant-loop-taken g l =
     record {
-      allowed : AreAllowed (trace_in (coding_of g.T.Words.WORDS g.T.Words.words_of g.T.Words.value_of) l.fn.self)
+      allowed : AreAllowed (trace_in (coding_by g.T.Words) l.fn.self)
           (replicate l.taken (Next l.party));
-      taken : trace_in (coding_of g.T.Words.WORDS g.T.Words.words_of g.T.Words.value_of) l.self
-          ≡ after_turns (trace_in (coding_of g.T.Words.WORDS g.T.Words.words_of g.T.Words.value_of) l.fn.self)
+      taken : trace_in (coding_by g.T.Words) l.self
+          ≡ after_turns (trace_in (coding_by g.T.Words) l.fn.self)
           (replicate l.taken (Next l.party));
-      kept : IsKept (trace_in (coding_of g.T.Words.WORDS g.T.Words.words_of g.T.Words.value_of) l.self);
+      kept : IsKept (trace_in (coding_by g.T.Words) l.self);
     }

@@ -1,7 +1,7 @@
 use Rattle.std.proofs.Common.{◌≡◌, ◌<◌, IfSome, Some, length, take, slice_get, refl, sym, subst, ap, ◌∙◌, arith}
 use Rattle.std.proofs.Math.Seq.{take-length}
 use Rattle.std.proofs.lemmas.Option.{slice_get_read}
-use Rattle.model.specs.Coding.{coding_of}
+use Rattle.model.specs.Coding.{coding_by}
 use Rattle.model.specs.Refusals.{IsRefusal}
 use Rattle.model.specs.Turns.{IsReached}
 use Rattle.model.specs.World.{State, trace_in, world_in}
@@ -16,8 +16,8 @@ loop-taken-init g c =
       allowed = tt;
       taken = refl;
       kept =
-          reached_kept laws_of (trace_in (coding_of g.T.Words.WORDS g.T.Words.words_of g.T.Words.value_of) c.args.self.now)
-          (subst (λ (s : State _). IsReached (trace_in (coding_of g.T.Words.WORDS g.T.Words.words_of g.T.Words.value_of) s))
+          reached_kept laws_of (trace_in (coding_by g.T.Words) c.args.self.now)
+          (subst (λ (s : State _). IsReached (trace_in (coding_by g.T.Words) s))
           c.self.view_is c.self.invariant);
     }
 
@@ -25,9 +25,9 @@ pub loop-taken-preserved : goal.loop-taken-preserved
 loop-taken-preserved g c =
     let within : c.loop-taken.taken < length c.args.turns.now = omega arith in
     let more =
-    one_more (trace_in (coding_of g.T.Words.WORDS g.T.Words.words_of g.T.Words.value_of) c.args.self.now)
-    (trace_in (coding_of g.T.Words.WORDS g.T.Words.words_of g.T.Words.value_of) c.loop-taken.self)
-    (trace_in (coding_of g.T.Words.WORDS g.T.Words.words_of g.T.Words.value_of) c.step.new.self) c.args.turns.now
+    one_more (trace_in (coding_by g.T.Words) c.args.self.now)
+    (trace_in (coding_by g.T.Words) c.loop-taken.self)
+    (trace_in (coding_by g.T.Words) c.step.new.self) c.args.turns.now
     c.loop-taken.taken c.index-turns-taken.result within c.index-turns-taken.is
     c.loop-taken.invariant.allowed
     c.loop-taken.invariant.taken
@@ -43,18 +43,18 @@ returns-in-Err-clause-refused g c =
     slice_get_read c.args.turns.now (length c.args.turns.now) c.loop-taken.taken c.index-turns-taken.result refl within c.index-turns-taken.is
     in
     let why =
-    subst (λ (s : State _). IsRefusal (world_in (coding_of g.T.Words.WORDS g.T.Words.words_of g.T.Words.value_of) s)
+    subst (λ (s : State _). IsRefusal (world_in (coding_by g.T.Words) s)
     c.index-turns-taken.result c.in-Err.refusal)
     (sym c.in-Err.ensures.err) c.in-Err.ensures.refused in
-    subst (λ o. IfSome o (λ turn. IsRefusal (world_in (coding_of g.T.Words.WORDS g.T.Words.words_of g.T.Words.value_of) c.step.new.self)
+    subst (λ o. IfSome o (λ turn. IsRefusal (world_in (coding_by g.T.Words) c.step.new.self)
     turn c.in-Err.refusal))
     (sym here) why
 
 pub returns-in-Err-clause-each_before : goal.returns-in-Err-clause-each_before
 returns-in-Err-clause-each_before g c =
-    reached_turns laws_of (trace_in (coding_of g.T.Words.WORDS g.T.Words.words_of g.T.Words.value_of) c.args.self.now)
+    reached_turns laws_of (trace_in (coding_by g.T.Words) c.args.self.now)
     (take c.loop-taken.taken c.args.turns.now)
-    (subst (λ (s : State _). IsReached (trace_in (coding_of g.T.Words.WORDS g.T.Words.words_of g.T.Words.value_of) s))
+    (subst (λ (s : State _). IsReached (trace_in (coding_by g.T.Words) s))
     c.self.view_is c.self.invariant)
     c.loop-taken.invariant.allowed
 
@@ -62,8 +62,8 @@ pub returns-clause-each : goal.returns-clause-each
 returns-clause-each g c =
     let all : c.loop-taken.taken ≡ length c.args.turns.now = omega arith in
     let whole : take c.loop-taken.taken c.args.turns.now ≡ c.args.turns.now = ap (λ n. take n c.args.turns.now) all ∙ take-length c.args.turns.now in
-    reached_turns laws_of (trace_in (coding_of g.T.Words.WORDS g.T.Words.words_of g.T.Words.value_of) c.args.self.now)
+    reached_turns laws_of (trace_in (coding_by g.T.Words) c.args.self.now)
     c.args.turns.now
-    (subst (λ (s : State _). IsReached (trace_in (coding_of g.T.Words.WORDS g.T.Words.words_of g.T.Words.value_of) s))
+    (subst (λ (s : State _). IsReached (trace_in (coding_by g.T.Words) s))
     c.self.view_is c.self.invariant)
     (rw whole at c.loop-taken.invariant.allowed)

@@ -1,5 +1,5 @@
 use Rattle.std.proofs.Common.{◌≡◌, take}
-use Rattle.model.specs.Coding.{coding_of}
+use Rattle.model.specs.Coding.{coding_by}
 use Rattle.model.specs.Turns.{after_turns, AreAllowed}
 use Rattle.model.specs.Promises.{IsKept}
 use Rattle.model.specs.World.{trace_in}
@@ -8,8 +8,8 @@ use Rattle.machine.proofs.Machine.run_all.Given as given
 abbrev pub invariant-loop-taken : given.invariant-loop-taken
 invariant-loop-taken g l =
     record {
-      allowed : AreAllowed (trace_in (coding_of g.T.Words.WORDS g.T.Words.words_of g.T.Words.value_of) l.fn.self) (take l.taken l.turns);
-      taken : trace_in (coding_of g.T.Words.WORDS g.T.Words.words_of g.T.Words.value_of) l.self
-          ≡ after_turns (trace_in (coding_of g.T.Words.WORDS g.T.Words.words_of g.T.Words.value_of) l.fn.self) (take l.taken l.turns);
-      kept : IsKept (trace_in (coding_of g.T.Words.WORDS g.T.Words.words_of g.T.Words.value_of) l.self);
+      allowed : AreAllowed (trace_in (coding_by g.T.Words) l.fn.self) (take l.taken l.turns);
+      taken : trace_in (coding_by g.T.Words) l.self
+          ≡ after_turns (trace_in (coding_by g.T.Words) l.fn.self) (take l.taken l.turns);
+      kept : IsKept (trace_in (coding_by g.T.Words) l.self);
     }

@@ -1,5 +1,5 @@
 use Rattle.std.proofs.Common.{ap, sym, subst}
-use Rattle.model.specs.Coding.{coding_of}
+use Rattle.model.specs.Coding.{coding_by}
 use Rattle.model.specs.World.{trace_in}
 use Rattle.parts.specs.Parts.{trace_of}
 use Rattle.model.specs.Turns.{after_turn}
@@ -11,14 +11,14 @@ use Rattle.machine.proofs.Laws.{laws_of}
 use Rattle.machine.proofs.Machine.step.Goals as goal
 
 pub step-requires : goal.step-requires
-step-requires g c = reached_small (trace_of (coding_of g.T.Words.WORDS g.T.Words.words_of g.T.Words.value_of) c.self.inside.parts) c.self.invariant
+step-requires g c = reached_small (trace_of (coding_by g.T.Words) c.self.inside.parts) c.self.invariant
 
 pub invariant_of-self-2 : goal.invariant_of-self-2
 invariant_of-self-2 g c =
-    reached_is (trace_of (coding_of g.T.Words.WORDS g.T.Words.words_of g.T.Words.value_of) c.step.new.self)
-    (after_turn (trace_of (coding_of g.T.Words.WORDS g.T.Words.words_of g.T.Words.value_of) c.self.inside.parts) c.args.turn)
+    reached_is (trace_of (coding_by g.T.Words) c.step.new.self)
+    (after_turn (trace_of (coding_by g.T.Words) c.self.inside.parts) c.args.turn)
     c.in_ok-step.ensures.ok
-    (reached_more (trace_of (coding_of g.T.Words.WORDS g.T.Words.words_of g.T.Words.value_of) c.self.inside.parts)
+    (reached_more (trace_of (coding_by g.T.Words) c.self.inside.parts)
     c.args.turn c.in_ok-step.ensures.allowed c.self.invariant)
 
 pub returns-clause-allowed : goal.returns-clause-allowed
@@ -29,63 +29,63 @@ returns-clause-ok g c = rw (← c.self.view_is) c.in_ok-step.ensures.ok
 
 pub returns-clause-later : goal.returns-clause-later
 returns-clause-later g c =
-    (step_turn laws_of (trace_of (coding_of g.T.Words.WORDS g.T.Words.words_of g.T.Words.value_of) c.self.inside.parts)
-    (trace_in (coding_of g.T.Words.WORDS g.T.Words.words_of g.T.Words.value_of) c.args.self.now)
-    (trace_of (coding_of g.T.Words.WORDS g.T.Words.words_of g.T.Words.value_of) c.step.new.self) c.args.turn
-    (ap (trace_in (coding_of g.T.Words.WORDS g.T.Words.words_of g.T.Words.value_of)) c.self.view_is) c.self.invariant
+    (step_turn laws_of (trace_of (coding_by g.T.Words) c.self.inside.parts)
+    (trace_in (coding_by g.T.Words) c.args.self.now)
+    (trace_of (coding_by g.T.Words) c.step.new.self) c.args.turn
+    (ap (trace_in (coding_by g.T.Words)) c.self.view_is) c.self.invariant
     c.in_ok-step.ensures.allowed c.in_ok-step.ensures.ok).later
 
 pub returns-clause-word : goal.returns-clause-word
 returns-clause-word g c =
-    (step_turn laws_of (trace_of (coding_of g.T.Words.WORDS g.T.Words.words_of g.T.Words.value_of) c.self.inside.parts)
-    (trace_in (coding_of g.T.Words.WORDS g.T.Words.words_of g.T.Words.value_of) c.args.self.now)
-    (trace_of (coding_of g.T.Words.WORDS g.T.Words.words_of g.T.Words.value_of) c.step.new.self) c.args.turn
-    (ap (trace_in (coding_of g.T.Words.WORDS g.T.Words.words_of g.T.Words.value_of)) c.self.view_is) c.self.invariant
+    (step_turn laws_of (trace_of (coding_by g.T.Words) c.self.inside.parts)
+    (trace_in (coding_by g.T.Words) c.args.self.now)
+    (trace_of (coding_by g.T.Words) c.step.new.self) c.args.turn
+    (ap (trace_in (coding_by g.T.Words)) c.self.view_is) c.self.invariant
     c.in_ok-step.ensures.allowed c.in_ok-step.ensures.ok).word
 
 pub returns-clause-call : goal.returns-clause-call
 returns-clause-call g c =
-    (step_turn laws_of (trace_of (coding_of g.T.Words.WORDS g.T.Words.words_of g.T.Words.value_of) c.self.inside.parts)
-    (trace_in (coding_of g.T.Words.WORDS g.T.Words.words_of g.T.Words.value_of) c.args.self.now)
-    (trace_of (coding_of g.T.Words.WORDS g.T.Words.words_of g.T.Words.value_of) c.step.new.self) c.args.turn
-    (ap (trace_in (coding_of g.T.Words.WORDS g.T.Words.words_of g.T.Words.value_of)) c.self.view_is) c.self.invariant
+    (step_turn laws_of (trace_of (coding_by g.T.Words) c.self.inside.parts)
+    (trace_in (coding_by g.T.Words) c.args.self.now)
+    (trace_of (coding_by g.T.Words) c.step.new.self) c.args.turn
+    (ap (trace_in (coding_by g.T.Words)) c.self.view_is) c.self.invariant
     c.in_ok-step.ensures.allowed c.in_ok-step.ensures.ok).call
 
 pub returns-clause-counts : goal.returns-clause-counts
 returns-clause-counts g c =
-    (step_turn laws_of (trace_of (coding_of g.T.Words.WORDS g.T.Words.words_of g.T.Words.value_of) c.self.inside.parts)
-    (trace_in (coding_of g.T.Words.WORDS g.T.Words.words_of g.T.Words.value_of) c.args.self.now)
-    (trace_of (coding_of g.T.Words.WORDS g.T.Words.words_of g.T.Words.value_of) c.step.new.self) c.args.turn
-    (ap (trace_in (coding_of g.T.Words.WORDS g.T.Words.words_of g.T.Words.value_of)) c.self.view_is) c.self.invariant
+    (step_turn laws_of (trace_of (coding_by g.T.Words) c.self.inside.parts)
+    (trace_in (coding_by g.T.Words) c.args.self.now)
+    (trace_of (coding_by g.T.Words) c.step.new.self) c.args.turn
+    (ap (trace_in (coding_by g.T.Words)) c.self.view_is) c.self.invariant
     c.in_ok-step.ensures.allowed c.in_ok-step.ensures.ok).counts
 
 pub returns-clause-others : goal.returns-clause-others
 returns-clause-others g c =
-    (step_turn laws_of (trace_of (coding_of g.T.Words.WORDS g.T.Words.words_of g.T.Words.value_of) c.self.inside.parts)
-    (trace_in (coding_of g.T.Words.WORDS g.T.Words.words_of g.T.Words.value_of) c.args.self.now)
-    (trace_of (coding_of g.T.Words.WORDS g.T.Words.words_of g.T.Words.value_of) c.step.new.self) c.args.turn
-    (ap (trace_in (coding_of g.T.Words.WORDS g.T.Words.words_of g.T.Words.value_of)) c.self.view_is) c.self.invariant
+    (step_turn laws_of (trace_of (coding_by g.T.Words) c.self.inside.parts)
+    (trace_in (coding_by g.T.Words) c.args.self.now)
+    (trace_of (coding_by g.T.Words) c.step.new.self) c.args.turn
+    (ap (trace_in (coding_by g.T.Words)) c.self.view_is) c.self.invariant
     c.in_ok-step.ensures.allowed c.in_ok-step.ensures.ok).others
 
 pub returns-clause-tells : goal.returns-clause-tells
 returns-clause-tells g c =
-    (step_turn laws_of (trace_of (coding_of g.T.Words.WORDS g.T.Words.words_of g.T.Words.value_of) c.self.inside.parts)
-    (trace_in (coding_of g.T.Words.WORDS g.T.Words.words_of g.T.Words.value_of) c.args.self.now)
-    (trace_of (coding_of g.T.Words.WORDS g.T.Words.words_of g.T.Words.value_of) c.step.new.self) c.args.turn
-    (ap (trace_in (coding_of g.T.Words.WORDS g.T.Words.words_of g.T.Words.value_of)) c.self.view_is) c.self.invariant
+    (step_turn laws_of (trace_of (coding_by g.T.Words) c.self.inside.parts)
+    (trace_in (coding_by g.T.Words) c.args.self.now)
+    (trace_of (coding_by g.T.Words) c.step.new.self) c.args.turn
+    (ap (trace_in (coding_by g.T.Words)) c.self.view_is) c.self.invariant
     c.in_ok-step.ensures.allowed c.in_ok-step.ensures.ok).tells
 
 pub returns-clause-events : goal.returns-clause-events
 returns-clause-events g c =
-    (step_turn laws_of (trace_of (coding_of g.T.Words.WORDS g.T.Words.words_of g.T.Words.value_of) c.self.inside.parts)
-    (trace_in (coding_of g.T.Words.WORDS g.T.Words.words_of g.T.Words.value_of) c.args.self.now)
-    (trace_of (coding_of g.T.Words.WORDS g.T.Words.words_of g.T.Words.value_of) c.step.new.self) c.args.turn
-    (ap (trace_in (coding_of g.T.Words.WORDS g.T.Words.words_of g.T.Words.value_of)) c.self.view_is) c.self.invariant
+    (step_turn laws_of (trace_of (coding_by g.T.Words) c.self.inside.parts)
+    (trace_in (coding_by g.T.Words) c.args.self.now)
+    (trace_of (coding_by g.T.Words) c.step.new.self) c.args.turn
+    (ap (trace_in (coding_by g.T.Words)) c.self.view_is) c.self.invariant
     c.in_ok-step.ensures.allowed c.in_ok-step.ensures.ok).events
 
 pub returns-clause-kept : goal.returns-clause-kept
 returns-clause-kept g c =
-    let inside = trace_of (coding_of g.T.Words.WORDS g.T.Words.words_of g.T.Words.value_of) c.self.inside.parts in
+    let inside = trace_of (coding_by g.T.Words) c.self.inside.parts in
     let turn : IsKept (after_turn inside c.args.turn) =
     reached_kept laws_of (after_turn inside c.args.turn) (reached_more inside c.args.turn c.in_ok-step.ensures.allowed c.self.invariant)
     in
@@ -93,6 +93,6 @@ returns-clause-kept g c =
 
 pub returns-in_err-step-clause-kept : goal.returns-in_err-step-clause-kept
 returns-in_err-step-clause-kept g c =
-    let inside = trace_of (coding_of g.T.Words.WORDS g.T.Words.words_of g.T.Words.value_of) c.self.inside.parts in
+    let inside = trace_of (coding_by g.T.Words) c.self.inside.parts in
     let kept : IsKept inside = reached_kept laws_of inside c.self.invariant in
-    subst IsKept (sym (ap (trace_in (coding_of g.T.Words.WORDS g.T.Words.words_of g.T.Words.value_of)) c.in_err-step.ensures.err)) kept
+    subst IsKept (sym (ap (trace_in (coding_by g.T.Words)) c.in_err-step.ensures.err)) kept

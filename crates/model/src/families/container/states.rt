@@ -1,8 +1,8 @@
 //! What each party knows of the container: its own state.
 ghost use Rattle.std.specs.Prelude.{◌≡◌, [], true, false, is_some, option_copied};
 ghost use Rattle.model.specs.Families.Container.States.{state_of, with_state, fresh};
+ghost use Rattle.model.specs.Coding.{coding_by};
 
-use crate::coding::Coded;
 use std::alloc::Global;
 use std::collections::BTreeMap;
 use std::marker::Model;
@@ -56,7 +56,7 @@ impl<T: Words> States<T> {
     /// The party has a state that shows nothing from now on, unless memory for it is refused. Then nothing changes.
     pub fn renew(&mut self, number: u32, capacity: u32) -> bool
         ensures renewed { result ≡ true
-            → self.new ≡ with_state number (fresh ⟦<T as Coded>⟧.coding capacity) self.old }
+            → self.new ≡ with_state number (fresh (coding_by T.Words) capacity) self.old }
         ensures same { result ≡ false → self.new ≡ self.old }
     {
         let Ok(state) = ContainerState::new(self.alloc, 0, capacity) else {

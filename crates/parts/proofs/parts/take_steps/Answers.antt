@@ -1,5 +1,5 @@
 use Rattle.std.proofs.Common.{◌≡◌, ◌+◌, refl, subst, arith}
-use Rattle.model.specs.Coding.{coding_of}
+use Rattle.model.specs.Coding.{coding_by}
 use Rattle.model.specs.Small.{HasSmallCounts}
 use Rattle.parts.specs.Parts.{around}
 use Rattle.parts.proofs.Steps.{around_small, one_more_step}
@@ -7,7 +7,7 @@ use Rattle.parts.proofs.parts.take_steps.Goals as goal
 
 pub loop-taken-preserved : goal.loop-taken-preserved
 loop-taken-preserved g c =
-    let code = coding_of g.T.Words.WORDS g.T.Words.words_of g.T.Words.value_of in
+    let code = coding_by g.T.Words in
     let a = around c.args.party.now c.args.words.now.items c.args.kept.now c.args.changes.now c.args.events.now.items in
     let mid = around c.loop-taken.party c.loop-taken.words.items c.loop-taken.kept c.loop-taken.changes c.loop-taken.events.items in
     let b = around c.take_step.new.party c.take_step.new.words.items c.take_step.new.kept c.take_step.new.changes c.take_step.new.events.items in

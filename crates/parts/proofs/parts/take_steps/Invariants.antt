@@ -1,5 +1,5 @@
 use Rattle.std.proofs.Common.{◌+◌, ◌≤◌}
-use Rattle.model.specs.Coding.{coding_of}
+use Rattle.model.specs.Coding.{coding_by}
 use Rattle.model.specs.Small.{HasSmallCounts}
 use Rattle.parts.specs.Parts.{around, Steps}
 use Rattle.parts.proofs.parts.take_steps.Given as given
@@ -7,7 +7,7 @@ use Rattle.parts.proofs.parts.take_steps.Given as given
 abbrev pub invariant-loop-taken : given.invariant-loop-taken
 invariant-loop-taken g l =
     record {
-      steps : Steps (coding_of g.T.Words.WORDS g.T.Words.words_of g.T.Words.value_of) l.number l.taken
+      steps : Steps (coding_by g.T.Words) l.number l.taken
           (around l.fn.party l.fn.words.items l.fn.kept l.fn.changes l.fn.events.items)
           (around l.party l.words.items l.kept l.changes l.events.items);
       small : HasSmallCounts (l.turns + l.taken) l.changes l.party;

@@ -2,8 +2,8 @@
 ghost use Rattle.std.specs.Prelude.{◌≡◌, IfOk};
 ghost use Rattle.steps.specs.Ask.{CameTo};
 ghost use Rattle.model.specs.Families.Atomic.Calls.{first, want, after, goes_back};
+ghost use Rattle.model.specs.Coding.{coding_by};
 
-use model::coding::Coded;
 use model::event::Answer;
 use model::families::atomic::AtomicStart;
 use model::families::atomic::calls::AtomicFlight;
@@ -46,7 +46,7 @@ pub fn first<T: Words>(alloc: Global, start: &AtomicStart<T>) -> Result<AtomicFl
 
 /// What the call wants next.
 pub fn want<T: Words>(flight: &AtomicFlight<T>) -> Want<()>
-    ensures { result ≡ want ⟦<T as Coded>⟧.coding flight.now }
+    ensures { result ≡ want (coding_by T.Words) flight.now }
 {
     match flight {
         AtomicFlight::Acquire(run) => run.want(),
@@ -68,7 +68,7 @@ pub fn goes_back<T: Words>(flight: &AtomicFlight<T>, answer: u64) -> bool
 
 /// Lets the call go on from an answer, where it lies: its own answer, where it is done.
 pub fn feed<T: Words>(flight: &mut AtomicFlight<T>, answer: u64) -> Option<Answer<T>>
-    ensures { CameTo result flight.new (after ⟦<T as Coded>⟧.coding flight.old answer) }
+    ensures { CameTo result flight.new (after (coding_by T.Words) flight.old answer) }
 {
     match flight {
         AtomicFlight::Acquire(run) => {

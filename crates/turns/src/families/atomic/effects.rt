@@ -2,9 +2,9 @@
 ghost use Rattle.std.specs.Prelude.{◌≡◌, ◌+◌, ◌≤◌, ◌++◌, vec_len, vec_capacity};
 ghost use Rattle.steps.specs.Ask.{CameTo};
 ghost use Rattle.model.specs.Families.Atomic.Steps.{acted, producer_after, step};
+ghost use Rattle.model.specs.Coding.{coding_by};
 
 use super::calls::{feed, goes_back};
-use model::coding::Coded;
 use model::event::{Answer, Event, Start};
 use model::families::Went;
 use model::families::atomic::AtomicStart;
@@ -64,13 +64,13 @@ pub fn perform<T: Words>(
 ) -> Went<T>
     requires { vec_len events.old + MOST_EFFECTS ≤ vec_capacity events.old }
     ensures after { CameTo result.done flight.new
-        (step ⟦<T as Coded>⟧.coding number start.now flight.old answer producer.old).after }
+        (step (coding_by T.Words) number start.now flight.old answer producer.old).after }
     ensures back { result.back
-        ≡ (step ⟦<T as Coded>⟧.coding number start.now flight.old answer producer.old).back }
+        ≡ (step (coding_by T.Words) number start.now flight.old answer producer.old).back }
     ensures kept { producer.new
-        ≡ (step ⟦<T as Coded>⟧.coding number start.now flight.old answer producer.old).kept }
+        ≡ (step (coding_by T.Words) number start.now flight.old answer producer.old).kept }
     ensures wrote { events.new.items ≡ events.old.items
-        ++ (step ⟦<T as Coded>⟧.coding number start.now flight.old answer producer.old).wrote }
+        ++ (step (coding_by T.Words) number start.now flight.old answer producer.old).wrote }
     ensures few { vec_len events.new ≤ vec_len events.old + MOST_EFFECTS }
     ensures room { vec_capacity events.new ≡ vec_capacity events.old }
 {

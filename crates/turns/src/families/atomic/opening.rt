@@ -3,10 +3,10 @@ ghost use Rattle.std.specs.Prelude.{◌≡◌, ◌∷◌, ◌⊎◌, None, Some,
 ghost use Rattle.model.specs.Families.Atomic.Opening.{opening, is_value, call_of, lacks_role, call_rows};
 ghost use Rattle.model.specs.Rows.{first_row};
 ghost use Rattle.model.specs.declared.turn.Refusal.TheVariants.{WrongCall, NoMemory};
+ghost use Rattle.model.specs.Coding.{coding_by};
 
 use super::calls::first;
 use crate::families::queues::opening::holds;
-use model::coding::Coded;
 use model::families::Registry;
 use model::families::atomic::AtomicStart;
 use model::families::atomic::calls::AtomicFlight;
@@ -17,7 +17,7 @@ use steps::words::Words;
 /// The words of the single value at its opening. Nobody holds the producer's role.
 pub fn open<T: Words>(alloc: Global) -> Result<(Vec<u64>, Registry<T>), AllocError>
     ensures words { IfOk result
-        (λ opened. opened.0.items ≡ opening.words ⟦<T as Coded>⟧.coding.size 1) }
+        (λ opened. opened.0.items ≡ opening.words (coding_by T.Words).size 1) }
     ensures kept { IfOk result (λ opened. opened.1 ≡ opening.kept 1) }
 {
     let words = 2 + T::WORDS * 2;

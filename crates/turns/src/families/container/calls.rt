@@ -6,8 +6,8 @@ ghost use Rattle.model.specs.Families.Container.Calls.{look_of, count_of, locked
 ghost use Rattle.model.specs.Families.Container.Calls.{looked, want, after, goes_back, look_flight, look_after};
 ghost use Rattle.model.specs.Families.Container.Calls.{look_writes, states_after};
 ghost use Rattle.model.specs.Families.Container.States.{state_of};
+ghost use Rattle.model.specs.Coding.{coding_by};
 
-use model::coding::Coded;
 use model::event::Answer;
 use model::families::container::calls::{ContainerFlight, CountOf, LookOf};
 use model::families::container::states::States;
@@ -202,9 +202,9 @@ pub fn look_on<T: Words>(
     state: &mut ContainerState<T>,
     answer: u64,
 ) -> Option<Answer<T>>
-    ensures state { state.new ≡ look_writes ⟦<T as Coded>⟧.coding call.old state.old answer }
+    ensures state { state.new ≡ look_writes (coding_by T.Words) call.old state.old answer }
     ensures after { CameTo result (look_flight which call.new)
-        (look_after ⟦<T as Coded>⟧.coding which call.old state.old answer) }
+        (look_after (coding_by T.Words) which call.old state.old answer) }
 {
     match call.take(&state.seen, &mut state.shown, answer) {
         After::GoOn(next) => {
@@ -222,7 +222,7 @@ pub fn look_on<T: Words>(
 
 /// What the call wants next.
 pub fn want<T: Words>(flight: &ContainerFlight<T>) -> Want<()>
-    ensures { result ≡ want ⟦<T as Coded>⟧.coding flight.now }
+    ensures { result ≡ want (coding_by T.Words) flight.now }
 {
     match flight {
         ContainerFlight::Add(run) => run.want(),
@@ -261,9 +261,9 @@ pub fn feed<T: Words>(
     answer: u64,
 ) -> Option<Answer<T>>
     ensures after { CameTo result flight.new
-        (after ⟦<T as Coded>⟧.coding (state_of number states.old) flight.old answer) }
+        (after (coding_by T.Words) (state_of number states.old) flight.old answer) }
     ensures states { states.new
-        ≡ states_after ⟦<T as Coded>⟧.coding number flight.old answer states.old }
+        ≡ states_after (coding_by T.Words) number flight.old answer states.old }
 {
     match flight {
         ContainerFlight::Add(run) => {

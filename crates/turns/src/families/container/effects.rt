@@ -6,10 +6,10 @@ ghost use Rattle.model.specs.Families.Container.States.{state_of};
 ghost use Rattle.model.specs.Families.Container.Steps.{placed, hidden, copied, shown, checked, add_effects};
 ghost use Rattle.model.specs.Families.Container.Steps.{remove_effects, replace_effects, find_effects, recover_effects};
 ghost use Rattle.model.specs.Families.Container.Steps.{look_effects, copy_in, effects, question_of, questions};
+ghost use Rattle.model.specs.Coding.{coding_by};
 
 use super::calls::{feed, goes_back};
 use crate::families::indices::robust::effects::{acquire_effect, freed, locked_by, release_effect};
-use model::coding::Coded;
 use model::event::Event;
 use model::families::Went;
 use model::families::container::calls::ContainerFlight;
@@ -206,7 +206,7 @@ fn effect<T: Words>(
     states: &States<T>,
     answer: u64,
 ) -> Option<Event<T>>
-    ensures { option_to_list result ≡ effects ⟦<T as Coded>⟧.coding number
+    ensures { option_to_list result ≡ effects (coding_by T.Words) number
         (state_of number states.now) flight.now answer }
 {
     match flight {
@@ -249,12 +249,12 @@ pub fn perform<T: Words>(
 ) -> Went<T>
     requires { vec_len events.old + MOST_EFFECTS ≤ vec_capacity events.old }
     ensures after { CameTo result.done flight.new
-        (after ⟦<T as Coded>⟧.coding (state_of number states.old) flight.old answer) }
+        (after (coding_by T.Words) (state_of number states.old) flight.old answer) }
     ensures back { result.back ≡ goes_back flight.old answer }
     ensures states { states.new
-        ≡ states_after ⟦<T as Coded>⟧.coding number flight.old answer states.old }
+        ≡ states_after (coding_by T.Words) number flight.old answer states.old }
     ensures wrote { events.new.items ≡ events.old.items
-        ++ (effects ⟦<T as Coded>⟧.coding number (state_of number states.old) flight.old answer
+        ++ (effects (coding_by T.Words) number (state_of number states.old) flight.old answer
         ++ questions number flight.old answer) }
     ensures few { vec_len events.new ≤ vec_len events.old + MOST_EFFECTS }
     ensures room { vec_capacity events.new ≡ vec_capacity events.old }

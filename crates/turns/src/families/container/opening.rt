@@ -4,9 +4,9 @@ ghost use Rattle.model.specs.Families.Container.Calls.{acts_for_dead, going_rows
 ghost use Rattle.model.specs.Families.Container.Opening.{opening, is_container, call_of, call_rows, states_at_begin};
 ghost use Rattle.model.specs.Rows.{first_row};
 ghost use Rattle.model.specs.declared.turn.Refusal.TheVariants.{WrongCall, NoMemory};
+ghost use Rattle.model.specs.Coding.{coding_by};
 
 use super::calls::{add, count, find, is_locked, look, recover, remove, replace};
-use model::coding::Coded;
 use model::families::Registry;
 use model::families::container::ContainerStart;
 use model::families::container::calls::{ContainerFlight, CountOf, LookOf};
@@ -21,7 +21,7 @@ use steps::words::Words;
 /// The words of a container of this capacity at its opening. Nobody has died, and no party has a state.
 pub fn open<T: Words>(alloc: Global, capacity: u32) -> Result<(Vec<u64>, Registry<T>), AllocError>
     ensures words { IfOk result
-        (λ opened. opened.0.items ≡ opening.words ⟦<T as Coded>⟧.coding.size capacity) }
+        (λ opened. opened.0.items ≡ opening.words (coding_by T.Words).size capacity) }
     ensures kept { IfOk result (λ opened. opened.1 ≡ opening.kept capacity) }
 {
     let total = total_words(capacity, T::WORDS as u8);
@@ -116,7 +116,7 @@ pub fn keep<T: Words>(
     states: &mut States<T>,
 ) -> bool
     ensures keeps { result ≡ true → states.new
-        ≡ states_at_begin ⟦<T as Coded>⟧.coding capacity start.now number states.old }
+        ≡ states_at_begin (coding_by T.Words) capacity start.now number states.old }
     ensures same { result ≡ false → states.new ≡ states.old }
 {
     match start {

@@ -1,11 +1,12 @@
 //! The calls of the queues under way: what each wants, and how it goes on.
-ghost use Rattle.std.specs.Prelude.{◌≡◌, IfOk};
+ghost use Rattle.std.specs.Prelude.{◌≡◌, ◌≢◌, false, Some, is_none, IfOk};
 ghost use Rattle.steps.specs.Ask.{CameTo};
+ghost use Rattle.model.specs.declared.families.queues.QueueKind.TheVariants.{Queue};
 ghost use Rattle.model.specs.Families.Queues.Calls.{acquire_of, release_of, push_index_of, push_value_of, pop_of};
 ghost use Rattle.model.specs.Families.Queues.Calls.{length_of, first, want, after, goes_back, popped, popped_value};
 ghost use Rattle.model.specs.Families.Queues.Calls.{length_answer};
+ghost use Rattle.model.specs.Coding.{coding_by};
 
-use model::coding::Coded;
 use model::event::Answer;
 use model::families::queues::calls::{LengthOf, OverflowCall, QueueFlight, RingCall, RoleCall};
 use model::families::queues::{QueueKind, QueueStart};
@@ -42,38 +43,35 @@ fn release_of<T>(word: usize) -> QueueFlight<T>
     }))
 }
 
-/// A push of this index, which the queues of indices have.
-fn push_index_of<T: Words>(kind: QueueKind, capacity: u32, index: u64) -> Option<QueueFlight<T>>
-    ensures { result ≡ push_index_of kind capacity index }
+/// A push of this index, which a queue of values does not have.
+fn push_index_of<T: Words>(kind: QueueKind, capacity: u32, index: u64) -> QueueFlight<T>
+    requires { kind ≢ Queue }
+    ensures { push_index_of kind capacity index ≡ Some result }
 {
     match kind {
-        QueueKind::IndexQueue => Some(QueueFlight::Indices(RingCall::Push(Running {
+        QueueKind::IndexQueue => QueueFlight::Indices(RingCall::Push(Running {
             call: Push::new(capacity),
             given: index,
             room: (),
-        }))),
-        QueueKind::Overflow => Some(QueueFlight::Overflow(OverflowCall::Push(Running {
+        })),
+        QueueKind::Overflow => QueueFlight::Overflow(OverflowCall::Push(Running {
             call: overflow::Push::new(capacity),
             given: index,
             room: OneWord(0),
-        }))),
-        QueueKind::Queue => None,
+        })),
+        QueueKind::Queue => unreachable!(),
     }
 }
 
-/// A push of this value, which the queue of values has.
-fn push_value_of<T: Words>(kind: QueueKind, capacity: u32, value: T) -> Option<QueueFlight<T>>
-    ensures { result ≡ push_value_of kind capacity value }
+/// A push of this value, which the queue of values alone has.
+fn push_value_of<T: Words>(capacity: u32, value: T) -> QueueFlight<T>
+    ensures { push_value_of Queue capacity value ≡ Some result }
 {
-    match kind {
-        QueueKind::IndexQueue => None,
-        QueueKind::Overflow => None,
-        QueueKind::Queue => Some(QueueFlight::Values(RingCall::Push(Running {
-            call: Push::new(capacity),
-            given: value,
-            room: (),
-        }))),
-    }
+    QueueFlight::Values(RingCall::Push(Running {
+        call: Push::new(capacity),
+        given: value,
+        room: (),
+    }))
 }
 
 fn pop_of<T: Words>(
@@ -116,26 +114,27 @@ fn length_of<T>(which: LengthOf, capacity: u32) -> QueueFlight<T>
     )
 }
 
-/// The call that begins, or None where the kind has no such call, unless memory for its room is refused.
+/// The call that begins, which the queue has, unless memory for its room is refused.
 pub fn first<T: Words>(
     alloc: Global,
     kind: QueueKind,
     capacity: u32,
     start: &QueueStart<T>,
-) -> Result<Option<QueueFlight<T>>, AllocError>
-    ensures { IfOk result (λ flight. flight ≡ first kind capacity start.now) }
+) -> Result<QueueFlight<T>, AllocError>
+    requires { is_none (first kind capacity start.now) ≡ false }
+    ensures { IfOk result (λ flight. first kind capacity start.now ≡ Some flight) }
 {
     let flight = match *start {
-        QueueStart::AcquireProducer => Some(acquire_of(PRODUCER)),
-        QueueStart::ReleaseProducer => Some(release_of(PRODUCER)),
-        QueueStart::AcquireConsumer => Some(acquire_of(CONSUMER)),
-        QueueStart::ReleaseConsumer => Some(release_of(CONSUMER)),
+        QueueStart::AcquireProducer => acquire_of(PRODUCER),
+        QueueStart::ReleaseProducer => release_of(PRODUCER),
+        QueueStart::AcquireConsumer => acquire_of(CONSUMER),
+        QueueStart::ReleaseConsumer => release_of(CONSUMER),
         QueueStart::PushIndex(index) => push_index_of(kind, capacity, index),
-        QueueStart::Push(value) => push_value_of(kind, capacity, value),
-        QueueStart::Pop => Some(pop_of(alloc, kind, capacity)?),
-        QueueStart::Len => Some(length_of(LengthOf::Len, capacity)),
-        QueueStart::IsEmpty => Some(length_of(LengthOf::IsEmpty, capacity)),
-        QueueStart::IsFull => Some(length_of(LengthOf::IsFull, capacity)),
+        QueueStart::Push(value) => push_value_of(capacity, value),
+        QueueStart::Pop => pop_of(alloc, kind, capacity)?,
+        QueueStart::Len => length_of(LengthOf::Len, capacity),
+        QueueStart::IsEmpty => length_of(LengthOf::IsEmpty, capacity),
+        QueueStart::IsFull => length_of(LengthOf::IsFull, capacity),
     };
     Ok(flight)
 }
@@ -171,7 +170,7 @@ fn length_answer<T: Copy>(which: LengthOf, capacity: u32, number: u64) -> Answer
 
 /// What the call wants next.
 pub fn want<T: Words>(flight: &QueueFlight<T>) -> Want<()>
-    ensures { result ≡ want ⟦<T as Coded>⟧.coding flight.now }
+    ensures { result ≡ want (coding_by T.Words) flight.now }
 {
     match flight {
         QueueFlight::Role(RoleCall::Acquire(run)) => run.want(),
@@ -202,7 +201,7 @@ pub fn goes_back<T: Words>(flight: &QueueFlight<T>, answer: u64) -> bool
 
 /// Lets the call go on from an answer, where it lies: its own answer, where it is done.
 pub fn feed<T: Words>(flight: &mut QueueFlight<T>, answer: u64) -> Option<Answer<T>>
-    ensures { CameTo result flight.new (after ⟦<T as Coded>⟧.coding flight.old answer) }
+    ensures { CameTo result flight.new (after (coding_by T.Words) flight.old answer) }
 {
     match flight {
         QueueFlight::Role(call) => match call {

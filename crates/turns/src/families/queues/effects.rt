@@ -4,12 +4,12 @@ ghost use Rattle.steps.specs.Ask.{CameTo};
 ghost use Rattle.model.specs.Families.Queues.Steps.{pending_at, pending, beside, push_effect, pop_effect};
 ghost use Rattle.model.specs.Families.Queues.Steps.{overflow_push_effect, overflow_pop_effect, effect_of, acts_if_done};
 ghost use Rattle.model.specs.Families.Queues.Steps.{effects_of, roles_after, step};
+ghost use Rattle.model.specs.Coding.{coding_by};
 
 use super::calls::{feed, goes_back};
 use super::opening::holds;
 use crate::party::flight_of;
 use crate::words::word_at;
-use model::coding::Coded;
 use model::event::{Answer, Event, Item, Start};
 use model::families::queues::calls::{OverflowCall, QueueFlight, RingCall};
 use model::families::queues::effects::Effect;
@@ -167,7 +167,7 @@ fn effect_of<T: Words>(
     flight: &QueueFlight<T>,
     answer: u64,
 ) -> Effect<T>
-    ensures { result ≡ effect_of ⟦<T as Coded>⟧.coding words.now.items waits flight.now answer }
+    ensures { result ≡ effect_of (coding_by T.Words) words.now.items waits flight.now answer }
 {
     match flight {
         QueueFlight::Role(_) => Effect::Quiet,
@@ -287,12 +287,12 @@ pub fn perform<T: Words>(
 ) -> Went<T>
     requires { vec_len events.old + MOST_EFFECTS ≤ vec_capacity events.old }
     ensures after { CameTo result.done flight.new
-        (step ⟦<T as Coded>⟧.coding words.now.items waits number start.now flight.old answer roles.old).after }
+        (step (coding_by T.Words) words.now.items waits number start.now flight.old answer roles.old).after }
     ensures back { result.back
-        ≡ (step ⟦<T as Coded>⟧.coding words.now.items waits number start.now flight.old answer roles.old).back }
+        ≡ (step (coding_by T.Words) words.now.items waits number start.now flight.old answer roles.old).back }
     ensures kept { roles.new
-        ≡ (step ⟦<T as Coded>⟧.coding words.now.items waits number start.now flight.old answer roles.old).kept }
-    ensures wrote { events.new.items ≡ events.old.items ++ (step ⟦<T as Coded>⟧.coding words.now.items
+        ≡ (step (coding_by T.Words) words.now.items waits number start.now flight.old answer roles.old).kept }
+    ensures wrote { events.new.items ≡ events.old.items ++ (step (coding_by T.Words) words.now.items
         waits number start.now flight.old answer roles.old).wrote }
     ensures few { vec_len events.new ≤ vec_len events.old + MOST_EFFECTS }
     ensures room { vec_capacity events.new ≡ vec_capacity events.old }

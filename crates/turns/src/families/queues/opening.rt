@@ -1,12 +1,12 @@
 //! The words of a queue at its opening, and who may begin which call.
-ghost use Rattle.std.specs.Prelude.{◌≡◌, ◌∷◌, ◌⊎◌, ℕ, None, Some, is_none, OnOk, IfOk, IfErr};
+ghost use Rattle.std.specs.Prelude.{◌≡◌, ◌∷◌, ◌⊎◌, ℕ, false, None, Some, is_none, OnOk, IfOk, IfErr, IfSome};
 ghost use Rattle.model.specs.Families.Queues.Calls.{first};
 ghost use Rattle.model.specs.Families.Queues.Opening.{cells_of, words_of_cell, opening, queue_kind, call_of, holds, lacks_role, call_rows};
 ghost use Rattle.model.specs.Rows.{first_row};
 ghost use Rattle.model.specs.declared.turn.Refusal.TheVariants.{WrongCall, NoMemory};
+ghost use Rattle.model.specs.Coding.{coding_by};
 
 use super::calls::first;
-use model::coding::Coded;
 use model::families::Registry;
 use model::families::queues::calls::QueueFlight;
 use model::families::queues::{QueueKind, QueueStart, Roles};
@@ -27,7 +27,7 @@ fn cells_of(kind: QueueKind, capacity: u32) -> usize
 
 /// How many words a cell has.
 fn words_of_cell<T: Words>(kind: QueueKind) -> usize
-    ensures { result ≡ words_of_cell ⟦<T as Coded>⟧.coding.size kind }
+    ensures { result ≡ words_of_cell (coding_by T.Words).size kind }
 {
     match kind {
         QueueKind::IndexQueue => 1,
@@ -43,7 +43,7 @@ pub fn open<T: Words>(
     capacity: u32,
 ) -> Result<(Vec<u64>, Registry<T>), AllocError>
     ensures words { IfOk result
-        (λ opened. opened.0.items ≡ (opening kind).words ⟦<T as Coded>⟧.coding.size capacity) }
+        (λ opened. opened.0.items ≡ (opening kind).words (coding_by T.Words).size capacity) }
     ensures kept { IfOk result (λ opened. opened.1 ≡ (opening kind).kept capacity) }
 {
     let cells = words_of_cell::<T>(kind) * cells_of(kind, capacity);
@@ -88,34 +88,28 @@ fn lacks_role<T: Copy>(roles: &Roles, number: u32, start: &QueueStart<T>) -> boo
     }
 }
 
-/// Which queue a machine of this kind has, if any.
-fn queue_kind(kind: Kind) -> Option<QueueKind>
-    ensures { result ≡ queue_kind kind }
+/// The queue that a machine of this kind has, if it has this call: a queue of indices pushes indices, and one of values
+/// pushes values.
+fn queue_with<T: Words>(kind: Kind, start: &QueueStart<T>) -> Option<QueueKind>
+    ensures some { IfSome result (λ queue. queue_kind kind ≡ Some queue) }
+    ensures has { IfSome result
+        (λ queue. (capacity : ℕ) → is_none (first queue capacity start.now) ≡ false) }
+    ensures none { result ≡ None → (capacity : ℕ) → call_of kind capacity start.now ≡ None }
 {
     match kind {
-        Kind::IndexQueue => Some(QueueKind::IndexQueue),
-        Kind::Overflow => Some(QueueKind::Overflow),
-        Kind::Queue => Some(QueueKind::Queue),
+        Kind::IndexQueue => match start {
+            QueueStart::Push(_) => None,
+            _ => Some(QueueKind::IndexQueue),
+        },
+        Kind::Overflow => match start {
+            QueueStart::Push(_) => None,
+            _ => Some(QueueKind::Overflow),
+        },
+        Kind::Queue => match start {
+            QueueStart::PushIndex(_) => None,
+            _ => Some(QueueKind::Queue),
+        },
         _ => None,
-    }
-}
-
-/// Whether the queue has no such call.
-fn lacks_call<T: Words>(kind: QueueKind, start: &QueueStart<T>) -> bool
-    ensures { (capacity : ℕ) → result ≡ is_none (first kind capacity start.now) }
-{
-    match start {
-        QueueStart::PushIndex(_) => match kind {
-            QueueKind::IndexQueue => false,
-            QueueKind::Overflow => false,
-            QueueKind::Queue => true,
-        },
-        QueueStart::Push(_) => match kind {
-            QueueKind::IndexQueue => true,
-            QueueKind::Overflow => true,
-            QueueKind::Queue => false,
-        },
-        _ => false,
     }
 }
 
@@ -138,18 +132,14 @@ pub fn permit<T: Words>(
         ((is_none (call_of kind capacity start.now), WrongCall)
         ∷ call_rows roles.now number start.now) ≡ None) × (row ≡ NoMemory)) }
 {
-    let Some(kind) = queue_kind(kind) else {
+    let Some(queue) = queue_with(kind, start) else {
         return Err(Refusal::WrongCall);
     };
-    if lacks_call(kind, start) {
-        return Err(Refusal::WrongCall);
-    }
     if lacks_role(roles, number, start) {
         return Err(Refusal::NoRole);
     }
-    match first(alloc, kind, capacity, start) {
-        Ok(Some(flight)) => Ok(flight),
-        Ok(None) => Err(Refusal::WrongCall),
+    match first(alloc, queue, capacity, start) {
+        Ok(flight) => Ok(flight),
         Err(_) => Err(Refusal::NoMemory),
     }
 }

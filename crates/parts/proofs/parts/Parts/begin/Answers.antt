@@ -2,7 +2,7 @@ use Rattle.std.proofs.Common.{◌≡◌, ◌<◌, ◌≤◌, inl, inr, ⊎_elim,
 use Rattle.std.proofs.lemmas.Result.{err_from_is_err_and}
 use Rattle.std.specs.Prelude.{IfErr}
 use Rattle.model.specs.declared.turn.Turn.TheVariants.{Begin}
-use Rattle.model.specs.Coding.{coding_of}
+use Rattle.model.specs.Coding.{coding_by}
 use Rattle.model.specs.Refusals.{IsRefusal}
 use Rattle.model.specs.World.{flight_in}
 use Rattle.parts.specs.Parts.{trace_of}
@@ -11,7 +11,7 @@ use Rattle.parts.proofs.parts.Parts.begin.Goals as goal
 
 pub returns-clause-allowed : goal.returns-clause-allowed
 returns-clause-allowed g c =
-    let w = (trace_of (coding_of g.T.Words.WORDS g.T.Words.words_of g.T.Words.value_of) c.args.self.now).world in
+    let w = (trace_of (coding_by g.T.Words) c.args.self.now).world in
     let within : c.args.number < c.args.self.now.parties = omega arith in
     let free : is_some (flight_in w c.args.number) ≡ false =
     none_found c.flight_of.result (flight_in w c.args.number) c.flight_of.ensures c.if-is_some.ensures in
@@ -19,7 +19,7 @@ returns-clause-allowed g c =
 
 pub returns-in_err-flight-clause-refused : goal.returns-in_err-flight-clause-refused
 returns-in_err-flight-clause-refused g c =
-    let w = (trace_of (coding_of g.T.Words.WORDS g.T.Words.words_of g.T.Words.value_of) c.args.self.now).world in
+    let w = (trace_of (coding_by g.T.Words) c.args.self.now).world in
     let within : c.args.number < c.args.self.now.parties = omega arith in
     let free : is_some (flight_in w c.args.number) ≡ false =
     none_found c.flight_of.result (flight_in w c.args.number) c.flight_of.ensures c.if-is_some.ensures in
@@ -35,7 +35,7 @@ returns-in_err-flight-clause-refused g c =
 
 pub returns-in_default-clause-refused : goal.returns-in_default-clause-refused
 returns-in_default-clause-refused g c =
-    let w = (trace_of (coding_of g.T.Words.WORDS g.T.Words.words_of g.T.Words.value_of) c.args.self.now).world in
+    let w = (trace_of (coding_by g.T.Words) c.args.self.now).world in
     let within : c.args.number < c.args.self.now.parties = omega arith in
     let free : is_some (flight_in w c.args.number) ≡ false =
     none_found c.flight_of.result (flight_in w c.args.number) c.flight_of.ensures c.if-is_some.ensures in
@@ -43,7 +43,7 @@ returns-in_default-clause-refused g c =
 
 pub returns-then-not-enter-clause-refused : goal.returns-then-not-enter-clause-refused
 returns-then-not-enter-clause-refused g c =
-    let w = (trace_of (coding_of g.T.Words.WORDS g.T.Words.words_of g.T.Words.value_of) c.args.self.now).world in
+    let w = (trace_of (coding_by g.T.Words) c.args.self.now).world in
     let within : c.args.number < c.args.self.now.parties = omega arith in
     let free : is_some (flight_in w c.args.number) ≡ false =
     none_found c.flight_of.result (flight_in w c.args.number) c.flight_of.ensures c.if-is_some.ensures in
@@ -51,13 +51,13 @@ returns-then-not-enter-clause-refused g c =
 
 pub returns-then-number-self-clause-refused : goal.returns-then-number-self-clause-refused
 returns-then-number-self-clause-refused g c =
-    let w = (trace_of (coding_of g.T.Words.WORDS g.T.Words.words_of g.T.Words.value_of) c.args.self.now).world in
+    let w = (trace_of (coding_by g.T.Words) c.args.self.now).world in
     let beyond : c.args.self.now.parties ≤ c.args.number = omega arith in
     inl (begins_nowhere w c.args.number c.requires c.args.start beyond)
 
 pub returns-then-is_some-clause-refused : goal.returns-then-is_some-clause-refused
 returns-then-is_some-clause-refused g c =
-    let w = (trace_of (coding_of g.T.Words.WORDS g.T.Words.words_of g.T.Words.value_of) c.args.self.now).world in
+    let w = (trace_of (coding_by g.T.Words) c.args.self.now).world in
     let within : c.args.number < c.args.self.now.parties = omega arith in
     let taken : is_some (flight_in w c.args.number) ≡ true =
     some_found c.flight_of.result (flight_in w c.args.number) c.flight_of.ensures c.if-is_some.ensures in

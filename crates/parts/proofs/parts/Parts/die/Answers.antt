@@ -1,5 +1,5 @@
 use Rattle.std.proofs.Common.{◌≡◌, inl, inr, false, None, Some, refl, sym}
-use Rattle.model.specs.Coding.{coding_of}
+use Rattle.model.specs.Coding.{coding_by}
 use Rattle.model.specs.Families.{lacks_party, death_rows, kept_after_death}
 use Rattle.model.specs.Rows.{first_row}
 use Rattle.parts.specs.Parts.{trace_of}
@@ -8,21 +8,21 @@ use Rattle.parts.proofs.parts.Parts.die.Goals as goal
 
 pub returns-in-Some-clause-refused : goal.returns-in-Some-clause-refused
 returns-in-Some-clause-refused g c =
-    let w = (trace_of (coding_of g.T.Words.WORDS g.T.Words.words_of g.T.Words.value_of) c.args.self.now).world in
+    let w = (trace_of (coding_by g.T.Words) c.args.self.now).world in
     let there : lacks_party c.args.self.now.kept c.args.self.now.parties c.args.owner ≡ false = sym c.if-lacks_party.ensures in
     let row : first_row (death_rows c.args.self.now.kept c.args.owner) ≡ Some c.in-Some.refusal = sym c.in-Some.ensures in
     inl (death_refuses w c.args.owner c.in-Some.refusal c.requires there row)
 
 pub returns-in_default-reserve-clause-refused : goal.returns-in_default-reserve-clause-refused
 returns-in_default-reserve-clause-refused g c =
-    let w = (trace_of (coding_of g.T.Words.WORDS g.T.Words.words_of g.T.Words.value_of) c.args.self.now).world in
+    let w = (trace_of (coding_by g.T.Words) c.args.self.now).world in
     let there : lacks_party c.args.self.now.kept c.args.self.now.parties c.args.owner ≡ false = sym c.if-lacks_party.ensures in
     let rows : first_row (death_rows c.args.self.now.kept c.args.owner) ≡ None = sym c.in_default.ensures in
     inr (death_passes w c.args.owner c.requires there rows, refl)
 
 pub returns-then-not-mark_dead-clause-refused : goal.returns-then-not-mark_dead-clause-refused
 returns-then-not-mark_dead-clause-refused g c =
-    let w = (trace_of (coding_of g.T.Words.WORDS g.T.Words.words_of g.T.Words.value_of) c.args.self.now).world in
+    let w = (trace_of (coding_by g.T.Words) c.args.self.now).world in
     let there : lacks_party c.args.self.now.kept c.args.self.now.parties c.args.owner ≡ false = sym c.if-lacks_party.ensures in
     let rows : first_row (death_rows c.args.self.now.kept c.args.owner) ≡ None = sym c.in_default.ensures in
     inr (death_passes w c.args.owner c.requires there rows, refl)

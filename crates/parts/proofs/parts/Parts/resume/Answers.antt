@@ -2,7 +2,7 @@ use Rattle.std.proofs.Common.{◌≡◌, ◌<◌, ◌≤◌, inl, Some, None, re
 use Rattle.std.proofs.lemmas.Map.Steps.{set_value_same}
 use Rattle.std.specs.BTreeMap.{is_at}
 use Rattle.std.specs.Ordering.{nat_cmp}
-use Rattle.model.specs.Coding.{coding_of}
+use Rattle.model.specs.Coding.{coding_by}
 use Rattle.model.specs.Parties.{party_of, put}
 use Rattle.model.proofs.Parties.{set_is_put}
 use Rattle.parts.specs.Parts.{trace_of}
@@ -18,13 +18,13 @@ returns-in-Ok-clause-allowed g c =
     let within : c.args.number < c.args.self.now.parties = omega arith in
     let x = c.deref_mut.result.now in
     let found = sym c.in-Some.ensures.value ∙ ap Some (sym (c.deref_mut.ensures.value ∙ c.seat.view_is)) in
-    refusal_is (trace_of (coding_of g.T.Words.WORDS g.T.Words.words_of g.T.Words.value_of) c.args.self.now).world
+    refusal_is (trace_of (coding_by g.T.Words) c.args.self.now).world
     c.args.number c.args.said x c.requires.turns within found
     ∙ c.in-Ok.ensures.allowed
 
 pub returns-in-Ok-clause-ok : goal.returns-in-Ok-clause-ok
 returns-in-Ok-clause-ok g c =
-    let w = (trace_of (coding_of g.T.Words.WORDS g.T.Words.words_of g.T.Words.value_of) c.args.self.now).world in
+    let w = (trace_of (coding_by g.T.Words) c.args.self.now).world in
     let x = c.deref_mut.result.now in
     let y = c.take_step-gone.new.party in
     let found : party_of c.args.number w.latest ≡ Some x = sym c.in-Some.ensures.value ∙ ap Some (sym (c.deref_mut.ensures.value ∙ c.seat.view_is)) in
@@ -39,12 +39,12 @@ returns-in-Err-clause-refused g c =
     let within : c.args.number < c.args.self.now.parties = omega arith in
     let x = c.deref_mut.result.now in
     let found = sym c.in-Some.ensures.value ∙ ap Some (sym (c.deref_mut.ensures.value ∙ c.seat.view_is)) in
-    is_refusal (trace_of (coding_of g.T.Words.WORDS g.T.Words.words_of g.T.Words.value_of) c.args.self.now).world
+    is_refusal (trace_of (coding_by g.T.Words) c.args.self.now).world
     c.args.number c.args.said x c.in-Err.refusal c.requires.turns within found c.in-Err.ensures.refused
 
 pub returns-in-Err-clause-err : goal.returns-in-Err-clause-err
 returns-in-Err-clause-err g c =
-    let w = (trace_of (coding_of g.T.Words.WORDS g.T.Words.words_of g.T.Words.value_of) c.args.self.now).world in
+    let w = (trace_of (coding_by g.T.Words) c.args.self.now).world in
     let x = c.deref_mut.result.now in
     let same : (c.get_mut.follows.lender c.take_step-gone.new.party).entries ≡ w.latest =
     ap (λ y. (c.get_mut.follows.lender y).entries) c.in-Err.ensures.party
@@ -56,13 +56,13 @@ returns-in-Err-clause-err g c =
 
 pub returns-then-number-self-clause-refused : goal.returns-then-number-self-clause-refused
 returns-then-number-self-clause-refused g c =
-    let w = (trace_of (coding_of g.T.Words.WORDS g.T.Words.words_of g.T.Words.value_of) c.args.self.now).world in
+    let w = (trace_of (coding_by g.T.Words) c.args.self.now).world in
     let beyond : c.args.self.now.parties ≤ c.args.number = omega arith in
     inl (goes_on_nowhere w c.args.number c.requires.turns c.args.said beyond)
 
 pub returns-in_default-clause-refused : goal.returns-in_default-clause-refused
 returns-in_default-clause-refused g c =
-    let w = (trace_of (coding_of g.T.Words.WORDS g.T.Words.words_of g.T.Words.value_of) c.args.self.now).world in
+    let w = (trace_of (coding_by g.T.Words) c.args.self.now).world in
     let within : c.args.number < c.args.self.now.parties = omega arith in
     let none : party_of c.args.number w.latest ≡ None = sym c.in_default.ensures.value in
     inl (is_idle w c.args.number c.requires.turns c.args.said within none)

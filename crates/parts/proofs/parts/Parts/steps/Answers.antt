@@ -1,5 +1,5 @@
 use Rattle.std.proofs.Common.{◌≡◌, ◌+◌, ◌-◌, ◌^◌, ◌<◌, ◌≤◌, Some, sym, ap, ◌∙◌, arith}
-use Rattle.model.specs.Coding.{coding_of}
+use Rattle.model.specs.Coding.{coding_by}
 use Rattle.model.specs.Parties.{party_of, put}
 use Rattle.model.proofs.Parties.{set_is_put}
 use Rattle.parts.specs.Parts.{trace_of}
@@ -13,7 +13,7 @@ take_steps-taken-requires-clause-small g c =
 
 pub returns-clause-allowed : goal.returns-clause-allowed
 returns-clause-allowed g c =
-    let w = (trace_of (coding_of g.T.Words.WORDS g.T.Words.words_of g.T.Words.value_of) c.args.self.now).world in
+    let w = (trace_of (coding_by g.T.Words) c.args.self.now).world in
     let x = c.deref_mut.result.now in
     let found : party_of c.args.number w.latest ≡ Some x = sym c.in-Some.ensures.value ∙ ap Some (sym (c.deref_mut.ensures.value ∙ c.seat.view_is)) in
     let within : c.args.number < w.parties = omega arith in
@@ -27,7 +27,7 @@ returns-clause-allowed g c =
 
 pub returns-clause-ok : goal.returns-clause-ok
 returns-clause-ok g c =
-    let w = (trace_of (coding_of g.T.Words.WORDS g.T.Words.words_of g.T.Words.value_of) c.args.self.now).world in
+    let w = (trace_of (coding_by g.T.Words) c.args.self.now).world in
     let x = c.deref_mut.result.now in
     let y = c.take_steps-taken.new.party in
     let found : party_of c.args.number w.latest ≡ Some x = sym c.in-Some.ensures.value ∙ ap Some (sym (c.deref_mut.ensures.value ∙ c.seat.view_is)) in
