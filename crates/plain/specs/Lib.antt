@@ -3,6 +3,7 @@ pub mod Bits
 pub mod Callable
 pub mod Contents
 pub mod FirstSteps
+pub mod Following
 pub mod Overflowing
 pub mod Queues
 pub mod Robust

@@ -8,6 +8,7 @@ pub mod bits;
 pub mod container;
 pub mod counts;
 mod drive;
+pub mod laws;
 pub mod overflowing;
 pub mod queues;
 pub mod robust_unique_index_set;

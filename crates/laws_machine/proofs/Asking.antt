@@ -1,0 +1,158 @@
+-- What a recovery writes that it asks, it asks.
+use Rattle.std.proofs.Common.{arith}
+use Rattle.laws_machine.proofs.Names.{append_cancel_left, ap, ◌≡◌, ℕ, ◌==◌, Bool, true, false, Option, Some, None}
+use Rattle.laws_machine.proofs.Names.{List, [], ◌∷◌, ◌++◌, refl, sym, subst, ◌∙◌, AllByRecursion, After, GoOn, Done}
+use Rattle.laws_machine.proofs.Names.{Ask, ReleaseMode, ReleaseState, Unlocked, AcquireStage, Lock, Raise, GiveBack}
+use Rattle.laws_machine.proofs.Names.{ReleaseStage, Running, empty, raise_after, Answer, Event, Asked, Start, Flight}
+use Rattle.laws_machine.proofs.Names.{Registry, RobustStart, RobustFlight, Doing, Party, Turn, Begin, Next}
+use Rattle.laws_machine.proofs.Names.{Decide, Die, Coding, step_of, owned_of, acquire_effects}
+use Rattle.laws_machine.proofs.Names.{release_effects, recover_effects, granted, locked_by, party_of}
+use Rattle.laws_machine.proofs.Names.{flight_of, Step, old_of, number_of, ask_of_doing, doing_after}
+use Rattle.laws_machine.proofs.Names.{ending_of, events_of_step, events_of_answer}
+use Rattle.laws_machine.proofs.Names.{events_of_next, events_of_decision, after_answer, after_next, after_decision}
+use Rattle.laws_machine.proofs.Names.{events_of, world_after, after_turn, IsReached, World, Trace, flight_in}
+use Rattle.laws_machine.proofs.Names.{party_put_same, turn_making}
+use Rattle.steps.specs.declared.indices.enums.ReleaseState.TheVariants.{Locked}
+use Rattle.steps.specs.declared.indices.robust.acquire.AcquireStage.TheVariants as acquires
+use Rattle.steps.specs.declared.indices.robust.parts.Lock.TheVariants as locks
+use Rattle.steps.specs.declared.indices.robust.recover.Recover.{Recover}
+use Rattle.steps.specs.declared.indices.robust.recover.RecoverStage.{RecoverStage}
+use Rattle.steps.specs.declared.indices.robust.recover.RecoverStage.TheVariants as recovers
+use Rattle.model.specs.declared.event.Start.TheVariants as starts
+use Rattle.model.specs.declared.families.Flight.TheVariants as flights
+use Rattle.model.specs.declared.families.Registry.TheVariants as registries
+use Rattle.model.specs.declared.families.indices.robust.calls.RobustFlight.TheVariants as calls
+use Rattle.model.specs.declared.turn.Kind.TheVariants as kinds
+use Rattle.model.specs.Families.Indices.Robust.Steps.{effects, freed}
+use Rattle.laws_robust.proofs.Sound.{reached_sound}
+use Rattle.laws_machine.specs.Questions.{AsksIt, AsksAtOnce}
+use Rattle.laws_robust.proofs.Cases.{by_bool}
+
+module _ {T : Type 0} where
+  -- the party asks about this, if it writes that it asks
+  abbrev AsksBy : ℕ × Option (ℕ × ℕ) → Event T → Type 0
+  AsksBy q (Asked p index owner) = (p ≡ q.0) × (q.1 ≡ Some (index, owner))
+  AsksBy q e = Unit {0}
+
+  abbrev Q : ℕ × Option (ℕ × ℕ) → List (Event T) → Type 0
+  Q asked es = AllByRecursion (AsksBy asked) es
+
+  joined : (q : ℕ × Option (ℕ × ℕ)) (xs ys : List (Event T)) → Q q xs → Q q ys → Q q (xs ++ ys)
+  joined q [] ys h r = r
+  joined q (x ∷ xs) ys h r = (h.0, joined q xs ys h.1 r)
+
+  ends : (q : ℕ × Option (ℕ × ℕ)) (p : ℕ) (start : Start T) (o : Option (Answer T)) → Q q (ending_of p start o)
+  ends q p start None = tt
+  ends q p start (Some answer) = (tt, tt)
+
+-- ---- what the other steps write asks nothing
+
+module _ (T : Type 0) where
+  fills : (q : ℕ × Option (ℕ × ℕ)) (p owner : ℕ) (stage : AcquireStage) (old : ℕ) → Q {T = T} q (acquire_effects p owner stage old)
+  fills q p owner acquires.LoadsCounter old = tt
+  fills q p owner (acquires.FillsCell counter index) old = by_bool (old == empty) (λ e. rw e (tt, tt)) (λ e. rw e tt)
+  fills q p owner (acquires.ChecksCounter counter) old = tt
+  fills q p owner (acquires.Raises index raise) old = go (raise_after raise old)
+    where
+      go : (o : After Raise ReleaseState) → Q {T = T} q (granted p index owner o)
+      go (GoOn raise) = tt
+      go (Done Locked) = tt
+      go (Done Unlocked) = (tt, tt)
+
+  frees : (q : ℕ × Option (ℕ × ℕ)) (p index owner old : ℕ) → Q {T = T} q (freed p index owner old)
+  frees q p index owner old = by_bool (old == owner) (λ e. rw e (tt, tt)) (λ e. rw e tt)
+
+  shuts : (q : ℕ × Option (ℕ × ℕ)) (p : ℕ) (lock : Lock) (old : ℕ) → Q {T = T} q (locked_by p lock old)
+  shuts q p (locks.Counts count) old = tt
+  shuts q p (locks.ExchangesCounter counter) old = by_bool (old == counter) (λ e. rw e (tt, tt)) (λ e. rw e tt)
+
+  gives : (q : ℕ × Option (ℕ × ℕ)) (p : ℕ) (given : GiveBack) (stage : ReleaseStage) (old : ℕ) → Q {T = T} q (release_effects p given stage old)
+  gives = grind (arith, frees, shuts)
+
+  tells : (q : ℕ × Option (ℕ × ℕ)) (p index owner old : ℕ) → Q {T = T} q (recover_effects p (recovers.Asks index owner) old)
+  tells q p index owner old = by_bool (old == 0) (λ e. rw e tt) (λ e. rw e (tt, tt))
+
+module _ {T : Type 0} where
+  -- ---- a step of a call of the set
+
+  module _ (code : Coding T) (words : List ℕ) (beside : Option (ℕ × ℕ)) (p changes since : ℕ) (dead : List ℕ) where
+    abbrev stepped : Start T → Flight T → ℕ → Step (Flight T) (Registry T) T
+    stepped start flight old = step_of code words beside p start flight old (registries.Owners dead)
+
+    abbrev asked : Start T → Flight T → ℕ → ℕ × Option (ℕ × ℕ)
+    asked start flight old =
+        (p, owned_of code (flight_of (Some (doing_after changes since (stepped start flight old).after))))
+
+    abbrev Asks : Start T → Flight T → ℕ → Type 0
+    Asks start flight old = Q (asked start flight old) (events_of_step p start (stepped start flight old))
+
+    from : (start : Start T) (flight : Flight T) (old : ℕ) → Q (asked start flight old) (stepped start flight old).wrote → Asks start flight old
+    from = grind (arith, joined, ends)
+
+    recovers_ask : (a : RobustStart) (run : Running Recover ReleaseMode (Unit {0})) (stage : RecoverStage) (old : ℕ)
+        → run.call.stage ≡ stage
+        → Q {T = T} (asked (starts.Robust a) (flights.Robust (calls.Recover run)) old) (recover_effects p stage old)
+    recovers_ask a run recovers.LoadsCounter old e = tt
+    recovers_ask a run (recovers.LoadsCell index) old e =
+        by_bool (old == empty)
+        (λ t. rw t tt)
+        (λ t. rw (e, t) ((refl, refl), tt))
+    recovers_ask a run (recovers.Asks index owner) old e = tells T (asked (starts.Robust a) (flights.Robust (calls.Recover run)) old) p index owner old
+    recovers_ask a run (recovers.EmptiesCell index owner) old e = frees T (asked (starts.Robust a) (flights.Robust (calls.Recover run)) old) p index owner old
+    recovers_ask a run (recovers.Raises index raise) old e = tt
+    recovers_ask a run (recovers.Locks index lock) old e = shuts T (asked (starts.Robust a) (flights.Robust (calls.Recover run)) old) p lock old
+    recovers_ask a run recovers.LoadsCounterAgain old e = tt
+
+    set_asks : (a : RobustStart) (flight : RobustFlight) (old : ℕ) → Q {T = T} (asked (starts.Robust a) (flights.Robust flight) old) (effects p flight old)
+    set_asks = grind (arith, fills, gives, recovers_ask)
+
+    all_ask : (start : Start T) (flight : Flight T) (old : ℕ) → Asks start flight old
+    all_ask = grind (arith, from, set_asks)
+
+  -- ---- a turn
+
+  answered : (w : World T) (dead : List ℕ) → w.kept ≡ registries.Owners dead
+      → (p : ℕ) (x : Party T) (ask : Option Ask) (answer : ℕ) (doing : Doing T)
+      → Q (p, owned_of w.coding (flight_in (after_answer w p x ask answer doing) p)) (events_of_answer w p x answer doing)
+  answered = grind (arith, all_ask, party_put_same)
+
+  went : (w : World T) (dead : List ℕ) → w.kept ≡ registries.Owners dead → (p : ℕ) (o : Option (Party T))
+      → Q (p, owned_of w.coding (flight_in (after_next w p o) p)) (events_of_next w p o)
+  went w dead k p None = tt
+  went w dead k p (Some x) = answered w dead k p x (ask_of_doing w.coding x.doing) (old_of w.words (ask_of_doing w.coding x.doing)) x.doing
+
+  decided : (w : World T) (dead : List ℕ) → w.kept ≡ registries.Owners dead
+      → (p : ℕ) (said : Bool) (o : Option (Party T))
+      → Q (p, owned_of w.coding (flight_in (after_decision w p said o) p)) (events_of_decision w p said o)
+  decided w dead k p said None = tt
+  decided w dead k p said (Some x) = answered w dead k p x None (number_of said) x.doing
+
+  -- of the machine that the turn leaves
+  it_asks : (new : World T) (asked : ℕ × Option (ℕ × ℕ)) (es : List (Event T))
+      → asked.1 ≡ owned_of new.coding (flight_in new asked.0) → Q asked es → AllByRecursion (AsksIt new) es
+  it_asks new asked [] same h = tt
+  it_asks new asked (Asked p index owner ∷ es) same h =
+      (subst (λ n. owned_of new.coding (flight_in new n) ≡ Some (index, owner)) (sym h.0.0) (sym same ∙ h.0.1), it_asks new asked es same h.1)
+  it_asks new asked (e ∷ es) same h = (tt, it_asks new asked es same h.1)
+
+  turn_asks : (w : World T) (dead : List ℕ) → w.kept ≡ registries.Owners dead → (turn : Turn T)
+      → AllByRecursion (AsksIt (world_after w turn)) (events_of w turn)
+  turn_asks w dead k (Begin p start) = (tt, tt)
+  turn_asks w dead k (Next p) =
+      it_asks (after_next w p (party_of p w.latest))
+      (p, owned_of w.coding (flight_in (after_next w p (party_of p w.latest)) p))
+      (events_of_next w p (party_of p w.latest))
+      (ap (λ z. owned_of z (flight_in (after_next w p (party_of p w.latest)) p)) (sym (turn_making w (Next p)).coding)) (went w dead k p (party_of p w.latest))
+  turn_asks w dead k (Decide p said) =
+      it_asks (after_decision w p said (party_of p w.latest))
+      (p, owned_of w.coding (flight_in (after_decision w p said (party_of p w.latest)) p))
+      (events_of_decision w p said (party_of p w.latest))
+      (ap (λ z. owned_of z (flight_in (after_decision w p said (party_of p w.latest)) p)) (sym (turn_making w (Decide p said)).coding))
+      (decided w dead k p said (party_of p w.latest))
+  turn_asks w dead k (Die owner) = (tt, tt)
+
+  pub asks_at_once : (t : Trace T) (turn : Turn T) → t.world.kind ≡ kinds.Robust → IsReached t → AsksAtOnce t (after_turn t turn)
+  asks_at_once t turn is r wrote e =
+      let s = reached_sound t is r in
+      subst (AllByRecursion (AsksIt (world_after t.world turn))) (append_cancel_left t.events (events_of t.world turn) wrote e)
+      (turn_asks t.world s.state.dead s.fit.kept turn)

@@ -1,0 +1,23 @@
+pub mod Answering
+pub mod Asking
+pub mod CallTransition
+pub mod CountSteps
+pub mod CountWalks
+pub mod Counting
+pub mod Finding
+pub mod Leaving
+pub mod LockCalls
+pub mod LockKnows
+pub mod LockSteps
+pub mod Locking
+mod Names
+pub mod Others
+pub mod Queue
+pub mod SeenCalls
+pub mod SeenKnows
+pub mod SeenLooks
+pub mod SeenTurns
+pub mod Taken
+pub mod UpdateAnswers
+pub mod Waiting
+pub mod Worked

@@ -1,0 +1,236 @@
+-- A recovery of the robust set in mode LockIfLastIndex that answers Unlocked has met an index that was filled after each
+-- that it freed: in every reached machine.
+use Rattle.std.proofs.Common.{arith}
+use Rattle.laws_machine.proofs.Names.{◌≡◌, ⊎_elim, ℕ, Bool, true, Option, Some, None, List, [], ◌∷◌, ◌++◌, refl, sym}
+use Rattle.laws_machine.proofs.Names.{ap, subst, ◌∙◌, cases_eq, ReleaseMode, Event, Begun, Died, Start, Robust, Flight}
+use Rattle.laws_machine.proofs.Names.{Registry, RobustStart, RobustFlight, Party, Turn, Begin, Next, Decide, Die}
+use Rattle.laws_machine.proofs.Names.{want_of, ask_of, is_question, goes_of, beside_of, step_of, set_acts_of}
+use Rattle.laws_machine.proofs.Names.{set_acts, wrote_in, BeginsNone, party_of, IsParty, Each, refusal_of, is_due}
+use Rattle.laws_machine.proofs.Names.{old_of, number_of, events_of, events_of_answer, events_of_next}
+use Rattle.laws_machine.proofs.Names.{events_of_decision, events_of_step, step_in, world_after, ask_of_doing}
+use Rattle.laws_machine.proofs.Names.{after_turn, IsReached, Trace, flight_in, others_begin_none, kept_by_runs}
+use Rattle.laws_machine.proofs.Names.{reached_more, turn_making, AreOwn, AreRight, Each-append, Each-nil, no_more}
+use Rattle.laws_machine.proofs.Names.{span_of-own, span_of-other, span_of-death, passes, may_next, may_decide}
+use Rattle.laws_machine.proofs.Names.{must_be_due, StandsThere, Death, robust_keeps, filled_none}
+use Rattle.steps.specs.declared.indices.robust.recover.RecoverStage.{RecoverStage}
+use Rattle.model.specs.declared.families.Flight.TheVariants as flights
+use Rattle.model.specs.declared.families.Registry.TheVariants as registries
+use Rattle.model.specs.declared.turn.Kind.TheVariants as kinds
+use Rattle.model.specs.Families.Indices.Robust.Calls.{want, after}
+use Rattle.model.specs.Families.Indices.Robust.Steps.{effects}
+use Rattle.model.proofs.Frame as frame
+use Rattle.laws_robust.proofs.Invariant.{family}
+use Rattle.laws_robust.proofs.Sound.{reached_sound, is_there}
+use Rattle.laws_robust.proofs.CallProgress.{At, RecoverAt}
+use Rattle.laws_machine.specs.Recoveries.{LocksRight}
+use Rattle.laws_machine.proofs.LockKnows.{StageKnows, CallKnows, FlightKnows, flight_later}
+use Rattle.laws_machine.proofs.LockCalls.{Leaves, all_own, effects_own, step_leaves, decision_leaves}
+use Rattle.laws_machine.proofs.Others.{others_stay}
+use Rattle.laws_machine.proofs.CallTransition.{left_by, next_left, decision_left, under_way}
+
+-- the indices that recoveries have freed, and those that have ended
+module _ {T : Type 0} where
+  pub record Extra (t : Trace T) : Type 0 where
+    pub known : (p : ℕ) → FlightKnows t.world.capacity p (flight_in t.world p) t.events
+    pub right : Each LocksRight t.events
+
+module _ {T : Type 0} (t : Trace T) (is : t.world.kind ≡ kinds.Robust) (r : IsReached t) (h : Extra t) where
+  abbrev c : ℕ
+  c = t.world.capacity
+
+  abbrev fam : frame.Family T
+  fam = family t.world.coding t.world.capacity
+
+  abbrev s : frame.Sound (family t.world.coding t.world.capacity) t
+  s = reached_sound t is r
+
+  same_kept : t.world.kept ≡ registries.Owners s.state.dead
+  same_kept = s.fit.kept
+
+  same_words : t.world.words ≡ s.state.words
+  same_words = s.fit.words
+
+  -- ---- the other parties
+
+  module _ (turn : Turn T) (es : List (Event T)) where
+    other_known : (q : ℕ) → ¬ IsParty turn q → BeginsNone q es → set_acts_of q (t.events ++ es) ≡ set_acts_of q t.events
+        → FlightKnows c q (flight_in (world_after t.world turn) q) (t.events ++ es)
+    other_known = grind (arith, others_stay, flight_later)
+
+    -- where all of them are the party's own
+    module _ (p : ℕ) (mine : (q : ℕ) → IsParty turn q → q ≡ p) (own : AreOwn p es)
+        (here : FlightKnows c p (flight_in (world_after t.world turn) p) (t.events ++ es)) where
+      known_by : (q : ℕ) → FlightKnows c q (flight_in (world_after t.world turn) q) (t.events ++ es)
+      known_by q = ⊎_elim (λ same. subst (λ n. FlightKnows c n (flight_in (world_after t.world turn) n) (t.events ++ es)) (sym same) here)
+          (λ ne. other_known q (λ its. ne (mine q its)) (others_begin_none q p es ne own)
+          (ap (λ a. set_acts (wrote_in a)) (span_of-other p q t.events es ne own)))
+          (cases_eq q p)
+
+  -- ---- a turn of a call under way
+
+  module _ (turn : Turn T) (p : ℕ) (mine : (q : ℕ) → IsParty turn q → q ≡ p) (answer : ℕ) where
+    -- by the party's name and call
+    abbrev Comes : Registry T → Start T → Flight T → Type 0
+    Comes kept start flight =
+        (flight_in (world_after t.world turn) p ≡ left_by (goes_of t.world.coding p flight answer kept))
+        × (events_of t.world turn
+        ≡ events_of_step p start
+        (step_of t.world.coding t.world.words (beside_of t.world.words kept t.world.latest p) p start flight answer kept))
+
+    leaves_it : (start : RobustStart) (call : RobustFlight) → Leaves c p t.events start call answer
+        → Comes (registries.Owners s.state.dead) (Robust start) (flights.Robust call)
+        → ((q : ℕ) → FlightKnows c q (flight_in (world_after t.world turn) q) (t.events ++ events_of t.world turn))
+        × AreRight LocksRight t.events (events_of t.world turn)
+    leaves_it = grind (arith, known_by, all_own, effects, after, effects_own)
+
+    after_it : ((q : ℕ) → FlightKnows c q (flight_in (world_after t.world turn) q) (t.events ++ events_of t.world turn))
+        × AreRight LocksRight t.events (events_of t.world turn)
+        → Extra (after_turn t turn)
+    after_it both =
+        record {
+          known =
+              λ q. subst (λ n. FlightKnows n q (flight_in (world_after t.world turn) q) (t.events ++ events_of t.world turn))
+              (sym (turn_making t.world turn).capacity) (both.0 q);
+          right = Each-append LocksRight t.events (events_of t.world turn) h.right both.1;
+        }
+
+  module _ (p : ℕ) (free : refusal_of t.world (Next p) ≡ None) where
+    by_step : (x : Party T) (since : ℕ) (found : party_of p t.world.latest ≡ Some x) (start : Start T) (flight : Flight T)
+        → StandsThere fam t s p x since start flight → FlightKnows c p (Some flight) t.events
+        → Comes (Next p) p (λ q its. its) (old_of s.state.words (ask_of (want_of t.world.coding flight)))
+        (registries.Owners s.state.dead) start flight
+        → Extra (after_turn t (Next p))
+    by_step x since found (Robust start) (flights.Robust call) stands knows comes =
+        let small = (passes t.world (Next p) free).turns in
+        let there = is_there Death t.world.coding c t s p x since found start call stands in
+        after_it (Next p) p (λ q its. its) (old_of s.state.words (ask_of (want call)))
+        (leaves_it (Next p) p (λ q its. its) (old_of s.state.words (ask_of (want call))) start call
+        (step_leaves t is r p x since small found start call there.here there.at there.knows knows) comes)
+    by_step x since found start flight stands knows comes = absurd stands.at
+
+    pub next_kept : Extra (after_turn t (Next p))
+    next_kept =
+        let allowed = passes t.world (Next p) free in
+        let flies = may_next t.world p allowed.on in
+        let call = under_way fam t s p flies.flight flies.is in
+        let x = call.party in
+        let goes = (robust_keeps.turn t (Next p) is free r).call in
+        let left = next_left t.world (world_after t.world (Next p)) p flies.flight flies.is goes in
+        let wrote : events_of t.world (Next p)
+        ≡ events_of_step p x.start
+        (step_in t.world p x flies.flight (old_of t.world.words (ask_of (want_of t.world.coding flies.flight)))) =
+        ap (events_of_next t.world p) call.found ∙ ap (λ d. events_of_answer t.world p x (old_of t.world.words (ask_of_doing t.world.coding d)) d) call.doing
+        in
+        let by_words =
+        subst (λ ws. Comes (Next p) p (λ q its. its) (old_of ws (ask_of (want_of t.world.coding flies.flight)))
+        t.world.kept x.start flies.flight)
+        same_words (left, wrote) in
+        by_step x call.since call.found x.start flies.flight call.there (subst (λ o. FlightKnows c p o t.events) flies.is (h.known p))
+        (subst (λ kept. Comes (Next p) p (λ q its. its)
+        (old_of s.state.words (ask_of (want_of t.world.coding flies.flight))) kept x.start flies.flight)
+        same_kept by_words)
+
+  module _ (p : ℕ) (said : Bool) (free : refusal_of t.world (Decide p said) ≡ None) where
+    by_decision : (x : Party T) (since : ℕ) (found : party_of p t.world.latest ≡ Some x) (start : Start T) (flight : Flight T)
+        → StandsThere fam t s p x since start flight → is_question (want_of t.world.coding flight) ≡ true
+        → FlightKnows c p (Some flight) t.events
+        → Comes (Decide p said) p (λ q its. its) (number_of said) (registries.Owners s.state.dead) start flight
+        → Extra (after_turn t (Decide p said))
+    by_decision x since found (Robust start) (flights.Robust call) stands due knows comes =
+        let small = (passes t.world (Decide p said) free).turns in
+        let there = is_there Death t.world.coding c t s p x since found start call stands in
+        after_it (Decide p said) p (λ q its. its) (number_of said)
+        (leaves_it (Decide p said) p (λ q its. its) (number_of said) start call
+        (decision_leaves t is r p x since small found (number_of said) start call there.here there.at due knows)
+        comes)
+    by_decision x since found start flight stands due knows comes = absurd stands.at
+
+    pub decision_kept : Extra (after_turn t (Decide p said))
+    decision_kept =
+        let allowed = passes t.world (Decide p said) free in
+        let flies = may_decide t.world p said allowed.on in
+        let call = under_way fam t s p flies.flight flies.is in
+        let x = call.party in
+        let goes = (robust_keeps.turn t (Decide p said) is free r).call in
+        let left = decision_left t.world (world_after t.world (Decide p said)) p flies.flight flies.is said goes in
+        let wrote : events_of t.world (Decide p said) ≡ events_of_step p x.start (step_in t.world p x flies.flight (number_of said)) =
+        ap (events_of_decision t.world p said) call.found ∙ ap (events_of_answer t.world p x (number_of said)) call.doing
+        in
+        let due =
+        subst (λ o. is_due t.world.coding o ≡ true) flies.is
+        (frame.is_true (is_due t.world.coding (flight_in t.world p)) (must_be_due t.world p said allowed.on)) in
+        by_decision x call.since call.found x.start flies.flight call.there due (subst (λ o. FlightKnows c p o t.events) flies.is (h.known p))
+        (subst (λ kept. Comes (Decide p said) p (λ q its. its) (number_of said) kept x.start flies.flight) same_kept (left, wrote))
+
+  -- ---- a call begins, an owner dies
+
+  module _ (p : ℕ) (start : Start T) (free : refusal_of t.world (Begin p start) ≡ None) where
+    abbrev new : Trace T
+    new = after_turn t (Begin p start)
+
+    is_new : new.world.kind ≡ kinds.Robust
+    is_new = (turn_making t.world (Begin p start)).kind ∙ is
+
+    s_new : frame.Sound (family new.world.coding new.world.capacity) new
+    s_new = reached_sound new is_new (reached_more t (Begin p start) free r)
+
+    none_yet : set_acts_of p new.events ≡ []
+    none_yet = ap (λ a. set_acts (wrote_in a)) (span_of-own p t.events (Begun p start ∷ []) (refl, tt))
+
+    first_stage : (mode : ReleaseMode) (stage : RecoverStage) (k : ℕ) → RecoverAt k mode [] stage → StageKnows c mode p stage new.events
+    first_stage = grind (arith, filled_none, none_yet, no_more)
+
+    first_call : (k : ℕ) (a : RobustStart) (call : RobustFlight) → At k [] a call → CallKnows c p call new.events
+    first_call = grind (arith, first_stage)
+
+    first_flight : (x : Party T) (since : ℕ) (a : Start T) (flight : Flight T)
+        → StandsThere (family new.world.coding new.world.capacity) new s_new p x since a flight
+        → FlightKnows c p (Some flight) new.events
+    first_flight = grind (arith, first_call, none_yet)
+
+    begun : (o : Option (Flight T)) → flight_in new.world p ≡ o → FlightKnows c p o new.events
+    begun None e = tt
+    begun (Some flight) e =
+        let call = under_way (family new.world.coding new.world.capacity) new s_new p flight e in
+        first_flight call.party call.since call.party.start flight call.there
+
+    pub begin_kept : Extra (after_turn t (Begin p start))
+    begin_kept =
+        record {
+          known = λ q. subst (λ n. FlightKnows n q (flight_in new.world q) new.events) (sym (turn_making t.world (Begin p start)).capacity)
+              (known_by (Begin p start) (Begun p start ∷ []) p (λ q its. its) (refl, tt) (begun (flight_in new.world p) refl) q);
+          right = Each-append LocksRight t.events (Begun p start ∷ []) h.right (tt, tt);
+        }
+
+  pub death_kept : (owner : ℕ) → Extra (after_turn t (Die owner))
+  death_kept owner =
+      record {
+        known = λ q. other_known (Die owner) (Died owner ∷ []) q (λ none. none) tt (ap (λ a. set_acts (wrote_in a)) (span_of-death q t.events owner));
+        right = Each-append LocksRight t.events (Died owner ∷ []) h.right (tt, tt);
+      }
+
+  pub turn_kept : (turn : Turn T) → refusal_of t.world turn ≡ None → Extra (after_turn t turn)
+  turn_kept (Begin p start) free = begin_kept p start free
+  turn_kept (Next p) free = next_kept p free
+  turn_kept (Decide p said) free = decision_kept p said free
+  turn_kept (Die owner) free = death_kept owner
+
+-- ---- every run
+
+module _ {T : Type 0} where
+  abbrev HasKept : Trace T → Type 0
+  HasKept t = IsReached t × (t.world.kind ≡ kinds.Robust → Extra t)
+
+  pub locks : (t : Trace T) → t.world.kind ≡ kinds.Robust → IsReached t → Each LocksRight t.events
+  locks t is r =
+      ((kept_by_runs HasKept
+      (λ u turn free h. (
+        reached_more u turn free h.0,
+        λ same. turn_kept u (sym (turn_making u.world turn).kind ∙ same) h.0 (h.1 (sym (turn_making u.world turn).kind ∙ same)) turn free,
+      ))
+      t
+      (λ queue queued. (
+        record { coded = r.coded; admitted = r.admitted; queue = queue; queued = queued; turns = []; is = refl },
+        λ same. record { known = λ p. tt; right = Each-nil LocksRight },
+      ))
+      r).1 is).right

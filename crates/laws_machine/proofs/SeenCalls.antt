@@ -1,0 +1,235 @@
+-- What a step of any call of a container leaves known of the changes, and what its end has met.
+use Rattle.laws_machine.proofs.Names.{◌≡◌, ℕ, ◌+◌, ◌<◌, ◌==◌, Bool, true, false, Option, Some, None, List, [], ◌∷◌}
+use Rattle.laws_machine.proofs.Names.{◌++◌, if◌then◌else◌, refl, sym, ap, subst, ◌∙◌, append_assoc, append-nil, arith}
+use Rattle.laws_machine.proofs.Names.{eq-eqb, AllByRecursion, After, GoOn, Done, Look, ContainerState, Running}
+use Rattle.laws_machine.proofs.Names.{add_after, find_kept, recover_after, recover_kept, remove_after, replace_after}
+use Rattle.laws_machine.proofs.Names.{borrowed_after, went_on, Answer, State, Number, Truth, Event, Finished, Container}
+use Rattle.laws_machine.proofs.Names.{ContainerStart, ContainerFlight, LookOf, Turn, Coding, added, removed, replaced}
+use Rattle.laws_machine.proofs.Names.{looked, look_shows, look_came, settled_if, Act, questions, SetAct, as_it_is}
+use Rattle.laws_machine.proofs.Names.{kept_at, IsParty, IsEffectOf, as_call, answer_in, ending_of, AreRight, looks_as}
+use Rattle.laws_machine.proofs.Names.{all_effects}
+use Rattle.steps.specs.declared.container.look.LookStage.TheVariants as stages
+use Rattle.steps.specs.Container.Find.{find_after}
+use Rattle.steps.specs.Container.Look as look_steps
+use Rattle.model.specs.declared.families.container.ContainerStart.TheVariants as starts
+use Rattle.model.specs.declared.families.container.calls.ContainerFlight.TheVariants as calls
+use Rattle.model.specs.declared.families.container.calls.LookOf.TheVariants as kinds
+use Rattle.model.specs.Families.Container.Calls.{after, counted}
+use Rattle.model.specs.Families.Container.Steps.{effects}
+use Rattle.laws_container.proofs.Stages.{any_call}
+use Rattle.laws_container.proofs.CallProgress.{At}
+use Rattle.laws_machine.specs.Changes.{Seen, up_to_date, changes_of, seen_after, seen_by, MeetsChanges}
+use Rattle.laws_machine.proofs.SeenKnows.{Within, LookSees, CallSees, FlightSees, seen_number, changes_are, effects_same}
+use Rattle.laws_machine.proofs.SeenKnows.{one_more, IsNoLook, ended_grows, within_later}
+use Rattle.laws_machine.proofs.SeenLooks.{Out, step_out}
+use Rattle.laws_machine.proofs.LockCalls.{right_append}
+use Rattle.laws_machine.proofs.CallTransition.{left_by}
+
+module _ {T : Type 0} where
+  -- ---- of what a step did, nothing is to be shown
+
+  effect_free : (turn : Turn T) (before : List (Event T)) (e : Event T) → IsEffectOf turn e → MeetsChanges before e
+  effect_free = grind arith
+
+  effects_right : (turn : Turn T) (before es : List (Event T)) → AllByRecursion (IsEffectOf turn) es → AreRight MeetsChanges before es
+  effects_right turn before [] h = tt
+  effects_right turn before (e ∷ es) h = (effect_free turn before e h.0, effects_right turn (before ++ e ∷ []) es h.1)
+
+  end_free : (p : ℕ) (start : ContainerStart T) (answer : Answer T) → IsNoLook start → (before : List (Event T))
+      → MeetsChanges before (Finished p (Container start) answer)
+  end_free = grind arith
+
+  -- ---- a call that is no look goes on as none
+
+  goes_sees : {C G M E A : Type 0} (s : Seen) (state : Option (ContainerState T))
+      (f : Running C G M → ContainerFlight T) (g : A → Answer T) (h : E → G → M → A) (given : G) (room : M)
+      (a : After C E)
+      → ((r : Running C G M) → CallSees (f r) s state) → Within s (seen_number state)
+      → FlightSees (left_by (any_call (as_call f g (went_on h given room a)))) s state
+  goes_sees = grind arith
+
+module _ {T : Type 0} (code : Coding T) (p : ℕ) (events : List (Event T)) (state : Option (ContainerState T)) (turn : Turn T) (mine : IsParty turn p) where
+  abbrev did : ContainerFlight T → ℕ → List (Event T)
+  did flight answer = effects code p state flight answer ++ questions p flight answer
+
+  abbrev pub wrote_by : ContainerStart T → ContainerFlight T → ℕ → List (Event T)
+  wrote_by start flight answer = did flight answer ++ ending_of p (Container start) (answer_in (any_call (after code state flight answer)))
+
+  -- what a call leaves that is handed this answer, and its party's state
+  pub record Leaves (state' : Option (ContainerState T)) (start : ContainerStart T) (flight : ContainerFlight T) (answer : ℕ) : Type 0 where
+    pub sees : FlightSees (left_by (any_call (after code state flight answer))) (seen_by p (events ++ wrote_by start flight answer)) state'
+    pub right : AreRight MeetsChanges events (wrote_by start flight answer)
+
+  seen_did : (flight : ContainerFlight T) (answer : ℕ) → seen_by p (events ++ did flight answer) ≡ seen_by p events
+  seen_did flight answer = effects_same turn p events (did flight answer) (all_effects turn p mine code state flight answer)
+
+  -- the same behind what it ends with
+  seen_end : (flight : ContainerFlight T) (answer : ℕ) (ends : List (Event T))
+      → seen_by p (events ++ (did flight answer ++ ends)) ≡ seen_by p ((events ++ did flight answer) ++ ends)
+  seen_end flight answer ends = ap (seen_by p) (sym (append_assoc events (did flight answer) ends))
+
+  seen_none : (flight : ContainerFlight T) (answer : ℕ) → seen_by p (events ++ (did flight answer ++ [])) ≡ seen_by p events
+  seen_none flight answer = ap (λ es. seen_by p (events ++ es)) (append-nil (did flight answer)) ∙ seen_did flight answer
+
+  seen_last : (flight : ContainerFlight T) (answer : ℕ) (e : Event T) → seen_by p (events ++ (did flight answer ++ e ∷ [])) ≡ seen_after p (seen_by p events) e
+  seen_last = grind (arith, seen_end, one_more, seen_after, seen_did)
+
+  -- ---- a call that is no look
+
+  module _ (start : ContainerStart T) (flight : ContainerFlight T) (answer : ℕ) (other : IsNoLook start)
+      (within : Within (seen_by p events) (seen_number state)) where
+    within_then : (o : Option (Answer T)) → Within (seen_by p (events ++ (did flight answer ++ ending_of p (Container start) o))) (seen_number state)
+    within_then = grind (arith, seen_none, seen_last, within_later, seen_by, seen_after, ended_grows)
+
+    ends_right : (o : Option (Answer T)) → AreRight MeetsChanges (events ++ did flight answer) (ending_of p (Container start) o)
+    ends_right = grind (arith, end_free)
+
+    freely : ((s : Seen) → Within s (seen_number state) → FlightSees (left_by (any_call (after code state flight answer))) s state)
+        → Leaves state start flight answer
+    freely x0 = grind (arith, seen_by, within_then, after, right_append, effects_right, all_effects, ends_right)
+
+  pub others_leave : (c z : ℕ) (all : List SetAct) (done : List (Act T)) (start : ContainerStart T)
+      (flight : ContainerFlight T) (answer : ℕ)
+      → At c z all done start flight → IsNoLook start → Within (seen_by p events) (seen_number state)
+      → Leaves state start flight answer
+  others_leave c z all done (starts.Add value owner) (calls.Add run) answer at other within =
+      freely (starts.Add value owner) (calls.Add run) answer tt within
+      (λ s h. goes_sees s state calls.Add added as_it_is run.given run.room
+      (add_after code.size run.call answer) (λ r. h) h)
+  others_leave c z all done (starts.Remove index owner mode) (calls.Remove run) answer at other within =
+      freely (starts.Remove index owner mode) (calls.Remove run) answer tt within
+      (λ s h. goes_sees s state calls.Remove removed as_it_is run.given run.room
+      (remove_after run.call run.given answer) (λ r. h) h)
+  others_leave c z all done (starts.Replace index value owner) (calls.Replace run) answer at other within =
+      freely (starts.Replace index value owner) (calls.Replace run) answer tt within
+      (λ s h. goes_sees s state calls.Replace replaced as_it_is run.given run.room
+      (replace_after code.size run.call run.given answer) (λ r. h) h)
+  others_leave c z all done (starts.Find owner) (calls.Find run) answer at other within =
+      freely (starts.Find owner) (calls.Find run) answer tt within
+      (λ s h. goes_sees s state calls.Find Number as_it_is run.given
+      (find_kept kept_at run.call run.room answer) (find_after code.size run.call run.given answer) (λ r. h) h)
+  others_leave c z all done (starts.Recover owner mode) (calls.Recover run) answer at other within =
+      freely (starts.Recover owner mode) (calls.Recover run) answer tt within
+      (λ s h. goes_sees s state calls.Recover State as_it_is run.given
+      (recover_kept kept_at run.call run.room answer) (recover_after code.size run.call run.given answer) (λ r. h)
+      h)
+  others_leave c z all done starts.Len (calls.Count which run) answer at other within =
+      freely starts.Len (calls.Count which run) answer tt within
+      (λ s h. goes_sees s state (λ r. calls.Count which r) (counted which) as_it_is run.given run.room (borrowed_after run.call answer) (λ r. h) h)
+  others_leave c z all done starts.IsEmpty (calls.Count which run) answer at other within =
+      freely starts.IsEmpty (calls.Count which run) answer tt within
+      (λ s h. goes_sees s state (λ r. calls.Count which r) (counted which) as_it_is run.given run.room (borrowed_after run.call answer) (λ r. h) h)
+  others_leave c z all done starts.IsLocked (calls.IsLocked run) answer at other within =
+      freely starts.IsLocked (calls.IsLocked run) answer tt within (λ s h. h)
+  others_leave c z all done starts.GetState flight answer at other within = absurd other
+  others_leave c z all done starts.UpdateState flight answer at other within = absurd other
+  others_leave c z all done start flight answer at other within = absurd at
+
+-- ---- a look
+
+module _ {T : Type 0} (code : Coding T) (p : ℕ) (events : List (Event T)) (st : ContainerState T) (turn : Turn T)
+    (mine : IsParty turn p) (which : LookOf) (call : Look T) (old : ℕ) where
+  abbrev look : ContainerFlight T
+  look = calls.Look which call
+
+  abbrev now : Seen
+  now = seen_by p events
+
+  abbrev shown_then : ContainerState T
+  shown_then = look_shows code call st old
+
+  abbrev look_wrote : List (Event T)
+  look_wrote = did code p events (Some st) turn mine look old
+
+  -- the party's own end
+  own_end : (s s' : Seen) → (if p == p then s' else s) ≡ s'
+  own_end s s' = ap (λ b. if b then s' else s) (eq-eqb p p refl)
+
+  changes_now : changes_of (events ++ look_wrote) ≡ now.changes
+  changes_now = sym (changes_are p (events ++ look_wrote)) ∙ ap (λ (s : Seen). s.changes) (seen_did code p events (Some st) turn mine look old)
+
+  abbrev LooksSo : ContainerStart T → After (Look T) Bool → Type 0
+  LooksSo start r =
+      FlightSees (left_by (any_call (look_came which shown_then r)))
+      (seen_by p (events ++ (look_wrote ++ ending_of p (Container start) (answer_in (any_call (look_came which shown_then r))))))
+      (Some (settled_if r shown_then))
+      × AreRight MeetsChanges events (look_wrote ++ ending_of p (Container start) (answer_in (any_call (look_came which shown_then r))))
+
+  did_right : AreRight MeetsChanges events look_wrote
+  did_right = effects_right turn events look_wrote (all_effects turn p mine code (Some st) look old)
+
+  on_right : AreRight MeetsChanges events (look_wrote ++ [])
+  on_right = right_append MeetsChanges events look_wrote [] did_right tt
+
+  with_end : (e : Event T) → MeetsChanges (events ++ look_wrote) e → AreRight MeetsChanges events (look_wrote ++ e ∷ [])
+  with_end e right = right_append MeetsChanges events look_wrote (e ∷ []) did_right (right, tt)
+
+  goes_on : (start : ContainerStart T) (next : Look T) → Out now shown_then which (GoOn next) → LooksSo start (GoOn next)
+  goes_on start next out = (
+    subst (λ s. LookSees which next.stage s (Some shown_then)) (sym (seen_none code p events (Some st) turn mine look old)) out,
+    on_right,
+  )
+
+  sees_end : (e : Event T) (s' : Seen) (number : ℕ) → seen_after p now e ≡ s' → Within s' number → Within (seen_by p (events ++ (look_wrote ++ e ∷ []))) number
+  sees_end e s' number is h = subst (λ s. Within s number) (sym (seen_last code p events (Some st) turn mine look old e ∙ is)) h
+
+module _ {T : Type 0} (code : Coding T) (p : ℕ) (events : List (Event T)) (st : ContainerState T) (turn : Turn T)
+    (mine : IsParty turn p) (call : Look T) (old : ℕ) where
+  abbrev after_it : ContainerState T
+  after_it = look_shows code call st old
+
+  abbrev seen_now : Seen
+  seen_now = seen_by p events
+
+  abbrev So : LookOf → After (Look T) Bool → Type 0
+  So which r = LooksSo code p events st turn mine which call old (looks_as which) r
+
+  looks_so : (which : LookOf) (r : After (Look T) Bool) → Out seen_now after_it which r → So which r
+  looks_so which (GoOn next) out = goes_on code p events st turn mine which call old (looks_as which) next out
+  looks_so kinds.GetState (Done changed) out =
+      let e : Event T = Finished p (Container starts.GetState) (looked kinds.GetState after_it changed) in (
+        sees_end code p events st turn mine kinds.GetState call old e (up_to_date seen_now) _
+            (own_end code p events st turn mine kinds.GetState call old seen_now (up_to_date seen_now)) out,
+        with_end code p events st turn mine kinds.GetState call old e tt,
+      )
+  looks_so kinds.UpdateState (Done true) out =
+      let e : Event T = Finished p (Container starts.UpdateState) (Truth true) in
+      let same = changes_now code p events st turn mine kinds.UpdateState call old in
+      let less = out.0 in (
+        sees_end code p events st turn mine kinds.UpdateState call old e (up_to_date seen_now) _
+            (own_end code p events st turn mine kinds.UpdateState call old seen_now (up_to_date seen_now))
+            out.1,
+        with_end code p events st turn mine kinds.UpdateState call old e
+            (subst (λ (s : Seen). s.least
+            < changes_of (events ++ look_wrote code p events st turn mine kinds.UpdateState call old))
+            (sym (seen_did code p events (Some st) turn mine (calls.Look kinds.UpdateState call) old))
+            (omega arith)),
+      )
+  looks_so kinds.UpdateState (Done false) out =
+      let e : Event T = Finished p (Container starts.UpdateState) (Truth false) in
+      let same = changes_now code p events st turn mine kinds.UpdateState call old in (
+        sees_end code p events st turn mine kinds.UpdateState call old e (record seen_now { changes = seen_now.changes + 0 }) _ refl
+            (within_later seen_now (record seen_now { changes = seen_now.changes + 0 })
+            (record { begun = refl; least = refl; most = refl; changes = omega arith }) _ out.1),
+        with_end code p events st turn mine kinds.UpdateState call old e
+            (same ∙ (out.0 ∙ ap (λ (s : Seen). s.most)
+            (sym (seen_did code p events (Some st) turn mine (calls.Look kinds.UpdateState call) old)))),
+      )
+
+  -- a step of a look, which loads the number of changes first
+  pub look_leaves : (which : LookOf) → LookSees which call.stage seen_now (Some st) → (call.stage ≡ stages.LoadsChange → old ≡ seen_now.changes)
+      → Leaves code p events (Some st) turn mine
+      (Some (settled_if (look_steps.look_after code.size call st.seen old) after_it)) (looks_as which)
+      (calls.Look which call) old
+  look_leaves which sees loads =
+      let h =
+      looks_so which (look_steps.look_after code.size call st.seen old)
+      (step_out code.value_of code.size seen_now call call.stage st which old sees loads) in
+      record { sees = h.0; right = h.1 }
+
+-- without a state it stands still
+module _ {T : Type 0} (code : Coding T) (p : ℕ) (events : List (Event T)) (turn : Turn T) (mine : IsParty turn p)
+    (call : Look T) (old : ℕ) (which : LookOf) where
+  pub look_stays : (start : ContainerStart T) → LookSees {T = T} which call.stage (seen_by p events) None
+      → Leaves code p events None turn mine None start (calls.Look which call) old
+  look_stays = grind (arith, seen_by, append-nil)

@@ -1,0 +1,188 @@
+-- The definitions at worked runs, and at what a wrong machine would leave, which they refuse.
+use Rattle.laws_machine.proofs.Names.{◌≡◌, ℕ, ◌==◌, if◌then◌else◌, is_some, Bool, true, false, Option, Some, None, List}
+use Rattle.laws_machine.proofs.Names.{[], ◌∷◌, ◌++◌, slice_index, refl, sym, subst, arith, change_word, LockIfLastIndex}
+use Rattle.laws_machine.proofs.Names.{Default, State, Number, Truth, Event, Begun, Filled, FreedOf, Asked, Finished}
+use Rattle.laws_machine.proofs.Names.{Start, Robust, Container, Flight, Going, Turn, Begin, Next, Decide, Die, one_word}
+use Rattle.laws_machine.proofs.Names.{IsFilled, asked_of, owned_of, Frees, set_acts_of, IsOneOf, put, ask_in}
+use Rattle.laws_machine.proofs.Names.{after_turn, Trace, kept_opened, flight_in, held_now, no_more, find_at}
+use Rattle.steps.specs.declared.indices.enums.ReleaseState.TheVariants as states
+use Rattle.steps.specs.declared.indices.robust.find.FindStage.TheVariants as finds
+use Rattle.steps.specs.declared.indices.robust.recover.RecoverStage.TheVariants as recovers
+use Rattle.model.specs.declared.event.Answer.TheVariants.{Index}
+use Rattle.model.specs.declared.families.Flight.TheVariants as flights
+use Rattle.model.specs.declared.families.container.ContainerStart.TheVariants as containers
+use Rattle.model.specs.declared.families.indices.robust.RobustStart.TheVariants.{Acquire, Find, Recover}
+use Rattle.model.specs.declared.turn.Kind.TheVariants as kinds
+use Rattle.model.proofs.Runs.{begins, ran}
+use Rattle.laws_robust.proofs.CallProgress.{recover_at}
+use Rattle.laws_machine.specs.Changes.{changes_of, CountsChanges, MeetsChanges}
+use Rattle.laws_machine.specs.Others.{queue_in}
+use Rattle.laws_machine.specs.Questions.{IsAnswered, AsksAtOnce, FindsAsking, loads_cell}
+use Rattle.laws_machine.specs.Recoveries.{LocksRight}
+
+-- the same, but that the party's call stands here
+abbrev instead : Trace ℕ → ℕ → Start ℕ → Flight ℕ → Trace ℕ
+instead t p start flight =
+    record {
+      world = record t.world { latest = put p (record { start = start; steps = 2; backs = 0; doing = Going flight 0 }) t.world.latest };
+      events = t.events;
+    }
+
+-- ---- questions of the robust set: 0 of its two indices is that of owner 1
+
+abbrev one_filled : List (Turn ℕ)
+one_filled = begins 0 (Robust (Acquire 1)) 4
+
+abbrev recover : Start ℕ
+recover = Robust (Recover Default)
+
+abbrev recovers_it : Trace ℕ
+recovers_it = ran one_word kinds.Robust 2 2 (one_filled ++ Die 1 ∷ begins 1 recover 1)
+
+abbrev asks_it : Trace ℕ
+asks_it = after_turn recovers_it (Next 1)
+
+pub it_asks : asks_it.events ≡ recovers_it.events ++ Asked 1 0 1 ∷ []
+it_asks = refl
+
+pub asks_now : owned_of one_word (flight_in asks_it.world 1) ≡ Some (0, 1)
+asks_now = refl
+
+-- a recovery that writes that it asks, and goes on as after a no
+pub no_lost_question : AsksAtOnce recovers_it (instead asks_it 1 recover (flights.Robust (recover_at 2 Default recovers.LoadsCounterAgain))) → ⊥
+no_lost_question h = apart (h (Asked 1 0 1 ∷ []) refl).0
+  where
+    apart : ◌≡◌ {A = Option (ℕ × ℕ)} None (Some (0, 1)) → ⊥
+    apart e = cc
+
+abbrev find : Start ℕ
+find = Robust (Find 1)
+
+abbrev begins_find : Trace ℕ
+begins_find = ran one_word kinds.Robust 2 2 (one_filled ++ Begin 1 find ∷ [])
+
+abbrev asks_find : Trace ℕ
+asks_find = after_turn begins_find (Next 1)
+
+pub find_loads : ask_in begins_find.world (Next 1) ≡ Some (loads_cell 0)
+find_loads = refl
+
+pub find_asks : asked_of one_word (flight_in asks_find.world 1) ≡ Some 0
+find_asks = refl
+
+-- a find that never asks
+pub no_silent_find : FindsAsking begins_find (Next 1) (instead asks_find 1 find (flights.Robust (find_at 2 1 (finds.LoadsCell 1 1)))) → ⊥
+no_silent_find h = apart (h 1 1 0 refl (refl, tt) refl)
+  where
+    apart : ◌≡◌ {A = Option ℕ} None (Some 0) → ⊥
+    apart e = cc
+
+-- a find that asks twice
+pub no_second_question : IsAnswered (Decide 1 true) (instead (after_turn asks_find (Decide 1 true)) 1 find (flights.Robust (find_at 2 1 (finds.Asks 0 1)))) → ⊥
+no_second_question h = apart (h 1 true refl)
+  where
+    apart : true ≡ false → ⊥
+    apart e = cc
+
+-- ---- the lock of a recovery
+
+abbrev locking : Start ℕ
+locking = Robust (Recover LockIfLastIndex)
+
+-- the last index is freed
+abbrev last_freed : List (Event ℕ)
+last_freed = Filled 0 0 1 ∷ Begun 1 locking ∷ FreedOf 1 0 1 ∷ []
+
+abbrev unlocked : Event ℕ
+unlocked = Finished 1 locking (State states.Unlocked)
+
+-- no index is filled once it is
+none_filled : (other : ℕ) → IsFilled other last_freed → ⊥
+none_filled other filled = go (0 == other) filled
+  where
+    go : (b : Bool) → is_some {T = ℕ} (if b then None else (if b then Some 1 else None)) ≡ true → ⊥
+    go true e = cc
+    go false e = cc
+
+none_since : (other : ℕ) (part rest : List (Event ℕ)) → last_freed ≡ part ++ rest → IsOneOf (Frees 0 1) (set_acts_of 1 part) → IsFilled other part → ⊥
+none_since other [] rest is frees filled = absurd (no_more frees.before (Frees 0 1) frees.after frees.is)
+none_since other (a ∷ []) rest is frees filled =
+    let same : Filled 0 0 1 ≡ a = cc in
+    let none = subst (λ x. IsOneOf (Frees 0 1) (set_acts_of 1 (x ∷ []))) (sym same) frees in
+    absurd (no_more none.before (Frees 0 1) none.after none.is)
+none_since other (a ∷ b ∷ []) rest is frees filled =
+    let same : Filled 0 0 1 ≡ a = cc in
+    let next : Begun 1 locking ≡ b = cc in
+    let none =
+    subst (λ x. IsOneOf (Frees 0 1) (set_acts_of 1 (x ∷ Begun 1 locking ∷ []))) (sym same)
+    (subst (λ y. IsOneOf (Frees 0 1) (set_acts_of 1 (a ∷ y ∷ []))) (sym next) frees) in
+    absurd (no_more none.before (Frees 0 1) none.after none.is)
+none_since other (a ∷ b ∷ c ∷ []) rest is frees filled =
+    let same : last_freed ≡ a ∷ b ∷ c ∷ [] = cc in
+    none_filled other (subst (IsFilled other) (sym same) filled)
+none_since other (a ∷ b ∷ c ∷ d ∷ more) rest is frees filled = absurd (cc)
+
+-- a recovery that never locks
+pub no_open_end : LocksRight last_freed unlocked → ⊥
+no_open_end h =
+    let since = h 0 1 (record { before = []; after = []; is = refl }) in
+    none_since since.other since.once.part since.once.rest since.once.is since.once.held.0 since.once.held.1
+
+-- one index is left to owner 2
+pub right_where_one_is_left : LocksRight (Filled 0 1 2 ∷ last_freed) unlocked
+right_where_one_is_left index owner frees =
+    record { other = 1; once = held_now 1 _ (Filled 0 1 2 ∷ last_freed) (frees, refl) }
+
+-- ---- what a container counts
+
+abbrev get : Start ℕ
+get = Container containers.GetState
+
+abbrev update : Start ℕ
+update = Container containers.UpdateState
+
+abbrev looked : List (Event ℕ)
+looked = Begun 0 get ∷ Finished 0 get (Number 0) ∷ []
+
+abbrev added : Event ℕ
+added = Finished 1 (Container (containers.Add 5 1)) (Index 0)
+
+-- an update that is always true
+pub no_idle_true : MeetsChanges (looked ++ Begun 0 update ∷ []) (Finished 0 update (Truth true)) → ⊥
+no_idle_true h = absurd (omega arith)
+
+pub true_by_add : MeetsChanges (looked ++ added ∷ Begun 0 update ∷ []) (Finished 0 update (Truth true))
+true_by_add = omega arith
+
+pub no_false_by_add : MeetsChanges (looked ++ added ∷ Begun 0 update ∷ []) (Finished 0 update (Truth false)) → ⊥
+no_false_by_add h = apart h
+  where
+    apart : ◌≡◌ {A = ℕ} 1 0 → ⊥
+    apart e = cc
+
+-- 5 is added, and a recovery of an owner who has nothing comes to its end
+abbrev counted : Trace ℕ
+counted =
+    ran one_word kinds.Container 1 2
+    (begins 0 (Container (containers.Add 5 1)) 8 ++ Die 3 ∷ begins 1 (Container (containers.Recover 3 Default)) 4)
+
+pub two_changes : changes_of counted.events ≡ 2
+two_changes = refl
+
+pub two_counted : slice_index counted.world.words (change_word 1) ≡ 2
+two_counted = refl
+
+-- a recovery that does not raise the number
+pub no_missed_change : CountsChanges (record {
+  world = counted.world;
+  events = counted.events ++ Finished 1 (Container (containers.Recover 3 Default)) (State states.Unlocked) ∷ [];
+}) → ⊥
+no_missed_change h = apart h
+  where
+    apart : ◌≡◌ {A = ℕ} 2 3 → ⊥
+    apart e = cc
+
+-- ---- a channel of four slots whose submission queue has room for two
+
+pub queue_of_two : queue_in {T = ℕ} (kept_opened kinds.Loan 4 2) ≡ Some 2
+queue_of_two = refl

@@ -1,0 +1,5 @@
+use Rattle.laws_machine.proofs.Asking as laws
+use Rattle.laws_machine.proofs.asks_at_once.Goals as goal
+
+pub returns : goal.returns
+returns g c t turn is r = laws.asks_at_once t turn is r

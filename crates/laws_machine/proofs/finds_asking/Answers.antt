@@ -1,0 +1,5 @@
+use Rattle.laws_machine.proofs.Finding as laws
+use Rattle.laws_machine.proofs.finds_asking.Goals as goal
+
+pub returns : goal.returns
+returns g c t turn is r free = laws.finds_asking t is r turn free

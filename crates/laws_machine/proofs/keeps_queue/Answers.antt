@@ -1,0 +1,5 @@
+use Rattle.laws_machine.proofs.Queue as laws
+use Rattle.laws_machine.proofs.keeps_queue.Goals as goal
+
+pub returns : goal.returns
+returns g c w turn = laws.keeps_queue w turn

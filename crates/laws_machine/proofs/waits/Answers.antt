@@ -1,0 +1,5 @@
+use Rattle.laws_machine.proofs.Waiting as laws
+use Rattle.laws_machine.proofs.waits.Goals as goal
+
+pub returns : goal.returns
+returns g c t is r = laws.waits t is r

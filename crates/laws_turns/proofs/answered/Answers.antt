@@ -1,9 +1,0 @@
-use Rattle.laws_turns.proofs.Answering as laws
-use Rattle.laws_turns.proofs.Waiting as waiting
-use Rattle.laws_turns.proofs.answered.Goals as goal
-
-pub returns-clause-robust : goal.returns-clause-robust
-returns-clause-robust g c t turn is r free = laws.answered t is r turn free
-
-pub returns-clause-container : goal.returns-clause-container
-returns-clause-container g c t turn is r free = waiting.answered t is r turn free

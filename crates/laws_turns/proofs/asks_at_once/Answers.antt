@@ -1,5 +1,0 @@
-use Rattle.laws_turns.proofs.Asking as laws
-use Rattle.laws_turns.proofs.asks_at_once.Goals as goal
-
-pub returns : goal.returns
-returns g c t turn is r = laws.asks_at_once t turn is r

@@ -1,5 +1,0 @@
-use Rattle.laws_turns.proofs.Finding as laws
-use Rattle.laws_turns.proofs.finds_asking.Goals as goal
-
-pub returns : goal.returns
-returns g c t turn is r free = laws.finds_asking t is r turn free

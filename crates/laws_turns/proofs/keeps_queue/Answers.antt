@@ -1,5 +1,0 @@
-use Rattle.laws_turns.proofs.Queue as laws
-use Rattle.laws_turns.proofs.keeps_queue.Goals as goal
-
-pub returns : goal.returns
-returns g c w turn = laws.keeps_queue w turn

@@ -1,5 +1,0 @@
-use Rattle.laws_turns.proofs.Queue as laws
-use Rattle.laws_turns.proofs.queue_is.Goals as goal
-
-pub returns : goal.returns
-returns g c t is r = laws.queue_is t is r

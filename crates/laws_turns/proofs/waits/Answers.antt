@@ -1,5 +1,0 @@
-use Rattle.laws_turns.proofs.Waiting as laws
-use Rattle.laws_turns.proofs.waits.Goals as goal
-
-pub returns : goal.returns
-returns g c t is r = laws.waits t is r

@@ -1,0 +1,4 @@
+pub mod Called
+pub mod Changing
+pub mod Showing
+pub mod Worked

@@ -1,0 +1,273 @@
+-- Each call on a container of one caller leaves its states following it.
+use Rattle.plain.specs.Contents.{Contents, capacity, count_without, count_with, changed, names, put_at, after_add, after_remove, after_replace}
+use Rattle.plain.specs.States.{Snapshot}
+use Rattle.std.proofs.Common.{◌≡◌, ◌⊎◌, ⊎_elim, inl, inr, ℕ, ◌+◌, ◌-◌, ◌^◌, ◌%◌, ◌<◌, ◌≤◌, ◌==◌, ◌&&◌, Bool, true}
+use Rattle.std.proofs.Common.{false, not, Option, Some, None, Result, Ok, Err, List, [], ◌∷◌, length, fold, get_or}
+use Rattle.std.proofs.Common.{if◌then◌else◌, refl, sym, ap, subst, ◌∙◌, arith}
+use Rattle.std.proofs.lemmas.Bool.{cases_eq, cases_lt}
+use Rattle.std.proofs.lemmas.Bool.Decides.{nat_tests}
+use Rattle.std.proofs.lemmas.List.{get_or-set_same, set_past, length-set}
+use Rattle.steps.specs.Container.Layout.{is_even}
+use Rattle.steps.specs.Indices.Robust.Parts.{one_more}
+use Rattle.steps.specs.declared.container.handle.ContainerHandle.{ContainerHandle}
+use Rattle.steps.specs.declared.indices.enums.ReleaseMode.{ReleaseMode}
+use Rattle.steps.specs.declared.indices.enums.ReleaseMode.TheVariants.{LockIfLastIndex, Default}
+use Rattle.std.proofs.lemmas.List.{get_or-set_other}
+use Rattle.steps.specs.Objects.Owners as owners
+use Rattle.steps.specs.Objects.Owners.{Owners, Owned}
+use Rattle.steps.specs.declared.indices.enums.UniqueIndexSetAcquireFailure.{UniqueIndexSetAcquireFailure}
+use Rattle.plain.specs.Contents.{counted}
+use Rattle.plain.specs.Visited.{freed, all_freed, one_change}
+use Rattle.plain.specs.Following.{MayChange, IsCounted, Follows, Keeps}
+
+-- ---- numbers
+
+is_odd : (n : ℕ) → is_even n ≡ false → n % 2 ≡ 1
+is_odd n t =
+    let other : n % 2 ≡ 0 → ⊥ = grind (arith, nat_tests) in
+    omega arith
+
+even_is : (n : ℕ) → is_even n ≡ true → n % 2 ≡ 0
+even_is n t = grind (arith, nat_tests)
+
+is_even_so : (n : ℕ) → n % 2 ≡ 0 → is_even n ≡ true
+is_even_so n e = grind (arith, nat_tests)
+
+module _ {V : Type 0} where
+  abbrev count_at : Contents V → ℕ → ℕ
+  count_at s i = get_or s.counts i 0
+
+  abbrev value_at : Contents V → ℕ → Option V
+  value_at s i = get_or s.values i None
+
+  -- ---- what a change leaves of an index
+
+  abbrev IsSame : Contents V → Contents V → ℕ → Type 0
+  IsSame s t i = (count_at t i ≡ count_at s i) × (value_at t i ≡ value_at s i)
+
+  -- its number goes up, and is even only where nothing stands then
+  pub record HasMoved (s t : Contents V) (i : ℕ) : Type 0 where
+    pub more : count_at s i < count_at t i
+    pub few : count_at t i ≤ count_at s i + 2
+    pub even : is_even (count_at t i) ≡ true → value_at t i ≡ None
+
+  pub record Moves (s t : Contents V) : Type 0 where
+    pub counts : length t.counts ≡ length s.counts
+    pub values : length t.values ≡ length s.values
+    pub places : capacity t ≡ capacity s
+    pub changes : t.changes ≡ s.changes + 1
+    pub at : (i : ℕ) → IsSame s t i ⊎ HasMoved s t i
+
+  module _ (s t : Contents V) (c : IsCounted s) (m : Moves s t) where
+    counted_then : IsCounted t
+    counted_then =
+        record {
+          counts = m.counts ∙ (c.counts ∙ sym m.places);
+          values = m.values ∙ (c.values ∙ sym m.places);
+          few = λ i.
+              let more = m.changes in
+              let was = c.few i in
+              ⊎_elim (λ same. let n = same.0 in omega arith) (λ moved. let n = moved.few in omega arith) (m.at i);
+          even = λ i e. ⊎_elim (λ same. same.1 ∙ c.even i (subst (λ n. is_even n ≡ true) same.0 e)) (λ moved. moved.even e) (m.at i);
+        }
+
+    follows_then : (seen : Snapshot V) → Follows s seen → Follows t seen
+    follows_then seen f =
+        record {
+          counted = counted_then;
+          counts = f.counts ∙ sym m.places;
+          values = f.values ∙ sym m.places;
+          fewer = let few = f.fewer in let more = m.changes in omega arith;
+          numbers = λ i.
+              let low = f.numbers i in
+              ⊎_elim (λ same. let n = same.0 in omega arith) (λ moved. let n = moved.more in omega arith) (m.at i);
+          same = λ i e.
+              let low = f.numbers i in
+              ⊎_elim (λ same. f.same i (sym same.0 ∙ e) ∙ sym same.1) (λ moved. let n = moved.more in absurd (omega arith)) (m.at i);
+          all = λ e. let few = f.fewer in let more = m.changes in absurd (omega arith);
+        }
+
+  moves_keep : (s t : Contents V) → (IsCounted s → Moves s t) → Keeps s t
+  moves_keep s t m = record { counts = λ c. counted_then s t c (m c); follows = λ seen f. follows_then s t f.counted (m f.counted) seen f }
+
+  keeps_same : (s : Contents V) → Keeps s s
+  keeps_same s = record { counts = λ c. c; follows = λ seen f. f }
+
+  -- ---- a value comes or goes at an index
+
+  module _ (s : Contents V) (c : IsCounted s) (may : MayChange s) where
+    -- a number that may go up by 2
+    small : (i : ℕ) → count_at s i < 2 ^ 64 - 2
+    small i = let few = c.few i in let far = may in omega arith
+
+    module _ (set_now : Owners) (places : owners.capacity set_now ≡ capacity s) (index : ℕ) (value : Option V) where
+      abbrev t : Contents V
+      t = changed s set_now index value
+
+      abbrev n : ℕ
+      n = count_at s index
+
+      -- by what stands there then, and by the number that it had
+      here : (v : Option V) (b : Bool) → is_even n ≡ b → (count : ℕ) → count ≡ count_with v n → (w : Option V) → w ≡ v
+          → ((count ≡ n) × (w ≡ value_at s index)) ⊎ ((n < count) × (count ≤ n + 2) × (is_even count ≡ true → w ≡ None))
+      here x0 x1 x2 x3 x4 x5 x6 = grind (arith, count_with, one_more, inl, small, inr, even_is, is_odd)
+
+      within : index < capacity s → (i : ℕ) → i ≡ index → IsSame s t i ⊎ HasMoved s t i
+      within x0 x1 x2 = grind (arith, inl, inr, here, get_or-set_same, count_with)
+
+      beyond : capacity s ≤ index → (i : ℕ) → IsSame s t i
+      beyond past i =
+          let counts = c.counts in
+          let values = c.values in (
+            ap (λ l. get_or l i 0) (set_past s.counts index (count_with value n) (omega arith)),
+            ap (λ l. get_or l i None) (set_past s.values index value (omega arith)),
+          )
+
+      there : (i : ℕ) → (i ≡ index → ⊥) → IsSame s t i
+      there x0 x1 = grind (arith, get_or-set_other, count_with)
+
+      changed_moves : Moves s t
+      changed_moves =
+          let far = may in
+          record {
+            counts = length-set s.counts index (count_with value n);
+            values = length-set s.values index value;
+            places = places;
+            changes = omega arith;
+            at =
+                λ i. ⊎_elim (λ below. ⊎_elim (within below i) (λ ne. inl (there i ne)) (cases_eq i index))
+                (λ past. inl (beyond past i)) (cases_lt index (capacity s));
+          }
+
+  changed_keeps : (s : Contents V) → MayChange s → (set_now : Owners) → owners.capacity set_now ≡ capacity s
+      → (index : ℕ) (value : Option V) → Keeps s (changed s set_now index value)
+  changed_keeps s may set_now places index value = moves_keep s (changed s set_now index value) (λ c. changed_moves s c may set_now places index value)
+
+-- ---- the owners of so many indices
+
+given_back_long : (mode : ReleaseMode) (s : Owners) (index : ℕ) → owners.capacity (owners.given_back mode s index) ≡ owners.capacity s
+given_back_long Default s index = length-set s.owners index None
+given_back_long LockIfLastIndex s index =
+    go
+    ((length (owners.taken (owners.without s index)) == 0) && not ((owners.raised (owners.without s index)).generation == owners.the_end))
+    ∙ length-set s.owners index None
+  where
+    go : (b : Bool) → owners.capacity
+        (if b then record (owners.without s index) { generation = owners.the_lock } else owners.raised (owners.without s index))
+        ≡ owners.capacity (owners.without s index)
+    go true = refl
+    go false = refl
+
+module _ {V : Type 0} where
+  -- ---- each call
+
+  pub adds : (s : Contents V) (owner : ℕ) (value : V) → MayChange s → Keeps s (after_add s owner value)
+  adds s owner value may = go (owners.acquired s.owners)
+    where
+      go : (r : Result ℕ UniqueIndexSetAcquireFailure) → Keeps s (put_at s owner value r)
+      go (Ok index) = changed_keeps s may (owners.granted s.owners owner (Ok index)) (length-set s.owners.owners index (Some owner)) index (Some value)
+      go (Err failure) = keeps_same s
+
+  pub removes : (s : Contents V) (handle : ContainerHandle) (mode : ReleaseMode) → MayChange s → Keeps s (after_remove s handle mode)
+  removes s handle mode may = go (names s handle)
+    where
+      go : (b : Bool) → Keeps s (if b then changed s (owners.given_back mode s.owners handle.index) handle.index None else s)
+      go true = changed_keeps s may (owners.given_back mode s.owners handle.index) (given_back_long mode s.owners handle.index) handle.index None
+      go false = keeps_same s
+
+  pub replaces : (s : Contents V) (handle : ContainerHandle) (value : V) → MayChange s → Keeps s (after_replace s handle value)
+  replaces s handle value may = go (names s handle)
+    where
+      go : (b : Bool) → Keeps s (if b then changed s s.owners handle.index (Some value) else s)
+      go true = changed_keeps s may s.owners refl handle.index (Some value)
+      go false = keeps_same s
+
+  pub counts : (s : Contents V) → Keeps s (counted s)
+  counts x0 = grind (arith, counted)
+
+  -- ---- indices are freed, as one change
+
+  -- an index that is freed has gone up to the next even number, and has no value
+  pub record HasGone (s t : Contents V) (i : ℕ) : Type 0 where
+    pub next : count_at t i ≡ count_at s i + 1
+    pub even : is_even (count_at t i) ≡ true
+    pub none : value_at t i ≡ None
+
+  pub record Frees (s t : Contents V) : Type 0 where
+    pub counts : length t.counts ≡ length s.counts
+    pub values : length t.values ≡ length s.values
+    pub places : capacity t ≡ capacity s
+    pub changes : t.changes ≡ s.changes
+    pub at : (i : ℕ) → IsSame s t i ⊎ HasGone s t i
+
+  module _ (s : Contents V) (c : IsCounted s) (may : MayChange s) (mode : ReleaseMode) where
+    module _ (t : Contents V) (f : Frees s t) (index : ℕ) where
+      abbrev u : Contents V
+      u = freed mode t index
+
+      -- by the number that it has, as the first index of this value has it
+      gone : (b : Bool) → is_even (count_at t index) ≡ b → (count : ℕ) → count ≡ count_without (count_at t index) → (w : Option V) → w ≡ None
+          → ((count ≡ count_at s index) × (w ≡ value_at s index)) ⊎ ((count ≡ count_at s index + 1) × (is_even count ≡ true) × (w ≡ None))
+      gone true e count is w none =
+          let stays : count ≡ count_at t index = is ∙ ap (λ b. if b then count_at t index else one_more (count_at t index)) e in
+          ⊎_elim
+          (λ same. inl (stays ∙ same.0, none ∙ sym (c.even index (subst (λ n. is_even n ≡ true) same.0 e))))
+          (λ went. inr (stays ∙ went.next, subst (λ n. is_even n ≡ true) (sym stays) e, none)) (f.at index)
+      gone false e count is w none =
+          let goes : count ≡ one_more (count_at t index) = is ∙ ap (λ b. if b then count_at t index else one_more (count_at t index)) e in
+          ⊎_elim
+          (λ same.
+          let few = c.few index in
+          let far = may in
+          let n = same.0 in
+          let next : one_more (count_at t index) ≡ count_at t index + 1 = omega arith in
+          let was = is_odd (count_at t index) e in
+          inr (goes ∙ (next ∙ ap (λ m. m + 1) same.0), is_even_so count (omega arith), none))
+          (λ went. both_so went.even e) (f.at index)
+        where
+          both_so : {A : Type 0} → is_even (count_at t index) ≡ true → is_even (count_at t index) ≡ false → A
+          both_so yes_so no_so = let same : true ≡ false = sym yes_so ∙ no_so in absurd (cc)
+
+      freed_here : index < capacity s → (i : ℕ) → i ≡ index → IsSame s u i ⊎ HasGone s u i
+      freed_here x0 x1 x2 = grind (arith, inl, inr, gone, get_or-set_same)
+
+      -- what is as it was in t
+      by_last : (i : ℕ) → IsSame t u i → IsSame s u i ⊎ HasGone s u i
+      by_last x0 x1 = grind (arith, inl, inr)
+
+      freed_beyond : capacity s ≤ index → (i : ℕ) → IsSame t u i
+      freed_beyond past i =
+          let a = f.counts in
+          let b = f.values in
+          let counts = c.counts in
+          let values = c.values in (
+            ap (λ l. get_or l i 0) (set_past t.counts index (count_without (count_at t index)) (omega arith)),
+            ap (λ l. get_or l i None) (set_past t.values index None (omega arith)),
+          )
+
+      freed_there : (i : ℕ) → (i ≡ index → ⊥) → IsSame t u i
+      freed_there x0 x1 = grind (arith, get_or-set_other)
+
+      frees_more : Frees s u
+      frees_more = grind (arith, counts, length-set, given_back_long, freed_here, by_last, freed_there, cases_eq, freed_beyond, capacity)
+
+    all_frees : (which : List Owned) (t : Contents V) → Frees s t → Frees s (fold (λ u (o : Owned). freed mode u o.index) t which)
+    all_frees [] t f = f
+    all_frees (o ∷ which) t f = all_frees which (freed mode t o.index) (frees_more t f o.index)
+
+    recovered_moves : (which : List Owned) → Moves s (one_change (all_freed mode s which))
+    recovered_moves which =
+        let f = all_frees which s (record { counts = refl; values = refl; places = refl; changes = refl; at = λ i. inl (refl, refl) }) in
+        let same = f.changes in
+        let far = may in
+        record {
+          counts = f.counts;
+          values = f.values;
+          places = f.places;
+          changes = omega arith;
+          at = λ i.
+              ⊎_elim (λ stays. inl stays) (λ went. let n = went.next in inr (record { more = omega arith; few = omega arith; even = λ e. went.none })) (f.at i);
+        }
+
+  pub recovers : (s : Contents V) (mode : ReleaseMode) (which : List Owned) → MayChange s → Keeps s (one_change (all_freed mode s which))
+  recovers s mode which may = moves_keep s (one_change (all_freed mode s which)) (λ c. recovered_moves s c may mode which)

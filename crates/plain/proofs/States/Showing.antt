@@ -1,0 +1,93 @@
+-- A state that follows its container is the map once it is brought up to date.
+use Rattle.plain.specs.Contents.{Contents, capacity}
+use Rattle.plain.specs.States.{Snapshot, blank, value_then, updated}
+use Rattle.std.proofs.Common.{◌≡◌, ℕ, ◌*◌, ◌≤◌, ◌==◌, Bool, true, false, Option, None, List, replicate, get_or, map, if◌then◌else◌, refl, sym, ap, ◌∙◌, arith}
+use Rattle.std.proofs.lemmas.Bool.Decides.{nat_tests}
+use Rattle.std.proofs.lemmas.List.{ext_get_or, get_or-replicate, get_or_past, length-replicate}
+use Rattle.std.specs.List.{range_with_len}
+use Rattle.steps.specs.Container.Layout.{is_even}
+use Rattle.std.proofs.lemmas.List.FromFn.{get_or-map-range_with_len, length-map-range_with_len}
+use Rattle.plain.specs.Contents.{opened}
+use Rattle.plain.specs.Following.{IsCounted, Follows}
+
+-- what stands in a list of one value, which is read past its end too
+same_all : {A : Type 0} (n i : ℕ) (x : A) → get_or (replicate n x) i x ≡ x
+same_all x0 x1 x2 = grind (arith, get_or-replicate, length-replicate, get_or_past)
+
+zero_most : (n m : ℕ) → n ≡ 0 → n ≤ m
+zero_most n m e = omega arith
+
+-- a number of no change
+none_yet : (n m changes : ℕ) → n ≤ 2 * changes → changes ≡ 0 → m ≡ 0 → n ≡ m
+none_yet n m changes few none zero_is = omega arith
+
+module _ {V : Type 0} where
+  pub opens : (size container : ℕ) → IsCounted {V = V} (opened size container)
+  opens x0 x1 = grind (arith, length-replicate, zero_most, same_all)
+
+  -- ---- brought up to date
+
+  module _ (s : Contents V) (seen : Snapshot V) (f : Follows s seen) where
+    -- where no change was counted since, it shows all
+    shows_all : s.changes ≡ seen.changes → seen.values ≡ s.values
+    shows_all is =
+        let a = f.values in
+        let b = f.counted.values in
+        ext_get_or None seen.values s.values (omega arith) (λ i below. f.same i (ap (λ l. get_or l i 0) (f.all is)))
+
+    abbrev now : List (Option V)
+    now = map (value_then s seen) (range_with_len 0 (capacity s))
+
+    value_is : (i : ℕ) → value_then s seen i ≡ get_or s.values i None
+    value_is i = go (get_or s.counts i 0 == get_or seen.counts i 0) refl
+      where
+        go : (b : Bool) → (get_or s.counts i 0 == get_or seen.counts i 0) ≡ b
+            → (if b then get_or seen.values i None else get_or s.values i None) ≡ get_or s.values i None
+        go true t = let same : get_or s.counts i 0 ≡ get_or seen.counts i 0 = grind (arith, nat_tests) in f.same i same
+        go false t = refl
+
+    now_is : now ≡ s.values
+    now_is =
+        let a = length-map-range_with_len (value_then s seen) 0 (capacity s) in
+        let b = f.counted.values in
+        ext_get_or None now s.values (omega arith)
+        (λ i below. get_or-map-range_with_len (value_then s seen) 0 (capacity s) i i None (omega arith) (omega arith) ∙ value_is i)
+
+    abbrev then_seen : Snapshot V
+    then_seen = record { changes = s.changes; counts = s.counts; values = now }
+
+    follows_now : Follows s then_seen
+    follows_now = grind (arith, length-map-range_with_len, capacity, now_is)
+
+  pub updates : (s : Contents V) (seen : Snapshot V) → Follows s seen → Follows s (updated s seen) × ((updated s seen).values ≡ s.values)
+  updates s seen f = go (s.changes == seen.changes) refl
+    where
+      go : (b : Bool) → (s.changes == seen.changes) ≡ b
+          → Follows s (if b then seen else record { changes = s.changes; counts = s.counts; values = map (value_then s seen) (range_with_len 0 (capacity s)) })
+          × ((if b then seen else
+          record { changes = s.changes; counts = s.counts; values = map (value_then s seen) (range_with_len 0 (capacity s)) }).values
+          ≡ s.values)
+      go true t = let is : s.changes ≡ seen.changes = grind (arith, nat_tests) in (f, shows_all s seen f is)
+      go false t = (follows_now s seen f, now_is s seen f)
+
+  -- ---- a new state
+
+  blank_follows : (s : Contents V) → IsCounted s → Follows s (blank (capacity s))
+  blank_follows s c =
+      record {
+        counted = c;
+        counts = length-replicate (capacity s) 0;
+        values = length-replicate (capacity s) None;
+        fewer = omega arith;
+        numbers = λ i. zero_most (get_or (replicate (capacity s) 0) i 0) (get_or s.counts i 0) (same_all (capacity s) i 0);
+        same = λ i e. same_all (capacity s) i None ∙ sym (c.even i (even_zero (get_or s.counts i 0) (e ∙ same_all (capacity s) i 0)));
+        all = λ none.
+            ext_get_or 0 s.counts (replicate (capacity s) 0) (c.counts ∙ sym (length-replicate (capacity s) 0))
+            (λ i below. none_yet (get_or s.counts i 0) (get_or (replicate (capacity s) 0) i 0) s.changes (c.few i) none (same_all (capacity s) i 0));
+      }
+    where
+      even_zero : (n : ℕ) → n ≡ 0 → is_even n ≡ true
+      even_zero n e = ap is_even e
+
+  pub gets : (s : Contents V) → IsCounted s → Follows s (updated s (blank (capacity s))) × ((updated s (blank (capacity s))).values ≡ s.values)
+  gets s c = updates s (blank (capacity s)) (blank_follows s c)

@@ -1,0 +1,57 @@
+-- The definitions at a worked run of a container of two indices, and at what they refuse.
+use Rattle.plain.specs.Contents.{Contents, after_add, after_remove, after_replace}
+use Rattle.plain.specs.States.{Snapshot, blank, updated}
+use Rattle.std.proofs.Common.{◌≡◌, ℕ, Option, Some, List, [], ◌∷◌, refl}
+use Rattle.steps.specs.declared.container.handle.ContainerHandle.{ContainerHandle}
+use Rattle.steps.specs.declared.indices.enums.ReleaseMode.TheVariants.{Default}
+use Rattle.plain.specs.Contents.{opened}
+use Rattle.plain.specs.Following.{Follows}
+
+-- 5 and 6 are added, 5 is removed, 6 becomes 7, and 8 is added where 5 stood
+abbrev two : Contents ℕ
+two = after_add (after_add (opened 2 9) 1 5) 1 6
+
+abbrev at : ℕ → ContainerHandle
+at index = record { index = index; owner = 1; container = 9 }
+
+abbrev last : Contents ℕ
+last = after_add (after_replace (after_remove two (at 0) Default) (at 1) 7) 1 8
+
+abbrev seen : Snapshot ℕ
+seen = updated two (blank 2)
+
+pub seen_two : seen ≡ record { changes = 2; counts = 1 ∷ 1 ∷ []; values = Some 5 ∷ Some 6 ∷ [] }
+seen_two = refl
+
+-- the state is left alone meanwhile, and then is the map
+pub shown_last : (updated last seen).values ≡ Some 8 ∷ Some 7 ∷ []
+shown_last = refl
+
+pub numbers_last : (updated last seen).counts ≡ 3 ∷ 3 ∷ []
+numbers_last = refl
+
+-- ---- what is refused
+
+-- a state that shows, under the number that is there, another value
+abbrev wrong : Snapshot ℕ
+wrong = record { changes = 2; counts = 1 ∷ 1 ∷ []; values = Some 4 ∷ Some 6 ∷ [] }
+
+pub no_other_value : Follows two wrong → ⊥
+no_other_value f = absurd (apart (f.same 0 refl))
+  where
+    apart : ◌≡◌ {A = Option ℕ} (Some 4) (Some 5) → ⊥
+    apart e = cc
+
+-- one that has seen the changes, and not the numbers, as of a container whose recovery counts none
+abbrev late : Snapshot ℕ
+late = record { changes = 5; counts = 1 ∷ 3 ∷ []; values = Some 5 ∷ Some 7 ∷ [] }
+
+pub no_missed_number : Follows last late → ⊥
+no_missed_number f = absurd (apart (f.all refl))
+  where
+    apart : ◌≡◌ {A = List ℕ} (3 ∷ 3 ∷ []) (1 ∷ 3 ∷ []) → ⊥
+    apart e = cc
+
+-- it would stay as it is
+pub late_stays : updated last late ≡ late
+late_stays = refl

@@ -1,0 +1,5 @@
+use Rattle.plain.proofs.States.Changing as laws
+use Rattle.plain.proofs.laws.removes.Goals as goal
+
+pub returns : goal.returns
+returns g c s handle mode may = laws.removes s handle mode may

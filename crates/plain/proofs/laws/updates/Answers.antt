@@ -1,0 +1,5 @@
+use Rattle.plain.proofs.States.Showing as laws
+use Rattle.plain.proofs.laws.updates.Goals as goal
+
+pub returns : goal.returns
+returns g c s seen f = laws.updates s seen f
