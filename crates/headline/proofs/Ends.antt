@@ -15,7 +15,7 @@ use Rattle.model.specs.World.{World, Trace, flight_in}
 use Rattle.model.proofs.Rows.{may_next, passes, row_passed}
 use Rattle.machine.proofs.Laws.{laws_of}
 use Rattle.headline.proofs.WantsNothing.{IsNothing, IsDone, HasRoomIn, call_ends}
-use Rattle.headline.proofs.Roomy.{has_room}
+use Rattle.headline.proofs.SubmissionRoom.{has_room}
 
 wants_nothing : (want : Want (Unit {0})) → ask_of want ≡ None → is_question want ≡ false → IsNothing want
 wants_nothing x0 x1 x2 = grind arith

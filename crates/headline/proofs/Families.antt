@@ -45,12 +45,12 @@ use Rattle.model.specs.Turns.{IsReached}
 use Rattle.model.specs.World.{Trace}
 use Rattle.laws_container.proofs.AllRuns.{shown}
 use Rattle.laws_container.proofs.Sound.{reached_sound}
-use Rattle.laws_turns.specs.Others.{queue_in}
-use Rattle.laws_turns.proofs.Counting as counting
-use Rattle.laws_turns.proofs.Locking as locking
-use Rattle.laws_turns.proofs.UpdateAnswers as meeting
-use Rattle.laws_turns.proofs.Queue as submission
-use Rattle.laws_turns.proofs.Waiting as waiting
+use Rattle.laws_machine.specs.Others.{queue_in}
+use Rattle.laws_machine.proofs.Counting as counting
+use Rattle.laws_machine.proofs.Locking as locking
+use Rattle.laws_machine.proofs.UpdateAnswers as meeting
+use Rattle.laws_machine.proofs.Queue as submission
+use Rattle.laws_machine.proofs.Waiting as waiting
 use Rattle.headline.specs.Holders.{Takes, claims, fills, grants, loans, holders, NoTwoHold, NoneOnceLocked, IsRelease, MayFree}
 use Rattle.headline.specs.Headline.{QueueRuns, ValueRuns, BitsRun, CountsRun, IndicesRun, RobustRuns, ContainerRuns}
 use Rattle.headline.specs.Headline.{IsLeftOver, is_send_or_receive, ChannelRuns, Runs}

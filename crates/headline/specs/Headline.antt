@@ -51,9 +51,9 @@ use Rattle.model.specs.Promises.Turns.{IsParty, ask_in}
 use Rattle.model.specs.Reading.{span_of}
 use Rattle.model.specs.Turns.{words_after, one_if}
 use Rattle.model.specs.World.{Trace, flight_in, progress_in}
-use Rattle.laws_turns.specs.Changes.{changes_of, seen_by}
-use Rattle.laws_turns.specs.Others.{queue_in}
-use Rattle.laws_turns.specs.Questions.{waits_at, index_if, loads_cell}
+use Rattle.laws_machine.specs.Changes.{changes_of, seen_by}
+use Rattle.laws_machine.specs.Others.{queue_in}
+use Rattle.laws_machine.specs.Questions.{waits_at, index_if, loads_cell}
 use Rattle.headline.specs.Bounds.{most_steps}
 use Rattle.headline.specs.Ends.{RobustFinds, ContainerFinds, Looks}
 use Rattle.headline.specs.Holders.{holders, claims, fills, grants, loans, NoTwoHold, NoneOnceLocked, IsRelease, GivesBack}

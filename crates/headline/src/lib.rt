@@ -17,12 +17,12 @@ ghost use Rattle.model.specs.Turns.{IsReached, after_turn, run};
 ghost use Rattle.model.specs.World.{Trace, opened, capacity_error, queue_error, trace_in};
 ghost use Rattle.laws_loan.specs.LockFree.{channel_bound};
 ghost use Rattle.headline.specs.Headline.{Holds, Takes};
+ghost use Rattle.model.specs.Coding.{coding_by};
 
 pub mod going;
 pub mod loads;
 
 use machine::Machine;
-use model::coding::Coded;
 use steps::words::Words;
 
 /// `Holds` is true of a machine of every kind, at every admitted capacity, after every list of turns, of which those that are
@@ -58,7 +58,7 @@ pub fn promises<T>()
 
 /// Of a machine that a caller has `Holds` is true, for some capacity of a submission queue.
 pub fn of_machine<T: Words>(machine: &Machine<T>)
-    ensures { (queue : ℕ) × Holds queue (trace_in ⟦<T as Coded>⟧.coding machine.now) }
+    ensures { (queue : ℕ) × Holds queue (trace_in (coding_by T.Words) machine.now) }
 {
     machine.reached();
 }

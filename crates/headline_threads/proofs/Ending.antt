@@ -109,19 +109,19 @@ passes_rest T kind = if_some (Any T kind) (PassesRest T kind) (lock_free_bound k
 
 module _ {T : Type 0} (kind : Kind) (Such : Start T → Type 0) (bound : Bound) (R : Runs {T = T} kind Such bound) where
   passes_of : PassesEndOf T kind Such bound
-  passes_of code capacity old new knows later n below such far = one_more kind Such bound R code capacity old new knows later n below such far
+  passes_of = one_more kind Such bound R
 
   keeps_of : PassesKeepEndingOf T kind Such bound
-  keeps_of code capacity old new knows later n below such = between kind Such bound R code capacity old new knows later n below such
+  keeps_of = between kind Such bound R
 
   known_of : KnownKeepsEndingOf T kind Such bound
-  known_of code capacity v knows n below such = known kind Such bound R code capacity v knows n below such
+  known_of = known kind Such bound R
 
   load_of : PassesEndLoadOf T kind Such bound
-  load_of code capacity old new knows later n below such = load_between kind Such bound R code capacity old new knows later n below such
+  load_of = load_between kind Such bound R
 
   all_load_of : KnownEndsLoadOf T kind Such bound
-  all_load_of code capacity v knows n below such = load_known kind Such bound R code capacity v knows n below such
+  all_load_of = load_known kind Such bound R
 
   asks_of : KnownAsksLoadOf T kind Such bound
   asks_of code capacity v knows n below such =
@@ -130,7 +130,7 @@ module _ {T : Type 0} (kind : Kind) (Such : Start T → Type 0) (bound : Bound) 
       omega arith
 
   rests_of : PassesRestOf T kind Such bound
-  rests_of code capacity old new knows later n below such = rests_between kind Such bound R code capacity old new knows later n below such
+  rests_of = rests_between kind Such bound R
 
 -- ---- robust sets and containers
 

@@ -213,16 +213,18 @@ module _ {T : Type 0} (code : Coding T) (coded : IsCoding code) (capacity : ℕ)
       abbrev old : ℕ
       old = old_of words (ask_of (look_want code.size call))
 
+      abbrev step : looks.LookStep code coded capacity first_words holds views p
+      step = record { which = which; call = call; words = words; last = last; states = states; k = k; old = old }
+
       abbrev new_states : After (Look T) Bool → List (ℕ × ContainerState T)
       new_states a =
-          set_state p (settled_if a (shows code coded capacity first_words holds views p which call words last states k old)) states
+          set_state p (settled_if a (shows code coded capacity first_words holds views p step)) states
 
       look_comes : (a : After (Look T) Bool)
           → RunsOn (λ (c : Look T) given. look_want code.size c) (look_after code.size) (look_kept code.value_of code.size) k.old.seen
           (looks.Ends code coded capacity first_words holds views p k.old) a (look_kept code.value_of code.size call k.state.shown old) last
           → Came map_course holding object turns p (starts.Container (start_of which)) []
-          (as_call flights.Container (λ (answer : Answer T). answer)
-          (look_came which (shows code coded capacity first_words holds views p which call words last states k old) a))
+          (as_call flights.Container (λ (answer : Answer T). answer) (look_came which (shows code coded capacity first_words holds views p step) a))
           last (registries.Container dead (new_states a))
       look_comes (GoOn d) left =
           record {
@@ -239,19 +241,19 @@ module _ {T : Type 0} (code : Coding T) (coded : IsCoding code) (capacity : ℕ)
               told_is = refl;
               flight_is = refl;
               kept_is = refl;
-              looking = goes_on code coded capacity first_words holds views p which call words last states k old d left;
+              looking = goes_on code coded capacity first_words holds views p step d left;
             });
           }
       look_comes (Done changed) left =
-          let same = words_are code coded capacity first_words holds views p which call words last states k old changed left in (
-            said code coded capacity first_words holds views p which call words last states k old changed left,
+          let same = words_are code coded capacity first_words holds views p step changed left in (
+            said code coded capacity first_words holds views p step changed left,
             (
               subst (Holds code.value_of code.size capacity 0) (sym same) holds,
-              looks.right_then code coded capacity first_words holds views p which call words last states k old changed left,
+              looks.right_then code coded capacity first_words holds views p step changed left,
             ),
             λ i. record {
               contents = (ap (map_in code capacity) same ∙ contents_stay which) i;
-              views = λ q. views_then code coded capacity first_words holds views p which call words last states k old changed left q i;
+              views = λ q. views_then code coded capacity first_words holds views p step changed left q i;
             },
           )
         where
@@ -277,8 +279,7 @@ module _ {T : Type 0} (code : Coding T) (coded : IsCoding code) (capacity : ℕ)
                 (sym k.found)
                 (subst (λ numbers.
                 Came map_course holding object turns p (starts.Container (start_of which)) []
-                (as_call flights.Container (λ (answer : Answer T). answer)
-                (look_came which (shows code coded capacity first_words holds views p which call words last states k old)
+                (as_call flights.Container (λ (answer : Answer T). answer) (look_came which (shows code coded capacity first_words holds views p step)
                 (look_after code.size call numbers old)))
                 last (registries.Container dead (new_states (look_after code.size call numbers old))))
                 (sym seen_same)

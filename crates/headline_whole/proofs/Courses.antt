@@ -71,6 +71,7 @@ module _ {T : Type 0} where
         pub none : NoneEnds step.wrote
         pub came : Came s turns p start told step.after words step.kept
 
+      -- what each kind of turn keeps of the machine and of the call under way
       pub record Rules (code : Coding T) (kind : Kind) (capacity : ℕ) : Type 0 where
         pub later : (m n : ℕ) (words : List ℕ) (kept : Registry T) → m ≤ n → H.Holds m words kept → H.Holds n words kept
         pub opens : (queue : ℕ) → H.Holds 0 (words_opened kind code.size capacity queue) (kept_opened kind capacity queue)

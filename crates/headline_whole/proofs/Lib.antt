@@ -5,6 +5,7 @@ pub mod Clauses
 pub mod ContainerRules
 pub mod Containers
 pub mod Courses
+pub mod Decisions
 pub mod Finished
 pub mod Flights
 pub mod Indices
@@ -20,7 +21,6 @@ pub mod Runs
 pub mod Sequential
 pub mod SoloCalls
 pub mod Sweeps
-pub mod Told
 pub mod Turns
 pub mod Views
 pub mod WithoutQuestions

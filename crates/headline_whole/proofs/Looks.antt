@@ -162,8 +162,19 @@ module _ {T : Type 0} (code : Coding T) (coded : IsCoding code) (capacity : ℕ)
 
     -- ---- it goes on
 
-    module _ (which : LookOf) (call : Look T) (words last : List ℕ) (states : List (ℕ × ContainerState T)) (k : Looking which call words states)
-        (old : ℕ) where
+    -- the next step of the look
+    pub record LookStep : Type 0 where
+      pub which : LookOf
+      pub call : Look T
+      pub words : List ℕ
+      pub last : List ℕ  -- the words then
+      pub states : List (ℕ × ContainerState T)
+      pub k : Looking which call words states
+      pub old : ℕ  -- what it reads
+
+    module _ (step : LookStep) where
+      open step use {which, call, last, states, k, old}
+
       abbrev room : Showing T
       room = look_kept code.value_of code.size call k.state.shown old
 

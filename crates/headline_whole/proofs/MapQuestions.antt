@@ -54,7 +54,7 @@ use Rattle.headline_whole.specs.Objects.{about, map_freed, map_questions}
 use Rattle.headline_whole.proofs.Agree.{IsNoLook}
 use Rattle.headline_whole.proofs.Flights.{IsFlight, Turns, AtStop, Talks, talks_once, lift_stop, talks_as, alike, twice}
 use Rattle.headline_whole.proofs.Owners.{below}
-use Rattle.headline_whole.proofs.Told.{goes_on, progression, same_decision, same_number, yes_number, yes_of, decision, folds_long, found_so, asked_so}
+use Rattle.headline_whole.proofs.Decisions.{goes_on, progression, same_decision, same_number, yes_number, yes_of, decision, folds_long, found_so, asked_so}
 use Rattle.headline_whole.proofs.Maps.{map_in, Answers, Ends, Whole, adds_one, removes_one, replaces_one, counts_so, looks}
 
 module _ {T : Type 0} (code : Coding T) (capacity : ℕ) where

@@ -40,7 +40,7 @@ use Rattle.plain.proofs.Walks.{any_low}
 use Rattle.headline_whole.specs.Dialogues.{Decision, as_request, as_reply}
 use Rattle.headline_whole.specs.Objects.{handle_to, add_answer, map_after, map_answer, whole_map}
 use Rattle.headline_whole.proofs.Flights.{FlightRuns, runs_as, twice}
-use Rattle.headline_whole.proofs.Told.{yes_of}
+use Rattle.headline_whole.proofs.Decisions.{yes_of}
 
 pub admitted : (c : ℕ) → capacity_error kinds.Container c ≡ None → (1 ≤ c) × (c < 2 ^ 32)
 admitted x0 x1 = grind arith

@@ -71,7 +71,7 @@ use Rattle.headline_whole.proofs.Courses.{Course, IsMadeSo, Rules}
 use Rattle.headline_whole.proofs.Flights.{FlightRuns, IsFlight, Turns, AtStop, Talks, talks_once, lift_stop, runs_as, talks_as, alike, twice}
 use Rattle.headline_whole.proofs.Replies.{course}
 use Rattle.headline_whole.proofs.SoloCalls.{Speech, Ends, Speaks, talking, talk_rules}
-use Rattle.headline_whole.proofs.Told.{goes_on, progression, same_decision, same_number, yes_number, yes_of, decision, found_so, asked_so}
+use Rattle.headline_whole.proofs.Decisions.{goes_on, progression, same_decision, same_number, yes_number, yes_of, decision, found_so, asked_so}
 
 pub admitted : (c : ℕ) → capacity_error kinds.Robust c ≡ None → (1 ≤ c) × (c < 2 ^ 32)
 admitted x0 x1 = grind arith

@@ -88,11 +88,13 @@ module _ {T : Type 0} where
 
 -- `C` is how a structure goes from call to call, `H` what a machine of it holds.
 module _ {T : Type 0} (C : Course T) (H : Holding C) where
+  -- no call is under way, and these are done
   pub record Rests (t : Trace T) (calls : List (Request T × Reply T)) : Type 0 where
     pub none : (q : ℕ) → flight_in t.world q ≡ None
     pub holds : H.Holds t.world.turns t.world.words t.world.kept
     pub answers : C.HasAnswered (H.read t.world.words t.world.kept) t.events calls
 
+  -- one call is under way, and these calls are done
   pub record Goes (t : Trace T) (story : Story T) : Type 0 where
     pub party : ℕ
     pub call : Party T

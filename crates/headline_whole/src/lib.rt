@@ -36,7 +36,7 @@ ghost use Rattle.headline_whole.specs.States.{HoldsPlaces, ShowsViews};
 ghost use Rattle.headline_whole.specs.Whole.{RunsWhole};
 
 use machine::Machine;
-use machine::turn::{Kind, Turn};
+use machine::turn::{Kind, Shape, Turn};
 use std::alloc::Global;
 use steps::enums::UniqueIndexCreationError;
 use steps::words::Words;
@@ -116,13 +116,13 @@ pub fn no_two_hold<T: Words>(machine: &Machine<T>)
 /// A caller: it makes the machine of a unique index set, which takes these turns up to the first that is refused.
 pub fn run_index_set<T: Words>(
     alloc: Global,
-    capacity: usize,
+    capacity: u64,
     parties: u32,
     turns: &[Turn<T>],
 ) -> Result<Machine<T>, UniqueIndexCreationError>
     ensures { IfOk result (λ machine. NoTwoHold claims machine.events) }
 {
-    let mut machine = Machine::new(alloc, Kind::Indices, capacity, parties)?;
+    let mut machine = Machine::new(alloc, Shape::Of(Kind::Indices, capacity), parties)?;
     machine.run(turns);
     no_two_hold(&machine);
     Ok(machine)

@@ -45,7 +45,7 @@ module _ {T : Type 0} where
       first (Some q) is = ⊎_elim mine other (cases_eq (owner q) id)
         where
           mine : owner q ≡ id → f e ≡ owned owner id f e
-          mine x0 = grind (arith, nat_tests)
+          mine = grind (arith, nat_tests)
 
           other : owner q ≢ id → f e ≡ owned owner id f e
           other ne =
@@ -61,7 +61,7 @@ module _ {T : Type 0} where
   -- a seat that is spent has no party that did something
   pub spent_owned : (owner : ℕ → ℕ) (t : Trace T) (j : ℕ) (v : View T) (f : Event T → ℕ) → Fits owner t j v
       → v.made ≡ [] → v.going ≡ None → sum_by (owned owner j f) t.events ≡ 0
-  spent_owned x0 x1 x2 x3 x4 x5 x6 x7 = grind arith
+  spent_owned = grind arith
 
   -- ---- what all seats know
 
@@ -261,4 +261,4 @@ module _ {T : Type 0} where
           seen (inr h) = inl (early (sym h ∙ alone'))
 
       third : k.by ≢ id → k.by ≢ other → Known both events
-      third x0 x1 = grind (arith, shares, set_else, set, other, spent)
+      third = grind (arith, shares, set_else, set, other, spent)

@@ -25,15 +25,25 @@ use Rattle.history.proofs.Calls.{call_then, stateless_none}
 use Rattle.history.proofs.Known.{by_mine, AreOf}
 use Rattle.history.proofs.AllSeen.{known_alone}
 use Rattle.history.proofs.Steps.{settle_with}
-use Rattle.history.proofs.Turns.{KeptLaws, MachineLaws, kept_laws, Between, begun, begun_at, begun_others, begins_free}
+use Rattle.history.proofs.Turns.{KeptLaws, MachineLaws, kept_laws, Between, Turning, Beginning, Going, begun, begun_at, begun_others, begins_free}
 use Rattle.history.proofs.Turns.{more_steps, asked, goes_free, gone, gone_others, goes_to, fresh_now, told, own_told}
 
 -- each party is its own seat
 abbrev pub same_seat : ℕ → ℕ
 same_seat p = p
 
-module _ {T : Type 0} (code : Coding T) (kind : Kind) (capacity size : ℕ)
-    (effects : World T → ℕ → Flight T → ℕ → List (Event T)) (laws : MachineLaws code kind capacity size effects) where
+-- a machine of a kind: what its steps write, how many words it has, and what the kind owes
+pub record OneMachine (T : Type 0) : Type 0 where
+  pub code : Coding T
+  pub kind : Kind
+  pub capacity : ℕ
+  pub size : ℕ
+  pub effects : World T → ℕ → Flight T → ℕ → List (Event T)
+  pub laws : MachineLaws code kind capacity size effects
+
+module _ {T : Type 0} (machine : OneMachine T) where
+  open machine use {code, kind, capacity, size, effects, laws}
+
   there_laws : KeptLaws code kind capacity size effects
   there_laws = kept_laws code kind capacity size effects laws
 
@@ -50,6 +60,24 @@ module _ {T : Type 0} (code : Coding T) (kind : Kind) (capacity size : ℕ)
     pub there : call_in u.world 0 ≡ going
     pub others : others_in u.world 0 ≡ 0
     pub steps : steps_of_run code kind capacity one.turns ≡ nexts ts
+
+  abbrev turning : {words : List ℕ} {ts : List (Turn T)} {es : List (Event T)} {going : Option (Start T × Flight T)} → Here words ts es going → Turning T
+  turning {words} {ts} {es} h =
+      record {
+        code = code;
+        kind = kind;
+        capacity = capacity;
+        words = size;
+        effects = effects;
+        laws = there_laws;
+        owner = same_seat;
+        s = alone words;
+        id = 0;
+        p = 0;
+        gained = es;
+        u = h.u;
+        b = h.between;
+      }
 
   pub opens_here : IsCoding code → capacity_error kind capacity ≡ None → Here ((opening_of kind).words code.size capacity ++ 0 ∷ []) [] [] None
   opens_here coded admitted =
@@ -102,7 +130,7 @@ module _ {T : Type 0} (code : Coding T) (kind : Kind) (capacity size : ℕ)
       other (suc j) v ne at = some-ne-none v (sym at)
 
       made_own : (v : View T) → get_elem? (first_view capacity ∷ []) 0 ≡ some v → (f : Event T → ℕ) → sum_by f v.made + 0 ≡ 0
-      made_own x0 x1 x2 = grind (arith, some-injective)
+      made_own = grind (arith, some-injective)
 
   -- ---- a call begins
 
@@ -138,23 +166,16 @@ module _ {T : Type 0} (code : Coding T) (kind : Kind) (capacity size : ℕ)
       let is : s.party ≡ 0 = s.mine in
       let may : first_row (rows_as kind capacity h.u.world.kept 0 call.start) ≡ None =
       subst (λ p. first_row (rows_as kind capacity h.u.world.kept p call.start) ≡ None) is s.may in
+      let beginning : Beginning T =
+      record { turning = turning h; start = call.start; flight = call.flight c m; idle = h.there; first = s.first; may = may } in
       record {
         u = after_turn h.u (Begin 0 call.start);
-        between =
-            begun code kind capacity size effects there_laws same_seat (alone words) 0 0 es h.u h.between call.start
-            (call.flight c m) h.there s.first may;
-        one =
-            one_more code kind capacity (first_view capacity ∷ []) h.u (Begin 0 call.start)
-            (begins_free code kind capacity size effects there_laws same_seat (alone words) 0 0 es h.u h.between call.start
-            (call.flight c m) h.there s.first may) tt h.one;
+        between = begun beginning;
+        one = one_more code kind capacity (first_view capacity ∷ []) h.u (Begin 0 call.start) (begins_free beginning) tt h.one;
         turns = ap (λ xs. xs ++ Begin 0 call.start ∷ []) h.turns;
         events = ap (λ xs. xs ++ Begun 0 call.start ∷ []) h.events;
-        there =
-            begun_at code kind capacity size effects there_laws same_seat (alone words) 0 0 es h.u h.between call.start
-            (call.flight c m) h.there s.first may;
-        others =
-            begun_others code kind capacity size effects there_laws same_seat (alone words) 0 0 es h.u h.between call.start
-            (call.flight c m) h.there s.first may;
+        there = begun_at beginning;
+        others = begun_others beginning;
         steps = more_steps code kind capacity h.one.turns h.u (Begin 0 call.start) 0 h.one.is refl
             ∙ (ap (λ n. n + 0) h.steps ∙ sym (nexts_begin ts 0 call.start));
       }
@@ -167,6 +188,9 @@ module _ {T : Type 0} (code : Coding T) (kind : Kind) (capacity size : ℕ)
     abbrev found : ℕ
     found = slice_index words a.word
 
+    abbrev step : Going T
+    step = record { turning = turning h; start = start; flight = flight; ask = Some a; low = low; at = h.there; asks = asks; finds = finds }
+
     abbrev comes : After (Flight T) (Answer T)
     comes = after_of code flight found
 
@@ -175,7 +199,7 @@ module _ {T : Type 0} (code : Coding T) (kind : Kind) (capacity size : ℕ)
 
     ends_so : (own : List (Event T))
         → own ++ ending_of 0 start (answer_in (goes_of code 0 flight found h.u.world.kept)) ≡ own ++ ending_of 0 start (answer_in comes)
-    ends_so x0 = grind arith
+    ends_so = grind arith
 
     -- it wrote this, all of it its own
     module _ (own : List (Event T)) (is : effects h.u.world 0 flight found ≡ own) (only : AreOf 0 own) where
@@ -185,40 +209,27 @@ module _ {T : Type 0} (code : Coding T) (kind : Kind) (capacity size : ℕ)
       took : Here (slice_set words a.word (written a.op found)) (ts ++ Next 0 ∷ []) (es ++ wrote) (call_then start comes)
       took =
           let tells : events_of h.u.world (Next 0) ≡ wrote =
-          told code kind capacity size effects there_laws same_seat (alone words) 0 0 es h.u h.between start flight
-          (Some a) low h.there asks finds
+          told step
           ∙ (ends_so (effects h.u.world 0 flight found) ∙ ap (λ zs. zs ++ ending_of 0 start (answer_in comes)) is) in
           let mine : events_by 0 (effects h.u.world 0 flight found) ≡ own = ap (events_by 0) is ∙ by_mine 0 own only in
           let told_own : events_by 0 (events_of h.u.world (Next 0)) ≡ wrote =
-          own_told code kind capacity size effects there_laws same_seat (alone words) 0 0 es h.u h.between start
-          flight (Some a) low h.there asks finds
+          own_told step
           ∙ (ends_so (events_by 0 (effects h.u.world 0 flight found)) ∙ ap (λ zs. zs ++ ending_of 0 start (answer_in comes)) mine) in
           record {
             u = after_turn h.u (Next 0);
             between =
                 subst (λ zs. Between code kind capacity same_seat (alone (slice_set words a.word (written a.op found))) 0 0
                 (es ++ zs) (after_turn h.u (Next 0)))
-                told_own
-                (gone code kind capacity size effects there_laws same_seat (alone words) 0 0 es h.u h.between start
-                flight (Some a) low h.there asks finds);
+                told_own (gone step);
             one =
-                one_more code kind capacity (first_view capacity ∷ []) h.u (Next 0)
-                (next_as kind h.u.world 0
-                (goes_free code kind capacity size effects there_laws same_seat (alone words) 0 0 es h.u h.between start
-                flight (Some a) low h.there asks finds))
-                (fresh_now code kind capacity size effects there_laws same_seat (alone words) 0 0 es h.u h.between start
-                flight (Some a) low h.there asks finds) h.one;
+                one_more code kind capacity (first_view capacity ∷ []) h.u (Next 0) (next_as kind h.u.world 0 (goes_free step)) (fresh_now step) h.one;
             turns = ap (λ xs. xs ++ Next 0 ∷ []) h.turns;
             events = ap (λ xs. xs ++ events_of h.u.world (Next 0)) h.events ∙ ap (λ zs. es ++ zs) tells;
-            there = goes_to code kind capacity size effects there_laws same_seat (alone words) 0 0 es h.u h.between start flight (Some a) low h.there asks finds
-                ∙ ap (call_then start) comes_there;
-            others =
-                gone_others code kind capacity size effects there_laws same_seat (alone words) 0 0 es h.u h.between start flight (Some a) low h.there asks finds
-                ∙ h.others;
+            there = goes_to step ∙ ap (call_then start) comes_there;
+            others = gone_others step ∙ h.others;
             steps =
                 more_steps code kind capacity h.one.turns h.u (Next 0) 1 h.one.is
-                (ap step_count (asked code kind capacity size effects there_laws same_seat (alone words) 0 0 es h.u h.between start flight (Some a) low
-                h.there asks finds))
+                (ap step_count (asked step))
                 ∙ (ap (λ n. n + 1) h.steps ∙ sym (nexts_next ts 0));
           }
 

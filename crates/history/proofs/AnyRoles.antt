@@ -1,38 +1,36 @@
 -- How the calls on the roles and the lengths of a queue begin, of any kind of queue.
 use Rattle.history.proofs.Names.{inl, ◌≡◌, ℕ, ◌<◌, ◌≤◌, false, Option, Some, None, List, [], refl, subst, arith}
-use Rattle.history.proofs.Names.{After, Want, Producer, Consumer, first_len, Event, Queues, Flight, Registry}
+use Rattle.history.proofs.Names.{Producer, Consumer, first_len, Event, Queues, Flight, Registry}
 use Rattle.history.proofs.Names.{QueueKind, Roles, LengthOf, Coding, first_of, opening_of, machine_kind}
 use Rattle.steps.specs.declared.queues.roles.Role.{Role}
 use Rattle.model.specs.Families.Queues.Opening.{lacks_role}
 use Rattle.history.specs.declared.view.View.{View}
 use Rattle.history.specs.Queues.{takes_role, gives_role, length_start, counts_waiting}
 use Rattle.history.specs.Roles.{role_word, holder, acquire_start, release_start, HasRole}
-use Rattle.history.specs.Stages.{Calling, At}
-use Rattle.history.proofs.Drives.{IsCallOf}
+use Rattle.history.specs.Stages.{At}
+use Rattle.history.proofs.Drives.{Driven, IsCallBy}
 use Rattle.history.proofs.Queues.{plain_starts, role_starts}
 
 -- a call of a structure is one of a structure with more words
 pub wider : {T C M E : Type 0} (code : Coding T) (effects : ℕ → Flight T → ℕ → List (Event T)) (some more : ℕ → ℕ)
-    (want : C → Want (Unit {0})) (after : C → ℕ → After C E) (kept : C → M → ℕ → M) (call : Calling T C M E)
-    → ((n : ℕ) → some n ≤ more n)
-    → IsCallOf code effects some want after kept call → IsCallOf code effects more want after kept call
-wider x0 x1 x2 x3 x4 x5 x6 x7 x8 x9 = grind arith
+    (driven : Driven T C M E) → ((n : ℕ) → some n ≤ more n) → IsCallBy code effects some driven → IsCallBy code effects more driven
+wider = grind arith
 
 module _ {T : Type 0} where
   acquire_is : (kd : QueueKind) (r : Role) (c : ℕ) (m : Unit {0}) (kept : Registry T)
       → ◌≡◌ {A = Option (Flight T)} (first_of (machine_kind kd) c (Queues (acquire_start r)) kept)
       (Some ((takes_role r).flight (record { word = role_word r }) m))
-  acquire_is x0 x1 x2 x3 x4 = grind arith
+  acquire_is = grind arith
 
   release_is : (kd : QueueKind) (r : Role) (c : ℕ) (m : Unit {0}) (kept : Registry T)
       → ◌≡◌ {A = Option (Flight T)} (first_of (machine_kind kd) c (Queues (release_start r)) kept)
       (Some ((gives_role r).flight (record { word = role_word r }) m))
-  release_is x0 x1 x2 x3 x4 = grind arith
+  release_is = grind arith
 
   len_is : (kd : QueueKind) (which : LengthOf) (c : ℕ) (m : Unit {0}) (kept : Registry T)
       → ◌≡◌ {A = Option (Flight T)} (first_of (machine_kind kd) c (Queues (length_start which)) kept)
       (Some ((counts_waiting which c).flight (first_len c) m))
-  len_is x0 x1 x2 x3 x4 = grind arith
+  len_is = grind arith
 
 -- ---- who lacks no role for it
 
@@ -41,10 +39,10 @@ acquire_lacks T Producer roles p = refl
 acquire_lacks T Consumer roles p = refl
 
 release_lacks : (T : Type 0) (r : Role) (roles : Roles) (p : ℕ) → holder r roles ≡ Some p → lacks_role {T = T} roles p (release_start r) ≡ false
-release_lacks x0 x1 x2 x3 x4 = grind arith
+release_lacks = grind arith
 
 len_lacks : (T : Type 0) (which : LengthOf) (roles : Roles) (p : ℕ) → lacks_role {T = T} roles p (length_start which) ≡ false
-len_lacks x0 x1 x2 x3 = grind arith
+len_lacks = grind arith
 
 module _ {T : Type 0} (code : Coding T) (kd : QueueKind) (x : View T) (m : Unit {0}) (idle : x.going ≡ None)
     (alone : x.other ≡ []) (any : 0 < x.share.part) where

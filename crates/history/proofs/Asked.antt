@@ -1,7 +1,7 @@
 -- What the seats have asked for, and how it grows.
 use Rattle.history.proofs.Names.{◌≡◌, ◌≢◌, ◌⊎◌, inl, inr, ⊎_elim, ℕ, zero, suc, ◌+◌, ◌*◌, ◌<◌, ◌≤◌, List, [], ◌∷◌, ◌++◌, length, set, refl, sym, ap, subst, ◌∙◌}
-use Rattle.history.proofs.Names.{arith, sum_by, sum_by-append, sum_by-cons, at_set, Shares, IsAll, Turn, Begin, Next}
-use Rattle.history.proofs.Names.{Decide, Trace, World, Option, Some, None, Ask, Start, set_else}
+use Rattle.history.proofs.Names.{arith, sum_by, sum_by-cons, at_set, Shares, IsAll, Turn, Begin, Next}
+use Rattle.history.proofs.Names.{Decide, Trace, Option, Some, None, Ask, Start, set_else}
 use mathlib.Core.Option.{some, some-injective, some-ne-none}
 use lib.ListN.{get_elem?}
 use Rattle.std.proofs.Math.Nat.{mul-le-mul_left}

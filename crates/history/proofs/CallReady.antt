@@ -2,7 +2,7 @@
 use Rattle.history.proofs.Names.{◌≡◌, inl, inr, ⊎_elim, ℕ, ◌+◌, ◌<◌, ◌≤◌, Option, Some, None, IfSome, List, [], ◌∷◌, ◌++◌}
 use Rattle.history.proofs.Names.{sym, ap, subst, ◌∙◌, append_assoc, append-nil, arith, sum_by, Event, Begun, Start}
 use Rattle.history.proofs.Names.{Flight, Registry, Kind, Begin, Coding, first_of, kept_after_begin, state_in}
-use Rattle.history.proofs.Names.{first_row, after_turn, World, Trace, IsAll}
+use Rattle.history.proofs.Names.{first_row, after_turn, Trace, IsAll}
 use mathlib.Core.Option.{some, some-injective}
 use lib.ListN.{get_elem?}
 use Rattle.atomic_table.specs.Table.{State}
@@ -14,7 +14,7 @@ use Rattle.history.proofs.Known.{by_more, nil_right, idle_seat, none_late}
 use Rattle.history.proofs.AllSeen.{known_whole}
 use Rattle.history.proofs.Calls.{begins_no_look}
 use Rattle.history.proofs.OneRun.{first_all}
-use Rattle.history.proofs.Turns.{KeptLaws, Between, at_first, begun, begun_at, begun_kept, begun_steps, begun_took, begins_free}
+use Rattle.history.proofs.Turns.{Machines, Between, Beginning, at_first, begun, begun_at, begun_kept, begun_steps, begun_took, begins_free}
 use Rattle.history.proofs.Asked.{asked_at}
 use Rattle.history.proofs.CallsIn.{no_rest, same_rest, none_after, Prior}
 
@@ -26,30 +26,25 @@ moved_in xs os ds rest =
 none_more : {a b : ℕ} → a ≡ b + 0 → b ≡ a
 none_more e = omega arith
 
-module _ {T C M E : Type 0} (code : Coding T) (kind : Kind) (effects : World T → ℕ → Flight T → ℕ → List (Event T))
-    (size_of : ℕ → ℕ) (laws : (capacity : ℕ) → KeptLaws code kind capacity (size_of capacity) effects)
-    (call : Calling T C M E) where
-  abbrev Stage : View T → View T → C → M → Type 0
-  Stage base v c m = At code kind call base v c m
+module _ {T C M E : Type 0} (code : Coding T) (kind : Kind) (call : Calling T C M E) where
+  pub same_capacity : (base v : View T) (c : C) (m : M) → At code kind call base v c m → v.capacity ≡ base.capacity
+  same_capacity = grind arith
 
-  pub same_capacity : (base v : View T) (c : C) (m : M) → Stage base v c m → v.capacity ≡ base.capacity
-  same_capacity x0 x1 x2 x3 x4 = grind arith
-
-  pub came_first : (base v : View T) (c : C) (m : M) → Stage base v c m → AreFirst base.turns v.turns
+  pub came_first : (base v : View T) (c : C) (m : M) → At code kind call base v c m → AreFirst base.turns v.turns
   came_first base v c m (inl first) = subst (λ (z : View T). AreFirst base.turns z.turns) (sym first.is) (first_all base.turns)
   came_first base v c m (inr under) = under.ran.first
 
-  pub same_share : (base v : View T) (c : C) (m : M) → Stage base v c m → v.share ≡ base.share
-  same_share x0 x1 x2 x3 x4 = grind arith
+  pub same_share : (base v : View T) (c : C) (m : M) → At code kind call base v c m → v.share ≡ base.share
+  same_share = grind arith
 
-  pub some_share : (base v : View T) (c : C) (m : M) → Stage base v c m → 0 < v.share.part
-  some_share x0 x1 x2 x3 x4 = grind arith
+  pub some_share : (base v : View T) (c : C) (m : M) → At code kind call base v c m → 0 < v.share.part
+  some_share = grind arith
 
-  pub still_stands : (base v : View T) (c : C) (m : M) → Stage base v c m → call.stands base.capacity c
-  still_stands x0 x1 x2 x3 x4 = grind arith
+  pub still_stands : (base v : View T) (c : C) (m : M) → At code kind call base v c m → call.stands base.capacity c
+  still_stands = grind arith
 
   -- what was asked for since the drive began is no more than its call has taken
-  pub asked_so : (base v : View T) (c : C) (m : M) → Stage base v c m
+  pub asked_so : (base v : View T) (c : C) (m : M) → At code kind call base v c m
       → v.asked + taken_by base.going base.taken ≤ base.asked + taken_by v.going v.taken
   asked_so base v c m (inl first) =
       subst (λ (z : View T). z.asked + taken_by base.going base.taken ≤ base.asked + taken_by z.going z.taken) (sym first.is)
@@ -60,6 +55,12 @@ module _ {T C M E : Type 0} (code : Coding T) (kind : Kind) (effects : World T �
   asked_so base v c m (inr under) =
       subst (λ (o : Option (Start T × Flight T)). v.asked + taken_by base.going base.taken ≤ base.asked + taken_by o v.taken)
       (sym under.going) under.asked
+
+module _ {T C M E : Type 0} (machines : Machines T) (call : Calling T C M E) where
+  open machines use {code, kind, effects, size_of, laws}
+
+  abbrev Stage : View T → View T → C → M → Type 0
+  Stage base v c m = At code kind call base v c m
 
   -- ---- the machine, before the step
 
@@ -97,6 +98,18 @@ module _ {T C M E : Type 0} (code : Coding T) (kind : Kind) (effects : World T �
     pub have : HaveAsked s.views (steps_of_run code kind key between.one.turns)
     pub has : HasAsked v (steps_of_run code kind key between.one.turns)
 
+  -- a seat whose call takes its next step
+  pub record Seat : Type 0 where
+    pub s : State (Unit {0}) (View T)
+    pub v : View T  -- what the seat knows
+    pub key : ℕ  -- of the table
+    pub id : ℕ  -- of the seat
+    pub c : C
+    pub m : M
+    pub at : get_elem? s.views id ≡ some v
+    pub known : v.capacity ≡ key
+    pub y : Ready s v key id c m  -- the machine before the step
+
   module _ (s : State (Unit {0}) (View T)) (v : View T) (key id : ℕ) (c : C) (m : M) (r : IsMachine code kind key s)
       (at : get_elem? s.views id ≡ some v) (known : v.capacity ≡ key) where
     here : Fits r.owner r.trace id v
@@ -111,10 +124,10 @@ module _ {T C M E : Type 0} (code : Coding T) (kind : Kind) (effects : World T �
 
     -- who has a share has seen all of its own, but for what another wrote for it
     not_seen : (p : ℕ) → events_by p v.seen ++ events_by p here.late ≡ events_by p r.trace.events → events_by p here.seen.rest ≡ events_by p here.late
-    not_seen x0 x1 = grind (arith, same_rest, by_more)
+    not_seen = grind (arith, same_rest, by_more)
 
     nothing_own : 0 < v.share.part → v.other ≡ [] → here.late ≡ [] → (p : ℕ) → r.owner p ≡ id → events_by p here.seen.rest ≡ []
-    nothing_own x0 x1 x2 x3 x4 = grind (arith, not_seen, nil_right, by_more)
+    nothing_own = grind (arith, not_seen, nil_right, by_more)
 
     pub has_asked : HasAsked v (steps_of_run code kind key r.one.turns)
     has_asked = asked_at s.views (steps_of_run code kind key r.one.turns) id v at r.known.shares r.asked
@@ -123,16 +136,16 @@ module _ {T C M E : Type 0} (code : Coding T) (kind : Kind) (effects : World T �
     late_here = subst (λ k. IsLate k v.going here.late) r.run.of_kind here.waits
 
     none_late_here : v.going ≡ None → here.late ≡ []
-    none_late_here x0 = grind arith
+    none_late_here = grind arith
 
     first_prior : (p : ℕ) → r.owner p ≡ id → (base : View T) → v.going ≡ None → Stage base v c m
         → Told_by p c m base (r.trace.events ++ Begun p call.start ∷ []) (v.made ++ Begun p call.start ∷ [])
-    first_prior x0 x1 x2 x3 x4 = grind (arith, opened, none_late, append-nil, nothing_else, nothing_own, some_share, none_late_here)
+    first_prior = grind (arith, opened, none_late, append-nil, nothing_else, nothing_own, some_share code kind call, none_late_here)
 
     -- the party of a call under way has seen all of its own, but what is late
     late_own : (p : ℕ) → r.owner p ≡ id → v.party ≡ Some p → v.going ≡ Some (call.start, call.flight c m)
         → 0 < v.share.part → events_by p here.seen.rest ≡ here.late
-    late_own x0 x1 x2 x3 x4 = grind (arith, not_seen, by_party)
+    late_own = grind (arith, not_seen, by_party)
 
     later_prior : (p : ℕ) → r.owner p ≡ id → v.party ≡ Some p → (base : View T)
         → v.going ≡ Some (call.start, call.flight c m) → Stage base v c m
@@ -170,16 +183,16 @@ module _ {T C M E : Type 0} (code : Coding T) (kind : Kind) (effects : World T �
 
     -- as which party the call began
     first_by : (p : ℕ) → call.by v.party p → (base : View T) → v.going ≡ None → Stage base v c m → call.by base.party p
-    first_by x0 x1 x2 x3 x4 = grind arith
+    first_by = grind arith
 
     later_by : (p : ℕ) → v.party ≡ Some p → (base : View T) → v.going ≡ Some (call.start, call.flight c m) → Stage base v c m → call.by base.party p
-    later_by x0 x1 x2 x3 x4 = grind arith
+    later_by = grind arith
 
     pub ready : (base : View T) → Stage base v c m → Ready s v key id c m
     ready base (inl first) =
         let none : v.going ≡ None = ap (λ (z : View T). z.going) first.is ∙ first.idle in
         let size : base.capacity ≡ key = ap (λ (z : View T). z.capacity) (sym first.is) ∙ known in
-        let self : r.owner id ≡ id = here.self (some_share base v c m (inl first)) in
+        let self : r.owner id ≡ id = here.self (some_share code kind call base v c m (inl first)) in
         let own_made : (f : Event T → ℕ) → sum_by f v.made ≡ sum_by (owned r.owner id f) r.trace.events =
         λ f. (let all = here.made f in let no : sum_by f here.late ≡ 0 = ap (sum_by f) (none_late_here none) in omega arith) in
         let run : IsRun code kind base.capacity r.trace = subst (λ n. IsRun code kind n r.trace) (sym size) r.run in
@@ -199,47 +212,52 @@ module _ {T C M E : Type 0} (code : Coding T) (kind : Kind) (effects : World T �
         (let same : sum_by f u.made ≡ sum_by f v.made = ap (λ (z : View T). sum_by f z.made) (some-injective u v (sym there ∙ at)) in
         let all = own_made f in
         omega arith)) in
+        let beginning : Beginning T =
+        record {
+          turning = record {
+            code = code;
+            kind = kind;
+            capacity = key;
+            words = size_of key;
+            effects = effects;
+            laws = laws key;
+            owner = r.owner;
+            s = s;
+            id = id;
+            p = p;
+            gained = [];
+            u = r.trace;
+            b = before;
+          };
+          start = call.start;
+          flight = call.flight c m;
+          idle = idle p starts.mine;
+          first = is_first;
+          may = may;
+        } in
         record {
           p = p;
           owner = r.owner;
           gained = [] ++ Begun p call.start ∷ [];
           u = after_turn r.trace (Begin p call.start);
-          between =
-              begun code kind key (size_of key) effects (laws key) r.owner s id p [] r.trace before call.start
-              (call.flight c m) (idle p starts.mine) is_first may;
-          there =
-              begun_at code kind key (size_of key) effects (laws key) r.owner s id p [] r.trace before call.start
-              (call.flight c m) (idle p starts.mine) is_first may;
+          between = begun beginning;
+          there = begun_at beginning;
           by = λ base' stage. first_by p (subst (λ (z : View T). call.by z.party p) (sym first.is) starts.by) base' none stage;
           prior = λ base' stage. first_prior p starts.mine base' none stage;
-          counted =
-              begun_steps code kind key (size_of key) effects (laws key) r.owner s id p [] r.trace before call.start
-              (call.flight c m) (idle p starts.mine) is_first may
-              ∙ sym (ap (λ o. taken_by o v.taken) none);
+          counted = begun_steps beginning ∙ sym (ap (λ o. taken_by o v.taken) none);
           began = λ none'. record {
             t = r.trace;
             run = r.run;
-            kept =
-                begun_kept code kind key (size_of key) effects (laws key) r.owner s id p [] r.trace before call.start
-                (call.flight c m) (idle p starts.mine) is_first may;
+            kept = begun_kept beginning;
             stated = λ is. here.stated p starts.mine is;
           };
           held = λ has. (let no : ◌≡◌ {A = Option (Start T × Flight T)} None (Some (call.start, call.flight c m)) = sym none ∙ has in absurd (cc));
           as_party = λ has. (let no : ◌≡◌ {A = Option (Start T × Flight T)} None (Some (call.start, call.flight c m)) = sym none ∙ has in absurd (cc));
-          state = λ leaves is.
-              (laws key).states r.trace (Begin p call.start) r.run
-              (begun code kind key (size_of key) effects (laws key) r.owner s id p [] r.trace before call.start
-              (call.flight c m) (idle p starts.mine) is_first may).run
-              (begins_free code kind key (size_of key) effects (laws key) r.owner s id p [] r.trace before
-              call.start (call.flight c m) (idle p starts.mine) is_first may)
+          state = λ leaves is. (laws key).states r.trace (Begin p call.start) r.run (begun beginning).run (begins_free beginning)
               p (begins_no_look r.trace.world p call.start leaves.start)
               ∙ here.stated p starts.mine is;
-          have = subst (λ n. HaveAsked s.views n) (none_more
-              (begun_took code kind key (size_of key) effects (laws key) r.owner s id p [] r.trace before call.start
-              (call.flight c m) (idle p starts.mine) is_first may)) r.asked;
-          has = subst (λ n. HasAsked v n) (none_more
-              (begun_took code kind key (size_of key) effects (laws key) r.owner s id p [] r.trace before call.start
-              (call.flight c m) (idle p starts.mine) is_first may)) has_asked;
+          have = subst (λ n. HaveAsked s.views n) (none_more (begun_took beginning)) r.asked;
+          has = subst (λ n. HasAsked v n) (none_more (begun_took beginning)) has_asked;
         }
     ready base (inr under) =
         let p = under.party in

@@ -2,12 +2,10 @@
 use Rattle.std.proofs.Common.{arith}
 use Rattle.history.proofs.Names.{false, ◌≡◌, ◌⊎◌, ℕ, ◌+◌, ◌<◌, ◌≤◌, Option, Some, None, IfSome, List, [], ◌∷◌, ◌++◌, refl, inl, inr}
 use Rattle.history.proofs.Names.{sym, ap, subst, ◌∙◌, append_assoc, sum_by, fold, sum_by-append, Ask, After, GoOn}
-use Rattle.history.proofs.Names.{Answer, Event, Finished, Flight, Kind, Turn, Next, Coding, want_of, goes_of, ask_of}
+use Rattle.history.proofs.Names.{Answer, Event, Finished, Flight, Turn, Next, want_of, goes_of, ask_of}
 use Rattle.history.proofs.Names.{answer_in, span_of, own_after, Open, after_turn, events_of, ending_of, words_after}
-use Rattle.history.proofs.Names.{old_of, step_in, World, Trace, IsAll, IsFreshCall}
+use Rattle.history.proofs.Names.{old_of, step_in, Trace, IsAll, IsFreshCall}
 use mathlib.Core.Option.{some}
-use lib.ListN.{get_elem?}
-use Rattle.atomic_table.specs.Table.{State}
 use Rattle.steps.specs.declared.ask.After.TheVariants.{Done}
 use Rattle.model.specs.Parties.{party_of}
 use Rattle.model.specs.Turns.{step_count}
@@ -18,17 +16,17 @@ use Rattle.history.specs.Stages.{Calling, LeavesState, Since, opened, IsUnderWay
 use Rattle.history.proofs.Known.{by_more}
 use Rattle.history.proofs.Calls.{stands, call_then, next_no_look}
 use Rattle.history.proofs.Reached.{next_as}
-use Rattle.history.proofs.Turns.{KeptLaws, Between, want_for, at_ask, goes_free, gone, gone_named, gone_steps, gone_took, kept_then, goes_to}
+use Rattle.history.proofs.Turns.{Machines, Between, Going, want_for, at_ask, goes_free, gone, gone_named, gone_steps, gone_took, kept_then, goes_to}
 use Rattle.history.proofs.Turns.{told as turn_told, own_told, found_old, made_between}
 use Rattle.history.proofs.Steps.{view_after}
 use Rattle.history.proofs.CallsIn.{regroup, Prior, span_since, Met}
 use Rattle.history.proofs.OneRun.{continues_all, continues_further}
 use Rattle.history.proofs.Asked.{Gains, gains_has, none_count, one_or_none, none_or_one}
-use Rattle.history.proofs.CallReady.{same_capacity, came_first, same_share, some_share, asked_so, Ready}
+use Rattle.history.proofs.CallReady.{same_capacity, came_first, same_share, some_share, asked_so, Seat}
 
-module _ {T C M E : Type 0} (code : Coding T) (kind : Kind) (effects : World T → ℕ → Flight T → ℕ → List (Event T))
-    (size_of : ℕ → ℕ) (laws : (capacity : ℕ) → KeptLaws code kind capacity (size_of capacity) effects)
-    (call : Calling T C M E) where
+module _ {T C M E : Type 0} (machines : Machines T) (call : Calling T C M E) where
+  open machines use {code, kind, effects, size_of, laws}
+
   abbrev Stage : View T → View T → C → M → Type 0
   Stage base v c m = At code kind call base v c m
 
@@ -56,10 +54,44 @@ module _ {T C M E : Type 0} (code : Coding T) (kind : Kind) (effects : World T �
 
   -- ---- what the step tells
 
-  module _ (s : State (Unit {0}) (View T)) (v : View T) (key id : ℕ) (c : C) (m : M)
-      (at : get_elem? s.views id ≡ some v) (known : v.capacity ≡ key) (y : Ready code kind effects size_of laws call s v key id c m) (ask : Option Ask)
-      (low : IfSome ask (λ a. a.word < size_of key)) (asks_it : want_of code (call.flight c m) ≡ want_for ask)
-      (finds : IsFreshCall (at_ask s.words ask) (call.flight c m)) where
+  -- the next step of a seat's call, which may ask for a word
+  pub record Stepping : Type 0 where
+    pub seat : Seat machines call
+    pub ask : Option Ask
+    pub low : IfSome ask (λ a. a.word < size_of seat.key)
+    pub asks_it : want_of code (call.flight seat.c seat.m) ≡ want_for ask
+    pub finds : IsFreshCall (at_ask seat.s.words ask) (call.flight seat.c seat.m)
+
+  module _ (step : Stepping) where
+    open step use {seat.{s, v, key, id, c, m, at, known, y}, ask, low, asks_it, finds}
+
+    abbrev turn_next : Going T
+    turn_next =
+        record {
+          turning = record {
+            code = code;
+            kind = kind;
+            capacity = key;
+            words = size_of key;
+            effects = effects;
+            laws = laws key;
+            owner = y.owner;
+            s = s;
+            id = id;
+            p = y.p;
+            gained = y.gained;
+            u = y.u;
+            b = y.between;
+          };
+          start = call.start;
+          flight = call.flight c m;
+          ask = ask;
+          low = low;
+          at = y.there;
+          asks = asks_it;
+          finds = finds;
+        }
+
     abbrev pub found : ℕ
     found = at_ask s.words ask
 
@@ -78,22 +110,16 @@ module _ {T C M E : Type 0} (code : Coding T) (kind : Kind) (effects : World T �
 
     pub next_between : Between code kind key y.owner
         (record { words = words_after s.words ask; homes = s.homes; views = s.views }) id y.p then_gained then_trace
-    next_between =
-        gone code kind key (size_of key) effects (laws key) y.owner s id y.p y.gained y.u y.between call.start
-        flight_now ask low y.there asks_it finds
+    next_between = gone turn_next
 
     pub kept_now : then_trace.world.kept ≡ (step_in y.u.world y.p (stands y.u.world y.p call.start flight_now y.there).x flight_now found).kept
-    kept_now =
-        kept_then code kind key (size_of key) effects (laws key) y.owner s id y.p y.gained y.u y.between call.start
-        flight_now ask low y.there asks_it finds
+    kept_now = kept_then turn_next
 
     going_then : call_in then_trace.world y.p ≡ call_then call.start (comes_now)
-    going_then =
-        goes_to code kind key (size_of key) effects (laws key) y.owner s id y.p y.gained y.u y.between call.start
-        flight_now ask low y.there asks_it finds
+    going_then = goes_to turn_next
 
     run_then : (base : View T) → Stage base v c m → IsRun code kind base.capacity then_trace
-    run_then x0 x1 = grind (arith, same_capacity, next_between)
+    run_then = grind (arith, same_capacity, next_between)
 
     abbrev pub view_then : View T
     view_then = view_after code kind key id y.p next_between.one.turns (v.asked + 1) (v.aside + none_count ask) v then_gained then_trace
@@ -107,9 +133,7 @@ module _ {T C M E : Type 0} (code : Coding T) (kind : Kind) (effects : World T �
           n = step_count ask;
           have = y.have;
           has = y.has;
-          more =
-              gone_took code kind key (size_of key) effects (laws key) y.owner s id y.p y.gained y.u y.between call.start
-              flight_now ask low y.there asks_it finds;
+          more = gone_took turn_next;
           own = one_or_none v.asked v.aside ask;
         }
 
@@ -119,13 +143,13 @@ module _ {T C M E : Type 0} (code : Coding T) (kind : Kind) (effects : World T �
     one_then : (base : View T) → Stage base v c m → then_trace ≡ run_of code kind base.capacity next_between.one.turns
     one_then base stage =
         next_between.one.is
-        ∙ ap (λ n. run_of code kind n next_between.one.turns) (sym known ∙ same_capacity code kind effects size_of laws call base v c m stage)
+        ∙ ap (λ n. run_of code kind n next_between.one.turns) (sym known ∙ same_capacity code kind call base v c m stage)
 
     -- the run that the seat knew goes on to this one
     ran_then : (base : View T) → Stage base v c m → Continues code kind base.capacity base view_then
     ran_then base stage =
-        subst (λ n. Continues code kind n base view_then) (sym known ∙ same_capacity code kind effects size_of laws call base v c m stage)
-        (continues_further code kind key base v view_then (came_first code kind effects size_of laws call base v c m stage)
+        subst (λ n. Continues code kind n base view_then) (sym known ∙ same_capacity code kind call base v c m stage)
+        (continues_further code kind key base v view_then (came_first code kind call base v c m stage)
         (continues_all code kind key s.views then_trace id v view_then next_between.one at next_between.run refl refl refl has_then))
 
     -- what it writes now, and of its own
@@ -141,12 +165,11 @@ module _ {T C M E : Type 0} (code : Coding T) (kind : Kind) (effects : World T �
     met base stage =
         let before = y.prior base stage in
         record {
-          run = subst (λ n. IsRun code kind n y.u) (sym (sym (same_capacity code kind effects size_of laws call base v c m stage) ∙ known)) y.between.run;
+          run = subst (λ n. IsRun code kind n y.u) (sym (sym (same_capacity code kind call base v c m stage) ∙ known)) y.between.run;
           there = y.there;
           found =
               ap (λ z. old_of y.u.world.words (ask_of (want_of z flight_now))) (sym y.between.run.coded)
-              ∙ found_old code kind key (size_of key) effects (laws key) y.owner s id y.p y.gained y.u y.between
-              call.start flight_now ask low y.there asks_it finds;
+              ∙ found_old turn_next;
           span =
               λ none. ap (span_of y.p) (before.prior.is
               ∙ ap (λ os. (base.seen ++ before.prior.others) ++ (os ++ before.prior.during)) (ap (opened y.p call.start) none))
@@ -160,27 +183,21 @@ module _ {T C M E : Type 0} (code : Coding T) (kind : Kind) (effects : World T �
         → ending_of y.p call.start (answer_in (comes_now)) ≡ last
         → Since y.p call.start (wrote ++ mine_now) last base view_then
     since_then base wrote last prior ends =
-        let told_now : events_of y.u.world (Next y.p) ≡ effs ++ last =
-        turn_told code kind key (size_of key) effects (laws key) y.owner s id y.p y.gained y.u y.between call.start
-        flight_now ask low y.there asks_it finds
+        let told_now : events_of y.u.world (Next y.p) ≡ effs ++ last = turn_told turn_next
         ∙ ap (λ zs. effs ++ zs) ends
         in
-        let own_now : events_by y.p (events_of y.u.world (Next y.p)) ≡ mine_now ++ last =
-        own_told code kind key (size_of key) effects (laws key) y.owner s id y.p y.gained y.u y.between call.start
-        flight_now ask low y.there asks_it finds
+        let own_now : events_by y.p (events_of y.u.world (Next y.p)) ≡ mine_now ++ last = own_told turn_next
         ∙ ap (λ zs. mine_now ++ zs) ends
         in
         since_turn next_between.one.turns (v.asked + 1) (v.aside + none_count ask) y.p id (Next y.p) y.u v base y.gained wrote effs last prior told_now own_now
 
     steps_then : steps_in then_trace.world y.p ≡ steps_in y.u.world y.p + step_count ask
-    steps_then =
-        gone_steps code kind key (size_of key) effects (laws key) y.owner s id y.p y.gained y.u y.between call.start
-        flight_now ask low y.there asks_it finds
+    steps_then = gone_steps turn_next
 
     -- each operation was a step of the call
     pub asked_then : step_count ask ≡ 1 → (base : View T) → Stage base v c m → StepsOnly base view_then
     asked_then one base stage =
-        let before = asked_so code kind effects size_of laws call base v c m stage in
+        let before = asked_so code kind call base v c m stage in
         let counted : steps_in y.u.world y.p ≡ taken_by v.going v.taken = y.counted in
         let more : steps_in then_trace.world y.p ≡ steps_in y.u.world y.p + step_count ask = steps_then in
         omega arith
@@ -190,24 +207,21 @@ module _ {T C M E : Type 0} (code : Coding T) (kind : Kind) (effects : World T �
     all_then base stage all f =
         made_between code kind key y.owner id y.p then_gained then_trace
         (record { words = words_after s.words ask; homes = s.homes; views = s.views }) next_between v at
-        (subst IsAll (sym (same_share code kind effects size_of laws call base v c m stage)) all) f
+        (subst IsAll (sym (same_share code kind call base v c m stage)) all) f
 
     parties_then : IsOfParties view_then
     parties_then = record { owner = y.owner; seat = id; sums = λ f. sum_by-append f v.made then_gained ∙ next_between.made_own v at f }
 
     -- its party has the state that it had
     party_now : (base : View T) → Stage base v c m → base.party ≡ Some y.p → v.party ≡ Some y.p
-    party_now x0 x1 x2 = grind arith
+    party_now = grind arith
 
     state_now : (base : View T) → Stage base v c m → LeavesState call → base.party ≡ Some y.p → v.state ≡ base.state
-    state_now x0 x1 x2 x3 = grind arith
+    state_now = grind arith
 
     -- nothing refuses the step
     free_then : refusal_as kind y.u.world (Next y.p) ≡ None
-    free_then =
-        next_as kind y.u.world y.p
-        (goes_free code kind key (size_of key) effects (laws key) y.owner s id y.p y.gained y.u y.between call.start
-        flight_now ask low y.there asks_it finds)
+    free_then = next_as kind y.u.world y.p (goes_free turn_next)
 
     state_then : (base : View T) → Stage base v c m → LeavesState call → base.party ≡ Some y.p → view_then.state ≡ base.state
     state_then base stage leaves was =
@@ -224,9 +238,7 @@ module _ {T C M E : Type 0} (code : Coding T) (kind : Kind) (effects : World T �
           run = (met base stage).run;
           free = free_then;
           wrote = effs;
-          writes =
-              turn_told code kind key (size_of key) effects (laws key) y.owner s id y.p y.gained y.u y.between call.start
-              flight_now ask low y.there asks_it finds
+          writes = turn_told turn_next
               ∙ ap (λ zs. effs ++ zs) ends;
           is = refl;
         }
@@ -247,9 +259,9 @@ module _ {T C M E : Type 0} (code : Coding T) (kind : Kind) (effects : World T �
     goes_then base stage d m' afters standing past tells steps word =
         let before = y.prior base stage in
         record {
-          capacity = same_capacity code kind effects size_of laws call base v c m stage;
-          share = same_share code kind effects size_of laws call base v c m stage;
-          some = some_share code kind effects size_of laws call base v c m stage;
+          capacity = same_capacity code kind call base v c m stage;
+          share = same_share code kind call base v c m stage;
+          some = some_share code kind call base v c m stage;
           standing = standing;
           party = y.p;
           mine = refl;
@@ -282,8 +294,8 @@ module _ {T C M E : Type 0} (code : Coding T) (kind : Kind) (effects : World T �
     ends_then base stage end m' afters tells took =
         let before = y.prior base stage in
         record {
-          capacity = same_capacity code kind effects size_of laws call base v c m stage;
-          share = same_share code kind effects size_of laws call base v c m stage;
+          capacity = same_capacity code kind call base v c m stage;
+          share = same_share code kind call base v c m stage;
           party = y.p;
           mine = refl;
           same = y.by base stage;
@@ -301,8 +313,7 @@ module _ {T C M E : Type 0} (code : Coding T) (kind : Kind) (effects : World T �
               (ap (λ (a : After (Flight T) (Answer T)). ending_of y.p call.start (answer_in a)) afters);
           named =
               subst (λ (t : Trace T). started (party_of y.p t.world.latest) ≡ Some call.start) (one_then base stage)
-              (gone_named code kind key (size_of key) effects (laws key) y.owner s id y.p y.gained y.u y.between call.start
-              flight_now ask low y.there asks_it finds);
+              (gone_named turn_next);
           counted = ap (λ (t : Trace T). steps_in t.world y.p) (sym (one_then base stage));
           took = took;
           aside = none_or_one ask (aside_then base stage);

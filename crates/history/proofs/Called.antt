@@ -14,7 +14,7 @@ module _ {T C M E : Type 0} (code : Coding T) (kind : Kind) (call : Calling T C 
   -- where no call was under way before it, it began
   pub called : (base w : View T) (e : E) (m : M) → base.going ≡ None → (ends : Ends code kind call base e m w)
       → Called ends.party call.start (call.answer e m) ends.wrote base w
-  called x0 x1 x2 x3 x4 x5 = grind arith
+  called = grind arith
 
   -- a call may be told of from where it stands as well
   pub at_itself : (base v : View T) (c : C) (m : M) → ((p : ℕ) → call.by (Some p) p)

@@ -30,13 +30,13 @@ module _ {T : Type 0} where
     pub doing : x.doing ≡ Going flight since
 
   pub stands : (w : World T) (p : ℕ) (start : Start T) (flight : Flight T) → call_in w p ≡ Some (start, flight) → Stands w p start flight
-  stands x0 x1 x2 x3 x4 = grind arith
+  stands = grind arith
 
   pub flight_is : (w : World T) (p : ℕ) (start : Start T) (flight : Flight T) → Stands w p start flight → flight_in w p ≡ Some flight
-  flight_is x0 x1 x2 x3 x4 = grind arith
+  flight_is = grind arith
 
   pub no_flight : (w : World T) (p : ℕ) → call_in w p ≡ None → flight_in w p ≡ None
-  no_flight x0 x1 x2 = grind arith
+  no_flight = grind arith
 
   -- ---- the calls of other parties
 
@@ -51,7 +51,7 @@ module _ {T : Type 0} where
       go (Going flight since) = ap call_of (party_put_other q p _ w.latest ne)
 
   pub begin_other : (w : World T) (p q : ℕ) (start : Start T) → q ≢ p → (o : Option (Flight T)) → call_in (after_begin w p start o) q ≡ call_in w q
-  begin_other x0 x1 x2 x3 x4 x5 = grind (arith, party_put_other)
+  begin_other = grind (arith, party_put_other)
 
   pub decision_other : (w : World T) (p q : ℕ) (said : Bool) → q ≢ p → (o : Option (Party T)) → call_in (after_decision w p said o) q ≡ call_in w q
   decision_other w p q said ne None = refl
@@ -137,29 +137,29 @@ module _ {T : Type 0} where
 
   pub goes_alike : (code : Coding T) (p : ℕ) (flight : Flight T) (n : ℕ) (kept : Registry T) → IsStateless kept
       → goes_of code p flight n kept ≡ after_of code flight n
-  goes_alike x0 x1 x2 x3 x4 x5 = grind arith
+  goes_alike = grind arith
 
   -- no party has a state then
   pub stateless_none : (kept : Registry T) (p : ℕ) → IsStateless kept → state_in kept p ≡ None
-  stateless_none x0 x1 x2 = grind arith
+  stateless_none = grind arith
 
   pub opens_without : (kind : Kind) (capacity p : ℕ) → state_in {T = T} ((opening_of kind).kept capacity) p ≡ None
-  opens_without x0 x1 x2 = grind arith
+  opens_without = grind arith
 
   -- a turn of another party is no look of this one's
   pub look_begin : (w : World T) (p q : ℕ) (start : Start T) → q ≢ p → is_look_of w q (Begin p start) ≡ false
-  look_begin x0 x1 x2 x3 x4 = grind arith
+  look_begin = grind arith
 
   pub look_next : (w : World T) (p q : ℕ) → q ≢ p → is_look_of w q (Next p) ≡ false
   look_next w p q ne = rw (other_number p q ne) refl
 
   -- nor is a begin, or a step, of a call that is none
   pub begins_no_look : (w : World T) (p : ℕ) (start : Start T) → is_state_look start ≡ false → is_look_of w p (Begin p start) ≡ false
-  begins_no_look x0 x1 x2 x3 = grind arith
+  begins_no_look = grind arith
 
   pub next_no_look : (w : World T) (p : ℕ) (start : Start T) (flight : Flight T) → call_in w p ≡ Some (start, flight)
       → is_looking (Some flight) ≡ false → is_look_of w p (Next p) ≡ false
-  next_no_look x0 x1 x2 x3 x4 x5 = grind arith
+  next_no_look = grind arith
 
   -- ---- the own call
 
@@ -180,7 +180,7 @@ module _ {T : Type 0} where
 
   pub begin_own : (w : World T) (p : ℕ) (start : Start T) (flight : Flight T) (o : Option (Flight T))
       → o ≡ Some flight → call_in (after_begin w p start o) p ≡ Some (start, flight)
-  begin_own x0 x1 x2 x3 x4 x5 = grind (arith, party_put_same)
+  begin_own = grind (arith, party_put_same)
 
   -- what a step of it comes to, where it writes this
   pub record Moved (w : World T) (p : ℕ) (start : Start T) (flight : Flight T) (old : ℕ) (wrote : List (Event T)) : Type 0 where
@@ -189,7 +189,7 @@ module _ {T : Type 0} where
 
   then_at : (start : Start T) (changes since : ℕ) (after : After (Flight T) (Answer T))
       → call_at start (Rattle.model.specs.Turns.doing_after changes since after) ≡ call_then start after
-  then_at x0 x1 x2 x3 = grind arith
+  then_at = grind arith
 
   -- where the family goes on as its table says, from what it keeps
   module _ (w : World T) (p : ℕ) (start : Start T) (flight : Flight T) (writes : ℕ → List (Event T)) (h : Stands w p start flight)

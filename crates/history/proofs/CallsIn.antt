@@ -1,21 +1,19 @@
 -- What a call of the driver is as a call of a machine, and what is so as it takes a step.
-use Rattle.history.proofs.Names.{◌^◌, Bool, true, false, ◌≡◌, ℕ, ◌<◌, Option, Some, None, List, [], ◌∷◌, ◌++◌, refl}
+use Rattle.history.proofs.Names.{◌^◌, ◌+◌, true, false, ◌≡◌, ℕ, ◌<◌, Option, Some, None, List, [], ◌∷◌, ◌++◌, refl}
 use Rattle.history.proofs.Names.{sym, ap, subst, ◌∙◌, append_assoc, append-nil, arith, fold, ◌==◌, nat_tests}
 use Rattle.history.proofs.Names.{fold-append, written, Ask, After, GoOn, Want, Answer, Event, Begun, Start, Flight}
 use Rattle.history.proofs.Names.{Kind, Coding, want_of, after_of, goes_of, ask_of, is_question, whose, is_party}
 use Rattle.history.proofs.Names.{span_of, span_after, own_after, Span, Never, Open, old_of, World, Trace, answered}
-use Rattle.history.proofs.Names.{IsAll, IsFreshCall}
+use Rattle.history.proofs.Names.{IsAll, IsFreshCall, KeepsRule}
 use Rattle.steps.specs.declared.ask.After.TheVariants.{Done}
 use Rattle.steps.specs.declared.ask.Want.TheVariants as wants
 use Rattle.history.specs.declared.view.View.{View}
 use Rattle.history.specs.Known.{events_by}
-use Rattle.history.specs.History.{IsRun, IsLate, call_in}
-use Rattle.history.specs.Stages.{Calling, opened}
+use Rattle.history.specs.History.{IsRun, IsMachine, IsLate, call_in}
+use Rattle.history.specs.Stages.{Calling, At, Ends, Over, opened}
 use Rattle.history.proofs.Known.{AreOf, by_mine}
-
-pub by_bool : {A : Type 0} → (b : Bool) → (b ≡ true → A) → (b ≡ false → A) → A
-by_bool true t f = t refl
-by_bool false t f = f refl
+use Rattle.history.proofs.KindLaws.{Machines, SteadyMachines}
+pub use Rattle.history.proofs.Cases.{by_bool}
 
 pub no_rest : {A : Type 0} → (xs rest : List A) → xs ≡ xs ++ rest → rest ≡ []
 no_rest [] rest e = sym e
@@ -31,7 +29,7 @@ none_after (x ∷ xs) rest e = absurd (cc)
 
 -- a list that a call begins or goes on with, and more of it
 pub regroup : {A : Type 0} → (xs os ds es ls : List A) → (xs ++ (os ++ ds)) ++ (es ++ ls) ≡ xs ++ (os ++ ((ds ++ es) ++ ls))
-regroup x0 x1 x2 x3 x4 = grind (arith, append_assoc)
+regroup = grind (arith, append_assoc)
 
 -- a call of the driver as a call of the model
 module _ {T C M E : Type 0} (call : Calling T C M E) where
@@ -39,34 +37,62 @@ module _ {T C M E : Type 0} (call : Calling T C M E) where
   goes (GoOn d) m = GoOn (call.flight d m)
   goes (Done e) m = Done (call.answer e m)
 
+-- a call of the driver: what it wants, how it goes on, what it keeps, and what it is as a call of the model
+pub record Driven (T C M E : Type 0) : Type 1 where
+  pub want : C → Want (Unit {0})
+  pub after : C → ℕ → After C E
+  pub kept : C → M → ℕ → M
+  pub call : Calling T C M E
+
 -- it is at a word of so many
 abbrev pub AsksFor : ℕ → Want (Unit {0}) → Type 0
 AsksFor size want = (a : Ask) × (a.word < size) × (want ≡ wants.Ask a)
 
 -- the steps of a call whose kind's parties write for themselves alone, with what is known of the words that it asks for
-pub record StepsOf {T C M E : Type 0} (Asks : Type 0) (code : Coding T) (effects : ℕ → Flight T → ℕ → List (Event T)) (want : C → Want (Unit {0}))
-    (after : C → ℕ → After C E) (kept : C → M → ℕ → M) (call : Calling T C M E) : Type 0 where
-  pub same_want : (c : C) (m : M) → want_of code (call.flight c m) ≡ want c
-  pub same_after : (capacity : ℕ) (c : C) (m : M) (n : ℕ) → call.stands capacity c → after_of code (call.flight c m) n ≡ goes call (after c n) (kept c m n)
-  pub hears : (c : C) (m : M) (a : Ask) (n : ℕ) → want c ≡ wants.Ask a → (after c (answered a.op n) ≡ after c n) × (kept c m (answered a.op n) ≡ kept c m n)
-  pub stays : (capacity : ℕ) (c d : C) (n : ℕ) → call.stands capacity c → after c n ≡ GoOn d → call.stands capacity d
-  pub asks : Asks
-  pub past : (capacity : ℕ) (c d : C) (n k : ℕ) → call.stands capacity c → after c n ≡ GoOn d → call.skips d k ≡ false
-  pub finds : (c : C) (m : M) (n : ℕ) → n < 2 ^ 64 → call.skips c n ≡ false → IsFreshCall n (call.flight c m)
-  pub leaves : (c : C) (a : Ask) (n : ℕ) → call.skips c n ≡ true → want c ≡ wants.Ask a → (written a.op n ≡ n) × (e : E) × call.left e × (after c n ≡ Done e)
-  pub tells : (capacity p : ℕ) (from : Option (Start T × Flight T)) (c d : C) (m : M) (n : ℕ) (es : List (Event T))
-      → call.stands capacity c → call.wrote capacity p from c m es → after c n ≡ GoOn d
-      → call.wrote capacity p from d (kept c m n) (es ++ effects p (call.flight c m) n)
-  pub tells_all : (capacity p : ℕ) (from : Option (Start T × Flight T)) (c : C) (e : E) (m : M) (n : ℕ) (es : List (Event T))
-      → call.stands capacity c → call.skips c n ≡ false → call.wrote capacity p from c m es → after c n ≡ Done e
-      → is_question (want c) ≡ false
-      → call.wrote_all capacity p from e (kept c m n) (es ++ effects p (call.flight c m) n)
+module _ {T C M E : Type 0} (Asks : Type 0) (code : Coding T) (effects : ℕ → Flight T → ℕ → List (Event T)) (driven : Driven T C M E) where
+  open driven use {want, after, kept, call}
+
+  pub record StepsOf : Type 0 where
+    pub same_want : (c : C) (m : M) → want_of code (call.flight c m) ≡ want c
+    pub same_after : (capacity : ℕ) (c : C) (m : M) (n : ℕ) → call.stands capacity c → after_of code (call.flight c m) n ≡ goes call (after c n) (kept c m n)
+    pub hears : (c : C) (m : M) (a : Ask) (n : ℕ) → want c ≡ wants.Ask a → (after c (answered a.op n) ≡ after c n) × (kept c m (answered a.op n) ≡ kept c m n)
+    pub stays : (capacity : ℕ) (c d : C) (n : ℕ) → call.stands capacity c → after c n ≡ GoOn d → call.stands capacity d
+    pub asks : Asks
+    pub past : (capacity : ℕ) (c d : C) (n k : ℕ) → call.stands capacity c → after c n ≡ GoOn d → call.skips d k ≡ false
+    pub finds : (c : C) (m : M) (n : ℕ) → n < 2 ^ 64 → call.skips c n ≡ false → IsFreshCall n (call.flight c m)
+    pub leaves : (c : C) (a : Ask) (n : ℕ) → call.skips c n ≡ true → want c ≡ wants.Ask a → (written a.op n ≡ n) × (e : E) × call.left e × (after c n ≡ Done e)
+    pub tells : (capacity p : ℕ) (from : Option (Start T × Flight T)) (c d : C) (m : M) (n : ℕ) (es : List (Event T))
+        → call.stands capacity c → call.wrote capacity p from c m es → after c n ≡ GoOn d
+        → call.wrote capacity p from d (kept c m n) (es ++ effects p (call.flight c m) n)
+    pub tells_all : (capacity p : ℕ) (from : Option (Start T × Flight T)) (c : C) (e : E) (m : M) (n : ℕ) (es : List (Event T))
+        → call.stands capacity c → call.skips c n ≡ false → call.wrote capacity p from c m es → after c n ≡ Done e
+        → is_question (want c) ≡ false
+        → call.wrote_all capacity p from e (kept c m n) (es ++ effects p (call.flight c m) n)
 
 -- each step of it is at a word
+abbrev pub AsksThere : {T C M E : Type 0} → (ℕ → ℕ) → Driven T C M E → Type 0
+AsksThere {T} {C} size_of driven = (capacity : ℕ) (c : C) → driven.call.stands capacity c → AsksFor (size_of capacity) (driven.want c)
+
+abbrev pub IsCallBy : {T C M E : Type 0} → Coding T → (ℕ → Flight T → ℕ → List (Event T)) → (ℕ → ℕ) → Driven T C M E → Type 0
+IsCallBy code effects size_of driven = StepsOf (AsksThere size_of driven) code effects driven
+
 abbrev pub IsCallOf : {T C M E : Type 0} → Coding T → (ℕ → Flight T → ℕ → List (Event T)) → (ℕ → ℕ) → (C → Want (Unit {0})) → (C → ℕ → After C E)
     → (C → M → ℕ → M) → Calling T C M E → Type 0
-IsCallOf {T} {C} {M} {E} code effects size_of want after kept call =
-    StepsOf ((capacity : ℕ) (c : C) → call.stands capacity c → AsksFor (size_of capacity) (want c)) code effects want after kept call
+IsCallOf code effects size_of want after kept call = IsCallBy code effects size_of (record { want = want; after = after; kept = kept; call = call })
+
+-- each of its steps keeps the rule of the machines, where it stands so and ends so
+abbrev pub KeepsSo : {T C M E : Type 0} → Coding T → Kind → (ℕ → ℕ) → Driven T C M E → (View T → View T → C → M → Type 0)
+    → (View T → E → M → View T → Type 0) → Type 0
+KeepsSo {T} code kind size_of driven at ends =
+    KeepsRule (λ (z : View T). z.asked) (λ (z : View T). z.capacity) at ends (λ key. size_of key + 1) (λ key. key)
+    (λ key. IsMachine code kind key) driven.want driven.after driven.kept
+
+-- where it always ends, and where the last position may leave it out
+abbrev pub KeepsEnds : {T C M E : Type 0} → Coding T → Kind → (ℕ → ℕ) → Driven T C M E → Type 0
+KeepsEnds code kind size_of driven = KeepsSo code kind size_of driven (At code kind driven.call) (Ends code kind driven.call)
+
+abbrev pub KeepsOver : {T C M E : Type 0} → Coding T → Kind → (ℕ → ℕ) → Driven T C M E → Type 0
+KeepsOver code kind size_of driven = KeepsSo code kind size_of driven (At code kind driven.call) (Over code kind driven.call)
 
 -- what is so as a call is to take a step: of a machine that has this word there, of which the party, where its call began
 -- in this drive, wrote this since then
@@ -78,7 +104,9 @@ pub record Met {T : Type 0} (code : Coding T) (kind : Kind) (capacity : ℕ) (st
   pub span : from ≡ None → span_of p t.events ≡ fold own_after (Open start []) es
 
 -- how it goes on: by itself, or by what the machine keeps
-module _ {T C M E : Type 0} (code : Coding T) (kind : Kind) (after : C → ℕ → After C E) (kept : C → M → ℕ → M) (call : Calling T C M E) where
+module _ {T C M E : Type 0} (code : Coding T) (kind : Kind) (driven : Driven T C M E) where
+  open driven use {after, kept, call}
+
   abbrev pub GoesAlike : Type 0
   GoesAlike =
       (capacity : ℕ) (c : C) (m : M) (n : ℕ) → call.stands capacity c → after_of code (call.flight c m) n ≡ goes call (after c n) (kept c m n)
@@ -89,96 +117,89 @@ module _ {T C M E : Type 0} (code : Coding T) (kind : Kind) (after : C → ℕ �
       → call.stands capacity c → goes_of code p (call.flight c m) n t.world.kept ≡ goes call (after c n) (kept c m n)
 
 -- the same of a kind whose steps write by what the machine is, and where another may have written for the call
-pub record StepsAs {T C M E : Type 0} (Asks Goes : Type 0) (code : Coding T) (kind : Kind) (effects : World T → ℕ → Flight T → ℕ → List (Event T))
-    (want : C → Want (Unit {0})) (after : C → ℕ → After C E) (kept : C → M → ℕ → M) (call : Calling T C M E) : Type 0 where
-  pub same_want : (c : C) (m : M) → want_of code (call.flight c m) ≡ want c
-  pub same_after : Goes
-  pub hears : (c : C) (m : M) (a : Ask) (n : ℕ) → want c ≡ wants.Ask a → (after c (answered a.op n) ≡ after c n) × (kept c m (answered a.op n) ≡ kept c m n)
-  pub stays : (capacity : ℕ) (c d : C) (n : ℕ) → call.stands capacity c → after c n ≡ GoOn d → call.stands capacity d
-  pub asks : Asks
-  pub past : (capacity : ℕ) (c d : C) (n k : ℕ) → call.stands capacity c → after c n ≡ GoOn d → call.skips d k ≡ false
-  pub finds : (c : C) (m : M) (n : ℕ) → n < 2 ^ 64 → call.skips c n ≡ false → IsFreshCall n (call.flight c m)
-  pub leaves : (c : C) (a : Ask) (n : ℕ) → call.skips c n ≡ true → want c ≡ wants.Ask a → (written a.op n ≡ n) × (e : E) × call.left e × (after c n ≡ Done e)
-  pub tells : (capacity p : ℕ) (from : Option (Start T × Flight T)) (c d : C) (m : M) (n : ℕ) (es late : List (Event T)) (t : Trace T)
-      → call.stands capacity c → call.wrote capacity p from c m es
-      → IsLate kind (Some (call.start, call.flight c m)) late
-      → Met code kind capacity call.start (call.flight c m) p from (es ++ late) n t → after c n ≡ GoOn d
-      → call.wrote capacity p from d (kept c m n) ((es ++ late) ++ events_by p (effects t.world p (call.flight c m) n))
-  pub tells_all : (capacity p : ℕ) (from : Option (Start T × Flight T)) (c : C) (e : E) (m : M) (n : ℕ)
-      (es late : List (Event T)) (t : Trace T)
-      → call.stands capacity c → call.skips c n ≡ false → call.wrote capacity p from c m es
-      → IsLate kind (Some (call.start, call.flight c m)) late
-      → Met code kind capacity call.start (call.flight c m) p from (es ++ late) n t → after c n ≡ Done e
-      → is_question (want c) ≡ false
-      → call.wrote_all capacity p from e (kept c m n) ((es ++ late) ++ events_by p (effects t.world p (call.flight c m) n))
+module _ {T C M E : Type 0} (Asks Goes : Type 0) (code : Coding T) (kind : Kind) (effects : World T → ℕ → Flight T → ℕ → List (Event T))
+    (driven : Driven T C M E) where
+  open driven use {want, after, kept, call}
+
+  pub record StepsAs : Type 0 where
+    pub same_want : (c : C) (m : M) → want_of code (call.flight c m) ≡ want c
+    pub same_after : Goes
+    pub hears : (c : C) (m : M) (a : Ask) (n : ℕ) → want c ≡ wants.Ask a → (after c (answered a.op n) ≡ after c n) × (kept c m (answered a.op n) ≡ kept c m n)
+    pub stays : (capacity : ℕ) (c d : C) (n : ℕ) → call.stands capacity c → after c n ≡ GoOn d → call.stands capacity d
+    pub asks : Asks
+    pub past : (capacity : ℕ) (c d : C) (n k : ℕ) → call.stands capacity c → after c n ≡ GoOn d → call.skips d k ≡ false
+    pub finds : (c : C) (m : M) (n : ℕ) → n < 2 ^ 64 → call.skips c n ≡ false → IsFreshCall n (call.flight c m)
+    pub leaves : (c : C) (a : Ask) (n : ℕ) → call.skips c n ≡ true → want c ≡ wants.Ask a → (written a.op n ≡ n) × (e : E) × call.left e × (after c n ≡ Done e)
+    pub tells : (capacity p : ℕ) (from : Option (Start T × Flight T)) (c d : C) (m : M) (n : ℕ) (es late : List (Event T)) (t : Trace T)
+        → call.stands capacity c → call.wrote capacity p from c m es
+        → IsLate kind (Some (call.start, call.flight c m)) late
+        → Met code kind capacity call.start (call.flight c m) p from (es ++ late) n t → after c n ≡ GoOn d
+        → call.wrote capacity p from d (kept c m n) ((es ++ late) ++ events_by p (effects t.world p (call.flight c m) n))
+    pub tells_all : (capacity p : ℕ) (from : Option (Start T × Flight T)) (c : C) (e : E) (m : M) (n : ℕ)
+        (es late : List (Event T)) (t : Trace T)
+        → call.stands capacity c → call.skips c n ≡ false → call.wrote capacity p from c m es
+        → IsLate kind (Some (call.start, call.flight c m)) late
+        → Met code kind capacity call.start (call.flight c m) p from (es ++ late) n t → after c n ≡ Done e
+        → is_question (want c) ≡ false
+        → call.wrote_all capacity p from e (kept c m n) ((es ++ late) ++ events_by p (effects t.world p (call.flight c m) n))
 
 -- of a call that goes on by itself, and of one that may go on by what is kept
-abbrev pub StepsIn : {T C M E : Type 0} → Type 0 → Coding T → Kind → (World T → ℕ → Flight T → ℕ → List (Event T)) → (C → Want (Unit {0}))
-    → (C → ℕ → After C E) → (C → M → ℕ → M) → Calling T C M E → Type 0
-StepsIn {T} {C} {M} {E} Asks code kind effects want after kept call =
-    StepsAs Asks (GoesAlike code kind after kept call) code kind effects want after kept call
+abbrev pub StepsIn : {T C M E : Type 0} → Type 0 → Coding T → Kind → (World T → ℕ → Flight T → ℕ → List (Event T)) → Driven T C M E → Type 0
+StepsIn Asks code kind effects driven = StepsAs Asks (GoesAlike code kind driven) code kind effects driven
 
-abbrev pub StepsThere : {T C M E : Type 0} → Type 0 → Coding T → Kind → (World T → ℕ → Flight T → ℕ → List (Event T)) → (C → Want (Unit {0}))
-    → (C → ℕ → After C E) → (C → M → ℕ → M) → Calling T C M E → Type 0
-StepsThere {T} {C} {M} {E} Asks code kind effects want after kept call =
-    StepsAs Asks (GoesThere code kind after kept call) code kind effects want after kept call
+abbrev pub StepsThere : {T C M E : Type 0} → Type 0 → Coding T → Kind → (World T → ℕ → Flight T → ℕ → List (Event T)) → Driven T C M E → Type 0
+StepsThere Asks code kind effects driven = StepsAs Asks (GoesThere code kind driven) code kind effects driven
 
-abbrev pub IsCallIn : {T C M E : Type 0} → Coding T → Kind → (World T → ℕ → Flight T → ℕ → List (Event T)) → (ℕ → ℕ) → (C → Want (Unit {0}))
-    → (C → ℕ → After C E) → (C → M → ℕ → M) → Calling T C M E → Type 0
-IsCallIn {T} {C} {M} {E} code kind effects size_of want after kept call =
-    StepsIn ((capacity : ℕ) (c : C) → call.stands capacity c → AsksFor (size_of capacity) (want c)) code kind effects want after kept call
+abbrev pub IsCallIn : {T C M E : Type 0} → SteadyMachines T → Driven T C M E → Type 0
+IsCallIn machines driven = StepsIn (AsksThere machines.size_of driven) machines.code machines.kind machines.effects driven
 
-abbrev pub IsCallThere : {T C M E : Type 0} → Coding T → Kind → (World T → ℕ → Flight T → ℕ → List (Event T)) → (ℕ → ℕ) → (C → Want (Unit {0}))
-    → (C → ℕ → After C E) → (C → M → ℕ → M) → Calling T C M E → Type 0
-IsCallThere {T} {C} {M} {E} code kind effects size_of want after kept call =
-    StepsThere ((capacity : ℕ) (c : C) → call.stands capacity c → AsksFor (size_of capacity) (want c)) code kind effects want after kept call
+abbrev pub IsCallThere : {T C M E : Type 0} → Machines T → Driven T C M E → Type 0
+IsCallThere machines driven = StepsThere (AsksThere machines.size_of driven) machines.code machines.kind machines.effects driven
 
 -- a call that writes by its own is such a call, of any kind for which nobody else writes
-pub steps_as : {T C M E Asks Goes : Type 0} (code : Coding T) (kind : Kind) (effects : World T → ℕ → Flight T → ℕ → List (Event T))
-    (own : ℕ → Flight T → ℕ → List (Event T)) (want : C → Want (Unit {0})) (after : C → ℕ → After C E) (kept : C → M → ℕ → M) (call : Calling T C M E)
-    → ((c : C) (m : M) (late : List (Event T)) → IsLate kind (Some (call.start, call.flight c m)) late → late ≡ [])
-    → ((capacity p : ℕ) (c : C) (m : M) (n : ℕ) (t : Trace T) → IsRun code kind capacity t → call_in t.world p ≡ Some (call.start, call.flight c m)
-    → events_by p (effects t.world p (call.flight c m) n) ≡ own p (call.flight c m) n)
-    → Goes → StepsOf Asks code own want after kept call → StepsAs Asks Goes code kind effects want after kept call
-steps_as {T} {C} {M} {E} {Asks} {Goes} code kind effects own want after kept call never same goes_so h =
-    record {
-      same_want = h.same_want;
-      same_after = goes_so;
-      hears = h.hears;
-      stays = h.stays;
-      asks = h.asks;
-      past = h.past;
-      finds = h.finds;
-      leaves = h.leaves;
-      tells =
-          λ capacity p from c d m n es late t stands wrote waits met e. subst
-          (λ zs. call.wrote capacity p from d (kept c m n) zs) (sym (all capacity p from c m n es late t waits met))
-          (h.tells capacity p from c d m n es stands wrote e);
-      tells_all =
-          λ capacity p from c e m n es late t stands skip wrote waits met is still. subst
-          (λ zs. call.wrote_all capacity p from e (kept c m n) zs) (sym (all capacity p from c m n es late t waits met))
-          (h.tells_all capacity p from c e m n es stands skip wrote is still);
-    }
-  where
-    all : (capacity p : ℕ) (from : Option (Start T × Flight T)) (c : C) (m : M) (n : ℕ) (es late : List (Event T)) (t : Trace T)
-        → IsLate kind (Some (call.start, call.flight c m)) late
-        → Met code kind capacity call.start (call.flight c m) p from (es ++ late) n t
-        → (es ++ late) ++ events_by p (effects t.world p (call.flight c m) n) ≡ es ++ own p (call.flight c m) n
-    all x0 x1 x2 x3 x4 x5 x6 x7 x8 x9 x10 = grind (arith, append-nil)
+module _ {T C M E Asks : Type 0} (code : Coding T) (kind : Kind) (effects : World T → ℕ → Flight T → ℕ → List (Event T))
+    (own : ℕ → Flight T → ℕ → List (Event T)) (driven : Driven T C M E)
+    (never : (c : C) (m : M) (late : List (Event T)) → IsLate kind (Some (driven.call.start, driven.call.flight c m)) late → late ≡ [])
+    (same : (capacity p : ℕ) (c : C) (m : M) (n : ℕ) (t : Trace T) → IsRun code kind capacity t
+    → call_in t.world p ≡ Some (driven.call.start, driven.call.flight c m)
+    → events_by p (effects t.world p (driven.call.flight c m) n) ≡ own p (driven.call.flight c m) n)
+    (h : StepsOf Asks code own driven) where
+  open driven use {kept, call}
 
-pub steps_in : {T C M E Asks : Type 0} (code : Coding T) (kind : Kind) (effects : World T → ℕ → Flight T → ℕ → List (Event T))
-    (own : ℕ → Flight T → ℕ → List (Event T)) (want : C → Want (Unit {0})) (after : C → ℕ → After C E) (kept : C → M → ℕ → M) (call : Calling T C M E)
-    → ((c : C) (m : M) (late : List (Event T)) → IsLate kind (Some (call.start, call.flight c m)) late → late ≡ [])
-    → ((capacity p : ℕ) (c : C) (m : M) (n : ℕ) (t : Trace T) → IsRun code kind capacity t → call_in t.world p ≡ Some (call.start, call.flight c m)
-    → events_by p (effects t.world p (call.flight c m) n) ≡ own p (call.flight c m) n)
-    → StepsOf Asks code own want after kept call → StepsIn Asks code kind effects want after kept call
-steps_in code kind effects own want after kept call never same h = steps_as code kind effects own want after kept call never same h.same_after h
+  all : (capacity p : ℕ) (from : Option (Start T × Flight T)) (c : C) (m : M) (n : ℕ) (es late : List (Event T)) (t : Trace T)
+      → IsLate kind (Some (call.start, call.flight c m)) late
+      → Met code kind capacity call.start (call.flight c m) p from (es ++ late) n t
+      → (es ++ late) ++ events_by p (effects t.world p (call.flight c m) n) ≡ es ++ own p (call.flight c m) n
+  all = grind (arith, append-nil)
+
+  pub steps_as : {Goes : Type 0} → Goes → StepsAs Asks Goes code kind effects driven
+  steps_as goes_so =
+      record {
+        same_want = h.same_want;
+        same_after = goes_so;
+        hears = h.hears;
+        stays = h.stays;
+        asks = h.asks;
+        past = h.past;
+        finds = h.finds;
+        leaves = h.leaves;
+        tells =
+            λ capacity p from c d m n es late t stands wrote waits met e. subst
+            (λ zs. call.wrote capacity p from d (kept c m n) zs) (sym (all capacity p from c m n es late t waits met))
+            (h.tells capacity p from c d m n es stands wrote e);
+        tells_all =
+            λ capacity p from c e m n es late t stands skip wrote waits met is still. subst
+            (λ zs. call.wrote_all capacity p from e (kept c m n) zs) (sym (all capacity p from c m n es late t waits met))
+            (h.tells_all capacity p from c e m n es stands skip wrote is still);
+      }
+
+  pub in_machine : StepsIn Asks code kind effects driven
+  in_machine = steps_as h.same_after
 
 -- where it goes on so
 pub with_goes : {T C M E Asks Goes Others : Type 0} (code : Coding T) (kind : Kind) (effects : World T → ℕ → Flight T → ℕ → List (Event T))
-    (want : C → Want (Unit {0})) (after : C → ℕ → After C E) (kept : C → M → ℕ → M) (call : Calling T C M E)
-    → Others → StepsAs Asks Goes code kind effects want after kept call → StepsAs Asks Others code kind effects want after kept call
-with_goes x0 x1 x2 x3 x4 x5 x6 x7 x8 = grind arith
+    (driven : Driven T C M E) → Others → StepsAs Asks Goes code kind effects driven → StepsAs Asks Others code kind effects driven
+with_goes = grind arith
 
 -- of a call that goes on by itself, and whose party writes for itself alone, by this of what the kind writes
 pub record ActsAlone {T C M E : Type 0} (code : Coding T) (kind : Kind) (effects : World T → ℕ → Flight T → ℕ → List (Event T))
@@ -197,22 +218,14 @@ module _ {T C M E : Type 0} (code : Coding T) (kind : Kind) (effects : World T �
   pub written_alone : (capacity p : ℕ) (c : C) (m : M) (n : ℕ) (t : Trace T) → IsRun code kind capacity t
       → call_in t.world p ≡ Some (call.start, call.flight c m)
       → events_by p (effects t.world p (call.flight c m) n) ≡ own p (call.flight c m) n
-  written_alone x0 x1 x2 x3 x4 x5 x6 x7 = grind (arith, by_mine)
+  written_alone = grind (arith, by_mine)
 
-  pub steps_alone : {Asks : Type 0} (want : C → Want (Unit {0})) (after : C → ℕ → After C E) (kept : C → M → ℕ → M)
-      → StepsOf Asks code own want after kept call → StepsThere Asks code kind effects want after kept call
-  steps_alone want after kept h =
-      steps_as code kind effects own want after kept call acts.never written_alone
-      (λ capacity p c m n t run there stands. acts.alike capacity p c m n t run ∙ h.same_after capacity c m n stands) h
-
-pub in_machine : {T C M E : Type 0} (code : Coding T) (kind : Kind) (effects : World T → ℕ → Flight T → ℕ → List (Event T))
-    (own : ℕ → Flight T → ℕ → List (Event T)) (size_of : ℕ → ℕ) (want : C → Want (Unit {0})) (after : C → ℕ → After C E) (kept : C → M → ℕ → M)
-    (call : Calling T C M E)
-    → ((c : C) (m : M) (late : List (Event T)) → IsLate kind (Some (call.start, call.flight c m)) late → late ≡ [])
-    → ((capacity p : ℕ) (c : C) (m : M) (n : ℕ) (t : Trace T) → IsRun code kind capacity t → call_in t.world p ≡ Some (call.start, call.flight c m)
-    → events_by p (effects t.world p (call.flight c m) n) ≡ own p (call.flight c m) n)
-    → IsCallOf code own size_of want after kept call → IsCallIn code kind effects size_of want after kept call
-in_machine code kind effects own size_of want after kept call = steps_in code kind effects own want after kept call
+pub steps_alone : {T C M E Asks : Type 0} (code : Coding T) (kind : Kind) (effects : World T → ℕ → Flight T → ℕ → List (Event T))
+    (own : ℕ → Flight T → ℕ → List (Event T)) (driven : Driven T C M E)
+    → ActsAlone code kind effects own driven.call → StepsOf Asks code own driven → StepsThere Asks code kind effects driven
+steps_alone code kind effects own driven acts h =
+    steps_as code kind effects own driven acts.never (written_alone code kind effects own driven.call acts) h
+    (λ capacity p c m n t run there stands. acts.alike capacity p c m n t run ∙ h.same_after capacity c m n stands)
 
 -- no step of the call is the first load of a push
 abbrev pub NeverPushes : {T C M : Type 0} → (C → M → Flight T) → Type 0

@@ -5,7 +5,7 @@ use Rattle.history.proofs.Names.{total_words, Replaced, first_replace, replace_a
 use Rattle.history.proofs.Names.{replace_after, empty, went_on, Ask, After, GoOn, ReplaceStage}
 use Rattle.history.proofs.Names.{Answer, Event, Add, Replace, Coding, IsCoding, opening_of, replace_of, added}
 use Rattle.history.proofs.Names.{replaced, add_effects, replace_effects, as_it_is}
-use Rattle.history.proofs.Names.{as_call, data_within, answered, KeepsRule}
+use Rattle.history.proofs.Names.{as_call, data_within, answered}
 use Rattle.steps.specs.Container.Add.{Added, first_add, add_asks, add_want, add_takes}
 use Rattle.steps.specs.Container.Add.{add_after}
 use Rattle.steps.specs.declared.ask.After.TheVariants.{Done}
@@ -22,12 +22,11 @@ use Rattle.model.specs.declared.families.container.calls.ContainerFlight.TheVari
 use Rattle.model.specs.declared.turn.Kind.TheVariants as kinds
 use Rattle.history.specs.declared.view.View.{View}
 use Rattle.history.specs.Container.{AddIn, AddedAt, HasAdded, adds_value, ReplaceIn, ReplacedAt, HasReplaced, replaces_value}
-use Rattle.history.specs.History.{IsMachine}
-use Rattle.history.specs.Stages.{Calling, At, Ends}
-use Rattle.history.proofs.CallsIn.{AsksFor}
+use Rattle.history.specs.Stages.{Calling, At}
+use Rattle.history.proofs.CallsIn.{AsksFor, Driven, IsCallBy, KeepsEnds}
 use Rattle.history.proofs.ContainerCalls.{set_words, change_low, count_low, place_is}
 use Rattle.history.proofs.Containers.{plain_effects, container_words, container_keeps, container_first, container_starts, fewer}
-use Rattle.history.proofs.Drives.{IsCallOf, goes}
+use Rattle.history.proofs.Drives.{goes}
 use Rattle.history.proofs.RobustCalls.{acquire_words}
 
 -- ---- add
@@ -35,7 +34,7 @@ use Rattle.history.proofs.RobustCalls.{acquire_words}
 module _ {T : Type 0} (words_of : T → List ℕ) (size : ℕ) where
   add_found : (c : Adding T) (stage : AddStage) (given : Owned T) (a : Ask) (n : ℕ) → add_asks words_of size c.capacity stage given ≡ wants.Ask a
       → add_takes size c stage (answered a.op n) ≡ add_takes size c stage n
-  add_found x0 x1 x2 x3 x4 x5 = grind arith
+  add_found = grind arith
 
   add_words : (capacity : ℕ) (stage : AddStage) (given : Owned T) → AddIn size capacity stage
       → AsksFor (total_words capacity size) (add_asks words_of size capacity stage given)
@@ -81,9 +80,12 @@ module _ {T : Type 0} (code : Coding T) (law : IsCoding code) (given : Owned T) 
   add_goes : (capacity p : ℕ) (c : Adding T) (n : ℕ) (es : List (Event T)) (r : After (Adding T) Added) → (h : adding.stands capacity c)
       → AddedAt p given c.stage es → add_then c n ≡ r
       → AddGoes capacity code.size has_words c h.0 p given (es ++ (add_effects p given c.stage n ++ [])) r
-  add_goes x0 x1 x2 x3 x4 x5 x6 x7 x8 = grind arith
+  add_goes = grind arith
 
-  add_call : IsCallOf code (plain_effects code) (container_words code) (λ c. add_want code.words_of code.size c given) add_then (λ c m n. m) adding
+  abbrev pub add_driven : Driven T (Adding T) (Unit {0}) Added
+  add_driven = record { want = λ c. add_want code.words_of code.size c given; after = add_then; kept = λ c m n. m; call = adding }
+
+  add_call : IsCallBy code (plain_effects code) (container_words code) add_driven
   add_call =
       record {
         same_want = λ c m. refl;
@@ -101,10 +103,8 @@ module _ {T : Type 0} (code : Coding T) (law : IsCoding code) (given : Owned T) 
         tells_all = λ capacity p from c end m n es h skip wrote e still new. add_goes capacity p c n es (Done end) h (wrote new) e;
       }
 
-  pub container_add_keeps : KeepsRule (λ (z : View T). z.asked) (λ (z : View T). z.capacity) (At code kinds.Container adding) (Ends code kinds.Container adding)
-      (λ key. container_words code key + 1) (λ key. key) (λ key. IsMachine code kinds.Container key) (λ c. add_want code.words_of code.size c given) add_then
-      (λ c m n. m)
-  container_add_keeps = container_keeps code adding (λ c m. tt) (λ c. add_want code.words_of code.size c given) add_then (λ c m n. m) add_call (λ c n. refl)
+  pub container_add_keeps : KeepsEnds code kinds.Container (container_words code) add_driven
+  container_add_keeps = container_keeps code add_driven (λ c m. tt) add_call (λ c n. refl)
 
   pub container_add_first : (v : View T) (m : Unit {0}) → v.going ≡ None → v.other ≡ [] → 0 < v.share.part → given.owner < empty
       → At code kinds.Container adding v v (first_add v.capacity) m
@@ -128,7 +128,7 @@ module _ {T : Type 0} (words_of : T → List ℕ) (size : ℕ) where
   replace_found : (c : Replacing T) (stage : ReplaceStage) (given : Replacement T) (a : Ask) (n : ℕ)
       → replace_asks words_of size c.capacity stage given ≡ wants.Ask a
       → replace_takes size c stage given (answered a.op n) ≡ replace_takes size c stage given n
-  replace_found x0 x1 x2 x3 x4 x5 = grind arith
+  replace_found = grind arith
 
   replace_words : (capacity : ℕ) (stage : ReplaceStage) (given : Replacement T) → given.index < capacity → ReplaceIn size stage
       → AsksFor (total_words capacity size) (replace_asks words_of size capacity stage given)
@@ -147,7 +147,7 @@ module _ {T : Type 0} (capacity size : ℕ) (some : 0 < size) (c : Replacing T) 
   ReplaceGoes es (Done e) = HasReplaced p given e es
 
   some_replaced : (stage : ReplaceStage) → (es : List (Event T)) × ReplacedAt p given stage es
-  some_replaced x0 = grind arith
+  some_replaced = grind arith
 
 module _ {T : Type 0} (code : Coding T) (law : IsCoding code) (given : Replacement T) where
   abbrev replacing : Calling T (Replacing T) (Unit {0}) Replaced
@@ -167,10 +167,12 @@ module _ {T : Type 0} (code : Coding T) (law : IsCoding code) (given : Replaceme
   replace_goes : (capacity p : ℕ) (c : Replacing T) (n : ℕ) (es : List (Event T)) (r : After (Replacing T) Replaced) → (h : replacing.stands capacity c)
       → ReplacedAt p given c.stage es → replace_then c n ≡ r
       → ReplaceGoes capacity code.size has_some c h.0 p given h.1 (es ++ (replace_effects p given c.stage n ++ [])) r
-  replace_goes x0 x1 x2 x3 x4 x5 x6 x7 x8 = grind arith
+  replace_goes = grind arith
 
-  replace_call : IsCallOf code (plain_effects code) (container_words code) (λ c. replace_want code.words_of code.size c given) replace_then (λ c m n. m)
-      replacing
+  abbrev pub replace_driven : Driven T (Replacing T) (Unit {0}) Replaced
+  replace_driven = record { want = λ c. replace_want code.words_of code.size c given; after = replace_then; kept = λ c m n. m; call = replacing }
+
+  replace_call : IsCallBy code (plain_effects code) (container_words code) replace_driven
   replace_call =
       record {
         same_want = λ c m. refl;
@@ -188,12 +190,8 @@ module _ {T : Type 0} (code : Coding T) (law : IsCoding code) (given : Replaceme
         tells_all = λ capacity p from c end m n es h skip wrote e still new. replace_goes capacity p c n es (Done end) h (wrote new) e;
       }
 
-  pub container_replace_keeps : KeepsRule (λ (z : View T). z.asked) (λ (z : View T). z.capacity)
-      (At code kinds.Container replacing) (Ends code kinds.Container replacing)
-      (λ key. container_words code key + 1) (λ key. key) (λ key. IsMachine code kinds.Container key) (λ c. replace_want code.words_of code.size c given)
-      replace_then (λ c m n. m)
-  container_replace_keeps = container_keeps code replacing (λ c m. tt) (λ c. replace_want code.words_of code.size c given) replace_then (λ c m n. m)
-      replace_call (λ c n. refl)
+  pub container_replace_keeps : KeepsEnds code kinds.Container (container_words code) replace_driven
+  container_replace_keeps = container_keeps code replace_driven (λ c m. tt) replace_call (λ c n. refl)
 
   pub container_replace_first : (v : View T) (m : Unit {0}) → v.going ≡ None → v.other ≡ [] → 0 < v.share.part → given.index < v.capacity
       → given.owner < empty → At code kinds.Container replacing v v (first_replace v.capacity given.index) m

@@ -1,10 +1,10 @@
 -- That a remove of the container, and its looks at its set, are calls of the model.
-use Rattle.history.proofs.Names.{◌≡◌, inl, ℕ, ◌+◌, ◌<◌, ◌≤◌, ◌==◌, nat_lt, true, None, List, [], ◌++◌}
+use Rattle.history.proofs.Names.{Bool, ◌≡◌, inl, ℕ, ◌+◌, ◌<◌, ◌≤◌, ◌==◌, nat_lt, true, None, List, [], ◌++◌}
 use Rattle.history.proofs.Names.{append-nil, refl, sym, ap, subst, arith, nat_tests, change_word, count_word}
 use Rattle.history.proofs.Names.{total_words, first_borrowed, borrowed_want, empty, count_after, Released}
 use Rattle.history.proofs.Names.{load, went_on, Ask, After, GoOn, GiveBack, ReleaseStage, Answer, Event, Remove}
 use Rattle.history.proofs.Names.{Coding, first_call, place_of, remove_of, removed, counted, opening_of, names_owner}
-use Rattle.history.proofs.Names.{remove_effects, release_effects, as_it_is, as_call, answered, KeepsRule}
+use Rattle.history.proofs.Names.{remove_effects, release_effects, as_it_is, as_call, answered}
 use Rattle.steps.specs.Container.Remove.{Removed, first_remove, inner_release, remove_asks, remove_want}
 use Rattle.steps.specs.Container.Remove.{remove_released, remove_takes, remove_after}
 use Rattle.steps.specs.Indices.Robust.Looks.{borrowed_after, locked_after}
@@ -25,11 +25,10 @@ use Rattle.model.specs.declared.families.container.calls.CountOf.TheVariants as 
 use Rattle.model.specs.declared.turn.Kind.TheVariants as kinds
 use Rattle.history.specs.declared.view.View.{View}
 use Rattle.history.specs.Container.{RemoveIn, HasRemovedIt, RemovedAt, HasRemoved, removes_value, count_start, counts_values, sees_lock}
-use Rattle.history.specs.History.{IsMachine}
-use Rattle.history.specs.Stages.{At, Ends}
-use Rattle.history.proofs.CallsIn.{AsksFor}
+use Rattle.history.specs.Stages.{At}
+use Rattle.history.proofs.CallsIn.{AsksFor, Driven, IsCallBy, KeepsEnds}
 use Rattle.history.proofs.Containers.{plain_effects, container_words, container_keeps, container_first, container_starts, fewer}
-use Rattle.history.proofs.Drives.{IsCallOf, goes}
+use Rattle.history.proofs.Drives.{goes}
 use Rattle.history.proofs.RobustCalls.{release_words, ReleaseGoes, gives_so, counts_so}
 use Rattle.history.proofs.RobustParts.{count_found, count_asks, count_on}
 
@@ -44,7 +43,7 @@ pub count_low : (capacity size index : ℕ) → index < capacity → count_word 
 count_low capacity size index low = omega arith
 
 pub place_is : (capacity index : ℕ) → index < capacity → place_of capacity index ≡ index
-place_is x0 x1 x2 = grind arith
+place_is = grind arith
 
 -- ---- looks at the set
 
@@ -54,13 +53,14 @@ module _ {T : Type 0} (code : Coding T) (which : CountOf) where
   as_counted (GoOn d) = refl
   as_counted (Done n) = refl
 
-  count_call : IsCallOf code (plain_effects code) (container_words code) borrowed_want borrowed_after (λ c m n. m) (counts_values which)
+  abbrev pub count_driven : Driven T Counting (Unit {0}) ℕ
+  count_driven = record { want = borrowed_want; after = borrowed_after; kept = λ c m n. m; call = counts_values which }
+
+  count_call : IsCallBy code (plain_effects code) (container_words code) count_driven
   count_call = grind (arith, as_counted, count_found, counts_so, count_after, count_on, fewer, set_words, count_asks)
 
-  pub container_count_keeps : KeepsRule (λ (z : View T). z.asked) (λ (z : View T). z.capacity) (At code kinds.Container (counts_values which))
-      (Ends code kinds.Container (counts_values which))
-      (λ key. container_words code key + 1) (λ key. key) (λ key. IsMachine code kinds.Container key) borrowed_want borrowed_after (λ c m n. m)
-  container_count_keeps = container_keeps code (counts_values which) (λ c m. tt) borrowed_want borrowed_after (λ c m n. m) count_call (λ c n. refl)
+  pub container_count_keeps : KeepsEnds code kinds.Container (container_words code) count_driven
+  container_count_keeps = container_keeps code count_driven (λ c m. tt) count_call (λ c n. refl)
 
   count_named : (w : CountOf) → names_owner {T = T} (count_start w) ≡ true
   count_named counts.Len = refl
@@ -73,16 +73,17 @@ module _ {T : Type 0} (code : Coding T) (which : CountOf) where
 
   pub container_count_first : (v : View T) (m : Unit {0}) → v.going ≡ None → v.other ≡ [] → 0 < v.share.part
       → At code kinds.Container (counts_values which) v v (first_borrowed v.capacity) m
-  container_count_first x0 x1 x2 x3 x4 = grind (arith, count_named, count_flies, inl, container_first, container_starts)
+  container_count_first = grind (arith, count_named, count_flies, inl, container_first, container_starts)
 
 module _ {T : Type 0} (code : Coding T) where
-  lock_call : IsCallOf code (plain_effects code) (container_words code) (λ c. load 0) locked_after (λ c m n. m) sees_lock
+  abbrev pub lock_driven : Driven T Looking (Unit {0}) Bool
+  lock_driven = record { want = λ c. load 0; after = locked_after; kept = λ c m n. m; call = sees_lock }
+
+  lock_call : IsCallBy code (plain_effects code) (container_words code) lock_driven
   lock_call = grind arith
 
-  pub container_lock_keeps : KeepsRule (λ (z : View T). z.asked) (λ (z : View T). z.capacity)
-      (At code kinds.Container sees_lock) (Ends code kinds.Container sees_lock)
-      (λ key. container_words code key + 1) (λ key. key) (λ key. IsMachine code kinds.Container key) (λ c. load 0) locked_after (λ c m n. m)
-  container_lock_keeps = container_keeps code sees_lock (λ c m. tt) (λ c. load 0) locked_after (λ c m n. m) lock_call (λ c n. refl)
+  pub container_lock_keeps : KeepsEnds code kinds.Container (container_words code) lock_driven
+  container_lock_keeps = container_keeps code lock_driven (λ c m. tt) lock_call (λ c n. refl)
 
   pub container_lock_first : (v : View T) (c : Looking) (m : Unit {0}) → v.going ≡ None → v.other ≡ [] → 0 < v.share.part
       → At code kinds.Container sees_lock v v c m
@@ -101,7 +102,7 @@ module _ {T : Type 0} (code : Coding T) where
 -- ---- remove
 
 remove_found : (capacity : ℕ) (stage : RemoveStage) (given : GiveBack) (a : Ask) (n : ℕ) → remove_asks capacity stage given ≡ wants.Ask a → answered a.op n ≡ n
-remove_found x0 x1 x2 x3 x4 x5 = grind arith
+remove_found = grind arith
 
 remove_words : (capacity size : ℕ) (stage : RemoveStage) (given : GiveBack) → given.index < capacity → RemoveIn capacity given.mode stage
     → AsksFor (total_words capacity size) (remove_asks capacity stage given)
@@ -119,7 +120,7 @@ module _ (T : Type 0) (capacity : ℕ) (c : Removing) (same : c.capacity ≡ cap
 
   released : (count : ℕ) (stage : ReleaseStage) (es : List (Event T)) (r : After Releasing Released)
       → ReleaseGoes T capacity (inner_release c.capacity stage) same p given low es r → RemoveGoes es (remove_released c count r)
-  released x0 x1 x2 x3 x4 = grind arith
+  released = grind arith
 
   removes_so : (stage : RemoveStage) (k : ℕ) (es : List (Event T)) → RemoveIn capacity given.mode stage → RemovedAt p given stage es
       → RemoveGoes (es ++ remove_effects p given stage k) (remove_takes c stage given k)
@@ -149,13 +150,16 @@ module _ {T : Type 0} (code : Coding T) (given : GiveBack) where
 
   goes_so : (capacity p : ℕ) (c : Removing) (n : ℕ) (es : List (Event T)) (r : After Removing Removed) → (h : (removes_value {T = T} given).stands capacity c)
       → RemovedAt p given c.stage es → after c n ≡ r → RemoveGoes T capacity c h.0 p given h.1 (es ++ written p c n) r
-  goes_so x0 x1 x2 x3 x4 x5 x6 x7 x8 = grind (arith, append-nil, removes_so)
+  goes_so = grind (arith, append-nil, removes_so)
 
   stands_so : (capacity : ℕ) (c d : Removing) (n : ℕ) → (removes_value {T = T} given).stands capacity c → after c n ≡ GoOn d
       → (removes_value {T = T} given).stands capacity d
-  stands_so x0 x1 x2 x3 x4 x5 = grind arith
+  stands_so = grind arith
 
-  pub remove_call : IsCallOf code (plain_effects code) (container_words code) (λ c. remove_want c given) after (λ c m n. m) (removes_value given)
+  abbrev pub remove_driven : Driven T Removing (Unit {0}) Removed
+  remove_driven = record { want = λ c. remove_want c given; after = after; kept = λ c m n. m; call = removes_value given }
+
+  pub remove_call : IsCallBy code (plain_effects code) (container_words code) remove_driven
   remove_call =
       record {
         same_want = λ c m. refl;
@@ -171,10 +175,8 @@ module _ {T : Type 0} (code : Coding T) (given : GiveBack) where
         tells_all = λ capacity p from c end m n es h skip wrote e still new. goes_so capacity p c n es (Done end) h (wrote new) e;
       }
 
-  pub container_remove_keeps : KeepsRule (λ (z : View T). z.asked) (λ (z : View T). z.capacity)
-      (At code kinds.Container (removes_value given)) (Ends code kinds.Container (removes_value given))
-      (λ key. container_words code key + 1) (λ key. key) (λ key. IsMachine code kinds.Container key) (λ c. remove_want c given) after (λ c m n. m)
-  container_remove_keeps = container_keeps code (removes_value given) (λ c m. tt) (λ c. remove_want c given) after (λ c m n. m) remove_call (λ c n. refl)
+  pub container_remove_keeps : KeepsEnds code kinds.Container (container_words code) remove_driven
+  container_remove_keeps = container_keeps code remove_driven (λ c m. tt) remove_call (λ c n. refl)
 
   pub container_remove_first : (v : View T) (m : Unit {0}) → v.going ≡ None → v.other ≡ [] → 0 < v.share.part → given.index < v.capacity → given.owner < empty
       → At code kinds.Container (removes_value given) v v (first_remove v.capacity given.index) m

@@ -6,7 +6,7 @@ use Rattle.history.proofs.Names.{map-append, find_asks, find_keeps, first_find, 
 use Rattle.history.proofs.Names.{find_after, is_even, total_words, empty, went_on, Ask, After, GoOn, Want}
 use Rattle.history.proofs.Names.{FindStage, Answer, Event, Start, Container, Flight, Registry, Find, Coding, IsCoding}
 use Rattle.history.proofs.Names.{opening_of, goes_of, is_question, find_of, find_effects, as_it_is}
-use Rattle.history.proofs.Names.{fresh_cell, kept_at, read_in, own_after, Open, as_call, number_of, KeepsRule, Owes}
+use Rattle.history.proofs.Names.{fresh_cell, kept_at, read_in, own_after, Open, as_call, number_of, Owes}
 use Rattle.history.proofs.Names.{answered}
 use Rattle.steps.specs.declared.ask.After.TheVariants.{Done}
 use Rattle.steps.specs.declared.ask.Want.TheVariants as wants
@@ -25,13 +25,14 @@ use Rattle.history.specs.History.{IsMachine}
 use Rattle.history.specs.Rooms.{room_of}
 use Rattle.history.specs.Settled.{IsResting, RestsAt, EndsAsked}
 use Rattle.history.specs.Value.{value_of_room}
-use Rattle.history.proofs.CallsIn.{goes, AsksFor, StepsOf}
-use Rattle.history.proofs.Containers.{container_effects, plain_effects, container_words, containers_owe, plain_acts}
-use Rattle.history.proofs.Containers.{container_first, container_starts}
-use Rattle.history.proofs.Decisions.{IsAskingIn, keeps_said, keeps_word, hears_said, ends_said}
+use Rattle.history.proofs.CallsIn.{goes, AsksFor, StepsOf, Driven, KeepsSo}
+use Rattle.history.proofs.Containers.{plain_effects, container_words, plain_acts}
+use Rattle.history.proofs.Containers.{container_first, container_starts, container_machines}
+use Rattle.history.proofs.Decisions.{IsAskingIn, keeps_said, keeps_word, hears_said, ends_said, AsksElse}
 use Rattle.history.proofs.Rooms.{room_set, room_read}
 use Rattle.history.proofs.Written.{same_written}
 use Rattle.history.specs.Stages.{Calling, IsUnderWay, Ends, AtAsked}
+use Rattle.history.proofs.Cases.{by_bool}
 
 find_words : (capacity size : ℕ) (stage : FindStage) → FindIn size capacity stage → is_question (find_asks size capacity stage) ≡ false
     → AsksFor (total_words capacity size) (find_asks size capacity stage)
@@ -80,50 +81,31 @@ module _ {T R : Type 0} (code : Coding T) (law : IsCoding code) (words_in : R �
 
   comes_alike : (c : Finding T R) (m : Room) (stage : FindStage) (index found : ℕ)
       → as_model (room m.0) (find_comes_to (call_at c.capacity stage) index found) ≡ goes finding (find_comes_to c index found) m
-  comes_alike x0 x1 x2 x3 x4 = grind arith
+  comes_alike = grind arith
 
   goes_alike : (c : Finding T R) (m : Room) (n : ℕ) (stage : FindStage) → FindIn code.size c.capacity stage
       → as_model (find_keeps kept_at stage (room m.0) n) (find_takes code.size (call_at c.capacity stage) stage owner n)
       ≡ goes finding (find_takes code.size c stage owner n) (find_keeps with_word stage m.0 n, m.1)
-  goes_alike c m n (finds.LoadsCell index found) h = go (n == owner) refl
-    where
-      go : (b : Bool) → (n == owner) ≡ b
-          → as_model (room m.0)
-          (find_takes code.size (call_at c.capacity (finds.LoadsCell index found)) (finds.LoadsCell index found) owner n)
-          ≡ goes finding (find_takes code.size c (finds.LoadsCell index found) owner n) m
-      go true t = rw t refl
-      go false t = rw t (comes_alike c m (finds.LoadsCell index found) (index + 1) found)
-  goes_alike c m n (finds.LoadsCount index found) h = go (is_even n) refl
-    where
-      go : (b : Bool) → is_even n ≡ b
-          → as_model (room m.0)
-          (find_takes code.size (call_at c.capacity (finds.LoadsCount index found)) (finds.LoadsCount index found) owner n)
-          ≡ goes finding (find_takes code.size c (finds.LoadsCount index found) owner n) m
-      go true t = rw t (comes_alike c m (finds.LoadsCount index found) (index + 1) found)
-      go false t = rw t refl
-  goes_alike c m n (finds.LoadsWord index found count at) h = go (nat_lt (at + 1) code.size) refl
-    where
-      go : (b : Bool) → nat_lt (at + 1) code.size ≡ b
-          → as_model (kept_at (room m.0) at n)
-          (find_takes code.size (call_at c.capacity (finds.LoadsWord index found count at))
-          (finds.LoadsWord index found count at) owner n)
-          ≡ goes finding (find_takes code.size c (finds.LoadsWord index found count at) owner n) (with_word m.0 at n, m.1)
-      go true t = rw t (ap (λ x. as_model x (GoOn (call_at c.capacity (finds.LoadsWord index found count (at + 1))))) (put_there m.0 at n h.1))
-      go false t = rw t (ap (λ x. as_model x (GoOn (call_at c.capacity (finds.ChecksCount index found count)))) (put_there m.0 at n h.1))
-  goes_alike c m n (finds.ChecksCount index found count) h = go (n == count) refl
-    where
-      go : (b : Bool) → (n == count) ≡ b
-          → as_model (room m.0)
-          (find_takes code.size (call_at c.capacity (finds.ChecksCount index found count)) (finds.ChecksCount index found count) owner n)
-          ≡ goes finding (find_takes code.size c (finds.ChecksCount index found count) owner n) m
-      go true t = rw t refl
-      go false t = rw t (comes_alike c m (finds.ChecksCount index found count) (index + 1) found)
-  goes_alike c m n (finds.Asks index found) h = go (n == 0) refl
-    where
-      go : (b : Bool) → (n == 0) ≡ b → as_model (room m.0) (find_takes code.size (call_at c.capacity (finds.Asks index found)) (finds.Asks index found) owner n)
-          ≡ goes finding (find_takes code.size c (finds.Asks index found) owner n) m
-      go true t = rw t refl
-      go false t = rw t (comes_alike c m (finds.Asks index found) (index + 1) found)
+  goes_alike c m n (finds.LoadsCell index found) h =
+      by_bool (n == owner)
+      (λ t. rw t refl)
+      (λ t. rw t (comes_alike c m (finds.LoadsCell index found) (index + 1) found))
+  goes_alike c m n (finds.LoadsCount index found) h =
+      by_bool (is_even n)
+      (λ t. rw t (comes_alike c m (finds.LoadsCount index found) (index + 1) found))
+      (λ t. rw t refl)
+  goes_alike c m n (finds.LoadsWord index found count at) h =
+      by_bool (nat_lt (at + 1) code.size)
+      (λ t. rw t (ap (λ x. as_model x (GoOn (call_at c.capacity (finds.LoadsWord index found count (at + 1))))) (put_there m.0 at n h.1)))
+      (λ t. rw t (ap (λ x. as_model x (GoOn (call_at c.capacity (finds.ChecksCount index found count)))) (put_there m.0 at n h.1)))
+  goes_alike c m n (finds.ChecksCount index found count) h =
+      by_bool (n == count)
+      (λ t. rw t refl)
+      (λ t. rw t (comes_alike c m (finds.ChecksCount index found count) (index + 1) found))
+  goes_alike c m n (finds.Asks index found) h =
+      by_bool (n == 0)
+      (λ t. rw t refl)
+      (λ t. rw t (comes_alike c m (finds.Asks index found) (index + 1) found))
 
   -- ---- what it has written
 
@@ -133,16 +115,14 @@ module _ {T R : Type 0} (code : Coding T) (law : IsCoding code) (words_in : R �
   copies_so p m (finds.LoadsCount index found) n es h = append-nil es ∙ h
   copies_so p m (finds.LoadsWord index found count at) n es h = append-nil es ∙ h
   copies_so p m (finds.Asks index found) n es h = append-nil es ∙ h
-  copies_so p m (finds.ChecksCount index found count) n es h = go (n == count) refl
-    where
-      go : (b : Bool) → (n == count) ≡ b → es ++ find_effects p (read_in code (room m.0)) (finds.ChecksCount index found count) n
-          ≡ copies_of p (copies_after (finds.ChecksCount index found count) n (value_of_room code words_in m.0) m.1)
-      go true t =
-          let value : read_in code (room m.0) ≡ value_of_room code words_in m.0 = room_read code (words_in m.0) in
-          rw t (ap (λ x. es ++ events.Copied p index x ∷ []) value
-          ∙ (ap (λ zs. zs ++ events.Copied p index (value_of_room code words_in m.0) ∷ []) h
-          ∙ sym (map-append (λ (c : ℕ × T). events.Copied p c.0 c.1) m.1 ((index, value_of_room code words_in m.0) ∷ []))))
-      go false t = rw t (append-nil es ∙ h)
+  copies_so p m (finds.ChecksCount index found count) n es h =
+      by_bool (n == count)
+      (λ t.
+      let value : read_in code (room m.0) ≡ value_of_room code words_in m.0 = room_read code (words_in m.0) in
+      rw t (ap (λ x. es ++ events.Copied p index x ∷ []) value
+      ∙ (ap (λ zs. zs ++ events.Copied p index (value_of_room code words_in m.0) ∷ []) h
+      ∙ sym (map-append (λ (c : ℕ × T). events.Copied p c.0 c.1) m.1 ((index, value_of_room code words_in m.0) ∷ [])))))
+      (λ t. rw t (append-nil es ∙ h))
 
   -- ---- it is a call of the model
 
@@ -151,26 +131,26 @@ module _ {T R : Type 0} (code : Coding T) (law : IsCoding code) (words_in : R �
 
   find_room : (c : Finding T R) (m : Room) (a : Ask) (n : ℕ) → want c ≡ wants.Ask a
       → (after c (answered a.op n) ≡ after c n) × (kept c m (answered a.op n) ≡ kept c m n)
-  find_room x0 x1 x2 x3 x4 = grind arith
+  find_room = grind arith
 
   tells_so : (p : ℕ) (c : Finding T R) (m : Room) (n : ℕ) (es : List (Event T)) → es ≡ copies_of p m.1
       → es ++ plain_effects code p (finding.flight c m) n ≡ copies_of p (copied_then c m n)
-  tells_so x0 x1 x2 x3 x4 x5 = grind (arith, append-nil, read_in, copies_so)
+  tells_so = grind (arith, append-nil, read_in, copies_so)
 
   stands_then : (capacity : ℕ) (c : Finding T R) (same : c.capacity ≡ capacity) (stage : FindStage) (n : ℕ)
       → FindIn code.size capacity stage → (d : Finding T R)
       → find_takes code.size c stage owner n ≡ GoOn d → (d.capacity ≡ capacity) × FindIn code.size capacity d.stage
-  stands_then x0 x1 x2 x3 x4 x5 x6 x7 = grind arith
+  stands_then = grind arith
 
   -- what it has copied is nothing to the model
   goes_any : (r : After (Finding T R) ℕ) (x : R) (xs ys : List (ℕ × T)) → goes finding r (x, xs) ≡ goes finding r (x, ys)
   goes_any (GoOn d) x xs ys = refl
   goes_any (Done e) x xs ys = refl
 
-  find_steps : StepsOf ((capacity : ℕ) (c : Finding T R) → finding.stands capacity c → is_question (want c) ≡ false
-      → AsksFor (container_words code capacity) (want c))
-      code
-      (plain_effects code) want after kept finding
+  abbrev driven : Driven T (Finding T R) Room ℕ
+  driven = record { want = want; after = after; kept = kept; call = finding }
+
+  find_steps : StepsOf (AsksElse (container_words code) driven) code (plain_effects code) driven
   find_steps =
       record {
         same_want = λ c m. refl;
@@ -193,7 +173,7 @@ module _ {T R : Type 0} (code : Coding T) (law : IsCoding code) (words_in : R �
   first_so : (capacity : ℕ) (c : Finding T R) (m : Room) (named : Bool)
       → option_map flights.Container (if named then Some (find_of {T = T} capacity owner) else None) ≡ Some (finding.flight c m)
       → is_question (want c) ≡ false
-  first_so x0 x1 x2 x3 x4 = grind arith
+  first_so = grind arith
 
   -- no question comes right after another
   abbrev AsksNone : After (Finding T R) ℕ → Type 0
@@ -202,14 +182,14 @@ module _ {T R : Type 0} (code : Coding T) (law : IsCoding code) (words_in : R �
 
   asks_none : (c : Finding T R) (n : ℕ) (stage : FindStage)
       → is_question (find_asks code.size c.capacity stage) ≡ true → AsksNone (find_takes code.size c stage owner n)
-  asks_none x0 x1 x2 x3 = grind arith
+  asks_none = grind arith
 
   -- a question leaves what it keeps
   asked_room : (c : Finding T R) (m : Room) (n : ℕ) (stage : FindStage) → is_question (find_asks code.size c.capacity stage) ≡ true
       → ◌≡◌ {A = Room} (find_keeps with_word stage m.0 n, copies_after stage n (value_of_room code words_in m.0) m.1) m
-  asked_room x0 x1 x2 x3 x4 = grind arith
+  asked_room = grind arith
 
-  pub find_call : IsAskingIn code kinds.Container (plain_effects code) (container_words code) want after kept finding
+  pub find_call : IsAskingIn code kinds.Container (plain_effects code) (container_words code) driven
   find_call = grind (arith, find_steps, asked_room, first_so, asks_none)
 
   -- ---- it may rest at its question
@@ -219,16 +199,15 @@ module _ {T R : Type 0} (code : Coding T) (law : IsCoding code) (words_in : R �
 
   rests_so : (base v : View T) (c : Finding T R) (m : Room) (said : Bool) (e : ℕ) → is_question (want c) ≡ true → after c (number_of said) ≡ Done e
       → IsUnderWay code kinds.Container finding base v c m → FindOver base e (kept c m (number_of said)) v
-  rests_so x0 x1 x2 x3 x4 x5 x6 x7 x8 = grind (arith, number_of, asked_room, inr, goes)
+  rests_so = grind (arith, number_of, asked_room, inr, goes)
 
   ended_step : (base : View T) (e : ℕ) (m : Room) (w : View T) → Ends code kinds.Container finding base e m w → FindOver base e m w
   ended_step base e m w h = inl h
 
   -- each step of a find keeps the rule of the table
-  pub container_find_keeps : KeepsRule (λ (z : View T). z.asked) (λ (z : View T). z.capacity) (AtAsked code kinds.Container after kept finding) FindOver
-      (λ key. container_words code key + 1) (λ key. key) (λ key. IsMachine code kinds.Container key) want after kept
+  pub container_find_keeps : KeepsSo code kinds.Container (container_words code) driven (AtAsked code kinds.Container after kept finding) FindOver
   container_find_keeps =
-      keeps_said code kinds.Container tt container_effects (plain_effects code) (container_words code) (containers_owe code) want after kept finding
+      keeps_said (container_machines code) tt (plain_effects code) driven
       (plain_acts code finding (λ c m. tt)) find_call FindOver ended_step rests_so
 
   -- a step at a word ends it, where it does, for good
@@ -237,7 +216,7 @@ module _ {T R : Type 0} (code : Coding T) (law : IsCoding code) (words_in : R �
       → Owes (λ (z : View T). z.asked) (IsMachine code kinds.Container key) words slots id
       (Told (λ (z : View T). z.capacity) (AtAsked code kinds.Container after kept finding) (Ends code kinds.Container finding) after kept c m) (want c) (v, [])
   container_find_word base v c m key words slots id still wide known at =
-      keeps_word code kinds.Container tt container_effects (plain_effects code) (container_words code) (containers_owe code) want after kept finding
+      keeps_word (container_machines code) tt (plain_effects code) driven
       (plain_acts code finding (λ c m. tt)) find_call (Ends code kinds.Container finding) (λ base e m w h. h)
       base v c m key words slots id wide known still at
 
@@ -246,13 +225,14 @@ module _ {T R : Type 0} (code : Coding T) (law : IsCoding code) (words_in : R �
       → after c (number_of said) ≡ GoOn d → AtAsked code kinds.Container after kept finding base v c m
       → AtAsked code kinds.Container after kept finding base v d (kept c m (number_of said))
   container_find_hears =
-      hears_said code kinds.Container tt container_effects (plain_effects code) (container_words code) (containers_owe code) want after kept finding
+      hears_said (container_machines code) tt (plain_effects code) driven
       (plain_acts code finding (λ c m. tt)) find_call FindOver ended_step
 
   -- or has ended with it
   pub container_find_ends : (base v : View T) (c : Finding T R) (m : Room) (said : Bool) (e : ℕ) → is_question (want c) ≡ true
       → after c (number_of said) ≡ Done e → AtAsked code kinds.Container after kept finding base v c m → FindOver base e (kept c m (number_of said)) v
-  container_find_ends = grind (arith, ends_said, containers_owe, plain_acts, find_call, ended_step, rests_so)
+  container_find_ends =
+      ends_said (container_machines code) tt (plain_effects code) driven (plain_acts code finding (λ c m. tt)) find_call FindOver ended_step rests_so
 
   -- in a room of zeros in which a value fits
   pub container_find_first : (v : View T) (m : Room) → room m.0 ≡ fresh_cell → m.1 ≡ [] → v.going ≡ None
@@ -318,7 +298,7 @@ module _ {T R : Type 0} (code : Coding T) (law : IsCoding code) (words_in : R �
 
       long : (x : View T) (e : Finding T R) (r : Room) → x.going ≡ None → (under : IsUnderWay code kinds.Container finding x v e r)
           → fold own_after (Open start []) under.wrote ≡ Open start under.wrote
-      long x0 x1 x2 x3 x4 = grind (arith, fold, start, copies_span)
+      long = grind (arith, fold, start, copies_span)
 
       go : Stands base v m → Stands other v k → m.1 ≡ k.1
       go (inl x) (inl y) = x.1 ∙ sym y.1
@@ -336,7 +316,7 @@ module _ {T R : Type 0} (code : Coding T) (law : IsCoding code) (words_in : R �
   -- a no would end it, with the number that it has answered
   pub no_ends : (base v : View T) (e : ℕ) (m : Room) (h : RestsAt code kinds.Container after kept finding base v e m) (there : Registry T)
       → goes_of code h.before.party (finding.flight h.asking m) (number_of false) there ≡ Done (answers.Number e)
-  no_ends x0 x1 x2 x3 x4 x5 = grind arith
+  no_ends = grind arith
 
   pub find_rests : (base v : View T) (e : ℕ) (m : Room) → RestsAt code kinds.Container after kept finding base v e m → IsResting code v
   find_rests base v e m h =

@@ -1,5 +1,5 @@
 -- What a look of a state comes to, where the machine has the state for its party that its drive has.
-use Rattle.history.proofs.Names.{◌≡◌, inl, inr, ℕ, suc, ◌+◌, ◌<◌, ◌≤◌, ◌==◌, Bool, true, false, Option, List}
+use Rattle.history.proofs.Names.{◌≡◌, inl, inr, ℕ, suc, ◌+◌, ◌<◌, ◌≤◌, ◌==◌, Bool, Option, List}
 use Rattle.history.proofs.Names.{[], ◌∷◌, ◌++◌, append-nil, refl, sym, ap, subst, arith}
 use Rattle.history.proofs.Names.{nat_tests, total_words, look_asks, look_comes_to, look_finds, look_takes}
 use Rattle.history.proofs.Names.{look_after, look_kept, Numbers, Showing, by_test, Ask, After, GoOn, LookStage}
@@ -21,6 +21,7 @@ use Rattle.history.proofs.CallsIn.{AsksFor}
 use Rattle.history.proofs.ContainerCalls.{change_low, count_low}
 use Rattle.history.proofs.Containers.{container_effects}
 use Rattle.history.proofs.Drives.{goes}
+use Rattle.history.proofs.Cases.{by_bool}
 
 -- ---- what it asks for
 
@@ -32,7 +33,7 @@ look_words size capacity (looks.ChecksCount index count) h = (_, count_low capac
 
 pub look_found : (size capacity : ℕ) (stage : LookStage) (a : Ask) (n : ℕ) → look_asks size capacity stage ≡ wants.Ask a
     → answered a.op n ≡ n
-look_found x0 x1 x2 x3 x4 x5 = grind arith
+look_found = grind arith
 
 -- ---- where it goes on, and what it has written then
 
@@ -49,27 +50,24 @@ module _ {T : Type 0} (size : ℕ) (some : 0 < size) (which : LookOf) (capacity 
   quiet es r h = subst (λ zs. LookGoes zs r) (sym (append-nil es)) h
 
   comes_to : (index : ℕ) → index ≤ capacity → (es : List (Event T)) → HasCopied p 0 index es → LookGoes es (look_comes_to c index)
-  comes_to x0 x1 x2 x3 = grind arith
+  comes_to = grind arith
 
   next_to : (index : ℕ) → index < capacity → (es : List (Event T)) → HasCopied p 0 (suc index) es → LookGoes es (look_comes_to c (index + 1))
-  next_to x0 x1 x2 x3 = grind (arith, suc, comes_to)
+  next_to = grind (arith, suc, comes_to)
 
   finds : (index count : ℕ) → index < capacity → (es : List (Event T)) → HasCopied p 0 index es → LookGoes es (look_finds c index count)
-  finds x0 x1 x2 x3 x4 = grind (arith, by_test, next_to, inl)
+  finds = grind (arith, by_test, next_to, inl)
 
   pub looks_so : (value : T) (stage : LookStage) (k : ℕ) (es : List (Event T)) → LookIn size capacity stage → LookedAt p stage es
       → LookGoes (es ++ look_effects p value stage k) (look_takes size c stage seen k)
   looks_so value looks.LoadsChange k es h at = grind (arith, quiet, by_test, comes_to)
   looks_so value (looks.LoadsCount index) k es h at = grind (arith, quiet, by_test, next_to, inl, finds)
   looks_so value (looks.LoadsWord index count at) k es h was = grind (arith, quiet, by_test, nat_tests)
-  looks_so value (looks.ChecksCount index count) k es h at = go (k == count) refl
-    where
-      go : (b : Bool) → (k == count) ≡ b → LookGoes (es ++ look_effects p value (looks.ChecksCount index count) k)
-          (look_takes size c (looks.ChecksCount index count) seen k)
-      go true e =
-          rw e (next_to index h (es ++ Copied p index value ∷ [])
-          (inr (es, value, at, (let same : index ≡ 0 + index = omega arith in ap (λ n. es ++ Copied p n value ∷ []) same))))
-      go false e = rw e (quiet es (look_finds c index k) (finds index k h es at))
+  looks_so value (looks.ChecksCount index count) k es h at =
+      by_bool (k == count)
+      (λ e. rw e (next_to index h (es ++ Copied p index value ∷ [])
+      (inr (es, value, at, (let same : index ≡ 0 + index = omega arith in ap (λ n. es ++ Copied p n value ∷ []) same)))))
+      (λ e. rw e (quiet es (look_finds c index k) (finds index k h es at)))
 
 -- ---- the state that the machine has for its party
 
@@ -83,16 +81,16 @@ module _ {T : Type 0} (code : Coding T) (which : LookOf) (capacity : ℕ) (seen 
   -- the look goes on from it as its drive does
   pub look_goes_so : (c : Looking T) (m : Showing T) (n : ℕ) (kept : Registry T) → HasState kept p (state_of_look capacity seen m)
       → goes_of code p (flights.Container (calls.Look which c)) n kept ≡ goes drives (look_after code.size c seen n) (kept_shown c m n)
-  look_goes_so x0 x1 x2 x3 x4 = grind arith
+  look_goes_so = grind arith
 
   -- and writes into it what the drive's room has then
   pub look_keeps_so : (words : List ℕ) (beside : Option (ℕ × ℕ)) (start : ContainerStart T) (c : Looking T) (m : Showing T) (n : ℕ) (kept : Registry T)
       → HasState kept p (state_of_look capacity seen m)
       → HasState (step_of code words beside p (Container start) (flights.Container (calls.Look which c)) n kept).kept p
       (settled_if (look_after code.size c seen n) (state_of_look capacity seen (kept_shown c m n)))
-  look_keeps_so x0 x1 x2 x3 x4 x5 x6 x7 = grind (arith, written_same)
+  look_keeps_so = grind (arith, written_same)
 
   -- its copies are of what the room has read
   pub look_writes_so : (c : Looking T) (m : Showing T) (n : ℕ) (w : World T) → w.coding ≡ code → HasState w.kept p (state_of_look capacity seen m)
       → container_effects w p (flights.Container (calls.Look which c)) n ≡ look_effects p (value_in code.value_of code.size m.copy) c.stage n ++ []
-  look_writes_so x0 x1 x2 x3 x4 x5 = grind arith
+  look_writes_so = grind arith

@@ -6,7 +6,7 @@ use Rattle.history.proofs.Names.{After, GoOn, Want}
 use Rattle.history.proofs.Names.{DeadOwner, ReleaseState, Answer}
 use Rattle.history.proofs.Names.{Event, Start, Flight, Coding, IsCoding, after_of, is_question}
 use Rattle.history.proofs.Names.{recover_of, is_owner, question_of, fresh_cell, kept_at, read_in, own_after}
-use Rattle.history.proofs.Names.{Open, number_of, KeepsRule}
+use Rattle.history.proofs.Names.{Open, number_of}
 use Rattle.steps.specs.Container.Recover.{first_recover, recover_asks, recover_want}
 use Rattle.steps.specs.Container.Recover.{recover_takes, recover_after}
 use Rattle.steps.specs.declared.ask.After.TheVariants.{Done}
@@ -21,18 +21,18 @@ use Rattle.model.specs.declared.turn.Kind.TheVariants as kinds
 use Rattle.model.specs.Families.Container.Steps.{recover_effects}
 use Rattle.history.specs.declared.view.View.{View}
 use Rattle.history.specs.ContainerRecovery.{RecoverIn, Came, wrote_visits, visits_after, VisitsAt, told_yet, recover_visits, recovers_values}
-use Rattle.history.specs.History.{IsMachine}
 use Rattle.history.specs.Rooms.{room_of}
 use Rattle.history.specs.Stages.{Calling, IsUnderWay, Ends, AtAsked}
 use Rattle.history.specs.ValueQueue.{value_there}
-use Rattle.history.proofs.CallsIn.{AsksFor}
-use Rattle.history.proofs.Containers.{container_effects, plain_effects, plain_acts, containers_owe, container_words}
+use Rattle.history.proofs.CallsIn.{AsksFor, Driven, KeepsSo}
+use Rattle.history.proofs.Containers.{plain_effects, plain_acts, container_words}
 use Rattle.history.proofs.Decisions.{IsAskingOf, keeps_asked, hears_answer}
 use Rattle.history.proofs.Drives.{goes}
 use Rattle.history.proofs.Rooms.{room_set, room_read}
 use Rattle.history.proofs.Written.{same_written}
 use Rattle.history.proofs.RecoverySteps.{recover_words, recover_found, AnswersOn, answers_on, Keeps, RecoverGoes, recovers_so, some_visits, wrote}
 use Rattle.history.proofs.RecoveryVisits.{one_list, inside_both, inside_visits, inside_yet}
+use Rattle.history.proofs.Containers.{container_machines}
 
 -- ---- a recovery
 
@@ -80,18 +80,18 @@ module _ {T R : Type 0} (code : Coding T) (law : IsCoding code) (words_in : R �
         after_of code (flight_at c.capacity stage room) n ≡ goes_with (recover_keeps kept_at stage room n) (recover_takes code.size c stage given n)
 
     same_takes : (stage : RecoverStage) → SameTakes stage
-    same_takes x0 = grind arith
+    same_takes = grind arith
 
   put_there : (m : R) (at n : ℕ) → at < code.size → kept_at (room_in m) at n ≡ room_in (with_word m at n)
   put_there m at n below = grind (arith, room_set, room_of)
 
   keeps_there : (capacity : ℕ) (m : R) (n : ℕ) (stage : RecoverStage) → RecoverIn code.size capacity given.mode stage
       → recover_keeps kept_at stage (room_in m) n ≡ room_in (recover_keeps with_word stage m n)
-  keeps_there x0 x1 x2 x3 x4 = grind (arith, put_there)
+  keeps_there = grind (arith, put_there)
 
   same_after_so : (capacity : ℕ) (c : Recovering T R) (m : Room) (n : ℕ) → recovering.stands capacity c
       → after_of code (recovering.flight c m) n ≡ goes recovering (after c n) (kept c m n)
-  same_after_so x0 x1 x2 x3 x4 = grind (arith, same_takes, keeps_there, goes_is)
+  same_after_so = grind (arith, same_takes, keeps_there, goes_is)
 
   -- ---- what it has written then
 
@@ -101,7 +101,7 @@ module _ {T R : Type 0} (code : Coding T) (law : IsCoding code) (words_in : R �
   -- a check keeps the room
   check_keeps : (m : R) (n : ℕ) (stage : RecoverStage)
       → Keeps stage (value_there code words_in m) (value_there code words_in (recover_keeps with_word stage m n))
-  check_keeps x0 x1 x2 = grind arith
+  check_keeps = grind arith
 
   abbrev value_at : Room → T
   value_at m = value_there code words_in m.0
@@ -155,14 +155,17 @@ module _ {T R : Type 0} (code : Coding T) (law : IsCoding code) (words_in : R �
   first_so : (capacity : ℕ) (c : Recovering T R) (m : Room) (named : Bool)
       → option_map flights.Container (if named then Some (recover_of capacity given.owner given.mode) else None) ≡ Some (recovering.flight c m)
       → is_question (want c) ≡ false
-  first_so x0 x1 x2 x3 x4 = grind arith
+  first_so = grind arith
 
   -- a question leaves what it keeps
   asked_room : (c : Recovering T R) (m : Room) (n : ℕ) (stage : RecoverStage) → is_question (recover_asks code.size c.capacity stage given.owner) ≡ true
       → ◌≡◌ {A = Room} (recover_keeps with_word stage m.0 n, visits_after given.owner stage n (value_at m) m.1) m
-  asked_room x0 x1 x2 x3 x4 = grind arith
+  asked_room = grind arith
 
-  pub recover_call : IsAskingOf code kinds.Container (plain_effects code) (container_words code) want after kept recovering
+  abbrev driven : Driven T (Recovering T R) Room ReleaseState
+  driven = record { want = want; after = after; kept = kept; call = recovering }
+
+  pub recover_call : IsAskingOf code kinds.Container (plain_effects code) (container_words code) driven
   recover_call =
       record {
         asking =
@@ -193,29 +196,24 @@ module _ {T R : Type 0} (code : Coding T) (law : IsCoding code) (words_in : R �
     where
       asks_so : (capacity : ℕ) (c : Recovering T R) → recovering.stands capacity c → is_question (want c) ≡ false
           → AsksFor (container_words code capacity) (want c)
-      asks_so x0 x1 x2 x3 = grind (arith, false, recover_words)
+      asks_so = grind (arith, false, recover_words)
 
   -- each step of a recovery keeps the rule of the table; at a question the machine is handed the answer with the step after it
-  pub container_recover_keeps : KeepsRule (λ (z : View T). z.asked) (λ (z : View T). z.capacity)
-      (AtAsked code kinds.Container after kept recovering) (Ends code kinds.Container recovering)
-      (λ key. container_words code key + 1) (λ key. key) (λ key. IsMachine code kinds.Container key) want after kept
-  container_recover_keeps =
-      keeps_asked code kinds.Container tt container_effects (plain_effects code) (container_words code) (containers_owe code) want after kept recovering
-      (plain_acts code recovering (λ c m. tt)) recover_call
+  pub container_recover_keeps : KeepsSo code kinds.Container (container_words code) driven (AtAsked code kinds.Container after kept recovering)
+      (Ends code kinds.Container recovering)
+  container_recover_keeps = keeps_asked (container_machines code) tt (plain_effects code) driven (plain_acts code recovering (λ c m. tt)) recover_call
 
   -- a recovery that has asked goes on from the answer
   pub container_recover_hears : (base v : View T) (c d : Recovering T R) (m : Room) (said : Bool) → is_question (want c) ≡ true
       → after c (number_of said) ≡ GoOn d → AtAsked code kinds.Container after kept recovering base v c m
       → AtAsked code kinds.Container after kept recovering base v d (kept c m (number_of said))
-  container_recover_hears =
-      hears_answer code kinds.Container tt container_effects (plain_effects code) (container_words code) (containers_owe code) want after kept recovering
-      (plain_acts code recovering (λ c m. tt)) recover_call
+  container_recover_hears = hears_answer (container_machines code) tt (plain_effects code) driven (plain_acts code recovering (λ c m. tt)) recover_call
 
   -- in a room of zeros in which a value fits
   pub container_recover_first : (v : View T) (m : Room) → room_in m.0 ≡ fresh_cell → m.1 ≡ [] → v.going ≡ None
       → v.other ≡ [] → 0 < v.share.part → given.owner < empty
       → AtAsked code kinds.Container after kept recovering v v (first_recover v.capacity) m
-  container_recover_first x0 x1 x2 x3 x4 x5 x6 x7 = grind arith
+  container_recover_first = grind arith
 
   -- ---- its visits are told by what its pass has seen
 
@@ -246,7 +244,7 @@ module _ {T R : Type 0} (code : Coding T) (law : IsCoding code) (words_in : R �
 
       long : (x : View T) (e : Recovering T R) (r : Room) → x.going ≡ None → (under : IsUnderWay code kinds.Container recovering x v e r)
           → fold own_after (Open start []) under.wrote ≡ Open start under.wrote
-      long x0 x1 x2 x3 x4 = grind (arith, fold, start, inside_both, inside_visits, inside_yet)
+      long = grind (arith, fold, start, inside_both, inside_visits, inside_yet)
 
       go : Stands base v c m → Stands other v d k → m.1 ≡ k.1
       go (inl x) (inl y) = x.1 ∙ sym y.1

@@ -12,8 +12,8 @@ use Rattle.history.specs.History.{IsMachine, IsLate}
 use Rattle.history.specs.Settled.{IsResting, Settles, AtRested, EndsRested}
 use Rattle.history.specs.Stages.{Calling, At, Ends, AtAsked}
 use Rattle.history.proofs.CallsIn.{AsksFor}
-use Rattle.history.proofs.Containers.{container_effects, container_words, containers_owe}
-use Rattle.history.proofs.Settling.{KeepsWhere, keeps_rested, keeps_rested_where, settles_at}
+use Rattle.history.proofs.Containers.{container_effects, container_words, container_machines}
+use Rattle.history.proofs.Settling.{KeepsWhere, Hearing, keeps_rested, keeps_rested_where, settles_at}
 
 pub clash : {A : Type 0} (b : Bool) → b ≡ true → b ≡ false → A
 clash b due still = (let both : true ≡ false = sym due ∙ still in absurd (cc))
@@ -24,7 +24,7 @@ module _ {T : Type 0} where
   module _ (code : Coding T) (w : World T) (p : ℕ) (answer : Answer T) where
     quietly : (flight : Flight T) → is_question (want_of code flight) ≡ true → goes_of code p flight (number_of false) w.kept ≡ Done answer
         → container_effects w p flight (number_of false) ≡ []
-    quietly x0 x1 x2 = grind arith
+    quietly = grind arith
 
   pub ends_quiet : (code : Coding T) (w : World T) (p : ℕ) (flight : Flight T) (answer : Answer T) → is_question (want_of code flight) ≡ true
       → goes_of code p flight (number_of false) w.kept ≡ Done answer → container_effects w p flight (number_of false) ≡ []
@@ -42,17 +42,20 @@ module _ {T : Type 0} (code : Coding T) where
   pub never_late : (going : Option (Start T × Flight T)) (late : List (Event T)) → IsLate kinds.Container going late → late ≡ []
   never_late going late h = h
 
+  abbrev pub container_hears : Hearing T
+  container_hears = record { machines = container_machines code; decides = tt; alone = never_late; quiet = ends_quiet code }
+
   -- a look with which the call that rests is ended
   pub container_settles : (key slots id word : ℕ) (v : View T) → v.capacity ≡ key → IsResting code v
       → Allows (IsMachine code kinds.Container key) slots id (v, []) word (λ n. n) (λ found me. Settles code kinds.Container v me.0 × (me.1 ≡ []))
-  container_settles = settles_at code kinds.Container tt container_effects (container_words code) (containers_owe code) never_late (ends_quiet code)
+  container_settles = settles_at container_hears
 
   module _ {C M E : Type 0} (call : Calling T C M E) (want : C → Want (Unit {0})) (same_want : (c : C) (m : M) → want_of code (call.flight c m) ≡ want c) where
     module _ (Begins : ℕ → C → M → Type 0)
         (asks : (capacity : ℕ) (c : C) (m : M) → Begins capacity c m → AsksFor (container_words code capacity) (want c)) where
       -- who rests has not begun the next
       apart_at : (base v : View T) (c : C) (m k : M) → IsResting code v → Begins v.capacity c k → At code kinds.Container call base v c m → ⊥
-      apart_at x0 x1 x2 x3 x4 x5 x6 x7 = grind arith
+      apart_at = grind arith
 
       -- of a call that puts questions, of which no answer leads to where it begins
       module _ (after : C → ℕ → After C E) (kept : C → M → ℕ → M) (Over : View T → E → M → View T → Type 0)
@@ -63,12 +66,12 @@ module _ {T : Type 0} (code : Coding T) where
         -- whatever is in its room
         pub apart_asked : (base v : View T) (c : C) (m k : M) → IsResting code v → Begins v.capacity c k
             → AtAsked code kinds.Container after kept call base v c m → ⊥
-        apart_asked x0 x1 x2 x3 x4 x5 x6 x7 = grind arith
+        apart_asked = grind arith
 
         pub rested_asks : Keeps (AtRested code kinds.Container Begins (AtAsked code kinds.Container after kept call) Over)
             (EndsRested code kinds.Container Begins (AtAsked code kinds.Container after kept call) Over) want after kept
         rested_asks =
-            keeps_rested code kinds.Container tt container_effects (container_words code) (containers_owe code) never_late (ends_quiet code) want after kept
+            keeps_rested container_hears want after kept
             (AtAsked code kinds.Container after kept call) Over keeps Begins asks first (λ base v c m. apart_asked base v c m m)
 
         -- of its steps at a word alone, where these end so
@@ -79,7 +82,7 @@ module _ {T : Type 0} (code : Coding T) where
             (AtRested code kinds.Container Begins (AtAsked code kinds.Container after kept call) Ended)
             (EndsRested code kinds.Container Begins (AtAsked code kinds.Container after kept call) Ended) want after kept
         rested_words Ended words =
-            keeps_rested_where code kinds.Container tt container_effects (container_words code) (containers_owe code) never_late (ends_quiet code)
+            keeps_rested_where container_hears
             want after kept (AtAsked code kinds.Container after kept call) Ended (λ c. is_question (want c) ≡ false) words Begins asks first
             (λ base v c m. apart_asked base v c m m)
 
@@ -92,7 +95,7 @@ module _ {T : Type 0} (code : Coding T) where
           (Ends code kinds.Container call))
           (EndsRested code kinds.Container (λ capacity c m. Begins capacity c) (At code kinds.Container call) (Ends code kinds.Container call)) want after kept
       rested_keeps =
-          keeps_rested code kinds.Container tt container_effects (container_words code) (containers_owe code) never_late (ends_quiet code) want after kept
+          keeps_rested container_hears want after kept
           (At code kinds.Container call) (Ends code kinds.Container call) keeps (λ capacity c m. Begins capacity c)
           (λ capacity c m begins. asks capacity c begins) first
           (λ base v c m. apart_at (λ capacity c m. Begins capacity c) (λ capacity c m begins. asks capacity c begins) base v c m m)

@@ -1,12 +1,12 @@
 -- What the container owes, from the laws of its open runs, which party may begin a call on it, and that a call which is no
 -- look of a state goes on by itself.
 use Rattle.history.proofs.Names.{◌≡◌, ℕ, ◌+◌, ◌-◌, ◌≤◌, true, false, Option, Some, None, IfSome, List, [], ◌++◌, length}
-use Rattle.history.proofs.Names.{sum_by, refl, sym, ap, subst, ◌∙◌, arith, After, Want, ContainerState, total_words}
+use Rattle.history.proofs.Names.{sum_by, refl, sym, ap, subst, ◌∙◌, arith, Want, ContainerState, total_words}
 use Rattle.history.proofs.Names.{Event, Start, Container, Flight, Registry, ContainerStart}
 use Rattle.history.proofs.Names.{Party, Turn, Coding, first_of}
 use Rattle.history.proofs.Names.{step_of, beside_of, goes_of, going_rows, first, is_look_of, state_in}
 use Rattle.history.proofs.Names.{names_owner, questions, has_died, SetAct, set_acts_of, first_row, step_in}
-use Rattle.history.proofs.Names.{after_turn, World, Trace, stands_there, Word, open_refusal, AllLive, KeepsRule}
+use Rattle.history.proofs.Names.{after_turn, World, Trace, stands_there, Word, open_refusal, AllLive}
 use Rattle.model.specs.declared.families.Flight.TheVariants as flights
 use Rattle.model.specs.declared.families.Registry.TheVariants as registries
 use Rattle.model.specs.declared.families.container.calls.ContainerFlight.{ContainerFlight}
@@ -24,16 +24,16 @@ use Rattle.laws_container.proofs.OpenRuns.{reached_open_sound, reached_open_live
 use Rattle.laws_container.proofs.OpenRuns.{reached_open_kept, reached_open_tells}
 use Rattle.laws_container.proofs.Terms.{Terms}
 use Rattle.history.specs.declared.view.View.{View}
-use Rattle.history.specs.History.{IsRun, IsMachine, call_in}
+use Rattle.history.specs.History.{IsRun, call_in}
 use Rattle.history.specs.Known.{owned}
-use Rattle.history.specs.Stages.{Calling, Starts, At, Ends, rows_as}
+use Rattle.history.specs.Stages.{Calling, Starts, rows_as}
 use Rattle.history.proofs.Calls.{stands}
-use Rattle.history.proofs.CallsIn.{AsksFor, ActsAlone, steps_alone}
-use Rattle.history.proofs.Drives.{IsCallOf, keeps_all_there}
+use Rattle.history.proofs.CallsIn.{Driven, AsksFor, ActsAlone, IsCallBy, KeepsEnds, steps_alone}
+use Rattle.history.proofs.Drives.{keeps_all_there}
 use Rattle.history.proofs.Known.{AreOf, by_other}
 use Rattle.history.proofs.Starting.{starts_by_last}
 use Rattle.history.proofs.Paid.{Pays, progress_within, pays_run}
-use Rattle.history.proofs.Turns.{StepsOn, KeptLaws, all_someone}
+use Rattle.history.proofs.Turns.{StepsOn, KeptLaws, Machines, all_someone}
 
 module _ {T : Type 0} where
   -- what a step of a container's call writes, where this is kept
@@ -50,7 +50,7 @@ module _ {T : Type 0} where
   plain_effects code p flight old = []
 
   pub effects_of_party : (code : Coding T) (kept : Registry T) (p : ℕ) (flight : Flight T) (n : ℕ) → AreOf p (kept_effects code kept p flight n)
-  effects_of_party x0 x1 x2 x3 x4 = grind arith
+  effects_of_party = grind arith
 
   -- ---- a call that is no look of a state
 
@@ -65,7 +65,7 @@ container_words code capacity = total_words capacity code.size
 
 -- each turn back is paid by a change of a word
 turns_paid : {T : Type 0} (z : Coding T) (c : ℕ) (v : knows.View T) (flight : ContainerFlight T) → knows.Knows z c flight v → v.backs ≤ v.changes - v.since
-turns_paid x0 x1 x2 x3 x4 = grind arith
+turns_paid = grind arith
 
 module _ {T : Type 0} (code : Coding T) (capacity : ℕ) where
   abbrev pub IsOn : Trace T → Type 0
@@ -85,7 +85,7 @@ module _ {T : Type 0} (code : Coding T) (capacity : ℕ) where
   is_open_container t r = reached_open_kept t r.of_kind r.reached
 
   pub container_size : (t : Trace T) → IsOn t → length t.world.words ≡ container_words code capacity
-  container_size x0 x1 = grind (arith, reached_open_wide)
+  container_size = grind (arith, reached_open_wide)
 
   -- nobody has died
   pub kept_there : (t : Trace T) → IsOn t → (dead : List ℕ) × (states : List (ℕ × ContainerState T))
@@ -112,12 +112,12 @@ module _ {T : Type 0} (code : Coding T) (capacity : ℕ) where
   writes_there : (y : Coding T) (words : List ℕ) (beside : Option (ℕ × ℕ)) (c z p old : ℕ) (all : List SetAct) (done : List (Act T)) (kept : Registry T)
       (s : ContainerNow T) (start : Start T) (flight : Flight T) → kept ≡ registries.Container s.dead s.states → FlightAt c z all done start flight
       → (step_of y words beside p start flight old kept).wrote ≡ kept_effects y kept p flight old
-  writes_there x0 x1 x2 x3 x4 x5 x6 x7 x8 x9 x10 x11 x12 x13 x14 = grind arith
+  writes_there = grind arith
 
   goes_there : (y : Coding T) (words : List ℕ) (beside : Option (ℕ × ℕ)) (c z p old : ℕ) (all : List SetAct) (done : List (Act T)) (kept : Registry T)
       (s : ContainerNow T) (start : Start T) (flight : Flight T) → kept ≡ registries.Container s.dead s.states → FlightAt c z all done start flight
       → (step_of y words beside p start flight old kept).after ≡ goes_of y p flight old kept
-  goes_there x0 x1 x2 x3 x4 x5 x6 x7 x8 x9 x10 x11 x12 x13 x14 = grind arith
+  goes_there = grind arith
 
   steps_on : (t : Trace T) → IsOn t → (p : ℕ) (start : Start T) (flight : Flight T) → call_in t.world p ≡ Some (start, flight)
       → StepsOn code kinds.Container capacity (container_words code capacity) container_effects t p flight
@@ -177,7 +177,7 @@ module _ {T : Type 0} (capacity p : ℕ) (dead : List ℕ) (states : List (ℕ �
   FreeTo start = first_row (rows_as kinds.Container capacity (registries.Container dead states) p (Container start)) ≡ None
 
   may_begin : (start : ContainerStart T) → names_owner start ≡ true → FreeTo start
-  may_begin x0 x1 = grind arith
+  may_begin = grind arith
 
 -- each call that the container has may, as the party that the pass was last
 module _ {T C M E : Type 0} (code : Coding T) (base : View T) (call : Calling T C M E) (start : ContainerStart T) (c : C) (m : M)
@@ -198,19 +198,22 @@ module _ {T C M E : Type 0} (code : Coding T) (base : View T) (call : Calling T 
           × ((owner : ℕ) → has_died owner dead ≡ false)
       kept = kept_there code base.capacity t run
 
+abbrev pub container_machines : {T : Type 0} → Coding T → Machines T
+container_machines code =
+    record { code = code; kind = kinds.Container; effects = container_effects; size_of = container_words code; laws = containers_owe code }
+
 -- ---- the steps of a call that is no look of a state
 
 module _ {T C M E : Type 0} (code : Coding T) (call : Calling T C M E) (plain : (c : C) (m : M) → IsPlain (call.flight c m)) where
   pub plain_acts : ActsAlone code kinds.Container container_effects (plain_effects code) call
   plain_acts = grind arith
 
-  pub container_keeps : (want : C → Want (Unit {0})) (after : C → ℕ → After C E) (kept : C → M → ℕ → M)
-      → IsCallOf code (plain_effects code) (container_words code) want after kept call → ((c : C) (n : ℕ) → call.skips c n ≡ false)
-      → KeepsRule (λ (z : View T). z.asked) (λ (z : View T). z.capacity) (At code kinds.Container call) (Ends code kinds.Container call)
-      (λ key. container_words code key + 1) (λ key. key) (λ key. IsMachine code kinds.Container key) want after kept
-  container_keeps want after kept is_call never =
-      keeps_all_there code kinds.Container container_effects (container_words code) (containers_owe code) want after kept call
-      (steps_alone code kinds.Container container_effects (plain_effects code) call plain_acts want after kept is_call) never
+pub container_keeps : {T C M E : Type 0} (code : Coding T) (driven : Driven T C M E) → ((c : C) (m : M) → IsPlain (driven.call.flight c m))
+    → IsCallBy code (plain_effects code) (container_words code) driven → ((c : C) (n : ℕ) → driven.call.skips c n ≡ false)
+    → KeepsEnds code kinds.Container (container_words code) driven
+container_keeps code driven plain is_call =
+    keeps_all_there (container_machines code) driven
+    (steps_alone code kinds.Container container_effects (plain_effects code) driven (plain_acts code driven.call plain) is_call)
 
 -- a call that needs fewer words
 pub fewer : (some more : ℕ) (want : Want (Unit {0})) → some ≤ more → AsksFor some want → AsksFor more want

@@ -3,7 +3,7 @@ use Rattle.history.proofs.Names.{Bool, true, false, ◌≡◌, inl, inr, ℕ, �
 use Rattle.history.proofs.Names.{slice_index, slice_set, set-set, refl, sym, ap, subst, ◌∙◌, append-nil, arith}
 use Rattle.history.proofs.Names.{sum_by-append, set_here, written, Ask, After, GoOn, Want, Event, Start, Flight, Kind}
 use Rattle.history.proofs.Names.{Decide, Coding, opening_of, first_of, want_of, goes_of, is_question, after_turn}
-use Rattle.history.proofs.Names.{events_of, number_of, World, Trace, IsAll, Owes, OwesAsk, NextKnown, KeepsRule}
+use Rattle.history.proofs.Names.{events_of, number_of, Trace, IsAll, Owes, OwesAsk, NextKnown}
 use mathlib.Core.Option.{some}
 use lib.ListN.{get_elem?}
 use Rattle.atomic_table.specs.Table.{State}
@@ -15,38 +15,44 @@ use Rattle.history.specs.declared.view.View.{View}
 use Rattle.history.specs.Known.{events_by}
 use Rattle.history.specs.History.{IsRun, IsMachine, Continues, call_in, steps_in, refusal_as, HasAsked, steps_of_run}
 use Rattle.history.proofs.Asked.{Gains, gains_has}
-use Rattle.history.specs.Stages.{Calling, LeavesState, Since, IsUnderWay, At, Ends, HasHeard, AtAsked, StepsOnly, taken_by}
+use Rattle.history.specs.Stages.{LeavesState, Since, IsUnderWay, At, Ends, HasHeard, AtAsked, StepsOnly, taken_by}
 use Rattle.history.proofs.Known.{by_more, within}
 use Rattle.history.proofs.Reached.{MayDecide, decide_as}
 use Rattle.history.proofs.Calls.{stands, flight_is}
-use Rattle.history.proofs.Turns.{KeptLaws, Between, heard, decided, decided_at, decided_steps, decided_took, made_between}
+use Rattle.history.proofs.Turns.{Machines, Between, Answering, heard, decided, decided_at, decided_steps, decided_took, made_between}
 use Rattle.history.proofs.OneRun.{continues_all, continues_further}
 use Rattle.history.proofs.Steps.{view_after, settle}
-use Rattle.history.proofs.CallsIn.{by_bool, goes, AsksFor, StepsOf, StepsThere, ActsAlone, written_alone, steps_alone}
+use Rattle.history.proofs.CallsIn.{by_bool, Driven, goes, AsksFor, KeepsSo, StepsOf, StepsThere, ActsAlone, written_alone, steps_alone}
 use Rattle.history.proofs.CallTurns.{since_turn}
 use Rattle.history.proofs.CallReady.{Ready, ready, asked_so, Told_by}
 use Rattle.history.proofs.Drives.{ToldOver, keeps_at, next_ended}
 
--- A call that may put questions. It begins with none, and puts none right after another.
-pub record IsAskingIn {T C M E : Type 0} (code : Coding T) (kind : Kind) (effects : ℕ → Flight T → ℕ → List (Event T)) (size_of : ℕ → ℕ)
-    (want : C → Want (Unit {0})) (after : C → ℕ → After C E) (kept : C → M → ℕ → M) (call : Calling T C M E) : Type 0 where
-  pub steps : StepsOf ((capacity : ℕ) (c : C) → call.stands capacity c → is_question (want c) ≡ false → AsksFor (size_of capacity) (want c)) code effects want
-      after kept call
-  pub never : (c : C) (n : ℕ) → call.skips c n ≡ false
-  pub same_call : (c d : C) (m k : M) → call.flight c m ≡ call.flight d k → c ≡ d
-  -- at a question, what it has written tells no rooms apart that the model has as one, and that an answer leaves as one
-  pub same_room : (capacity p : ℕ) (from : Option (Start T × Flight T)) (c : C) (m k : M) (a b : ℕ) (es : List (Event T)) → is_question (want c) ≡ true
-      → call.flight c m ≡ call.flight c k → kept c m a ≡ kept c k b → call.wrote capacity p from c m es → call.wrote capacity p from c k es
-  pub first : (n : ℕ) (c : C) (m : M) → first_of kind n call.start ((opening_of kind).kept n) ≡ Some (call.flight c m) → is_question (want c) ≡ false
-  pub one : (c d : C) (n : ℕ) → is_question (want c) ≡ true → after c n ≡ GoOn d → is_question (want d) ≡ false
+-- each step of it that is no question is at a word
+abbrev pub AsksElse : {T C M E : Type 0} → (ℕ → ℕ) → Driven T C M E → Type 0
+AsksElse {T} {C} size_of driven =
+    (capacity : ℕ) (c : C) → driven.call.stands capacity c → is_question (driven.want c) ≡ false → AsksFor (size_of capacity) (driven.want c)
 
-module _ {T C M E : Type 0} (code : Coding T) (kind : Kind) (decides : MayDecide kind) (effects : World T → ℕ → Flight T → ℕ → List (Event T))
-    (own : ℕ → Flight T → ℕ → List (Event T)) (size_of : ℕ → ℕ) (laws : (capacity : ℕ) → KeptLaws code kind capacity (size_of capacity) effects)
-    (want : C → Want (Unit {0})) (after : C → ℕ → After C E) (kept : C → M → ℕ → M) (call : Calling T C M E)
-    (acts : ActsAlone code kind effects own call) (is_call : IsAskingIn code kind own size_of want after kept call)
-    (Finished : View T → E → M → View T → Type 0)
-    (ended : (base : View T) (e : E) (m : M) (w : View T) → Ends code kind call base e m w → Finished base e m w) where
-  open is_call use {steps as steps, same_call as same_call}
+-- A call that may put questions. It begins with none, and puts none right after another.
+module _ {T C M E : Type 0} (code : Coding T) (kind : Kind) (effects : ℕ → Flight T → ℕ → List (Event T)) (size_of : ℕ → ℕ) (driven : Driven T C M E) where
+  open driven use {want, after, kept, call}
+
+  pub record IsAskingIn : Type 0 where
+    pub steps : StepsOf (AsksElse size_of driven) code effects driven
+    pub never : (c : C) (n : ℕ) → call.skips c n ≡ false
+    pub same_call : (c d : C) (m k : M) → call.flight c m ≡ call.flight d k → c ≡ d
+    -- at a question, what it has written tells no rooms apart that the model has as one, and that an answer leaves as one
+    pub same_room : (capacity p : ℕ) (from : Option (Start T × Flight T)) (c : C) (m k : M) (a b : ℕ) (es : List (Event T)) → is_question (want c) ≡ true
+        → call.flight c m ≡ call.flight c k → kept c m a ≡ kept c k b → call.wrote capacity p from c m es → call.wrote capacity p from c k es
+    pub first : (n : ℕ) (c : C) (m : M) → first_of kind n call.start ((opening_of kind).kept n) ≡ Some (call.flight c m) → is_question (want c) ≡ false
+    pub one : (c d : C) (n : ℕ) → is_question (want c) ≡ true → after c n ≡ GoOn d → is_question (want d) ≡ false
+
+module _ {T C M E : Type 0} (machines : Machines T) (decides : MayDecide machines.kind) (own : ℕ → Flight T → ℕ → List (Event T))
+    (driven : Driven T C M E) (acts : ActsAlone machines.code machines.kind machines.effects own driven.call)
+    (is_call : IsAskingIn machines.code machines.kind own machines.size_of driven) (Finished : View T → E → M → View T → Type 0)
+    (ended : (base : View T) (e : E) (m : M) (w : View T) → Ends machines.code machines.kind driven.call base e m w → Finished base e m w) where
+  open machines use {code, kind, effects, size_of, laws}
+  open driven use {want, after, kept, call}
+  open is_call use {steps, same_call}
 
   abbrev Heard : View T → View T → C → M → Type 0
   Heard base v c m = HasHeard code kind after kept call base v c m
@@ -56,15 +62,30 @@ module _ {T C M E : Type 0} (code : Coding T) (kind : Kind) (decides : MayDecide
 
   -- ---- the machine is handed the answer
 
-  module _ (s : State (Unit {0}) (View T)) (v : View T) (key id : ℕ) (c : C) (m : M) (r : IsMachine code kind key s) (at : get_elem? s.views id ≡ some v)
-      (known : v.capacity ≡ key) (base₀ : View T) (h : Heard base₀ v c m) where
+  -- a seat whose call has heard an answer that the machine has not been handed yet
+  pub record Hearing : Type 0 where
+    pub s : State (Unit {0}) (View T)
+    pub v : View T  -- what the seat knows
+    pub key : ℕ  -- the table's
+    pub id : ℕ  -- the seat's
+    pub c : C
+    pub m : M
+    pub r : IsMachine code kind key s
+    pub at : get_elem? s.views id ≡ some v
+    pub known : v.capacity ≡ key
+    pub base₀ : View T  -- with which the drive began
+    pub h : Heard base₀ v c m
+
+  module _ (hearing : Hearing) where
+    open hearing use {s, v, key, id, c, m, r, at, known, base₀, h}
+
     abbrev from : Flight T
     from = call.flight h.asking h.room
 
     abbrev n : ℕ
     n = number_of h.said
 
-    y : Ready code kind effects size_of laws call s v key id h.asking h.room
+    y : Ready machines call s v key id h.asking h.room
     y = grind (arith, ready, inr)
 
     comes : goes_of code y.p from n y.u.world.kept ≡ GoOn (call.flight c m)
@@ -77,6 +98,33 @@ module _ {T C M E : Type 0} (code : Coding T) (kind : Kind) (decides : MayDecide
         decide_as kind decides y.u.world y.p h.said from (flight_is y.u.world y.p call.start from (stands y.u.world y.p call.start from y.there))
         (ap (λ z. is_question (want_of z from)) y.between.run.coded ∙ h.asks)
 
+    abbrev answering : Answering T
+    answering =
+        record {
+          turning = record {
+            code = code;
+            kind = kind;
+            capacity = key;
+            words = size_of key;
+            effects = effects;
+            laws = laws key;
+            owner = y.owner;
+            s = s;
+            id = id;
+            p = y.p;
+            gained = y.gained;
+            u = y.u;
+            b = y.between;
+          };
+          start = call.start;
+          flight = from;
+          next = GoOn (call.flight c m);
+          said = h.said;
+          at = y.there;
+          free = free;
+          comes = comes;
+        }
+
     abbrev gained_then : List (Event T)
     gained_then = y.gained ++ events_by y.p (events_of y.u.world (Decide y.p h.said))
 
@@ -84,8 +132,7 @@ module _ {T C M E : Type 0} (code : Coding T) (kind : Kind) (decides : MayDecide
     u_then = after_turn y.u (Decide y.p h.said)
 
     between_heard : Between code kind key y.owner s id y.p gained_then u_then
-    between_heard = decided code kind key (size_of key) effects (laws key) y.owner s id y.p y.gained y.u y.between call.start from
-        (GoOn (call.flight c m)) h.said y.there free comes
+    between_heard = decided answering
 
     -- what the seat would know then
     abbrev view_heard : View T
@@ -103,9 +150,7 @@ module _ {T C M E : Type 0} (code : Coding T) (kind : Kind) (decides : MayDecide
           n = 0;
           have = y.have;
           has = y.has;
-          more =
-              decided_took code kind key (size_of key) effects (laws key) y.owner s id y.p y.gained y.u y.between call.start from
-              (GoOn (call.flight c m)) h.said y.there free comes;
+          more = decided_took answering;
           own = omega arith;
         }
 
@@ -116,8 +161,7 @@ module _ {T C M E : Type 0} (code : Coding T) (kind : Kind) (decides : MayDecide
     machine_heard = settle code kind key id y.p y.owner v.asked v.aside s.words s v gained_then u_then at h.before.some between_heard gains_heard
 
     there_heard : call_in u_then.world y.p ≡ Some (call.start, call.flight c m)
-    there_heard = decided_at code kind key (size_of key) effects (laws key) y.owner s id y.p y.gained y.u y.between call.start from
-        (GoOn (call.flight c m)) h.said y.there free comes
+    there_heard = decided_at answering
 
     -- ---- whoever has heard an answer stands so, whatever the view with which its drive began
 
@@ -128,14 +172,13 @@ module _ {T C M E : Type 0} (code : Coding T) (kind : Kind) (decides : MayDecide
     mine = own y.p from n
 
     told_heard : events_of y.u.world (Decide y.p h.said) ≡ effs ++ []
-    told_heard = heard code kind key (size_of key) effects (laws key) y.owner s id y.p y.gained y.u y.between call.start from
-        (GoOn (call.flight c m)) h.said y.there free comes
+    told_heard = heard answering
 
     module _ (base : View T) (k : Heard base v c m) where
       stage_then : Stage base v h.asking h.room
       stage_then = grind arith
 
-      told_by : Told_by code kind effects size_of laws call y.p h.asking h.room base y.u.events (v.made ++ y.gained)
+      told_by : Told_by machines call y.p h.asking h.room base y.u.events (v.made ++ y.gained)
       told_by = y.prior base stage_then
 
       standing_then : call.stands base.capacity h.asking
@@ -152,7 +195,7 @@ module _ {T C M E : Type 0} (code : Coding T) (kind : Kind) (decides : MayDecide
 
       since_then : Since y.p call.start ((told_by.wrote ++ told_by.late) ++ events_by y.p effs) [] base view_heard
       since_then =
-          since_turn code kind effects size_of laws call between_heard.one.turns v.asked v.aside y.p id (Decide y.p h.said) y.u v base y.gained
+          since_turn machines call between_heard.one.turns v.asked v.aside y.p id (Decide y.p h.said) y.u v base y.gained
           (told_by.wrote ++ told_by.late) effs [] told_by.prior told_heard
           (ap (events_by y.p) told_heard ∙ by_more y.p effs [])
 
@@ -168,11 +211,9 @@ module _ {T C M E : Type 0} (code : Coding T) (kind : Kind) (decides : MayDecide
       -- nor a step
       asked_heard : StepsOnly base view_heard
       asked_heard =
-          let before = asked_so code kind effects size_of laws call base v h.asking h.room stage_then in
+          let before = asked_so code kind call base v h.asking h.room stage_then in
           let counted : steps_in y.u.world y.p ≡ taken_by v.going v.taken = y.counted in
-          let more : steps_in u_then.world y.p ≡ steps_in y.u.world y.p + 0 =
-          decided_steps code kind key (size_of key) effects (laws key) y.owner s id y.p y.gained y.u y.between call.start from
-          (GoOn (call.flight c m)) h.said y.there free comes in
+          let more : steps_in u_then.world y.p ≡ steps_in y.u.world y.p + 0 = decided_steps answering in
           omega arith
 
       run_then : IsRun code kind base.capacity u_then
@@ -214,13 +255,13 @@ module _ {T C M E : Type 0} (code : Coding T) (kind : Kind) (decides : MayDecide
 
   -- no other drive of it says otherwise
   never_both : {A : Type 0} (base other v : View T) (c : C) (m : M) → is_question (want c) ≡ false → Stage base v c m → Heard other v c m → A
-  never_both x0 x1 x2 x3 x4 x5 x6 x7 = grind arith
+  never_both = grind arith
 
   standing : (base v : View T) (c : C) (m : M) → AtAsked code kind after kept call base v c m → call.stands base.capacity c
-  standing x0 x1 x2 x3 x4 = grind arith
+  standing = grind arith
 
   same_size : (base v : View T) (c : C) (m : M) → AtAsked code kind after kept call base v c m → v.capacity ≡ base.capacity
-  same_size x0 x1 x2 x3 x4 = grind arith
+  same_size = grind arith
 
   -- ---- a question is answered
 
@@ -230,7 +271,7 @@ module _ {T C M E : Type 0} (code : Coding T) (kind : Kind) (decides : MayDecide
   -- who stands at a question has heard the answer that it takes
   pub hears_said : (base v : View T) (c d : C) (m : M) (said : Bool) → is_question (want c) ≡ true → after c (number_of said) ≡ GoOn d
       → AtAsked code kind after kept call base v c m → AtAsked code kind after kept call base v d (kept c m (number_of said))
-  hears_said x0 x1 x2 x3 x4 x5 x6 x7 x8 = grind arith
+  hears_said = grind arith
 
   -- ---- each step keeps the rule
 
@@ -240,19 +281,18 @@ module _ {T C M E : Type 0} (code : Coding T) (kind : Kind) (decides : MayDecide
   with_asked base (GoOn d) k w h = inl h
   with_asked base (Done e) k w h = ended base e k w h
 
-  steps_there : StepsThere ((capacity : ℕ) (c : C) → call.stands capacity c → is_question (want c) ≡ false → AsksFor (size_of capacity) (want c)) code
-      kind effects want after kept call
-  steps_there = steps_alone code kind effects own call acts want after kept steps
+  steps_there : StepsThere (AsksElse size_of driven) code kind effects driven
+  steps_there = steps_alone code kind effects own driven acts steps
 
   abbrev ToldSo : C → M → View T → ℕ → View T → Type 0
-  ToldSo c m = ToldOver code kind effects size_of laws want after kept call steps_there c m
+  ToldSo c m = ToldOver machines driven steps_there c m
 
   told_asked : (c : C) (m : M) (n : ℕ) (x v w : View T) → x.capacity ≡ v.capacity
       → ((base : View T) → AtAsked code kind after kept call base v c m → Stage base x c m) → ToldSo c m x n w → ToldAsked c m v n w
   told_asked c m n x v w same as_stage h = (
     h.0 ∙ same,
     λ base stage. with_asked base (after c n) (kept c m n) w
-        (next_ended code kind effects size_of laws want after kept call steps_there is_call.never base (after c n) (kept c m n) w
+        (next_ended machines driven steps_there is_call.never base (after c n) (kept c m n) w
         (h.1 base (as_stage base stage))),
   )
 
@@ -272,7 +312,7 @@ module _ {T C M E : Type 0} (code : Coding T) (kind : Kind) (decides : MayDecide
     at_word base v known stage =
         let size : key ≡ base.capacity = sym known ∙ same_size base v c m (inl stage) in
         subst (λ w. Owes (λ (z : View T). z.asked) (IsMachine code kind key) words slots id (ToldSo c m) w (v, [])) asked.2
-        (keeps_at code kind effects size_of laws want after kept call steps_there base v c m key words slots id wide known stage
+        (keeps_at machines driven steps_there base v c m key words slots id wide known stage
         (subst (λ i. AsksFor (size_of i) (want c)) size asked))
 
     -- who has heard none
@@ -290,9 +330,9 @@ module _ {T C M E : Type 0} (code : Coding T) (kind : Kind) (decides : MayDecide
     once_heard base₀ v known h = (
       below,
       λ s r long at small. (
-          let x = (at_word base₀ (view_heard s v key id c m r at known base₀ h) known (inr (lifted s v key id c m r at known base₀ h base₀ h))).1
-          (table_heard s v key id c m r at known base₀ h) (machine_heard s v key id c m r at known base₀ h) long
-          (set_here s.views id (view_heard s v key id c m r at known base₀ h) (within s.views id v at)) small
+          let it = hearing s r at in
+          let x = (at_word base₀ (view_heard it) known (inr (lifted it base₀ h))).1 (table_heard it) (machine_heard it) long
+          (set_here s.views id (view_heard it) (within s.views id v at)) small
           in (
             x.0,
             x.1,
@@ -301,17 +341,33 @@ module _ {T C M E : Type 0} (code : Coding T) (kind : Kind) (decides : MayDecide
                 (record {
                   words = slice_set s.words ask.word (written ask.op (slice_index s.words ask.word));
                   homes = table.homes_after s.homes [] x.1;
-                  views
-                      = vs;
+                  views = vs;
                 }))
-                (set-set s.views id (view_heard s v key id c m r at known base₀ h) x.0) x.3,
-            (told_asked c m _ (view_heard s v key id c m r at known base₀ h) v x.0 refl (as_heard s r at) x.4.0, x.4.1, x.4.2),
+                (set-set s.views id (view_heard it) x.0) x.3,
+            (told_asked c m _ (view_heard it) v x.0 refl (as_heard s r at) x.4.0, x.4.1, x.4.2),
           )),
     )
       where
+        hearing : (s : State (Unit {0}) (View T)) → IsMachine code kind key s → get_elem? s.views id ≡ some v → Hearing
+        hearing s r at =
+            record {
+              s = s;
+              v = v;
+              key = key;
+              id = id;
+              c = c;
+              m = m;
+              r = r;
+              at = at;
+              known = known;
+              base₀ = base₀;
+              h = h;
+            }
+
         as_heard : (s : State (Unit {0}) (View T)) (r : IsMachine code kind key s) (at : get_elem? s.views id ≡ some v) (base : View T)
-            → AtAsked code kind after kept call base v c m → Stage base (view_heard s v key id c m r at known base₀ h) c m
-        as_heard x0 x1 x2 x3 x4 = grind (arith, never_both, lifted)
+            → AtAsked code kind after kept call base v c m → Stage base (view_heard (hearing s r at)) c m
+        as_heard s r at base (inl stage) = never_both base base₀ v c m still stage h
+        as_heard s r at base (inr k) = inr (lifted (hearing s r at) base k)
 
   -- at a word, where its call can end by a step alone
   pub keeps_word : (base₀ v : View T) (c : C) (m : M) (key words slots id : ℕ) → words ≡ size_of key + 1 → v.capacity ≡ key
@@ -334,7 +390,7 @@ module _ {T C M E : Type 0} (code : Coding T) (kind : Kind) (decides : MayDecide
     -- and where the answer ends its call, it has ended
     pub ends_said : (base v : View T) (c : C) (m : M) (said : Bool) (e : E) → is_question (want c) ≡ true → after c (number_of said) ≡ Done e
         → AtAsked code kind after kept call base v c m → Finished base e (kept c m (number_of said)) v
-    ends_said x0 x1 x2 x3 x4 x5 x6 x7 x8 = grind arith
+    ends_said = grind arith
 
     told_no : (v : View T) (c : C) (m : M) → is_question (want c) ≡ true → ToldAsked c m v 0 v
     told_no v c m due = (refl, λ base stage. go base stage (after c 0) refl)
@@ -344,9 +400,7 @@ module _ {T C M E : Type 0} (code : Coding T) (kind : Kind) (decides : MayDecide
         go base stage (GoOn d) e = hears_said base v c d m false due e stage
         go base stage (Done end) e = ends_said base v c m false end due e stage
 
-    pub keeps_said : KeepsRule (λ (z : View T). z.asked) (λ (z : View T). z.capacity)
-        (AtAsked code kind after kept call) Finished (λ key. size_of key + 1) (λ key. key)
-        (λ key. IsMachine code kind key) want after kept
+    pub keeps_said : KeepsSo code kind size_of driven (AtAsked code kind after kept call) Finished
     keeps_said base₀ v c m key words slots id wide known at₀ = by_bool (is_question (want c)) (λ due. at_question (want c) refl due)
         (λ still. keeps_word base₀ v c m key words slots id wide known still at₀)
       where
@@ -359,24 +413,22 @@ module _ {T C M E : Type 0} (code : Coding T) (kind : Kind) (decides : MayDecide
 -- ---- of a call that no answer ends
 
 pub record IsAskingOf {T C M E : Type 0} (code : Coding T) (kind : Kind) (effects : ℕ → Flight T → ℕ → List (Event T)) (size_of : ℕ → ℕ)
-    (want : C → Want (Unit {0})) (after : C → ℕ → After C E) (kept : C → M → ℕ → M) (call : Calling T C M E) : Type 0 where
-  pub asking : IsAskingIn code kind effects size_of want after kept call
-  pub lasts : (c : C) (e : E) (n : ℕ) → is_question (want c) ≡ true → after c n ≡ Done e → ⊥
+    (driven : Driven T C M E) : Type 0 where
+  pub asking : IsAskingIn code kind effects size_of driven
+  pub lasts : (c : C) (e : E) (n : ℕ) → is_question (driven.want c) ≡ true → driven.after c n ≡ Done e → ⊥
 
-module _ {T C M E : Type 0} (code : Coding T) (kind : Kind) (decides : MayDecide kind) (effects : World T → ℕ → Flight T → ℕ → List (Event T))
-    (own : ℕ → Flight T → ℕ → List (Event T)) (size_of : ℕ → ℕ) (laws : (capacity : ℕ) → KeptLaws code kind capacity (size_of capacity) effects)
-    (want : C → Want (Unit {0})) (after : C → ℕ → After C E) (kept : C → M → ℕ → M) (call : Calling T C M E)
-    (acts : ActsAlone code kind effects own call) (is_call : IsAskingOf code kind own size_of want after kept call) where
+module _ {T C M E : Type 0} (machines : Machines T) (decides : MayDecide machines.kind) (own : ℕ → Flight T → ℕ → List (Event T))
+    (driven : Driven T C M E) (acts : ActsAlone machines.code machines.kind machines.effects own driven.call)
+    (is_call : IsAskingOf machines.code machines.kind own machines.size_of driven) where
+  open machines use {code, kind, size_of}
+  open driven use {want, after, kept, call}
+
   never_ends : (base v : View T) (c : C) (m : M) (said : Bool) (e : E) → is_question (want c) ≡ true → after c (number_of said) ≡ Done e
       → IsUnderWay code kind call base v c m → Ends code kind call base e (kept c m (number_of said)) v
   never_ends base v c m said end due e under = absurd (is_call.lasts c end (number_of said) due e)
 
-  pub keeps_asked : KeepsRule (λ (z : View T). z.asked) (λ (z : View T). z.capacity)
-      (AtAsked code kind after kept call) (Ends code kind call) (λ key. size_of key + 1) (λ key. key)
-      (λ key. IsMachine code kind key) want after kept
-  keeps_asked =
-      keeps_said code kind decides effects own size_of laws want after kept call acts is_call.asking
-      (Ends code kind call) (λ base e m w h. h) never_ends
+  pub keeps_asked : KeepsSo code kind size_of driven (AtAsked code kind after kept call) (Ends code kind call)
+  keeps_asked = keeps_said machines decides own driven acts is_call.asking (Ends code kind call) (λ base e m w h. h) never_ends
 
   pub hears_answer : (base v : View T) (c d : C) (m : M) (said : Bool) → is_question (want c) ≡ true → after c (number_of said) ≡ GoOn d
       → AtAsked code kind after kept call base v c m → AtAsked code kind after kept call base v d (kept c m (number_of said))

@@ -2,10 +2,8 @@
 use Rattle.history.proofs.Names.{◌^◌, true, false, ◌≡◌, inl, inr, ℕ, ◌+◌, ◌<◌, ◌≤◌, Some, List, [], ◌∷◌}
 use Rattle.history.proofs.Names.{length, slice_index, slice_set, refl, sym, ap, subst, ◌∙◌, arith, written}
 use Rattle.history.proofs.Names.{Ask, After, GoOn, Want, Event, Flight, Kind, Next, Coding, want_of}
-use Rattle.history.proofs.Names.{goes_of, is_question, after_turn, World, Trace, answered, Owes, NextKnown, KeepsRule}
+use Rattle.history.proofs.Names.{goes_of, is_question, after_turn, Trace, answered, Owes, NextKnown}
 use Rattle.history.proofs.Names.{IsFreshCall}
-use mathlib.Core.Option.{some}
-use lib.ListN.{get_elem?}
 use Rattle.atomic_table.specs.Table.{State}
 use Rattle.atomic_table.specs.Table as table
 use Rattle.steps.specs.declared.ask.After.TheVariants.{Done}
@@ -16,31 +14,41 @@ use Rattle.history.specs.History.{IsRun, IsMachine, IsLate, steps_of_run}
 use Rattle.history.specs.Stages.{Calling, At, Ends, LeftOut, Over, StepsOnly}
 use Rattle.history.specs.Views.{Looks}
 use Rattle.history.proofs.Calls.{get_left}
-use Rattle.history.proofs.Turns.{KindLaws, KeptLaws, MachineLaws, kept_laws, goes_on_alike, machine_laws, Between}
+use Rattle.history.proofs.KindLaws.{KindLaws, Machines, SteadyMachines, LoneMachines, kept_machines, steady_machines, goes_on_alike}
+use Rattle.history.proofs.Turns.{Between}
 use Rattle.history.proofs.Steps.{settle}
 use Rattle.history.proofs.PassLooks.{looks_at}
-use Rattle.history.proofs.CallsIn.{by_bool, AsksFor, StepsIn, StepsThere, IsCallThere, ActsAlone, steps_alone, with_goes}
-use Rattle.history.proofs.CallTurns.{then_gained, next_between, view_then, gains_then, asked_then, goes_then, ends_then}
+use Rattle.history.proofs.CallsIn.{by_bool, AsksFor, StepsThere, IsCallThere, ActsAlone, steps_alone, with_goes}
+use Rattle.history.proofs.CallTurns.{Stepping, then_gained, next_between, view_then, gains_then, asked_then, goes_then, ends_then}
 use Rattle.history.proofs.Asked.{Gains}
-use Rattle.history.proofs.CallReady.{same_capacity, some_share, still_stands, Ready, ready}
-pub use Rattle.history.proofs.CallsIn.{goes, IsCallOf, Met, IsCallIn, in_machine, NeverPushes}
+use Rattle.history.proofs.CallReady.{same_capacity, some_share, still_stands, ready, Seat}
+pub use Rattle.history.proofs.CallsIn.{Driven, goes, IsCallBy, IsCallOf, KeepsSo, KeepsEnds, KeepsOver, Met, IsCallIn, in_machine, NeverPushes}
 pub use Rattle.history.proofs.Called.{called, at_itself}
 pub use Rattle.history.proofs.Sized.{AtSized, EndsSized, keeps_sized}
 
 as_much : (n : ℕ) → n ≤ n
 as_much n = omega arith
 
-module _ {T C M E Asks : Type 0} (code : Coding T) (kind : Kind) (effects : World T → ℕ → Flight T → ℕ → List (Event T)) (size_of : ℕ → ℕ)
-    (laws : (capacity : ℕ) → KeptLaws code kind capacity (size_of capacity) effects) (want : C → Want (Unit {0})) (after : C → ℕ → After C E)
-    (kept : C → M → ℕ → M) (call : Calling T C M E) (is_call : StepsThere Asks code kind effects want after kept call) where
+module _ {T C M E Asks : Type 0} (machines : Machines T) (driven : Driven T C M E)
+    (is_call : StepsThere Asks machines.code machines.kind machines.effects driven) where
+  open machines use {code, kind, effects, size_of, laws}
+  open driven use {want, after, kept, call}
+
   abbrev Step : View T → After C E → M → View T → Type 0
   Step base a m w = NextKnown (λ (z : View T). z.capacity) (At code kind call) (Over code kind call) base a m w
 
-  module _ (s : State (Unit {0}) (View T)) (v : View T) (key id : ℕ) (c : C) (m : M)
-      (at : get_elem? s.views id ≡ some v) (known : v.capacity ≡ key)
-      (y : Ready code kind effects size_of laws call s v key id c m) (ask : Ask) (low : ask.word < size_of key)
-      (wants_it : want c ≡ wants.Ask ask) (small : slice_index s.words ask.word < 2 ^ 64)
-      (skip : call.skips c (slice_index s.words ask.word) ≡ false) where
+  -- a step of a seat's call that asks for a word, with an answer that the call does not leave out
+  pub record Asking : Type 0 where
+    pub seat : Seat machines call
+    pub ask : Ask
+    pub low : ask.word < size_of seat.key
+    pub wants_it : want seat.c ≡ wants.Ask ask
+    pub small : slice_index seat.s.words ask.word < 2 ^ 64
+    pub skip : call.skips seat.c (slice_index seat.s.words ask.word) ≡ false
+
+  module _ (asking : Asking) where
+    open asking use {seat, seat.{s, v, key, id, c, m, at, known, y}, ask, low, wants_it, small, skip}
+
     abbrev n : ℕ
     n = slice_index s.words ask.word
 
@@ -50,29 +58,32 @@ module _ {T C M E Asks : Type 0} (code : Coding T) (kind : Kind) (effects : Worl
     pub finds_it : IsFreshCall n (call.flight c m)
     finds_it = is_call.finds c m n small skip
 
+    abbrev step : Stepping machines call
+    step = record { seat = seat; ask = Some ask; low = low; asks_it = asks_it; finds = finds_it }
+
     abbrev pub view_now : View T
-    view_now = view_then code kind effects size_of laws call s v key id c m at known y (Some ask) low asks_it finds_it
+    view_now = view_then machines call step
 
     comes_there : (base : View T) → At code kind call base v c m → goes_of code y.p (call.flight c m) n y.u.world.kept ≡ goes call (after c n) (kept c m n)
-    comes_there x0 x1 = grind arith
+    comes_there = grind arith
 
     steps_so : (base : View T) → At code kind call base v c m → StepsOnly base view_now
-    steps_so = asked_then code kind effects size_of laws call s v key id c m at known y (Some ask) low asks_it finds_it refl
+    steps_so = asked_then machines call step refl
 
     known_then : (base : View T) → At code kind call base v c m → (r : After C E) → after c n ≡ r → Step base r (kept c m n) view_now
     known_then base stage (GoOn d) e =
-        inr (goes_then code kind effects size_of laws call s v key id c m at known y (Some ask) low asks_it finds_it
+        inr (goes_then machines call step
         base stage d (kept c m n) (comes_there base stage ∙ ap (λ r. goes call r (kept c m n)) e)
-        (is_call.stays base.capacity c d n (still_stands code kind effects size_of laws call base v c m stage) e)
-        (λ k. is_call.past base.capacity c d n k (still_stands code kind effects size_of laws call base v c m stage) e)
+        (is_call.stays base.capacity c d n (still_stands code kind call base v c m stage) e)
+        (λ k. is_call.past base.capacity c d n k (still_stands code kind call base v c m stage) e)
         (λ es late h waits met. is_call.tells base.capacity y.p base.going c d m n es late y.u
-        (still_stands code kind effects size_of laws call base v c m stage) h waits met e)
+        (still_stands code kind call base v c m stage) h waits met e)
         (steps_so base stage) refl)
     known_then base stage (Done end) e =
-        inl (ends_then code kind effects size_of laws call s v key id c m at known y (Some ask) low asks_it finds_it
+        inl (ends_then machines call step
         base stage end (kept c m n) (comes_there base stage ∙ ap (λ r. goes call r (kept c m n)) e)
         (λ es late h waits met. is_call.tells_all base.capacity y.p base.going c end m n es late y.u
-        (still_stands code kind effects size_of laws call base v c m stage) skip h waits met e
+        (still_stands code kind call base v c m stage) skip h waits met e
         (ap is_question wants_it))
         (inl (steps_so base stage)))
 
@@ -81,24 +92,40 @@ module _ {T C M E Asks : Type 0} (code : Coding T) (kind : Kind) (effects : Worl
 
     pub between_then : Between code kind key y.owner
         (record { words = slice_set s.words ask.word (written ask.op n); homes = s.homes; views = s.views }) id y.p
-        (then_gained code kind effects size_of laws call s v key id c m at known y (Some ask) low asks_it finds_it)
-        (after_turn y.u (Next y.p))
-    between_then = next_between code kind effects size_of laws call s v key id c m at known y (Some ask) low asks_it finds_it
+        (then_gained machines call step) (after_turn y.u (Next y.p))
+    between_then = next_between machines call step
 
     pub gains_now : Gains s.views v (v.asked + 1) (v.aside + 0)
-        (steps_of_run code kind key (next_between code kind effects size_of laws call s v key id c m at known y (Some ask) low asks_it finds_it).one.turns)
-    gains_now = gains_then code kind effects size_of laws call s v key id c m at known y (Some ask) low asks_it finds_it
+        (steps_of_run code kind key (next_between machines call step).one.turns)
+    gains_now = gains_then machines call step
 
     abbrev pub gained_now : List (Event T)
-    gained_now = then_gained code kind effects size_of laws call s v key id c m at known y (Some ask) low asks_it finds_it
+    gained_now = then_gained machines call step
 
   -- ---- a call that finds the last position is a look
 
-  module _ (s : State (Unit {0}) (View T)) (v w : View T) (key : ℕ) (c : C) (m : M) (ask : Ask)
-      (known : v.capacity ≡ key) (wants_it : want c ≡ wants.Ask ask)
-      (skip : call.skips c (slice_index s.words ask.word) ≡ true) (looked : Looks code kind key v w) (counts : w.asked ≡ v.asked + 1) (t : Trace T)
-      (run : IsRun code kind key t) (same_seen : w.seen ≡ t.events)
-      (same_word : slice_index t.world.words ask.word ≡ slice_index s.words ask.word) where
+  -- a step of a seat's call that asks for a word, whose answer the call leaves out: a look, after which the seat knows `w`
+  pub record Looking : Type 0 where
+    pub s : State (Unit {0}) (View T)
+    pub v : View T
+    pub w : View T
+    pub key : ℕ
+    pub c : C
+    pub m : M
+    pub ask : Ask
+    pub known : v.capacity ≡ key
+    pub wants_it : want c ≡ wants.Ask ask
+    pub skip : call.skips c (slice_index s.words ask.word) ≡ true
+    pub looked : Looks code kind key v w
+    pub counts : w.asked ≡ v.asked + 1
+    pub t : Trace T
+    pub run : IsRun code kind key t
+    pub same_seen : w.seen ≡ t.events
+    pub same_word : slice_index t.world.words ask.word ≡ slice_index s.words ask.word
+
+  module _ (looking : Looking) where
+    open looking use {s, v, w, key, c, m, ask, known, wants_it, skip, looked, counts, t, run, same_seen, same_word}
+
     abbrev seen_word : ℕ
     seen_word = slice_index s.words ask.word
 
@@ -128,7 +155,7 @@ module _ {T C M E Asks : Type 0} (code : Coding T) (kind : Kind) (effects : Worl
   -- it has not begun, so nothing is late for it
   calm : (base v : View T) (c : C) (m : M) (n : ℕ) → call.skips c n ≡ true → At code kind call base v c m
       → (late : List (Event T)) → IsLate kind v.going late → late ≡ []
-  calm x0 x1 x2 x3 x4 x5 x6 x7 x8 = grind arith
+  calm = grind arith
 
   -- ---- each step of the call at a word keeps the rule
 
@@ -141,7 +168,7 @@ module _ {T C M E Asks : Type 0} (code : Coding T) (kind : Kind) (effects : Worl
   unfolding between_then
   keeps_at base₀ v c m key words slots id wide known at₀ asked =
       let ask = asked.0 in
-      let same : base₀.capacity ≡ key = sym (same_capacity code kind effects size_of laws call base₀ v c m at₀) ∙ known in
+      let same : base₀.capacity ≡ key = sym (same_capacity code kind call base₀ v c m at₀) ∙ known in
       let low : ask.word < size_of key = subst (λ z. ask.word < size_of z) same asked.1 in
       let below : ask.word < words = omega arith in
       subst (λ w. Owes (λ (z : View T). z.asked) (IsMachine code kind key) words slots id (ToldOver c m) w (v, [])) (sym asked.2) (
@@ -150,7 +177,7 @@ module _ {T C M E Asks : Type 0} (code : Coding T) (kind : Kind) (effects : Worl
             let out = is_call.leaves c ask (slice_index s.words ask.word) skip asked.2 in
             let look =
             looks_at code kind key slots id ask.word v
-            (some_share code kind effects size_of laws call base₀ v c m at₀)
+            (some_share code kind call base₀ v c m at₀)
             (calm base₀ v c m (slice_index s.words ask.word) skip at₀) s r long at small in
             let wide : length r.trace.world.words ≡ size_of key = (laws key).size r.trace r.run in
             let same_word : slice_index r.trace.world.words ask.word ≡ slice_index s.words ask.word =
@@ -159,25 +186,53 @@ module _ {T C M E Asks : Type 0} (code : Coding T) (kind : Kind) (effects : Worl
               look.1,
               look.2,
               subst (λ n. IsMachine code kind key (table.stepped s ask.word n id [] look.0 look.1)) (sym out.0) look.3,
-              (told_left s v look.0 key c m ask known asked.2 skip look.4.0 look.6 r.trace r.run look.5 same_word, look.6, look.4.1),
+              (
+                told_left (record {
+                  s = s;
+                  v = v;
+                  w = look.0;
+                  key = key;
+                  c = c;
+                  m = m;
+                  ask = ask;
+                  known = known;
+                  wants_it = asked.2;
+                  skip = skip;
+                  looked = look.4.0;
+                  counts = look.6;
+                  t = r.trace;
+                  run = r.run;
+                  same_seen = look.5;
+                  same_word = same_word;
+                }),
+                look.6,
+                look.4.1,
+              ),
             ))) (λ skip. (
-            let y = ready code kind effects size_of laws call s v key id c m r at known base₀ at₀ in (
-              view_now s v key id c m at known y ask low asked.2 small skip,
+            let y = ready machines call s v key id c m r at known base₀ at₀ in
+            let asking : Asking =
+            record {
+              seat = record { s = s; v = v; key = key; id = id; c = c; m = m; at = at; known = known; y = y };
+              ask = ask;
+              low = low;
+              wants_it = asked.2;
+              small = small;
+              skip = skip;
+            } in (
+              view_now asking,
               table.keeps,
               tt,
               settle code kind key id y.p y.owner (v.asked + 1) (v.aside + 0)
-                  (slice_set s.words ask.word (written ask.op (slice_index s.words ask.word))) s v
-                  (gained_now s v key id c m at known y ask low asked.2 small skip) (after_turn y.u (Next y.p)) at
-                  (some_share code kind effects size_of laws call base₀ v c m at₀) (between_then s v key id c m at known y ask low asked.2 small skip)
-                  (gains_now s v key id c m at known y ask low asked.2 small skip),
-              (told s v key id c m at known y ask low asked.2 small skip, refl, refl),
+                  (slice_set s.words ask.word (written ask.op (slice_index s.words ask.word))) s v (gained_now asking) (after_turn y.u (Next y.p)) at
+                  (some_share code kind call base₀ v c m at₀) (between_then asking) (gains_now asking),
+              (told asking, refl, refl),
             ))),
       )
 
   -- a call that no word leaves out always ends
   module _ (never : (c : C) (n : ℕ) → call.skips c n ≡ false) where
     ended : (base : View T) (e : E) (m : M) (w : View T) → Over code kind call base e m w → Ends code kind call base e m w
-    ended x0 x1 x2 x3 x4 = grind arith
+    ended = grind arith
 
     pub next_ended : (base : View T) (r : After C E) (m : M) (w : View T) → Step base r m w
         → NextKnown (λ (z : View T). z.capacity) (At code kind call) (Ends code kind call) base r m w
@@ -188,13 +243,9 @@ module _ {T C M E Asks : Type 0} (code : Coding T) (kind : Kind) (effects : Worl
     ToldEnds c m = Told (λ (z : View T). z.capacity) (At code kind call) (Ends code kind call) after kept c m
 
     told_all : (c : C) (m : M) (x : View T) (n : ℕ) (w : View T) → ToldOver c m x n w → ToldEnds c m x n w
-    told_all x0 x1 x2 x3 x4 x5 = grind arith
+    told_all = grind arith
 
-    pub keeps_ends : KeepsRule (λ (z : View T). z.asked) (λ (z : View T). z.capacity) (At code kind call)
-        (Over code kind call) (λ key. size_of key + 1) (λ key. key)
-        (λ key. IsMachine code kind key) want after kept
-        → KeepsRule (λ (z : View T). z.asked) (λ (z : View T). z.capacity) (At code kind call) (Ends code kind call) (λ key. size_of key + 1) (λ key. key)
-        (λ key. IsMachine code kind key) want after kept
+    pub keeps_ends : KeepsOver code kind size_of driven → KeepsEnds code kind size_of driven
     keeps_ends keeps base₀ v c m key words slots id wide known at₀ = go (want c) (keeps base₀ v c m key words slots id wide known at₀)
       where
         go : (w : Want (Unit {0})) → Owes (λ (z : View T). z.asked) (IsMachine code kind key) words slots id (ToldOver c m) w (v, [])
@@ -205,83 +256,73 @@ module _ {T C M E Asks : Type 0} (code : Coding T) (kind : Kind) (effects : Worl
 
 -- ---- a call each step of which is at a word
 
-module _ {T C M E : Type 0} (code : Coding T) (kind : Kind) (effects : World T → ℕ → Flight T → ℕ → List (Event T)) (size_of : ℕ → ℕ)
-    (laws : (capacity : ℕ) → KeptLaws code kind capacity (size_of capacity) effects) (want : C → Want (Unit {0})) (after : C → ℕ → After C E)
-    (kept : C → M → ℕ → M) (call : Calling T C M E) (is_call : IsCallThere code kind effects size_of want after kept call) where
-  pub keeps_there : KeepsRule (λ (z : View T). z.asked) (λ (z : View T). z.capacity) (At code kind call)
-      (Over code kind call) (λ key. size_of key + 1) (λ key. key)
-      (λ key. IsMachine code kind key) want after kept
-  keeps_there base₀ v c m key words slots id wide known at₀ =
-      keeps_at code kind effects size_of laws want after kept call is_call base₀ v c m key words slots id wide known at₀
-      (is_call.asks base₀.capacity c (still_stands code kind effects size_of laws call base₀ v c m at₀))
+module _ {T C M E : Type 0} (machines : Machines T) (driven : Driven T C M E) (is_call : IsCallThere machines driven) where
+  open machines use {code, kind, size_of}
 
-  pub keeps_all_there : ((c : C) (n : ℕ) → call.skips c n ≡ false)
-      → KeepsRule (λ (z : View T). z.asked) (λ (z : View T). z.capacity) (At code kind call) (Ends code kind call) (λ key. size_of key + 1) (λ key. key)
-      (λ key. IsMachine code kind key) want after kept
-  keeps_all_there never = keeps_ends code kind effects size_of laws want after kept call is_call never keeps_there
+  pub keeps_there : KeepsOver code kind size_of driven
+  keeps_there base₀ v c m key words slots id wide known at₀ =
+      keeps_at machines driven is_call base₀ v c m key words slots id wide known at₀
+      (is_call.asks base₀.capacity c (still_stands code kind driven.call base₀ v c m at₀))
+
+  pub keeps_all_there : ((c : C) (n : ℕ) → driven.call.skips c n ≡ false) → KeepsEnds code kind size_of driven
+  keeps_all_there never = keeps_ends machines driven is_call never keeps_there
 
 -- ---- of a kind whose calls go on by themselves
 
-module _ {T C M E : Type 0} (code : Coding T) (kind : Kind) (effects : World T → ℕ → Flight T → ℕ → List (Event T)) (size_of : ℕ → ℕ)
-    (laws : (capacity : ℕ) → MachineLaws code kind capacity (size_of capacity) effects) (want : C → Want (Unit {0})) (after : C → ℕ → After C E)
-    (kept : C → M → ℕ → M) (call : Calling T C M E) where
-  pub laws_there : (capacity : ℕ) → KeptLaws code kind capacity (size_of capacity) effects
-  laws_there capacity = grind (arith, kept_laws)
+module _ {T C M E : Type 0} (machines : SteadyMachines T) (driven : Driven T C M E) (is_call : IsCallIn machines driven) where
+  open machines use {code, kind, effects, size_of, laws}
+  open driven use {call}
 
-  pub steps_there : {Asks : Type 0} → StepsIn Asks code kind effects want after kept call → StepsThere Asks code kind effects want after kept call
-  steps_there h =
-      with_goes code kind effects want after kept call
+  steps_there : IsCallThere (kept_machines machines) driven
+  steps_there =
+      with_goes code kind effects driven
       (λ capacity p c m n t run there stands.
-      goes_on_alike code kind capacity (size_of capacity) effects (laws capacity) t run p (call.flight c m) n ∙ h.same_after capacity c m n stands) h
+      goes_on_alike code kind capacity (size_of capacity) effects (laws capacity) t run p (call.flight c m) n ∙ is_call.same_after capacity c m n stands)
+      is_call
 
-  module _ (is_call : IsCallIn code kind effects size_of want after kept call) where
-    pub keeps_in : KeepsRule (λ (z : View T). z.asked) (λ (z : View T). z.capacity) (At code kind call)
-        (Over code kind call) (λ key. size_of key + 1) (λ key. key)
-        (λ key. IsMachine code kind key) want after kept
-    keeps_in = keeps_there code kind effects size_of laws_there want after kept call (steps_there is_call)
+  pub keeps_in : KeepsOver code kind size_of driven
+  keeps_in = keeps_there (kept_machines machines) driven steps_there
 
-    pub keeps_all_in : ((c : C) (n : ℕ) → call.skips c n ≡ false)
-        → KeepsRule (λ (z : View T). z.asked) (λ (z : View T). z.capacity) (At code kind call) (Ends code kind call) (λ key. size_of key + 1) (λ key. key)
-        (λ key. IsMachine code kind key) want after kept
-    keeps_all_in = keeps_all_there code kind effects size_of laws_there want after kept call (steps_there is_call)
+  pub keeps_all_in : ((c : C) (n : ℕ) → call.skips c n ≡ false) → KeepsEnds code kind size_of driven
+  keeps_all_in = keeps_all_there (kept_machines machines) driven steps_there
 
 -- ---- of a kind whose parties write for themselves alone
 
-pub all_laws : {T : Type 0} (code : Coding T) (kind : Kind) (effects : ℕ → Flight T → ℕ → List (Event T)) (size_of : ℕ → ℕ)
-    → ((capacity : ℕ) → KindLaws code kind capacity (size_of capacity) effects) → (capacity : ℕ)
-    → MachineLaws code kind capacity (size_of capacity) (λ w. effects)
-all_laws x0 x1 x2 x3 x4 x5 = grind (arith, machine_laws)
-
-pub all_kept_laws : {T : Type 0} (code : Coding T) (kind : Kind) (effects : ℕ → Flight T → ℕ → List (Event T)) (size_of : ℕ → ℕ)
-    → ((capacity : ℕ) → KindLaws code kind capacity (size_of capacity) effects) → (capacity : ℕ)
-    → KeptLaws code kind capacity (size_of capacity) (λ w. effects)
-all_kept_laws x0 x1 x2 x3 x4 x5 = grind (arith, kept_laws, all_laws)
+-- what may go on by what is kept is that too
+abbrev pub lone_machines : {T : Type 0} → LoneMachines T → Machines T
+lone_machines machines = kept_machines (steady_machines machines)
 
 -- it goes on by itself, and writes for itself alone
-pub acts_alone : {T C M E : Type 0} (code : Coding T) (kind : Kind) (effects : ℕ → Flight T → ℕ → List (Event T)) (size_of : ℕ → ℕ)
-    → ((capacity : ℕ) → KindLaws code kind capacity (size_of capacity) effects)
-    → (call : Calling T C M E) → ActsAlone code kind (λ w. effects) effects call
-acts_alone code kind effects size_of laws call =
+pub acts_alone : {T C M E : Type 0} (machines : LoneMachines T) (call : Calling T C M E)
+    → ActsAlone machines.code machines.kind (λ w. machines.effects) machines.effects call
+acts_alone machines call =
     record {
-      never = λ c m late h. (laws 0).alone (Some (call.start, call.flight c m)) late h;
+      never = λ c m late h. (machines.laws 0).alone (Some (call.start, call.flight c m)) late h;
       same = λ capacity p c m n t run. refl;
-      its_own = λ capacity p c m n t run there. ((laws capacity).goes_on t run p call.start (call.flight c m) there).own n;
+      its_own = λ capacity p c m n t run there. ((machines.laws capacity).goes_on t run p call.start (call.flight c m) there).own n;
       alike = λ capacity p c m n t run.
-          goes_on_alike code kind capacity (size_of capacity) (λ w. effects) (all_laws code kind effects size_of laws capacity) t run p (call.flight c m) n;
+          goes_on_alike machines.code machines.kind capacity (machines.size_of capacity) (λ w. machines.effects)
+          ((steady_machines machines).laws capacity) t run p (call.flight c m) n;
     }
 
-module _ {T C M E : Type 0} (code : Coding T) (kind : Kind) (effects : ℕ → Flight T → ℕ → List (Event T))
-    (size_of : ℕ → ℕ) (laws : (capacity : ℕ) → KindLaws code kind capacity (size_of capacity) effects)
-    (want : C → Want (Unit {0})) (after : C → ℕ → After C E) (kept : C → M → ℕ → M) (call : Calling T C M E)
-    (is_call : IsCallOf code effects size_of want after kept call) where
-  by_itself : IsCallThere code kind (λ w. effects) size_of want after kept call
-  by_itself = steps_alone code kind (λ w. effects) effects call (acts_alone code kind effects size_of laws call) want after kept is_call
+module _ {T C M E : Type 0} (machines : LoneMachines T) (driven : Driven T C M E)
+    (is_call : IsCallBy machines.code machines.effects machines.size_of driven) where
+  open machines use {code, kind, effects, size_of}
 
-  pub keeps : KeepsRule (λ (z : View T). z.asked) (λ (z : View T). z.capacity) (At code kind call) (Over code kind call)
-      (λ key. size_of key + 1) (λ key. key) (λ key. IsMachine code kind key) want after kept
-  keeps = keeps_there code kind (λ w. effects) size_of (all_kept_laws code kind effects size_of laws) want after kept call by_itself
+  by_itself : IsCallThere (lone_machines machines) driven
+  by_itself = steps_alone code kind (λ w. effects) effects driven (acts_alone machines driven.call) is_call
 
-  pub keeps_all : ((c : C) (n : ℕ) → call.skips c n ≡ false)
-      → KeepsRule (λ (z : View T). z.asked) (λ (z : View T). z.capacity) (At code kind call) (Ends code kind call) (λ key. size_of key + 1)
-      (λ key. key) (λ key. IsMachine code kind key) want after kept
-  keeps_all = keeps_all_there code kind (λ w. effects) size_of (all_kept_laws code kind effects size_of laws) want after kept call by_itself
+  pub keeps : KeepsOver code kind size_of driven
+  keeps = keeps_there (lone_machines machines) driven by_itself
+
+  pub keeps_to_end : ((c : C) (n : ℕ) → driven.call.skips c n ≡ false) → KeepsEnds code kind size_of driven
+  keeps_to_end = keeps_all_there (lone_machines machines) driven by_itself
+
+pub keeps_all : {T C M E : Type 0} (code : Coding T) (kind : Kind) (effects : ℕ → Flight T → ℕ → List (Event T)) (size_of : ℕ → ℕ)
+    (laws : (capacity : ℕ) → KindLaws code kind capacity (size_of capacity) effects) (want : C → Want (Unit {0})) (after : C → ℕ → After C E)
+    (kept : C → M → ℕ → M) (call : Calling T C M E) → IsCallOf code effects size_of want after kept call
+    → ((c : C) (n : ℕ) → call.skips c n ≡ false)
+    → KeepsEnds code kind size_of (record { want = want; after = after; kept = kept; call = call })
+keeps_all code kind effects size_of laws want after kept call =
+    keeps_to_end (record { code = code; kind = kind; effects = effects; size_of = size_of; laws = laws })
+    (record { want = want; after = after; kept = kept; call = call })

@@ -26,7 +26,7 @@ module _ {T : Type 0} (F : Family T) (May : Trace T → Turn T → Type 0) (laws
   both before (x ∷ xs) ys a b = (a.0, both (before ++ x ∷ []) xs ys a.1 b)
 
   ending_right : (p : ℕ) (start : Start T) (o : Option (Answer T)) (before : List (Event T)) → AreRight P before (ending_of p start o)
-  ending_right x0 x1 x2 x3 = grind arith
+  ending_right = grind arith
 
   module _ (t : Trace T) (s : Sound F t) where
     -- what a call at this place is handed
@@ -36,7 +36,7 @@ module _ {T : Type 0} (F : Family T) (May : Trace T → Turn T → Type 0) (laws
 
     answer_right : (p n : ℕ) (x : Party T) → party_of p t.world.latest ≡ Some x → (doing : Doing T)
         → x.doing ≡ doing → HandedAt n doing → AreRight P t.events (events_of_answer t.world p x n doing)
-    answer_right x0 x1 x2 x3 x4 x5 x6 = grind (arith, both, step_in, ending_right)
+    answer_right = grind (arith, both, step_in, ending_right)
 
     next_right : (p : ℕ) (o : Option (Party T)) → party_of p t.world.latest ≡ o → AreRight P t.events (events_of_next t.world p o)
     next_right p None e = tt
@@ -49,14 +49,14 @@ module _ {T : Type 0} (F : Family T) (May : Trace T → Turn T → Type 0) (laws
     decision_right : (p : ℕ) (said : Bool) (o : Option (Party T)) → party_of p t.world.latest ≡ o
         → is_due t.world.coding (flight_of (doing_of o)) ≡ true
         → AreRight P t.events (events_of_decision t.world p said o)
-    decision_right x0 x1 x2 x3 x4 = grind arith
+    decision_right = grind arith
 
     -- a decision is only taken where one is due
     due_of : (p : ℕ) (said : Bool) → call_refusal t.world (Decide p said) ≡ None → is_due t.world.coding (flight_in t.world p) ≡ true
-    due_of x0 x1 x2 = grind arith
+    due_of = grind arith
 
     turn_right : (turn : Turn T) → call_refusal t.world turn ≡ None → AreRight P t.events (events_of t.world turn)
-    turn_right x0 x1 = grind (arith, next_right, decision_right, due_of)
+    turn_right = grind (arith, next_right, decision_right, due_of)
 
   attempt_right : (t : Trace T) (turn : Turn T) (o : Option Refusal) → call_refusal t.world turn ≡ o → Sound F t
       → Each P t.events → Each P (unless_refused t (after_turn t turn) o).events

@@ -15,7 +15,7 @@ use Rattle.history.proofs.Robusts.{is_open_set, robust_size}
 -- ---- what a cell says
 
 cell_tells : (o : Option ℕ) (owner k : ℕ) → owner < empty → k ≡ cell_of o → k ≡ owner → o ≡ Some owner
-cell_tells x0 x1 x2 x3 x4 x5 = grind arith
+cell_tells = grind arith
 
 cell_denies : (o : Option ℕ) (owner k : ℕ) → k ≡ cell_of o → k ≢ owner → o ≢ Some owner
 cell_denies o owner k is ne e = ne (is ∙ ap cell_of e)
@@ -39,7 +39,7 @@ module _ {T : Type 0} (code : Coding T) (capacity index k : ℕ) (low : index < 
 
 module _ {T : Type 0} where
   held_later : (P : List (Event T) → Type 0) (old mid new : List (Event T)) → IsBeginning mid new → HeldBetween P old mid → HeldBetween P old new
-  held_later x0 x1 x2 x3 x4 x5 = grind (arith, begins_further)
+  held_later = grind (arith, begins_further)
 
   held_now : (P : List (Event T) → Type 0) (old new : List (Event T)) → IsBeginning old new → P new → HeldBetween P old new
   held_now P old new on now = grind (arith, itself)
@@ -52,7 +52,7 @@ module _ {T : Type 0} where
     HadNot new index = HeldBetween (λ es. filled_of index es ≢ Some owner) old new
 
     pub owned_none : (new : List (Event T)) → WereOwned owner 0 [] old new
-    owned_none x0 = grind arith
+    owned_none = grind arith
 
     pub owned_later : (bound : ℕ) (indices : List ℕ) (mid new : List (Event T)) → IsBeginning mid new → WereOwned owner bound indices old mid
         → WereOwned owner bound indices old new

@@ -13,7 +13,7 @@ module _ {T : Type 0} (owner : ℕ → ℕ) (j c i : ℕ) where
   MovesIt = Moves (claims i) (frees i) (holder_after i) owner j
 
   moves : (before : List (Event T)) (e : Event T) → HoldsRight c before e → MovesIt before e
-  moves x0 x1 x2 = grind arith
+  moves = grind arith
 
   all_move : (all : List (Event T)) → Each (HoldsRight c) all → Each MovesIt all
   all_move all each before after e is = moves before e (each before after e is)

@@ -75,33 +75,33 @@ module _ {T : Type 0} (c : ℕ) where
 
   push_acts : (r : Ring) (p : ℕ) (v : Val T (kind_of r)) (o : Option (Answer T)) (before : List (Event T))
       → producer_of before ≡ Some p → Right before (acts_if_done p (push_of r v) o)
-  push_acts x0 x1 x2 x3 x4 x5 = grind arith
+  push_acts = grind arith
 
   pop_acts : (p : ℕ) (o : Option (Answer T)) (before : List (Event T)) → consumer_of before ≡ Some p → Right before (acts_if_done p Pop o)
   pop_acts p None before holds = tt
   pop_acts p (Some answer) before holds = ((holds, tt), tt)
 
   ending_right : (p : ℕ) (start : Start T) (o : Option (Answer T)) (before : List (Event T)) → Right before (ending_of p start o)
-  ending_right x0 x1 x2 x3 = grind arith
+  ending_right = grind arith
 
   push_right : (r : Ring) (p : ℕ) (v : Val T (kind_of r)) (item : Item T) (stage : PushStage)
       (o : Option (Answer T)) (before : List (Event T))
       → producer_of before ≡ Some p → RoomAt before stage
       → Right before (effects_of p (push_of r v) (push_effect item stage) o)
-  push_right x0 x1 x2 x3 x4 x5 x6 x7 x8 = grind (arith, push_acts, fold-append)
+  push_right = grind (arith, push_acts, fold-append)
 
   pop_right : (p : ℕ) (item : Item T) (stage : PopStage) (o : Option (Answer T)) (before : List (Event T))
       → consumer_of before ≡ Some p → FirstAt before item stage
       → Right before (effects_of p Pop (pop_effect item stage) o)
-  pop_right x0 x1 x2 x3 x4 x5 x6 = grind (arith, pop_acts, fold-append)
+  pop_right = grind (arith, pop_acts, fold-append)
 
   -- what a push and a pop know of the list, where these values wait
   module _ {V : Type 0} (code : Coding V) (named : V → Item T) (k : Core V) (before : List (Event T)) (same : waiting before ≡ map named k.waiting) where
     room_at : (v : V) (stage : PushStage) → KnowsPush code c k v stage → RoomAt before stage
-    room_at x0 x1 x2 = grind (arith, length, waiting, length-map)
+    room_at = grind (arith, length, waiting, length-map)
 
     first_at : (words : List ℕ) (stage : PopStage) → KnowsPop code c k words stage → FirstAt before (named (value_in code.value_of code.size words)) stage
-    first_at x0 x1 x2 = grind arith
+    first_at = grind arith
 
   module _ (en : Coding T) (words : List ℕ) (waits : Option (ℕ × ℕ)) (p n : ℕ) (ro : Roles)
       (before : List (Event T)) (producers : producer_of before ≡ ro.producer)
@@ -148,10 +148,10 @@ module _ {T : Type 0} (c : ℕ) where
 
       answer_right : (p n : ℕ) (x : Party T) → party_of p t.world.latest ≡ Some x → (doing : Doing T)
           → x.doing ≡ doing → Right t.events (events_of_answer t.world p x n doing)
-      answer_right x0 x1 x2 x3 x4 x5 = grind (arith, stands_there, family, same_kept, both, step_in, any_right, ending_right)
+      answer_right = grind (arith, stands_there, family, same_kept, both, step_in, any_right, ending_right)
 
       next_right : (p : ℕ) (o : Option (Party T)) → party_of p t.world.latest ≡ o → Right t.events (Rattle.model.specs.Turns.events_of_next t.world p o)
-      next_right x0 x1 x2 = grind (arith, answer_right)
+      next_right = grind (arith, answer_right)
 
       decision_right : (p : ℕ) (said : Bool) (o : Option (Party T)) → party_of p t.world.latest ≡ o
           → Right t.events (Rattle.model.specs.Turns.events_of_decision t.world p said o)
@@ -159,7 +159,7 @@ module _ {T : Type 0} (c : ℕ) where
       decision_right p said (Some x) e = answer_right p (number_of said) x e x.doing refl
 
       turn_right : (turn : Turn T) → Right t.events (events_of t.world turn)
-      turn_right x0 = grind (arith, next_right, decision_right)
+      turn_right = grind (arith, next_right, decision_right)
 
     abbrev AllBy : Trace T → Type 0
     AllBy t = Each Rightly t.events
@@ -280,12 +280,12 @@ module _ {T : Type 0} (p : ℕ) where
   back_from : (role : Side) (before : List (Event T)) (e : Event T) → ByHolderOf role before e
       → is_party p (whose e) ≡ false → role_after role (held role before) e ≡ Some p
       → (held role before ≡ Some p) × (marks role e ≡ [])
-  back_from x0 x1 x2 x3 x4 x5 = grind arith
+  back_from = grind arith
 
   forth_from : (role : Side) (before : List (Event T)) (e : Event T) → ByHolderOf role before e
       → GrantsRight before e → is_party p (whose e) ≡ false → held role before ≡ Some p
       → (marks role e ≡ []) × (role_after role (Some p) e ≡ Some p)
-  forth_from x0 x1 x2 x3 x4 x5 x6 = grind arith
+  forth_from = grind arith
 
 module _ {T : Type 0} where
   pub one_holder : (role : Side) → HasOneHolder (queue_role {T = T} role)

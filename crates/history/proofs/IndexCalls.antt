@@ -2,7 +2,7 @@
 use Rattle.history.proofs.Names.{◌≡◌, inl, ℕ, ◌+◌, ◌<◌, Bool, true, false, None, List, [], ◌∷◌}
 use Rattle.history.proofs.Names.{◌++◌, refl, arith, went_on, Ask, After}
 use Rattle.history.proofs.Names.{GoOn, ReleaseState, load, Answer, Event, Freed, Flight, Coding}
-use Rattle.history.proofs.Names.{as_it_is, as_call, answer_in, answered, KeepsRule}
+use Rattle.history.proofs.Names.{as_it_is, as_call, answer_in, answered}
 use Rattle.steps.specs.Indices.Head.{flag_word, proposed}
 use Rattle.steps.specs.Indices.Unique.{borrowed_after, locked_after, Acquired, first_acquire, acquire_asks}
 use Rattle.steps.specs.Indices.Unique.{acquire_want, acquire_takes}
@@ -29,11 +29,12 @@ use Rattle.model.specs.Families.Indices.Steps.{ended}
 use Rattle.laws_indices.proofs.Core as core
 use Rattle.history.specs.declared.view.View.{View}
 use Rattle.history.specs.Held.{Holds}
-use Rattle.history.specs.History.{IsMachine}
 use Rattle.history.specs.Indices.{StandsIn, claimed_by, takes_index, freed_at, gives_index, given_by, gives_or_locks, counts_out, looks_locked}
-use Rattle.history.specs.Stages.{At, Ends}
-use Rattle.history.proofs.Drives.{IsCallOf, goes, keeps_all}
-use Rattle.history.proofs.Indices.{index_effects, indices_owe, plain_starts, release_starts}
+use Rattle.history.specs.Stages.{At}
+use Rattle.history.proofs.Drives.{goes, keeps_to_end}
+use Rattle.history.proofs.Indices.{index_effects, plain_starts, release_starts}
+use Rattle.history.proofs.CallsIn.{Driven, IsCallBy, KeepsEnds}
+use Rattle.history.proofs.Indices.{index_machines}
 
 -- ---- acquire
 
@@ -43,7 +44,7 @@ Standing n (Done e) = Unit {0}
 
 module _ (n : ℕ) (c : Acquiring) (same : c.capacity ≡ n) (some : 0 < n) where
   takes_on : (stage : AcquireStage) (k : ℕ) → StandsIn n stage → Standing n (acquire_takes c stage k)
-  takes_on x0 x1 x2 = grind arith
+  takes_on = grind arith
 
   asks_one : (stage : AcquireStage) → StandsIn n stage → (a : Ask) × (a.word < core.size n) × (acquire_asks c.capacity stage ≡ wants.Ask a)
   asks_one acquires.LoadsHead h = (_, omega arith, refl)
@@ -54,7 +55,7 @@ module _ (n : ℕ) (c : Acquiring) (same : c.capacity ≡ n) (some : 0 < n) wher
 
 hears_at : (c : Acquiring) (stage : AcquireStage) (a : Ask) (n : ℕ)
     → acquire_asks c.capacity stage ≡ wants.Ask a → acquire_after c (answered a.op n) ≡ acquire_after c n
-hears_at x0 x1 x2 x3 x4 = grind arith
+hears_at = grind arith
 
 module _ {T : Type 0} (code : Coding T) where
   abbrev told_as : After Acquiring Acquired → After (Flight T) (Answer T)
@@ -71,21 +72,20 @@ module _ {T : Type 0} (code : Coding T) where
 
   writes_so : (p : ℕ) (r : After Acquiring Acquired)
       → ended p (answer_in (as_call calls.Acquire acquire_answer (went_on as_it_is tt tt r))) ≡ claimed_in p r
-  writes_so x0 x1 = grind arith
+  writes_so = grind arith
 
-  pub acquire_call : IsCallOf code index_effects core.size acquire_want acquire_after (λ c m n. m) takes_index
+  abbrev pub acquire_driven : Driven T Acquiring (Unit {0}) Acquired
+  acquire_driven = record { want = acquire_want; after = acquire_after; kept = λ c m n. m; call = takes_index }
+
+  pub acquire_call : IsCallBy code index_effects core.size acquire_driven
   acquire_call = grind (arith, as_told, hears_at, takes_on, asks_one, writes_so)
 
-  pub acquire_keeps : KeepsRule (λ (z : View T). z.asked) (λ (z : View T). z.capacity) (At code kinds.Indices takes_index)
-      (Ends code kinds.Indices takes_index) (λ key. core.size key + 1) (λ key. key)
-      (λ key. IsMachine code kinds.Indices key) acquire_want acquire_after (λ c m n. m)
-  acquire_keeps =
-      keeps_all code kinds.Indices index_effects core.size (indices_owe code) acquire_want acquire_after (λ c m n. m)
-      takes_index acquire_call (λ c n. refl)
+  pub acquire_keeps : KeepsEnds code kinds.Indices core.size acquire_driven
+  acquire_keeps = keeps_to_end (index_machines code) acquire_driven acquire_call (λ c n. refl)
 
   pub acquire_first : (v : View T) (m : Unit {0}) → v.going ≡ None → v.other ≡ [] → 0 < v.share.part
       → 0 < v.capacity → At code kinds.Indices takes_index v v (first_acquire v.capacity) m
-  acquire_first x0 x1 x2 x3 x4 x5 = grind (arith, inl, plain_starts)
+  acquire_first = grind (arith, inl, plain_starts)
 
 -- ---- release
 
@@ -96,7 +96,7 @@ StandsBelow n index (Done e) = Unit {0}
 -- whether or not it may lock
 module _ {M : Type 0} (may : Bool) (c : Releasing M) (index : ℕ) where
   gives_on : (n : ℕ) → c.capacity ≡ n → index < n → (stage : ReleaseStage) (k : ℕ) → StandsBelow n index (release_takes may c stage k)
-  gives_on x0 x1 x2 x3 x4 = grind arith
+  gives_on = grind arith
 
   asks_for : (n : ℕ) → c.capacity ≡ n → index < n → (stage : ReleaseStage)
       → (a : Ask) × (a.word < core.size n) × (release_asks may c.capacity index stage ≡ wants.Ask a)
@@ -108,7 +108,7 @@ module _ {M : Type 0} (may : Bool) (c : Releasing M) (index : ℕ) where
 
   gives_heard : (stage : ReleaseStage) (a : Ask) (n : ℕ) → release_asks may c.capacity index stage ≡ wants.Ask a
       → release_takes may c stage (answered a.op n) ≡ release_takes may c stage n
-  gives_heard x0 x1 x2 x3 = grind arith
+  gives_heard = grind arith
 
 abbrev Giving : Type 0
 Giving = Releasing DefaultMode
@@ -133,18 +133,16 @@ module _ {T : Type 0} (code : Coding T) (index : ℕ) where
 
   writes_at : (p : ℕ) (c : Giving) (stage : ReleaseStage) (n : ℕ)
       → freed_at p index stage ++ index_effects p (at_stage c stage) n ≡ freed_in p (release_takes false c stage n)
-  writes_at x0 x1 x2 x3 = grind arith
+  writes_at = grind arith
 
-  pub release_call : IsCallOf code index_effects core.size (λ c. release_want false c index) (λ c n. release_after false c n) (λ c m n. m) (gives_index index)
+  abbrev pub release_driven : Driven T Giving (Unit {0}) ReleaseState
+  release_driven = record { want = λ c. release_want false c index; after = λ c n. release_after false c n; kept = λ c m n. m; call = gives_index index }
+
+  pub release_call : IsCallBy code index_effects core.size release_driven
   release_call = grind (arith, as_given, false, gives_heard, gives_on, asks_for, writes_at)
 
-  pub release_keeps : KeepsRule (λ (z : View T). z.asked) (λ (z : View T). z.capacity) (At code kinds.Indices (gives_index index))
-      (Ends code kinds.Indices (gives_index index)) (λ key. core.size key + 1) (λ key. key)
-      (λ key. IsMachine code kinds.Indices key) (λ c. release_want false c index) (λ c n. release_after false c n)
-      (λ c m n. m)
-  release_keeps =
-      keeps_all code kinds.Indices index_effects core.size (indices_owe code) (λ c. release_want false c index)
-      (λ c n. release_after false c n) (λ c m n. m) (gives_index index) release_call (λ c n. refl)
+  pub release_keeps : KeepsEnds code kinds.Indices core.size release_driven
+  release_keeps = keeps_to_end (index_machines code) release_driven release_call (λ c n. refl)
 
   pub release_first : (v : View T) (m : Unit {0}) → v.going ≡ None → v.other ≡ [] → 0 < v.share.part
       → index < v.capacity → Holds index v.made
@@ -186,18 +184,16 @@ module _ {T : Type 0} (code : Coding T) (index : ℕ) where
 
   locks_at : (p : ℕ) (c : Locking) (stage : ReleaseStage) (n : ℕ)
       → freed_at p index stage ++ index_effects p (lock_stage c stage) n ≡ locked_in p (release_takes true c stage n)
-  locks_at x0 x1 x2 x3 = grind arith
+  locks_at = grind arith
 
-  pub lock_call : IsCallOf code index_effects core.size (λ c. release_want true c index) (λ c n. release_after true c n) (λ c m n. m) (gives_or_locks index)
+  abbrev pub lock_driven : Driven T Locking (Unit {0}) ReleaseState
+  lock_driven = record { want = λ c. release_want true c index; after = λ c n. release_after true c n; kept = λ c m n. m; call = gives_or_locks index }
+
+  pub lock_call : IsCallBy code index_effects core.size lock_driven
   lock_call = grind (arith, as_locked, gives_heard, gives_on, asks_for, locks_at)
 
-  pub lock_keeps : KeepsRule (λ (z : View T). z.asked) (λ (z : View T). z.capacity) (At code kinds.Indices (gives_or_locks index))
-      (Ends code kinds.Indices (gives_or_locks index)) (λ key. core.size key + 1) (λ key. key)
-      (λ key. IsMachine code kinds.Indices key) (λ c. release_want true c index) (λ c n. release_after true c n)
-      (λ c m n. m)
-  lock_keeps =
-      keeps_all code kinds.Indices index_effects core.size (indices_owe code) (λ c. release_want true c index)
-      (λ c n. release_after true c n) (λ c m n. m) (gives_or_locks index) lock_call (λ c n. refl)
+  pub lock_keeps : KeepsEnds code kinds.Indices core.size lock_driven
+  lock_keeps = keeps_to_end (index_machines code) lock_driven lock_call (λ c n. refl)
 
   pub lock_first : (v : View T) (m : Unit {0}) → v.going ≡ None → v.other ≡ [] → 0 < v.share.part
       → index < v.capacity → Holds index v.made
@@ -219,28 +215,26 @@ module _ {T : Type 0} (code : Coding T) (index : ℕ) where
 -- ---- looks at the head
 
 module _ {T : Type 0} (code : Coding T) where
-  pub count_call : IsCallOf code index_effects core.size (λ c. load 0) borrowed_after (λ c m n. m) counts_out
+  abbrev pub count_driven : Driven T Counting (Unit {0}) ℕ
+  count_driven = record { want = λ c. load 0; after = borrowed_after; kept = λ c m n. m; call = counts_out }
+
+  pub count_call : IsCallBy code index_effects core.size count_driven
   count_call = grind arith
 
-  pub count_keeps : KeepsRule (λ (z : View T). z.asked) (λ (z : View T). z.capacity) (At code kinds.Indices counts_out)
-      (Ends code kinds.Indices counts_out) (λ key. core.size key + 1) (λ key. key)
-      (λ key. IsMachine code kinds.Indices key) (λ c. load 0) borrowed_after (λ c m n. m)
-  count_keeps =
-      keeps_all code kinds.Indices index_effects core.size (indices_owe code) (λ c. load 0) borrowed_after (λ c m n. m)
-      counts_out count_call (λ c n. refl)
+  pub count_keeps : KeepsEnds code kinds.Indices core.size count_driven
+  count_keeps = keeps_to_end (index_machines code) count_driven count_call (λ c n. refl)
 
   pub count_first : (v : View T) (c : Counting) (m : Unit {0}) → v.going ≡ None → v.other ≡ [] → 0 < v.share.part → At code kinds.Indices counts_out v v c m
-  count_first x0 x1 x2 x3 x4 x5 = grind (arith, inl, plain_starts)
+  count_first = grind (arith, inl, plain_starts)
 
-  pub look_call : IsCallOf code index_effects core.size (λ c. load 0) locked_after (λ c m n. m) looks_locked
+  abbrev pub look_driven : Driven T Looking (Unit {0}) Bool
+  look_driven = record { want = λ c. load 0; after = locked_after; kept = λ c m n. m; call = looks_locked }
+
+  pub look_call : IsCallBy code index_effects core.size look_driven
   look_call = grind arith
 
-  pub look_keeps : KeepsRule (λ (z : View T). z.asked) (λ (z : View T). z.capacity) (At code kinds.Indices looks_locked)
-      (Ends code kinds.Indices looks_locked) (λ key. core.size key + 1) (λ key. key)
-      (λ key. IsMachine code kinds.Indices key) (λ c. load 0) locked_after (λ c m n. m)
-  look_keeps =
-      keeps_all code kinds.Indices index_effects core.size (indices_owe code) (λ c. load 0) locked_after (λ c m n. m)
-      looks_locked look_call (λ c n. refl)
+  pub look_keeps : KeepsEnds code kinds.Indices core.size look_driven
+  look_keeps = keeps_to_end (index_machines code) look_driven look_call (λ c n. refl)
 
   pub look_first : (v : View T) (c : Looking) (m : Unit {0}) → v.going ≡ None → v.other ≡ [] → 0 < v.share.part → At code kinds.Indices looks_locked v v c m
-  look_first x0 x1 x2 x3 x4 x5 = grind (arith, inl, plain_starts)
+  look_first = grind (arith, inl, plain_starts)

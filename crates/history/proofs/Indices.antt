@@ -27,7 +27,7 @@ use Rattle.history.proofs.Held.{held_by}
 use Rattle.history.proofs.Known.{AreOf}
 use Rattle.history.proofs.Starting.{starts_by_last}
 use Rattle.history.proofs.Paid.{Pays, progress_kept, pays_run}
-use Rattle.history.proofs.Turns.{CallGoesOn, KindLaws}
+use Rattle.history.proofs.Turns.{CallGoesOn, KindLaws, LoneMachines}
 
 module _ {T : Type 0} where
   -- what a step of a set's call writes
@@ -53,23 +53,23 @@ module _ {T : Type 0} (code : Coding T) (capacity : ℕ) where
 
   no_rows : (z : Coding T) (c : ℕ) (kept : Registry T) (holders : List (Option ℕ)) (p : ℕ) (start : Start T) (flight : Flight T)
       → FlightAt c holders p start flight → first_row (going_rows z kept (Some flight) None) ≡ None
-  no_rows x0 x1 x2 x3 x4 x5 x6 x7 = grind arith
+  no_rows = grind arith
 
   writes_there : (z : Coding T) (words : List ℕ) (beside : Option (ℕ × ℕ)) (c p old : ℕ) (kept : Registry T)
       (s : IndexSet) (start : Start T) (flight : Flight T)
       → kept ≡ registries.Indices s.holders → FlightAt c s.holders p start flight
       → (step_of z words beside p start flight old kept).wrote ≡ index_effects p flight old
-  writes_there x0 x1 x2 x3 x4 x5 x6 x7 x8 x9 x10 x11 = grind arith
+  writes_there = grind arith
 
   goes_there : (z : Coding T) (words : List ℕ) (beside : Option (ℕ × ℕ)) (c p old : ℕ) (kept : Registry T)
       (s : IndexSet) (start : Start T) (flight : Flight T)
       → kept ≡ registries.Indices s.holders → FlightAt c s.holders p start flight
       → (step_of z words beside p start flight old kept).after ≡ after_of z flight old
-  goes_there x0 x1 x2 x3 x4 x5 x6 x7 x8 x9 x10 x11 = grind arith
+  goes_there = grind arith
 
   own_there : (c p old : ℕ) (holders : List (Option ℕ)) (start : Start T) (flight : Flight T)
       → FlightAt c holders p start flight → AreOf p (index_effects p flight old)
-  own_there x0 x1 x2 x3 x4 x5 x6 = grind arith
+  own_there = grind arith
 
   goes_on : (t : Trace T) → IsIndices t → (p : ℕ) (start : Start T) (flight : Flight T)
       → call_in t.world p ≡ Some (start, flight)
@@ -172,3 +172,6 @@ module _ {T : Type 0} (code : Coding T) (base : View T) where
           first = rw named (first_is t.world.kept);
           may = rw (named, is_some) (subst (λ k. first_row (kept_rows base.capacity (Release index mode) k by.0) ≡ None) (sym kept.1) free);
         }
+
+abbrev pub index_machines : {T : Type 0} → Coding T → LoneMachines T
+index_machines code = record { code = code; kind = kinds.Indices; effects = index_effects; size_of = core.size; laws = indices_owe code }

@@ -16,7 +16,7 @@ abbrev pub handed_on : ℕ → ℕ → (ℕ → ℕ) → ℕ → ℕ
 handed_on id other owner p = if owner p == other then id else owner p
 
 pub nat_cases : (n p : ℕ) → (n ≤ p) ⊎ (p < n)
-nat_cases x0 x1 = grind arith
+nat_cases = grind arith
 
 pub within : {A : Type 0} → (xs : List A) (i : ℕ) (x : A) → get_elem? xs i ≡ some x → i < length xs
 within [] i x e = absurd (some-ne-none x (sym e))
@@ -34,11 +34,11 @@ nil_right (x ∷ xs) ys e = absurd (cc)
 -- where the one seat takes the other in
 one_both : (owner : ℕ → ℕ) (id other n : ℕ) → id ≢ other → (o : Option ℕ)
     → if_owned owner id o n + if_owned owner other o n ≡ if_owned (handed_on id other owner) id o n
-one_both x0 x1 x2 x3 x4 x5 = grind arith
+one_both = grind arith
 
 -- a third seat keeps its parties
 one_third : (owner : ℕ → ℕ) (id other j n : ℕ) → j ≢ id → j ≢ other → (o : Option ℕ) → if_owned owner j o n ≡ if_owned (handed_on id other owner) j o n
-one_third x0 x1 x2 x3 x4 x5 x6 x7 = grind arith
+one_third = grind arith
 
 module _ {T : Type 0} where
   -- a sum begins with the first
@@ -82,14 +82,14 @@ module _ {T : Type 0} where
 
   -- who did nothing is seen to have done nothing
   pub none_before : (p : ℕ) (seen events : List (Event T)) → IsBeginning seen events → events_by p events ≡ [] → events_by p seen ≡ []
-  none_before x0 x1 x2 x3 x4 = grind (arith, nil_left, by_more)
+  none_before = grind (arith, nil_left, by_more)
 
   -- ---- the events of the parties of one seat
 
   -- the party of an event that did nothing is none
   not_by : (owner : ℕ → ℕ) (j : ℕ) (e : Event T) (es : List (Event T))
       → ((p : ℕ) → owner p ≡ j → events_by p (e ∷ es) ≡ []) → (f : Event T → ℕ) → owned owner j f e ≡ 0
-  not_by x0 x1 x2 x3 x4 x5 = grind arith
+  not_by = grind arith
 
   pub owned_none : (owner : ℕ → ℕ) (j : ℕ) (f : Event T → ℕ) (es : List (Event T))
       → ((p : ℕ) → owner p ≡ j → events_by p es ≡ []) → sum_by (owned owner j f) es ≡ 0
@@ -123,7 +123,7 @@ module _ {T : Type 0} where
 
   -- no party of a seat that is idle has a call under way
   pub idle_seat : (owner : ℕ → ℕ) (t : Trace T) (j : ℕ) (v : View T) → v.going ≡ None → Fits owner t j v → (p : ℕ) → owner p ≡ j → call_in t.world p ≡ None
-  idle_seat x0 x1 x2 x3 x4 x5 x6 x7 = grind arith
+  idle_seat = grind arith
 
   -- ---- what the party did among these events
 
@@ -162,10 +162,10 @@ module _ {T : Type 0} where
       first (Some q) is = ⊎_elim same other (cases_eq q p)
         where
           same : q ≡ p → owned owner j f e ≡ sum_by f (own_of p e)
-          same x0 = grind (arith, mine, owned, own_mine, sum_first, nat_tests)
+          same = grind (arith, mine, owned, own_mine, sum_first, nat_tests)
 
           other : q ≢ p → owned owner j f e ≡ sum_by f (own_of p e)
-          other x0 = grind (arith, own_other, owned, own_mine, nil_left, false, cases_eq, nat_tests)
+          other = grind (arith, own_other, owned, own_mine, nil_left, false, cases_eq, nat_tests)
 
   -- ---- what another may write for a call
 
@@ -174,7 +174,7 @@ module _ {T : Type 0} where
   late_none k late h = h
 
   none_may : (c : Start T × Flight T) → MayBeLate c []
-  none_may x0 = grind arith
+  none_may = grind arith
 
   none_for : (o : Option (Start T × Flight T)) → IsLateFor o []
   none_for None = refl
@@ -193,7 +193,7 @@ module _ {T : Type 0} where
   all_both P (e ∷ a) b x y = (x.0, all_both P a b x.1 y)
 
   may_more : (c : Start T × Flight T) (a b : List (Event T)) → MayBeLate c a → MayBeLate c b → MayBeLate c (a ++ b)
-  may_more x0 x1 x2 x3 x4 = grind (arith, all_both, both_none)
+  may_more = grind (arith, all_both, both_none)
 
   more_for : (o : Option (Start T × Flight T)) (a b : List (Event T)) → IsLateFor o a → IsLateFor o b → IsLateFor o (a ++ b)
   more_for None a b x y = both_none a b x y

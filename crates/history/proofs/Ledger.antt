@@ -6,10 +6,10 @@ use Rattle.history.specs.Known.{owned, if_owned}
 use Rattle.history.proofs.Known.{sum_first}
 
 one_of : (owner : ℕ → ℕ) (j : ℕ) (o : Option ℕ) → if_owned owner j o 1 ≡ 1 → (p : ℕ) × (owner p ≡ j) × (o ≡ Some p)
-one_of x0 x1 x2 x3 = grind arith
+one_of = grind arith
 
 at_most_one : (owner : ℕ → ℕ) (j : ℕ) (o : Option ℕ) → if_owned owner j o 1 ≤ 1
-at_most_one x0 x1 x2 = grind arith
+at_most_one = grind arith
 
 -- what is taken and given back one at a time, and who holds it by the events
 module _ {T : Type 0} (takes gives : Event T → ℕ) (after : Option ℕ → Event T → Option ℕ) where
@@ -22,17 +22,17 @@ module _ {T : Type 0} (takes gives : Event T → ℕ) (after : Option ℕ → Ev
     Moves before e = owned owner j takes e + if_owned owner j (held_in before) 1 ≡ owned owner j gives e + if_owned owner j (after (held_in before) e) 1
 
     pub still : (before : List (Event T)) (e : Event T) → takes e ≡ 0 → gives e ≡ 0 → after (held_in before) e ≡ held_in before → Moves before e
-    still x0 x1 x2 x3 x4 = grind arith
+    still = grind arith
 
     -- a party takes what nobody holds
     pub taken : (before : List (Event T)) (e : Event T) (p : ℕ) → whose e ≡ Some p → takes e ≡ 1 → gives e ≡ 0
         → held_in before ≡ None → after (held_in before) e ≡ Some p → Moves before e
-    taken x0 x1 x2 x3 x4 x5 x6 x7 = grind arith
+    taken = grind arith
 
     -- its holder gives it back
     pub given : (before : List (Event T)) (e : Event T) (p : ℕ) → whose e ≡ Some p → takes e ≡ 0 → gives e ≡ 1
         → held_in before ≡ Some p → after (held_in before) e ≡ None → Moves before e
-    given x0 x1 x2 x3 x4 x5 x6 x7 = grind arith
+    given = grind arith
 
     -- what the parties of a seat took and did not give back is held by one of them
     adds_up : (before es : List (Event T)) → Each Moves (before ++ es)

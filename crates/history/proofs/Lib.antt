@@ -3,11 +3,13 @@ pub mod Known
 pub mod Locks
 pub mod AllSeen
 mod Names
+pub mod Cases
 pub mod Reached
 pub mod Calls
 pub mod StillFits
 pub mod Asked
 pub mod OneRun
+pub mod KindLaws
 pub mod Turns
 pub mod KnownRuns
 pub mod Steps

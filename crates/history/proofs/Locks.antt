@@ -1,9 +1,10 @@
 -- The lock of an index set stays: whoever has seen more has seen it.
-use Rattle.history.proofs.Names.{◌≡◌, Bool, true, false, List, refl, sym, ap, ◌∙◌, Event}
+use Rattle.history.proofs.Names.{◌≡◌, true, false, List, sym, ap, ◌∙◌, Event}
 use Rattle.std.proofs.Common.{true≢false}
 use Rattle.model.specs.Families.Indices.Reading.{is_locked}
 use Rattle.model.proofs.Locks.{locked_later}
 use Rattle.history.specs.History.{IsBeginning}
+use Rattle.history.proofs.Cases.{by_bool}
 
 module _ {T : Type 0} where
   pub lock_stays : {seen events : List (Event T)} → IsBeginning seen events → is_locked seen ≡ true → is_locked events ≡ true
@@ -11,8 +12,7 @@ module _ {T : Type 0} where
       ap is_locked h.is ∙ locked_later seen h.rest shut
 
   pub not_locked : {seen events : List (Event T)} → IsBeginning seen events → is_locked events ≡ false → is_locked seen ≡ false
-  not_locked {seen} {events} h unlocked = go (is_locked seen) refl
-    where
-      go : (b : Bool) → is_locked seen ≡ b → is_locked seen ≡ false
-      go true t = (let shut = lock_stays h t in absurd (true≢false (sym shut ∙ unlocked)))
-      go false t = t
+  not_locked {seen} {events} h unlocked =
+      by_bool (is_locked seen)
+      (λ t. (let shut = lock_stays h t in absurd (true≢false (sym shut ∙ unlocked))))
+      (λ t. t)

@@ -26,10 +26,10 @@ module _ {T : Type 0} (p : ℕ) where
 
   module _ (owner : ℕ → ℕ) (j : ℕ) where
     one_none : owner p ≢ j → (e : Event T) → owned owner j ones e ≡ 0
-    one_none x0 x1 = grind arith
+    one_none = grind arith
 
     one_mine : owner p ≡ j → (e : Event T) → owned owner j ones e ≡ ones e
-    one_mine x0 x1 = grind arith
+    one_mine = grind arith
 
     sum_none : owner p ≢ j → (es : List (Event T)) → sum_by (owned owner j ones) es ≡ 0
     sum_none apart [] = refl
@@ -62,7 +62,7 @@ module _ {T : Type 0} (code : Coding T) (kind : Kind) (size : ℕ) (u v w : View
       nil_right (events_by p u.seen) (events_by p a.mine.rest) (sym (by_more p u.seen a.mine.rest) ∙ (sym (ap (events_by p) a.mine.is) ∙ before))
 
   apart_both : u.other ≡ [] → 0 < u.share.part → (p : ℕ) → b.parties.owner p ≡ b.parties.seat → events_by p (a.mine.rest ++ b.mine.rest) ≡ []
-  apart_both x0 x1 x2 x3 = grind (arith, nothing_of, cases_eq, by_more)
+  apart_both = grind (arith, nothing_of, cases_eq, by_more)
 
   mine_both : w.seen ≡ u.seen ++ (a.mine.rest ++ b.mine.rest)
   mine_both = grind (arith, append_assoc)

@@ -22,7 +22,7 @@ same_rest (x ∷ xs) ys zs e = let rest : xs ++ ys ≡ xs ++ zs = cc in same_res
 
 -- what stands between the same begin and the same end
 pub same_between : {A : Type 0} → (xs ys zs : List A) (b f : A) → xs ++ b ∷ (ys ++ f ∷ []) ≡ xs ++ b ∷ (zs ++ f ∷ []) → ys ≡ zs
-same_between x0 x1 x2 x3 x4 x5 = grind (arith, same_rest, same_end)
+same_between = grind (arith, same_rest, same_end)
 
 module _ {T : Type 0} (start : Start T) where
   -- from the view with which the call began: it is to begin, or its party has begun it and written this
@@ -35,7 +35,7 @@ module _ {T : Type 0} (start : Start T) where
   pub made_with : (base v w : View T) (wrote more : ℕ → List (Event T)) (last es : List (Event T)) (p : ℕ)
       → base.going ≡ None → MadeSoFar base v wrote → IfSome v.party (λ q. q ≡ p) → Since p start es last v w
       → es ≡ more p → w.made ≡ base.made ++ Begun p start ∷ ((wrote p ++ more p) ++ last)
-  made_with x0 x1 x2 x3 x4 x5 x6 x7 x8 x9 x10 x11 x12 = grind (arith, opened, append_assoc)
+  made_with = grind (arith, opened, append_assoc)
 
   pub made_more : (base v w : View T) (wrote more : ℕ → List (Event T)) (es : List (Event T)) (p : ℕ) (flight : Flight T)
       → base.going ≡ None → MadeSoFar base v wrote → IfSome v.party (λ q. q ≡ p) → w.party ≡ Some p

@@ -8,7 +8,7 @@ use Rattle.history.proofs.Names.{PoppedNone, Event, Acted, Start, Flight}
 use Rattle.history.proofs.Names.{QueueStart, PushIndex, Effect}
 use Rattle.history.proofs.Names.{Coding, after_of, ask_of, popped, overflow_push_effect}
 use Rattle.history.proofs.Names.{acts_if_done, Open, longer, own_after, old_of, World, Trace, stands_there}
-use Rattle.history.proofs.Names.{IsFreshOver, overflow_wrote, layout, free, answered, KeepsRule}
+use Rattle.history.proofs.Names.{IsFreshOver, overflow_wrote, layout, free, answered}
 use Rattle.steps.specs.declared.ask.Op.TheVariants.{Load, Store}
 use Rattle.steps.specs.declared.ask.After.TheVariants.{Done}
 use Rattle.steps.specs.declared.ask.Want.TheVariants as wants
@@ -27,17 +27,17 @@ use Rattle.model.specs.Families.Queues.Steps.{effects_of}
 use Rattle.laws_queues.proofs.Queues.Core.{Core, word_at}
 use Rattle.laws_queues.proofs.Queues.Invariant.{family}
 use Rattle.history.specs.declared.view.View.{View}
-use Rattle.history.specs.History.{IsMachine}
 use Rattle.history.specs.Known.{events_by}
 use Rattle.history.specs.Overflow.{IsWithin, over_push_skips, HasPushWord, HasActed, over_push_wrote, pushes_over}
 use Rattle.history.specs.Roles.{HasRole}
-use Rattle.history.specs.Stages.{Calling, At, Over}
+use Rattle.history.specs.Stages.{Calling, At}
 use Rattle.history.proofs.Calls.{stands}
 use Rattle.history.proofs.Drives.{IsCallIn, Met, goes, keeps_in}
 use Rattle.history.proofs.Known.{by_mine}
-use Rattle.history.proofs.Overflows.{over_effects, push_own, overflow_owes}
+use Rattle.history.proofs.Overflows.{over_effects, push_own, overflow_machines}
 use Rattle.history.proofs.QueueCalls.{holds_it}
 use Rattle.history.proofs.Queues.{role_starts, sound_of}
+use Rattle.history.proofs.CallsIn.{Driven, KeepsOver}
 
 -- ---- events within a call
 
@@ -51,7 +51,7 @@ module _ {T : Type 0} where
   within_acts p start (Some answer) = (λ a. refl, tt)
 
   within_effect : (p : ℕ) (start : QueueStart T) (effect : Effect T) (o : Option (Answer T)) → AllByRecursion IsWithin (effects_of p start effect o)
-  within_effect x0 x1 x2 x3 = grind (arith, within_acts, within_both)
+  within_effect = grind (arith, within_acts, within_both)
 
   within_late : (start : Start T) (late : List (Event T))
       → AllByRecursion (λ (e : Event T). (p : ℕ) × (e ≡ Acted p start PoppedNone)) late → AllByRecursion IsWithin late
@@ -94,14 +94,14 @@ module _ {T : Type 0} (code : Coding T) (v : ℕ) where
   pushing = pushes_over v
 
   same_after : (c : Pushing) (m : OneWord) (n : ℕ) → after_of code (pushing.flight c m) n ≡ goes pushing (push_after c n) (push_kept c m n)
-  same_after x0 x1 x2 = grind arith
+  same_after = grind arith
 
   abbrev Next : ℕ → Pushing → Type 0
   Next capacity d = (d.capacity ≡ capacity) × HasPushWord d.stage × ((k : ℕ) → over_push_skips d.stage k ≡ false)
 
   stays : (capacity : ℕ) (c d : Pushing) (n : ℕ) (stage : PushStage) → c.capacity ≡ capacity
       → HasPushWord stage → push_takes c stage n ≡ GoOn d → Next capacity d
-  stays x0 x1 x2 x3 x4 x5 x6 x7 = grind arith
+  stays = grind arith
 
   asks : (capacity own : ℕ) (stage : PushStage) → own ≡ capacity → HasPushWord stage
       → (a : Ask) × (a.word < 4 + (capacity + 1)) × (push_asks own stage v ≡ wants.Ask a)
@@ -119,15 +119,15 @@ module _ {T : Type 0} (code : Coding T) (v : ℕ) where
   Hears c m a n stage = (push_takes c stage (answered a.op n) ≡ push_takes c stage n) × (push_keeps m stage (answered a.op n) ≡ push_keeps m stage n)
 
   hears : (c : Pushing) (m : OneWord) (a : Ask) (n : ℕ) (stage : PushStage) → push_asks c.capacity stage v ≡ wants.Ask a → Hears c m a n stage
-  hears x0 x1 x2 x3 x4 x5 = grind arith
+  hears = grind arith
 
   finds : (n : ℕ) (stage : PushStage) → n < 2 ^ 64 → over_push_skips stage n ≡ false → IsFreshOver n stage
-  finds x0 x1 x2 x3 = grind arith
+  finds = grind arith
 
   leaves : (c : Pushing) (a : Ask) (n : ℕ) (stage : PushStage) → over_push_skips stage n ≡ true
       → push_asks c.capacity stage v ≡ wants.Ask a
       → (written a.op n ≡ n) × (e : PushEnd) × (e ≡ Own) × (push_takes c stage n ≡ Done e)
-  leaves x0 x1 x2 x3 x4 x5 = grind arith
+  leaves = grind arith
 
   -- ---- what it wrote, by the machine
 
@@ -182,9 +182,12 @@ module _ {T : Type 0} (code : Coding T) (v : ℕ) where
       → ((position : ℕ) → slice_index t.world.words (cell_word capacity position) ≡ get_or k.cells (position % (capacity + 1)) 0)
       → old_of t.world.words (ask_of (push_asks capacity stage v)) ≡ n → HasPushWord stage
       → over_push_skips stage n ≡ false → push_takes c stage n ≡ Done e → Tells capacity p c e m n es t.world stage
-  tells_end x0 x1 x2 x3 x4 x5 x6 x7 x8 x9 x10 x11 x12 x13 x14 x15 x16 = grind arith
+  tells_end = grind arith
 
-  pub push_is_call : IsCallIn code kinds.Overflow over_effects (λ capacity. 4 + (capacity + 1)) (λ c. push_want c v) push_after push_kept pushing
+  abbrev pub push_driven : Driven T Pushing OneWord PushEnd
+  push_driven = record { want = λ c. push_want c v; after = push_after; kept = push_kept; call = pushing }
+
+  pub push_is_call : IsCallIn (overflow_machines code) push_driven
   push_is_call =
       record {
         same_want = λ c m. refl;
@@ -215,12 +218,8 @@ module _ {T : Type 0} (code : Coding T) (v : ℕ) where
       }
 
   -- each step of a push keeps the rule of the table: it is a machine
-  pub over_push_keeps : KeepsRule (λ (z : View T). z.asked) (λ (z : View T). z.capacity) (At code kinds.Overflow pushing)
-      (Over code kinds.Overflow pushing) (λ key. 4 + (key + 1) + 1) (λ key. key)
-      (λ key. IsMachine code kinds.Overflow key) (λ c. push_want c v) push_after push_kept
-  over_push_keeps =
-      keeps_in code kinds.Overflow over_effects (λ capacity. 4 + (capacity + 1)) (overflow_owes code)
-      (λ c. push_want c v) push_after push_kept pushing push_is_call
+  pub over_push_keeps : KeepsOver code kinds.Overflow (λ capacity. 4 + (capacity + 1)) push_driven
+  over_push_keeps = keeps_in (overflow_machines code) push_driven push_is_call
 
   pub over_push_first : (x : View T) → x.going ≡ None → x.other ≡ [] → 0 < x.share.part → 0 < x.capacity
       → x.capacity < 2 ^ 32 → HasRole Producer x.made

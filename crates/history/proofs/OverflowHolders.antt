@@ -38,6 +38,7 @@ use Rattle.history.specs.Roles.{ByHolderOf}
 use Rattle.history.proofs.EachEvent.{each_event, IsHanded}
 use Rattle.history.proofs.Holders.{KeepsList, IsListed, listed_in}
 use Rattle.history.proofs.Overflows.{IsOwn, push_effect_own, over_effects, facts, beside_waits}
+use Rattle.history.proofs.Cases.{on_bool}
 
 module _ {T : Type 0} (c : ℕ) where
   abbrev Rightly : List (Event T) → Event T → Type 0
@@ -62,14 +63,14 @@ module _ {T : Type 0} (c : ℕ) where
   -- an event of a call moves no role
   produces : (before : List (Event T)) (e : Event T) (p : ℕ) → ((o : Option ℕ) → producer_after o e ≡ o)
       → producer_of before ≡ Some p → producer_of (before ++ e ∷ []) ≡ Some p
-  produces x0 x1 x2 x3 x4 = grind (arith, fold-append)
+  produces = grind (arith, fold-append)
 
   consumes : (before : List (Event T)) (e : Event T) (p : ℕ) → ((o : Option ℕ) → consumer_after o e ≡ o)
       → consumer_of before ≡ Some p → consumer_of (before ++ e ∷ []) ≡ Some p
-  consumes x0 x1 x2 x3 x4 = grind (arith, fold-append)
+  consumes = grind (arith, fold-append)
 
   push_acts : (p v : ℕ) (o : Option (Answer T)) (before : List (Event T)) → producer_of before ≡ Some p → Right before (acts_if_done p (PushIndex v) o)
-  push_acts x0 x1 x2 x3 x4 = grind arith
+  push_acts = grind arith
 
   pop_acts : (p : ℕ) (o : Option (Answer T)) (before : List (Event T)) → consumer_of before ≡ Some p → Right before (acts_if_done p Pop o)
   pop_acts p None before holds = tt
@@ -77,17 +78,17 @@ module _ {T : Type 0} (c : ℕ) where
 
   push_right : (p v : ℕ) (effect : Effect T) (o : Option (Answer T)) (before : List (Event T)) → IsOwn effect
       → FitsList before effect → producer_of before ≡ Some p → Right before (effects_of p (PushIndex v) effect o)
-  push_right x0 x1 x2 x3 x4 x5 x6 x7 = grind (arith, push_acts, produces, inl)
+  push_right = grind (arith, push_acts, produces, inl)
 
   hands_right : (p : ℕ) (item : Item T) (o : Option (Answer T)) (before : List (Event T))
       → FitsList before (HandsOut item) → consumer_of before ≡ Some p
       → Right before (effects_of p Pop (HandsOut item) o)
-  hands_right x0 x1 x2 x3 x4 x5 = grind (arith, inr, pop_acts, consumes)
+  hands_right = grind (arith, inr, pop_acts, consumes)
 
   -- a pop that makes room moves no role either
   still : (p : ℕ) (item : Item T) (o : Option (Answer T)) (before : List (Event T))
       → producer_of (before ++ effects_of p Pop (HandsOut item) o) ≡ producer_of before
-  still x0 x1 x2 x3 = grind (arith, fold-append)
+  still = grind (arith, fold-append)
 
   takes_right : (p : ℕ) (item : Item T) (waits : Option (ℕ × ℕ)) (o : Option (Answer T)) (before : List (Event T))
       → ((q v : ℕ) → waits ≡ Some (q, v) → producer_of before ≡ Some q) → FitsList before (HandsOut item)
@@ -113,14 +114,12 @@ module _ {T : Type 0} (c : ℕ) where
   pop_right words capacity p n waits pops.LoadsRead o before known fits holds = tt
   pop_right words capacity p n waits (pops.LoadsWrite read) o before known fits holds = pop_acts p o before holds
   pop_right words capacity p n waits (pops.LoadsCell read) o before known fits holds = tt
-  pop_right words capacity p n waits (pops.MovesRead read) o before known fits holds = go (n == read) refl
-    where
-      go : (b : Bool) → (n == read) ≡ b
-          → Right before (effects_of p Pop (cond b (takes_effect (Index (slice_index words (cell_word capacity read))) waits) Quiet) o)
-      go true d =
-          (let is : n ≡ read = grind (arith, nat_tests) in
-          takes_right p (Index (slice_index words (cell_word capacity read))) waits o before known (fits is) holds)
-      go false d = tt
+  pop_right words capacity p n waits (pops.MovesRead read) o before known fits holds =
+      on_bool (λ b. Right before (effects_of p Pop (cond b (takes_effect (Index (slice_index words (cell_word capacity read))) waits) Quiet) o)) (n == read)
+      (λ d.
+      (let is : n ≡ read = grind (arith, nat_tests) in
+      takes_right p (Index (slice_index words (cell_word capacity read))) waits o before known (fits is) holds))
+      (λ d. tt)
 
   -- ---- what a call knows of the list
 
@@ -153,15 +152,14 @@ module _ {T : Type 0} (c : ℕ) where
         go : (b : Bool) → FitsList before (cond b (PublishesAndActs (Index v)) (Publishes (Index v)))
         go true = room
         go false = room
-    push_fits v capacity n (pushes.MovesRead read) size knows found = go (n == read) refl
-      where
-        go : (b : Bool) → (n == read) ≡ b → FitsList before (cond b (TakesOut (slice_index words (cell_word capacity read))) Quiet)
-        go true d =
-            let is : n ≡ read = grind (arith, nat_tests) in
-            let here : read ≡ k.read = sym is ∙ (sym found ∙ is_read) in
-            let some : 0 < length k.waiting = (let is_write = good.write in let far = knows.2 in omega arith) in
-            subst (λ z. FitsList before (TakesOut (slice_index words (cell_word z read)))) (sym size) (front read here some)
-        go false d = tt
+    push_fits v capacity n (pushes.MovesRead read) size knows found =
+        on_bool (λ b. FitsList before (cond b (TakesOut (slice_index words (cell_word capacity read))) Quiet)) (n == read)
+        (λ d.
+        let is : n ≡ read = grind (arith, nat_tests) in
+        let here : read ≡ k.read = sym is ∙ (sym found ∙ is_read) in
+        let some : 0 < length k.waiting = (let is_write = good.write in let far = knows.2 in omega arith) in
+        subst (λ z. FitsList before (TakesOut (slice_index words (cell_word z read)))) (sym size) (front read here some))
+        (λ d. tt)
     push_fits v capacity n (pushes.LoadsCell read) size knows found = tt
 
     pop_fits : (room : OneWord) (capacity n : ℕ) (stage : PopStage) → capacity ≡ c
@@ -188,18 +186,18 @@ module _ {T : Type 0} (c : ℕ) where
     its_read = ap (λ ws. slice_index ws 1) its_words
 
     its_cell : (position : ℕ) → slice_index t.world.words (cell_word c position) ≡ get_or s.state.core.cells (position % (c + 1)) 0
-    its_cell x0 = grind arith
+    its_cell = grind arith
 
     -- a push and a pop are handed what stands in their word
     push_handed : (run : Pushing) (n : ℕ)
         → IsHanded t (flights.Queues (Overflow (overflows.Push run))) n
         → old_of t.world.words (ask_of (push_asks run.call.capacity run.call.stage run.given)) ≡ n
-    push_handed x0 x1 x2 = grind arith
+    push_handed = grind arith
 
     pop_handed : (run : Running Popping (Unit {0}) OneWord) (n : ℕ)
         → IsHanded t (flights.Queues (Overflow (overflows.Pop run))) n
         → old_of t.world.words (ask_of (pop_asks run.call.capacity run.call.stage)) ≡ n
-    pop_handed x0 x1 x2 = grind arith
+    pop_handed = grind arith
 
     over_right : (p n : ℕ) (start : Start T) (flight : Flight T)
         → (family en queues.Overflow c).At s.state p start flight → IsHanded t flight n

@@ -6,7 +6,7 @@ use Rattle.history.proofs.Names.{arith, nat_tests, Ask, Exchange, GoOn, OneWord,
 use Rattle.history.proofs.Names.{Answer, Event, HandedOut, Acted, Item, Start, Queues, Flight, PushIndex}
 use Rattle.history.proofs.Names.{Pop, Coding, after_of, ask_of, beside_of, popped}
 use Rattle.history.proofs.Names.{overflow_pop_effect, takes_effect, old_of, World, Trace, stands_there, oldest}
-use Rattle.history.proofs.Names.{KnowsOverflowPop, free, answered, KeepsRule}
+use Rattle.history.proofs.Names.{KnowsOverflowPop, free, answered}
 use Rattle.steps.specs.declared.ask.Op.TheVariants.{Load}
 use Rattle.steps.specs.declared.ask.After.TheVariants.{Done}
 use Rattle.steps.specs.declared.ask.Want.TheVariants as wants
@@ -22,32 +22,32 @@ use Rattle.model.specs.Families.Queues.Steps.{effects_of}
 use Rattle.laws_queues.proofs.Queues.Core.{word_at}
 use Rattle.laws_queues.proofs.Queues.Invariant.{family}
 use Rattle.history.specs.declared.view.View.{View}
-use Rattle.history.specs.History.{IsMachine}
 use Rattle.history.specs.Known.{events_by}
 use Rattle.history.specs.Overflow.{HasPopWord, pops_over}
 use Rattle.history.specs.Queues.{pop_wrote}
 use Rattle.history.specs.Roles.{HasRole}
-use Rattle.history.specs.Stages.{Calling, At, Ends}
+use Rattle.history.specs.Stages.{Calling, At}
 use Rattle.history.proofs.Calls.{stands}
 use Rattle.history.proofs.Drives.{IsCallIn, Met, goes, keeps_all_in}
 use Rattle.history.proofs.Known.{by_mine}
-use Rattle.history.proofs.Overflows.{over_effects, own_of_effect, overflow_owes, room_by_own, beside_waits}
+use Rattle.history.proofs.Overflows.{over_effects, own_of_effect, overflow_machines, room_by_own, beside_waits}
 use Rattle.history.proofs.QueueCalls.{holds_it}
 use Rattle.history.proofs.Queues.{role_starts, sound_of}
+use Rattle.history.proofs.CallsIn.{Driven, KeepsEnds}
 
 module _ {T : Type 0} (code : Coding T) where
   abbrev popping : Calling T Popping OneWord Bool
   popping = pops_over
 
   same_after : (c : Popping) (m : OneWord) (n : ℕ) → after_of code (popping.flight c m) n ≡ goes popping (pop_after c n) (pop_kept c m n)
-  same_after x0 x1 x2 = grind arith
+  same_after = grind arith
 
   abbrev Next : ℕ → Popping → Type 0
   Next capacity d = (d.capacity ≡ capacity) × HasPopWord d.stage
 
   stays : (capacity : ℕ) (c d : Popping) (n : ℕ) (stage : PopStage) → c.capacity ≡ capacity → HasPopWord stage
       → pop_takes c stage n ≡ GoOn d → Next capacity d
-  stays x0 x1 x2 x3 x4 x5 x6 x7 = grind arith
+  stays = grind arith
 
   asks : (capacity own : ℕ) (stage : PopStage) → own ≡ capacity → HasPopWord stage
       → (a : Ask) × (a.word < 4 + (capacity + 1)) × (pop_asks own stage ≡ wants.Ask a)
@@ -62,7 +62,7 @@ module _ {T : Type 0} (code : Coding T) where
   Hears c m a n stage = (pop_takes c stage (answered a.op n) ≡ pop_takes c stage n) × (pop_keeps m stage (answered a.op n) ≡ pop_keeps m stage n)
 
   hears : (c : Popping) (m : OneWord) (a : Ask) (n : ℕ) (stage : PopStage) → pop_asks c.capacity stage ≡ wants.Ask a → Hears c m a n stage
-  hears x0 x1 x2 x3 x4 x5 = grind arith
+  hears = grind arith
 
   -- ---- what it writes
 
@@ -81,7 +81,7 @@ module _ {T : Type 0} (code : Coding T) where
   quiet : (words : List ℕ) (waits : Option (ℕ × ℕ)) (p n : ℕ) (c d : Popping) (stage : PopStage)
       → pop_takes c stage n ≡ GoOn d
       → effects_of {T = T} p Pop (overflow_pop_effect words waits c.capacity stage n) None ≡ []
-  quiet x0 x1 x2 x3 x4 x5 x6 x7 = grind arith
+  quiet = grind arith
 
   -- where it takes a value out, it writes that of its own, whether or not a push waits
   takes : (p : ℕ) (item : Item T) (answer : Answer T) (waits : Option (ℕ × ℕ))
@@ -132,7 +132,7 @@ module _ {T : Type 0} (code : Coding T) where
       same_kept = s.fit.kept
 
       apart : (q v : ℕ) → beside_of t.world.words t.world.kept t.world.latest p ≡ Some (q, v) → p ≢ q
-      apart x0 x1 x2 x3 = grind (arith, same_kept, beside_waits, s, pop_is_no_push)
+      apart = grind (arith, same_kept, beside_waits, s, pop_is_no_push)
 
   -- what it writes of its own as it ends
   abbrev Tells : ℕ → ℕ → Popping → OneWord → Trace T → PopStage → Bool → Type 0
@@ -147,7 +147,10 @@ module _ {T : Type 0} (code : Coding T) where
       → ((q v : ℕ) → beside_of t.world.words t.world.kept t.world.latest p ≡ Some (q, v) → p ≢ q) → pop_takes c stage n ≡ Done b → Tells p n c m t stage b
   loud x0 x1 x2 x3 x4 x5 x6 x7 x8 x9 x10 = grind arith
 
-  pub over_pop_is_call : IsCallIn code kinds.Overflow over_effects (λ capacity. 4 + (capacity + 1)) pop_want pop_after pop_kept popping
+  abbrev pub pop_driven : Driven T Popping OneWord Bool
+  pop_driven = record { want = pop_want; after = pop_after; kept = pop_kept; call = popping }
+
+  pub over_pop_is_call : IsCallIn (overflow_machines code) pop_driven
   over_pop_is_call =
       record {
         same_want = λ c m. refl;
@@ -170,12 +173,8 @@ module _ {T : Type 0} (code : Coding T) where
             ∙ (ap (events_by p) (effects_end t.world p c b m n e) ∙ loud p n c m b t c.stage h.2 at.front at.apart e)));
       }
 
-  pub over_pop_keeps : KeepsRule (λ (z : View T). z.asked) (λ (z : View T). z.capacity) (At code kinds.Overflow popping)
-      (Ends code kinds.Overflow popping) (λ key. 4 + (key + 1) + 1) (λ key. key)
-      (λ key. IsMachine code kinds.Overflow key) pop_want pop_after pop_kept
-  over_pop_keeps =
-      keeps_all_in code kinds.Overflow over_effects (λ capacity. 4 + (capacity + 1)) (overflow_owes code) pop_want
-      pop_after pop_kept popping over_pop_is_call (λ c n. refl)
+  pub over_pop_keeps : KeepsEnds code kinds.Overflow (λ capacity. 4 + (capacity + 1)) pop_driven
+  over_pop_keeps = keeps_all_in (overflow_machines code) pop_driven over_pop_is_call (λ c n. refl)
 
   pub over_pop_first : (x : View T) → x.going ≡ None → x.other ≡ [] → 0 < x.share.part → 0 < x.capacity
       → x.capacity < 2 ^ 32 → HasRole Consumer x.made

@@ -1,64 +1,50 @@
 -- The calls on the roles and the lengths of the overflowing queue: they are those of an index queue, over one cell more.
 use Rattle.history.proofs.Names.{◌≡◌, ℕ, ◌+◌, ◌-◌, ◌*◌, ◌^◌, ◌<◌, ◌≤◌, nat_lt, false, List, [], ◌∷◌, ◌++◌, replicate}
-use Rattle.history.proofs.Names.{refl, ap, ◌∙◌, arith, nat_tests, After, Want, len_want, len_after, LengthOf, Coding}
+use Rattle.history.proofs.Names.{refl, ap, ◌∙◌, arith, nat_tests, len_want, len_after, LengthOf, Coding}
 use Rattle.history.proofs.Names.{IsCoding, KeepsRule}
 use Rattle.atomic_table.specs.Table.{opening}
 use Rattle.steps.specs.declared.queues.roles.Role.{Role}
-use Rattle.steps.specs.Queues.Roles.{acquire_want, acquire_after, release_want, release_after}
 use Rattle.model.specs.declared.turn.Kind.TheVariants as kinds
 use Rattle.history.specs.declared.view.View.{View}
 use Rattle.history.specs.History.{IsMachine}
-use Rattle.history.specs.Queues.{takes_role, gives_role, counts_waiting}
-use Rattle.history.specs.Stages.{Calling, At, Ends}
+use Rattle.history.specs.Queues.{counts_waiting}
+use Rattle.history.specs.Stages.{At, Ends}
 use Rattle.history.specs.Views.{first_view}
 use Rattle.history.proofs.AnyRoles.{wider}
-use Rattle.history.proofs.Drives.{IsCallIn, in_machine, keeps_all_in, keeps_sized}
-use Rattle.history.proofs.Overflows.{over_effects, overflow_owes}
+use Rattle.history.proofs.Drives.{IsCallIn, KeepsEnds, in_machine, keeps_all_in, keeps_sized}
+use Rattle.history.proofs.Overflows.{over_effects, overflow_machines}
 use Rattle.history.proofs.Passes.{opens}
-use Rattle.history.proofs.QueueRoles.{len_is_call}
+use Rattle.history.proofs.QueueRoles.{acquire_driven, release_driven, len_driven, len_is_call}
 use Rattle.history.proofs.Queues.{queue_effects}
 
 module _ {T : Type 0} (code : Coding T) where
   abbrev words_of : ℕ → ℕ
   words_of capacity = 4 + (capacity + 1)
 
-  abbrev Keeps : {C M E : Type 0} → Calling T C M E → (C → Want (Unit {0})) → (C → ℕ → After C E) → (C → M → ℕ → M) → Type 0
-  Keeps call =
-      KeepsRule (λ (z : View T). z.asked) (λ (z : View T). z.capacity) (At code kinds.Overflow call) (Ends code kinds.Overflow call)
-      (λ key. 4 + (key + 1) + 1) (λ key. key) (λ key. IsMachine code kinds.Overflow key)
-
   low : (capacity : ℕ) → 4 + capacity ≤ words_of capacity
   low capacity = omega arith
 
   module _ (role : Role) where
-    acquires : IsCallIn code kinds.Overflow over_effects words_of acquire_want acquire_after (λ c m n. m) (takes_role role)
+    acquires : IsCallIn (overflow_machines code) (acquire_driven code role)
     acquires = grind arith
 
-    pub over_acquire_keeps : Keeps (takes_role role) acquire_want acquire_after (λ c m n. m)
-    over_acquire_keeps =
-        keeps_all_in code kinds.Overflow over_effects words_of (overflow_owes code) acquire_want acquire_after
-        (λ c m n. m) (takes_role role) acquires (λ c n. refl)
+    pub over_acquire_keeps : KeepsEnds code kinds.Overflow words_of (acquire_driven code role)
+    over_acquire_keeps = keeps_all_in (overflow_machines code) (acquire_driven code role) acquires (λ c n. refl)
 
-    releases : IsCallIn code kinds.Overflow over_effects words_of release_want release_after (λ c m n. m) (gives_role role)
+    releases : IsCallIn (overflow_machines code) (release_driven code role)
     releases = grind arith
 
-    pub over_release_keeps : Keeps (gives_role role) release_want release_after (λ c m n. m)
-    over_release_keeps =
-        keeps_all_in code kinds.Overflow over_effects words_of (overflow_owes code) release_want release_after
-        (λ c m n. m) (gives_role role) releases (λ c n. refl)
+    pub over_release_keeps : KeepsEnds code kinds.Overflow words_of (release_driven code role)
+    over_release_keeps = keeps_all_in (overflow_machines code) (release_driven code role) releases (λ c n. refl)
 
   module _ (which : LengthOf) where
-    counts : (size : ℕ) → IsCallIn code kinds.Overflow over_effects words_of len_want len_after (λ c m n. m) (counts_waiting which size)
+    counts : (size : ℕ) → IsCallIn (overflow_machines code) (len_driven code which size)
     counts size =
-        in_machine code kinds.Overflow over_effects (queue_effects code) words_of len_want len_after (λ c m n. m)
-        (counts_waiting which size) (λ c m late h. h) (λ capacity p c m n t run there. refl)
-        (wider code (queue_effects code) (λ capacity. 4 + capacity) words_of len_want len_after (λ c m n. m)
-        (counts_waiting which size) low (len_is_call code which size))
+        in_machine code kinds.Overflow over_effects (queue_effects code) (len_driven code which size) (λ c m late h. h) (λ capacity p c m n t run there. refl)
+        (wider code (queue_effects code) (λ capacity. 4 + capacity) words_of (len_driven code which size) low (len_is_call code which size))
 
-    len_keeps : (size : ℕ) → Keeps (counts_waiting which size) len_want len_after (λ c m n. m)
-    len_keeps size =
-        keeps_all_in code kinds.Overflow over_effects words_of (overflow_owes code) len_want len_after (λ c m n. m)
-        (counts_waiting which size) (counts size) (λ c n. refl)
+    len_keeps : (size : ℕ) → KeepsEnds code kinds.Overflow words_of (len_driven code which size)
+    len_keeps size = keeps_all_in (overflow_machines code) (len_driven code which size) (counts size) (λ c n. refl)
 
     -- for any capacity
     pub over_lens_keep : KeepsRule (λ (z : View T). z.asked) (λ (z : View T). z.capacity)

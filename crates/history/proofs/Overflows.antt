@@ -27,7 +27,7 @@ use Rattle.history.specs.Known.{events_by, of_none}
 use Rattle.history.proofs.Known.{AreOf, by_other, none_late}
 use Rattle.history.proofs.Calls.{stands, IsStateless, goes_alike}
 use Rattle.history.proofs.Queues.{IsOf, sound_of, sized_so}
-use Rattle.history.proofs.Turns.{StepsOn, MachineLaws}
+use Rattle.history.proofs.Turns.{StepsOn, MachineLaws, SteadyMachines}
 
 -- ---- what the events of an effect are
 
@@ -38,16 +38,16 @@ module _ {T : Type 0} where
   IsOwn effect = Unit {0}
 
   pub own_of_effect : (p : ℕ) (start : QueueStart T) (effect : Effect T) (o : Option (Answer T)) → IsOwn effect → AreOf p (effects_of p start effect o)
-  own_of_effect x0 x1 x2 x3 x4 = grind arith
+  own_of_effect = grind arith
 
   -- a pop that makes room writes as one that does not, and for the push its act
   pub room_by_other : (p q r : ℕ) (item : Item T) (pushed : ℕ) (o : Option (Answer T)) → r ≢ p
       → events_by r (effects_of p Pop (MakesRoom item q pushed) o) ≡ events_by r (Acted q (Queues (PushIndex pushed)) PoppedNone ∷ [])
-  room_by_other x0 x1 x2 x3 x4 x5 x6 = grind arith
+  room_by_other = grind arith
 
   pub room_by_own : (p q : ℕ) (item : Item T) (pushed : ℕ) (o : Option (Answer T)) → p ≢ q
       → events_by p (effects_of p Pop (MakesRoom item q pushed) o) ≡ effects_of p Pop (HandsOut item) o
-  room_by_own x0 x1 x2 x3 x4 x5 = grind arith
+  room_by_own = grind arith
 
   -- ---- what a step of a call writes
 
@@ -66,15 +66,15 @@ module _ {T : Type 0} where
   over_effects w p flight n = []
 
   someone : (w : World T) (p : ℕ) (flight : Flight T) (n : ℕ) → sum_by (λ e. of_none (whose e)) (over_effects w p flight n) ≡ 0
-  someone x0 x1 x2 x3 = grind arith
+  someone = grind arith
 
   -- a push writes for itself
   pub push_effect_own : (words : List ℕ) (capacity : ℕ) (item : Item T) (stage : pushes.PushStage) (n : ℕ)
       → IsOwn (overflow_push_effect words capacity item stage n)
-  push_effect_own x0 x1 x2 x3 x4 = grind arith
+  push_effect_own = grind arith
 
   pub push_own : (w : World T) (p : ℕ) (run : Pushing) (n : ℕ) → AreOf p (over_flight_effects w p (Overflow (overflows.Push run)) n)
-  push_own x0 x1 x2 x3 = grind arith
+  push_own = grind arith
 
 -- ---- what it owes
 
@@ -95,7 +95,7 @@ module _ {T : Type 0} (code : Coding T) (capacity : ℕ) where
     pub facts : (start : Start T) (flight : Flight T) (kept : Registry T) → kept ≡ registries.Queues ro
         → (family en queues.Overflow c).At (record { roles = ro; core = k }) p start flight
         → Facts w p n start flight kept
-    facts x0 x1 x2 x3 x4 = grind arith
+    facts = grind arith
 
   -- ---- for whom a pop writes
 
@@ -109,7 +109,7 @@ module _ {T : Type 0} (code : Coding T) (capacity : ℕ) where
         → (family en queues.Overflow c).At (record { roles = ro; core = k }) q start
         (flights.Queues (Overflow (overflows.Push run)))
         → run.given ≡ v → start ≡ Queues (PushIndex v)
-    start_is x0 x1 x2 x3 x4 x5 x6 x7 = grind arith
+    start_is = grind arith
 
     waiting_push : (position q v : ℕ) (x : Party T) (run : Pushing) (since : ℕ)
         → IsPending position t.world.latest q v x run since → s.state.roles.producer ≡ Some q → Waits t q v
@@ -137,15 +137,15 @@ module _ {T : Type 0} (code : Coding T) (capacity : ℕ) where
   module _ (t : Trace T) where
     -- its act may be late for it, and nothing for another
     late_act : (q v r : ℕ) → Waits t q v → IsLate kinds.Overflow (call_in t.world r) (events_by r (Acted q (Queues (PushIndex v)) PoppedNone ∷ []))
-    late_act x0 x1 x2 x3 = grind arith
+    late_act = grind arith
 
     own_late : (p r : ℕ) (es : List (Event T)) → r ≢ p → AreOf p es → IsLate kinds.Overflow (call_in t.world r) (events_by r es)
-    own_late x0 x1 x2 x3 x4 = grind (arith, by_other, none_late)
+    own_late = grind (arith, by_other, none_late)
 
     module _ (p r n : ℕ) (ne : r ≢ p) (o : Option (Answer T)) where
       takes_late : (item : Item T) (waits : Option (ℕ × ℕ)) → ((q v : ℕ) → waits ≡ Some (q, v) → Waits t q v)
           → IsLate kinds.Overflow (call_in t.world r) (events_by r (effects_of p Pop (takes_effect item waits) o))
-      takes_late x0 x1 x2 = grind (arith, own_late, own_of_effect, room_by_other, late_act)
+      takes_late = grind (arith, own_late, own_of_effect, room_by_other, late_act)
 
       pop_late : (capacity : ℕ) (waits : Option (ℕ × ℕ)) → ((q v : ℕ) → waits ≡ Some (q, v) → Waits t q v)
           → (stage : PopStage)
@@ -207,3 +207,7 @@ module _ {T : Type 0} (code : Coding T) (capacity : ℕ) where
 
   pub overflow_owes : MachineLaws code kinds.Overflow capacity (4 + (capacity + 1)) over_effects
   overflow_owes = record { size = size; steps_on = steps_on; stateless = stateless }
+
+abbrev pub overflow_machines : {T : Type 0} → Coding T → SteadyMachines T
+overflow_machines code =
+    record { code = code; kind = kinds.Overflow; effects = over_effects; size_of = λ capacity. 4 + (capacity + 1); laws = overflow_owes code }

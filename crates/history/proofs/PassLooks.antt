@@ -28,7 +28,7 @@ nothing_left (x ∷ xs) rest e = let same : xs ≡ xs ++ rest = cc in nothing_le
 
 rest_apart : {T : Type 0} (v : View T) (t : Trace T) (late : List (Event T)) (seen : IsBeginning v.seen t.events) (p : ℕ)
     → v.other ≡ [] → late ≡ [] → HasSeenOf p v late t → events_by p seen.rest ≡ []
-rest_apart x0 x1 x2 x3 x4 x5 x6 x7 = grind (arith, nothing_left, append-nil, by_more, nil_right)
+rest_apart = grind (arith, nothing_left, append-nil, by_more, nil_right)
 
 set_again : {A : Type 0} → (xs : List A) (i : ℕ) (x : A) → get_elem? xs i ≡ some x → set xs i x ≡ xs
 set_again [] i x e = refl

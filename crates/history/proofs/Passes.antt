@@ -30,7 +30,7 @@ more zero = refl
 more (suc n) = ap (λ (ys : List ℕ). 0 ∷ ys) (more n)
 
 pub one_more : (n : ℕ) → replicate {A = ℕ} (n + 1) 0 ≡ replicate {A = ℕ} n 0 ++ 0 ∷ []
-one_more x0 = grind (arith, suc, more)
+one_more = grind (arith, suc, more)
 
 -- the element behind the others, or one of them
 at_end : {A : Type 0} → (xs : List A) (x y : A) (j : ℕ) → get_elem? (xs ++ x ∷ []) j ≡ some y → (get_elem? xs j ≡ some y) ⊎ ((j ≡ length xs) × (x ≡ y))
@@ -129,7 +129,7 @@ module _ {T : Type 0} (code : Coding T) (kind : Kind) (capacity : ℕ) where
 
       -- a party of the new seat is its own number
       alone : (p j : ℕ) → j ≡ length s.views → m.owner p ≡ j → length s.views ≤ p
-      alone x0 x1 x2 x3 = grind (arith, nat_cases)
+      alone = grind (arith, nat_cases)
 
       new : (j : ℕ) → j ≡ length s.views → Fits m.owner m.trace j (right_view v)
       new j e =
@@ -228,7 +228,7 @@ module _ {T : Type 0} (code : Coding T) (kind : Kind) (capacity : ℕ) where
       of_id p e = grind (arith, inr, inl, stays, cases_eq)
 
       of_third : (p j : ℕ) → j ≢ id → handed_on id other m.owner p ≡ j → (m.owner p ≡ j) × (m.owner p ≢ other)
-      of_third x0 x1 x2 x3 = grind (arith, moves, stays, cases_eq)
+      of_third = grind (arith, moves, stays, cases_eq)
 
       mine : Fits m.owner m.trace id v
       mine = m.seats id v at
@@ -324,10 +324,10 @@ module _ {T : Type 0} (code : Coding T) (kind : Kind) (capacity : ℕ) where
 
       -- no party is left to it
       never : (p j : ℕ) → j ≡ other → handed_on id other m.owner p ≡ j → ⊥
-      never x0 x1 x2 x3 = grind (arith, moves, stays, cases_eq)
+      never = grind (arith, moves, stays, cases_eq)
 
       gone : (j : ℕ) → j ≡ other → Fits (handed_on id other m.owner) m.trace j spent_view
-      gone x0 x1 = grind (arith, nothing, never, none_late, owned_none)
+      gone = grind (arith, nothing, never, none_late, owned_none)
 
   pub opens : (words : List ℕ) → IsCoding code → capacity_error kind capacity ≡ None
       → words ≡ (opening_of kind).words code.size capacity ++ 0 ∷ [] → Holds (opening words [] (first_view capacity))
@@ -360,4 +360,4 @@ module _ {T : Type 0} (code : Coding T) (kind : Kind) (capacity : ℕ) where
       knew (suc j) v e = absurd (some-ne-none v (sym e))
 
       seats : (j : ℕ) (v : View T) → get_elem? (first_view capacity ∷ []) j ≡ some v → Fits (λ p. p) (worlds.opening code kind capacity 0) j v
-      seats x0 x1 x2 = grind (arith, some-injective, nothing, opens_without, none_late, inl, some-ne-none)
+      seats = grind (arith, some-injective, nothing, opens_without, none_late, inl, some-ne-none)

@@ -4,7 +4,7 @@ use Rattle.history.proofs.Names.{true, false, Option, Some, None, [], refl}
 use Rattle.history.proofs.Names.{arith, nat_tests, written, Ask, After, GoOn, OneWord, after_position}
 use Rattle.history.proofs.Names.{Answer, Flight, PushIndex, Pop}
 use Rattle.history.proofs.Names.{Coding, after_of, words_of_index, popped, push_effect, pop_effect, answered}
-use Rattle.history.proofs.Names.{KeepsRule, IsFresh, Producer, Consumer, holds}
+use Rattle.history.proofs.Names.{IsFresh, Producer, Consumer, holds}
 use Rattle.steps.specs.declared.ask.Op.TheVariants.{Load, Store}
 use Rattle.steps.specs.declared.ask.After.TheVariants.{Done}
 use Rattle.steps.specs.declared.ask.Want.TheVariants as wants
@@ -17,20 +17,21 @@ use Rattle.steps.specs.Queues.Ring.{push_takes, push_after, pop_asks, pop_want}
 use Rattle.steps.specs.Queues.Ring.{pop_takes, pop_after, pop_kept, pop_keeps, pop_answer}
 use Rattle.model.specs.declared.event.Item.TheVariants.{Index}
 use Rattle.model.specs.Families.Queues.Steps.{effects_of}
-use Rattle.history.specs.Stages.{Calling, At, Ends, Over}
+use Rattle.history.specs.Stages.{Calling, At}
 use Rattle.model.specs.declared.turn.Kind.TheVariants as kinds
 use Rattle.history.specs.declared.view.View.{View}
-use Rattle.history.specs.History.{IsMachine}
 use Rattle.history.specs.Roles.{HasRole}
 use Rattle.model.specs.declared.families.queues.QueueKind.TheVariants.{IndexQueue}
 use Rattle.history.specs.Queues.{push_skips, PushStage, pushes_index, Taking, PopStage, pop_wrote}
 use Rattle.history.specs.Queues.{pops_index}
-use Rattle.history.proofs.Drives.{IsCallOf, goes, keeps, keeps_all}
-use Rattle.history.proofs.Queues.{queue_effects, index_owes, role_starts}
+use Rattle.history.proofs.Drives.{goes, keeps, keeps_to_end}
+use Rattle.history.proofs.Queues.{queue_effects, role_starts}
+use Rattle.history.proofs.CallsIn.{Driven, IsCallBy, KeepsEnds, KeepsOver}
+use Rattle.history.proofs.Queues.{index_queue_machines}
 
 -- the holder lacks no role
 pub holds_it : (o : Option ℕ) (p : ℕ) → o ≡ Some p → not (holds o p) ≡ false
-holds_it x0 x1 x2 = grind arith
+holds_it = grind arith
 
 module _ {T : Type 0} (code : Coding T) (v : ℕ) where
   abbrev call : Calling T (Push ℕ) (Unit {0}) Bool
@@ -40,7 +41,7 @@ module _ {T : Type 0} (code : Coding T) (v : ℕ) where
   in_all r m = goes call r m
 
   same_after : (c : Push ℕ) (m : Unit {0}) (n : ℕ) → after_of code (call.flight c m) n ≡ in_all (push_after 1 c n) m
-  same_after x0 x1 x2 = grind arith
+  same_after = grind arith
 
   -- the events of a step that goes on, and of one that ends
   effects_on : (p : ℕ) (c d : Push ℕ) (m : Unit {0}) (n : ℕ) → push_after 1 c n ≡ GoOn d
@@ -49,13 +50,13 @@ module _ {T : Type 0} (code : Coding T) (v : ℕ) where
 
   quiet : (p n : ℕ) (c d : Push ℕ) (stage : pushes.PushStage) → push_takes 1 c stage n ≡ GoOn d
       → effects_of {T = T} p (PushIndex v) (push_effect (Index v) stage) None ≡ []
-  quiet x0 x1 x2 x3 x4 x5 = grind arith
+  quiet = grind arith
 
   -- where it stands next
   stays : (capacity : ℕ) (c d : Push ℕ) (n : ℕ) (stage : pushes.PushStage) → c.capacity ≡ capacity
       → PushStage capacity stage → push_takes 1 c stage n ≡ GoOn d
       → (d.capacity ≡ capacity) × PushStage capacity d.stage × ((k : ℕ) → push_skips d.stage k ≡ false)
-  stays x0 x1 x2 x3 x4 x5 x6 x7 = grind arith
+  stays = grind arith
 
   asks : (capacity : ℕ) (stage : pushes.PushStage) → capacity < 2 ^ 32 → PushStage capacity stage
       → (a : Ask) × (a.word < 4 + capacity) × (push_asks words_of_index stage v ≡ wants.Ask a)
@@ -72,27 +73,25 @@ module _ {T : Type 0} (code : Coding T) (v : ℕ) where
 
   hears : (c : Push ℕ) (a : Ask) (n : ℕ) (stage : pushes.PushStage) → push_asks words_of_index stage v ≡ wants.Ask a
       → push_takes 1 c stage (answered a.op n) ≡ push_takes 1 c stage n
-  hears x0 x1 x2 x3 x4 = grind arith
+  hears = grind arith
 
   finds : (n : ℕ) (stage : pushes.PushStage) → n < 2 ^ 64 → push_skips stage n ≡ false → IsFresh n stage
-  finds x0 x1 x2 x3 = grind arith
+  finds = grind arith
 
   leaves : (c : Push ℕ) (a : Ask) (n : ℕ) (stage : pushes.PushStage) → push_skips stage n ≡ true
       → push_asks words_of_index stage v ≡ wants.Ask a
       → (written a.op n ≡ n) × (e : Bool) × (e ≡ false) × (push_takes 1 c stage n ≡ Done e)
-  leaves x0 x1 x2 x3 x4 x5 = grind arith
+  leaves = grind arith
 
-  pub push_is_call : IsCallOf code (queue_effects code) (λ capacity. 4 + capacity)
-      (λ c. push_want words_of_index c v) (λ c n. push_after 1 c n) (λ c m n. m) call
+  abbrev pub push_driven : Driven T (Push ℕ) (Unit {0}) Bool
+  push_driven = record { want = λ c. push_want words_of_index c v; after = λ c n. push_after 1 c n; kept = λ c m n. m; call = call }
+
+  pub push_is_call : IsCallBy code (queue_effects code) (λ capacity. 4 + capacity) push_driven
   push_is_call = grind (arith, same_after, hears, stays, asks, finds, leaves, queue_effects, effects_on, quiet)
 
   -- each step of a push keeps the rule of the table: it is a machine
-  pub push_keeps : KeepsRule (λ (z : View T). z.asked) (λ (z : View T). z.capacity) (At code kinds.IndexQueue call)
-      (Over code kinds.IndexQueue call) (λ key. 4 + key + 1) (λ key. key) (λ key. IsMachine code kinds.IndexQueue key)
-      (λ c. push_want words_of_index c v) (λ c n. push_after 1 c n) (λ c m n. m)
-  push_keeps =
-      keeps code kinds.IndexQueue (queue_effects code) (λ capacity. 4 + capacity) (index_owes code)
-      (λ c. push_want words_of_index c v) (λ c n. push_after 1 c n) (λ c m n. m) call push_is_call
+  pub push_keeps : KeepsOver code kinds.IndexQueue (λ capacity. 4 + capacity) push_driven
+  push_keeps = keeps (index_queue_machines code) push_driven push_is_call
 
 -- ---- pops
 
@@ -104,7 +103,7 @@ module _ {T : Type 0} (code : Coding T) where
   keeps_it = pop_kept kept_in_one
 
   pop_same_after : (c : Taking) (m : OneWord) (n : ℕ) → after_of code (taking.flight c m) n ≡ goes taking (pop_after 1 c n) (keeps_it c m n)
-  pop_same_after x0 x1 x2 = grind arith
+  pop_same_after = grind arith
 
   pop_effects_on : (p : ℕ) (c d : Taking) (m : OneWord) (n : ℕ) → pop_after 1 c n ≡ GoOn d
       → queue_effects code p (taking.flight c m) n ≡ effects_of p Pop (pop_effect (Index m.0) c.stage) None
@@ -117,16 +116,16 @@ module _ {T : Type 0} (code : Coding T) where
 
   pop_quiet : (p n x : ℕ) (c d : Taking) (stage : pops.PopStage) → pop_takes 1 c stage n ≡ GoOn d
       → effects_of {T = T} p Pop (pop_effect (Index x) stage) None ≡ []
-  pop_quiet x0 x1 x2 x3 x4 x5 x6 = grind arith
+  pop_quiet = grind arith
 
   pop_loud : (p n : ℕ) (c : Taking) (m : OneWord) (b : Bool) (stage : pops.PopStage) → pop_takes 1 c stage n ≡ Done b
       → effects_of {T = T} p Pop (pop_effect (Index m.0) stage) (Some (popped (pop_answer (pop_keeps kept_in_one m stage n).0 b)))
       ≡ pop_wrote p (pop_keeps kept_in_one m stage n).0 b
-  pop_loud x0 x1 x2 x3 x4 x5 x6 = grind arith
+  pop_loud = grind arith
 
   pop_stays : (capacity : ℕ) (c d : Taking) (n : ℕ) (stage : pops.PopStage) → c.capacity ≡ capacity
       → PopStage capacity stage → pop_takes 1 c stage n ≡ GoOn d → (d.capacity ≡ capacity) × PopStage capacity d.stage
-  pop_stays x0 x1 x2 x3 x4 x5 x6 x7 = grind arith
+  pop_stays = grind arith
 
   pop_finds_word : (capacity : ℕ) (stage : pops.PopStage) → capacity < 2 ^ 32 → PopStage capacity stage
       → (a : Ask) × (a.word < 4 + capacity) × (pop_asks stage ≡ wants.Ask a)
@@ -144,17 +143,16 @@ module _ {T : Type 0} (code : Coding T) where
   pop_hears : (c : Taking) (m : OneWord) (a : Ask) (n : ℕ) (stage : pops.PopStage) → pop_asks stage ≡ wants.Ask a
       → (pop_takes 1 c stage (answered a.op n) ≡ pop_takes 1 c stage n)
       × (pop_keeps kept_in_one m stage (answered a.op n) ≡ pop_keeps kept_in_one m stage n)
-  pop_hears x0 x1 x2 x3 x4 x5 = grind arith
+  pop_hears = grind arith
 
-  pub pop_is_call : IsCallOf code (queue_effects code) (λ capacity. 4 + capacity) (λ (c : Taking). pop_want c) (λ c n. pop_after 1 c n) keeps_it taking
+  abbrev pub pop_driven : Driven T Taking OneWord Bool
+  pop_driven = record { want = λ (c : Taking). pop_want c; after = λ c n. pop_after 1 c n; kept = keeps_it; call = taking }
+
+  pub pop_is_call : IsCallBy code (queue_effects code) (λ capacity. 4 + capacity) pop_driven
   pop_is_call = grind (arith, pop_same_after, pop_hears, pop_stays, pop_finds_word, queue_effects, pop_effects_on, pop_quiet, pop_effects_end, pop_loud)
 
-  pub pop_keep_all : KeepsRule (λ (z : View T). z.asked) (λ (z : View T). z.capacity) (At code kinds.IndexQueue taking)
-      (Ends code kinds.IndexQueue taking) (λ key. 4 + key + 1) (λ key. key) (λ key. IsMachine code kinds.IndexQueue key)
-      (λ (c : Taking). pop_want c) (λ c n. pop_after 1 c n) keeps_it
-  pop_keep_all =
-      keeps_all code kinds.IndexQueue (queue_effects code) (λ capacity. 4 + capacity) (index_owes code)
-      (λ (c : Taking). pop_want c) (λ c n. pop_after 1 c n) keeps_it taking pop_is_call (λ c n. refl)
+  pub pop_keep_all : KeepsEnds code kinds.IndexQueue (λ capacity. 4 + capacity) pop_driven
+  pop_keep_all = keeps_to_end (index_queue_machines code) pop_driven pop_is_call (λ c n. refl)
 
   pub push_first : (v : ℕ) (x : View T) (m : Unit {0}) → x.going ≡ None → x.other ≡ [] → 0 < x.share.part
       → x.capacity < 2 ^ 32 → HasRole Producer x.made

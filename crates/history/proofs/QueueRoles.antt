@@ -22,9 +22,10 @@ use Rattle.model.specs.declared.families.queues.QueueKind.TheVariants.{IndexQueu
 use Rattle.model.specs.declared.families.queues.calls.LengthOf.TheVariants as measures
 use Rattle.model.specs.Families.Queues.Opening.{lacks_role}
 use Rattle.history.specs.Queues.{takes_role, gives_role, length_start, counts_waiting}
-use Rattle.history.proofs.Drives.{IsCallOf, goes, keeps_all, keeps_sized}
-use Rattle.history.proofs.Queues.{queue_effects, index_owes, plain_starts, role_starts}
+use Rattle.history.proofs.Drives.{goes, keeps_sized, keeps_to_end}
+use Rattle.history.proofs.Queues.{queue_effects, plain_starts, role_starts, index_queue_machines}
 use Rattle.history.proofs.QueueCalls.{holds_it}
+use Rattle.history.proofs.CallsIn.{Driven, IsCallBy, KeepsEnds}
 
 -- ---- roles
 
@@ -35,15 +36,14 @@ module _ {T : Type 0} (code : Coding T) (role : Role) where
   abbrev releasing : Calling T ReleaseRole (Unit {0}) (Unit {0})
   releasing = gives_role role
 
-  pub acquire_is_call : IsCallOf code (queue_effects code) (λ capacity. 4 + capacity) acquire_want acquire_after (λ c m n. m) acquiring
+  abbrev pub acquire_driven : Driven T AcquireRole (Unit {0}) Bool
+  acquire_driven = record { want = acquire_want; after = acquire_after; kept = λ c m n. m; call = acquiring }
+
+  pub acquire_is_call : IsCallBy code (queue_effects code) (λ capacity. 4 + capacity) acquire_driven
   acquire_is_call = grind arith
 
-  pub acquire_keeps : KeepsRule (λ (z : View T). z.asked) (λ (z : View T). z.capacity) (At code kinds.IndexQueue acquiring)
-      (Ends code kinds.IndexQueue acquiring) (λ key. 4 + key + 1) (λ key. key)
-      (λ key. IsMachine code kinds.IndexQueue key) acquire_want acquire_after (λ c m n. m)
-  acquire_keeps =
-      keeps_all code kinds.IndexQueue (queue_effects code) (λ capacity. 4 + capacity) (index_owes code) acquire_want
-      acquire_after (λ c m n. m) acquiring acquire_is_call (λ c n. refl)
+  pub acquire_keeps : KeepsEnds code kinds.IndexQueue (λ capacity. 4 + capacity) acquire_driven
+  acquire_keeps = keeps_to_end (index_queue_machines code) acquire_driven acquire_is_call (λ c n. refl)
 
   pub acquire_first : (x : View T) (m : Unit {0}) → x.going ≡ None → x.other ≡ [] → 0 < x.share.part
       → At code kinds.IndexQueue acquiring x x (record { word = role_word role }) m
@@ -71,15 +71,14 @@ module _ {T : Type 0} (code : Coding T) (role : Role) where
       none_lacks Producer roles p = refl
       none_lacks Consumer roles p = refl
 
-  pub release_is_call : IsCallOf code (queue_effects code) (λ capacity. 4 + capacity) release_want release_after (λ c m n. m) releasing
+  abbrev pub release_driven : Driven T ReleaseRole (Unit {0}) (Unit {0})
+  release_driven = record { want = release_want; after = release_after; kept = λ c m n. m; call = releasing }
+
+  pub release_is_call : IsCallBy code (queue_effects code) (λ capacity. 4 + capacity) release_driven
   release_is_call = grind arith
 
-  pub release_keeps : KeepsRule (λ (z : View T). z.asked) (λ (z : View T). z.capacity) (At code kinds.IndexQueue releasing)
-      (Ends code kinds.IndexQueue releasing) (λ key. 4 + key + 1) (λ key. key)
-      (λ key. IsMachine code kinds.IndexQueue key) release_want release_after (λ c m n. m)
-  release_keeps =
-      keeps_all code kinds.IndexQueue (queue_effects code) (λ capacity. 4 + capacity) (index_owes code) release_want
-      release_after (λ c m n. m) releasing release_is_call (λ c n. refl)
+  pub release_keeps : KeepsEnds code kinds.IndexQueue (λ capacity. 4 + capacity) release_driven
+  release_keeps = keeps_to_end (index_queue_machines code) release_driven release_is_call (λ c n. refl)
 
   pub release_first : (x : View T) (m : Unit {0}) → x.going ≡ None → x.other ≡ [] → 0 < x.share.part
       → HasRole role x.made → At code kinds.IndexQueue releasing x x (record { word = role_word role }) m
@@ -114,10 +113,10 @@ module _ {T : Type 0} (code : Coding T) (which : LengthOf) (size : ℕ) where
   counting = counts_waiting which size
 
   len_same_after : (c : Len) (m : Unit {0}) (n : ℕ) → c.capacity ≡ size → after_of code (counting.flight c m) n ≡ goes counting (len_after c n) m
-  len_same_after x0 x1 x2 x3 = grind arith
+  len_same_after = grind arith
 
   len_stays : (n : ℕ) (c : Len) (k : ℕ) (d : Len) (stage : LenStage) → c.capacity ≡ n → len_takes c stage k ≡ GoOn d → d.capacity ≡ n
-  len_stays x0 x1 x2 x3 x4 x5 x6 = grind arith
+  len_stays = grind arith
 
   len_asks_for : (capacity : ℕ) (stage : LenStage) → (a : Ask) × (a.word < 4 + capacity) × (len_asks stage ≡ wants.Ask a)
   len_asks_for capacity lengths.LoadsWrite = (record { word = 0; op = Load }, omega arith, refl)
@@ -126,17 +125,16 @@ module _ {T : Type 0} (code : Coding T) (which : LengthOf) (size : ℕ) where
   len_asks_for capacity (lengths.LoadsReadAgain write read) = (record { word = 1; op = Load }, omega arith, refl)
 
   len_hears : (c : Len) (a : Ask) (n : ℕ) (stage : LenStage) → len_asks stage ≡ wants.Ask a → len_takes c stage (answered a.op n) ≡ len_takes c stage n
-  len_hears x0 x1 x2 x3 x4 = grind arith
+  len_hears = grind arith
 
-  pub len_is_call : IsCallOf code (queue_effects code) (λ capacity. 4 + capacity) len_want len_after (λ c m n. m) counting
+  abbrev pub len_driven : Driven T Len (Unit {0}) ℕ
+  len_driven = record { want = len_want; after = len_after; kept = λ c m n. m; call = counting }
+
+  pub len_is_call : IsCallBy code (queue_effects code) (λ capacity. 4 + capacity) len_driven
   len_is_call = grind (arith, len_same_after, len_hears, len_stays, len_asks_for)
 
-  pub len_keeps : KeepsRule (λ (z : View T). z.asked) (λ (z : View T). z.capacity) (At code kinds.IndexQueue counting)
-      (Ends code kinds.IndexQueue counting) (λ key. 4 + key + 1) (λ key. key)
-      (λ key. IsMachine code kinds.IndexQueue key) len_want len_after (λ c m n. m)
-  len_keeps =
-      keeps_all code kinds.IndexQueue (queue_effects code) (λ capacity. 4 + capacity) (index_owes code) len_want
-      len_after (λ c m n. m) counting len_is_call (λ c n. refl)
+  pub len_keeps : KeepsEnds code kinds.IndexQueue (λ capacity. 4 + capacity) len_driven
+  len_keeps = keeps_to_end (index_queue_machines code) len_driven len_is_call (λ c n. refl)
 
   pub len_first : (x : View T) (m : Unit {0}) → x.capacity ≡ size → x.going ≡ None → x.other ≡ [] → 0 < x.share.part
       → At code kinds.IndexQueue counting x x (first_len size) m

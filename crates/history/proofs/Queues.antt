@@ -35,11 +35,11 @@ use Rattle.history.proofs.Calls.{stands, IsStateless}
 use Rattle.history.proofs.Reached.{queue_run}
 use Rattle.model.specs.Promises.Families.{promise_of}
 use Rattle.history.proofs.Paid.{Pays, progress_kept, pays_run}
-use Rattle.history.proofs.Turns.{CallGoesOn, KindLaws}
+use Rattle.history.proofs.Turns.{CallGoesOn, KindLaws, LoneMachines}
 
 held_there : {T : Type 0} (role : Role) (roles : Roles) (events : List (Event T))
     → KeepsHolders (registries.Queues roles) events → holder role roles ≡ fold (role_after role) None events
-held_there x0 x1 x2 x3 = grind arith
+held_there = grind arith
 
 module _ {T : Type 0} (code : Coding T) where
   -- what a step of a call on a bounded queue writes
@@ -64,7 +64,7 @@ module _ {T : Type 0} (code : Coding T) where
   -- ---- they are events of its party
 
   effects_own : (p : ℕ) (flight : Flight T) (n : ℕ) → AreOf p (queue_effects p flight n)
-  effects_own x0 x1 x2 = grind arith
+  effects_own = grind arith
 
 -- ---- of a queue of any kind
 
@@ -73,7 +73,7 @@ module _ {T : Type 0} (code : Coding T) (capacity : ℕ) (kd : QueueKind) where
   IsOf t = IsRun code (machine_kind kd) capacity t
 
   pub sound_of : (t : Trace T) → IsOf t → frame.Sound (family t.world.coding kd t.world.capacity) t
-  sound_of x0 x1 = grind (arith, queue_run, sound_on)
+  sound_of = grind (arith, queue_run, sound_on)
 
   cell_sizes : (q : QueueKind) (z : Coding T) → (encoded z q).size * cells_of q capacity ≡ words_of_cell z.size q * cells_of q capacity
   cell_sizes IndexQueue z = refl
@@ -118,7 +118,7 @@ module _ {T : Type 0} (code : Coding T) (capacity : ℕ) (r : Ring) where
       (start : Start T) (flight : Flight T) (kept : Registry T)
       → kept ≡ registries.Queues q.roles → (family z (kind_of r) c).At q p start flight
       → Facts z words waits p n start flight kept
-  facts x0 x1 x2 x3 x4 x5 x6 x7 x8 x9 x10 x11 = grind arith
+  facts = grind arith
 
   goes_on : (t : Trace T) → IsBounded t → (p : ℕ) (start : Start T) (flight : Flight T)
       → call_in t.world p ≡ Some (start, flight)
@@ -250,3 +250,11 @@ module _ {T : Type 0} (code : Coding T) (kd : QueueKind) (base : View T) where
         let keeps : KeepsHolders (registries.Queues kept.0) t.events = subst (λ k. KeepsHolders k t.events) kept.1 queue.holders in
         as_party call start c m named first_is t owner j by.0 run by.1 (by_any base.party by.0) kept.0 kept.1
         (free kept.0 by.0 (held_there role kept.0 t.events keeps ∙ by.2))
+
+abbrev pub index_queue_machines : {T : Type 0} → Coding T → LoneMachines T
+index_queue_machines code =
+    record { code = code; kind = kinds.IndexQueue; effects = queue_effects code; size_of = λ capacity. 4 + capacity; laws = index_owes code }
+
+abbrev pub queue_machines : {T : Type 0} → Coding T → LoneMachines T
+queue_machines code =
+    record { code = code; kind = kinds.Queue; effects = queue_effects code; size_of = λ capacity. 4 + code.size * capacity; laws = values_owe code }

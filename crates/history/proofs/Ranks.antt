@@ -46,7 +46,7 @@ module _ {T A : Type 0} (hit : Event T → List A) where
   -- a rank is below how much all events tell
   pub rank_low : (events before after : List (Event T)) (e : Event T) (x : A) → hit e ≡ x ∷ []
       → events ≡ before ++ e ∷ after → length (hits before) < length (hits events)
-  rank_low x0 x1 x2 x3 x4 x5 x6 = grind (arith, length, flat_map-append, length-append)
+  rank_low = grind (arith, length, flat_map-append, length-append)
 
   pub hits_grow : (old before : List (Event T)) → IsBeginning old before → length (hits old) ≤ length (hits before)
-  hits_grow x0 x1 x2 = grind (arith, length, flat_map-append, length-append)
+  hits_grow = grind (arith, length, flat_map-append, length-append)

@@ -24,7 +24,7 @@ module _ {T : Type 0} where
   -- of its rows are those of a begin in a history
   pub rows_free : (kind : Kind) (capacity : ℕ) (kept : Registry T) (p : ℕ) (start : Start T) → first_row (begin_rows kind capacity kept p start) ≡ None
       → first_row (rows_as kind capacity kept p start) ≡ None
-  rows_free x0 x1 x2 x3 x4 x5 = grind arith
+  rows_free = grind arith
 
   -- a step is refused alike
   pub next_as : (kind : Kind) (w : World T) (p : ℕ) → call_refusal w (Next p) ≡ None → refusal_as kind w (Next p) ≡ None
@@ -35,7 +35,7 @@ module _ {T : Type 0} where
   -- where threads answer its questions no answer is refused
   pub decide_as : (kind : Kind) → MayDecide kind → (w : World T) (p : ℕ) (said : Bool) (flight : Flight T) → flight_in w p ≡ Some flight
       → is_question (want_of w.coding flight) ≡ true → refusal_as kind w (Decide p said) ≡ None
-  decide_as x0 x1 x2 x3 x4 x5 x6 x7 = grind arith
+  decide_as = grind arith
 
   pub reached_as_more : (kind : Kind) (t : Trace T) (turn : Turn T) → refusal_as kind t.world turn ≡ None → IsReachedAs kind t
       → IsReachedAs kind (after_turn t turn)
@@ -45,7 +45,7 @@ module _ {T : Type 0} where
 
   pub fresh_as_more : (kind : Kind) (t : Trace T) (turn : Turn T) → refusal_as kind t.world turn ≡ None → IsFreshTurn t turn → IsFreshAs kind t
       → IsFreshAs kind (after_turn t turn)
-  fresh_as_more x0 x1 x2 x3 x4 x5 = grind (arith, fresh_more)
+  fresh_as_more = grind (arith, fresh_more)
 
   -- ---- the opening
 
@@ -56,7 +56,7 @@ module _ {T : Type 0} where
   reached_as_opening code kind capacity parties coded e = record { coded = coded; admitted = e; turns = []; is = refl }
 
   pub fresh_as_opening : (code : Coding T) (kind : Kind) (capacity parties : ℕ) → IsFreshAs kind (opening code kind capacity parties)
-  fresh_as_opening x0 x1 x2 x3 = grind arith
+  fresh_as_opening = grind arith
 
   -- ---- each kind but the two on owners
 
@@ -67,4 +67,4 @@ module _ {T : Type 0} where
 
 -- so it is of a queue of any kind
 pub queue_run : {T : Type 0} (code : Coding T) (capacity : ℕ) (kd : QueueKind) (t : Trace T) → IsRun code (machine_kind kd) capacity t → IsRunOn t
-queue_run x0 x1 x2 x3 x4 = grind arith
+queue_run = grind arith

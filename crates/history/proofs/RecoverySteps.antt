@@ -45,7 +45,7 @@ recover_words size capacity given (recovers.AddsChange state) h still = (_, chan
 -- what it hears of an operation is what it found
 pub recover_found : (size capacity : ℕ) (given : DeadOwner) (stage : RecoverStage) (a : Ask) (n : ℕ)
     → recover_asks size capacity stage given.owner ≡ wants.Ask a → answered a.op n ≡ n
-recover_found x0 x1 x2 x3 x4 x5 x6 = grind arith
+recover_found = grind arith
 
 module _ {T R : Type 0} (size : ℕ) (c : Recovering T R) (given : DeadOwner) where
   -- after an answer it goes on, to a word
@@ -58,7 +58,7 @@ module _ {T R : Type 0} (size : ℕ) (c : Recovering T R) (given : DeadOwner) wh
 
   pub answers_on : (stage : RecoverStage) (n : ℕ) → is_question (recover_asks size c.capacity stage given.owner) ≡ true
       → AnswersOn (recover_takes size c stage given n)
-  answers_on x0 x1 x2 = grind arith
+  answers_on = grind arith
 
 -- ---- where it goes on, and what it has written then
 
@@ -102,11 +102,11 @@ module _ {T R : Type 0} (code : Coding T) (some : 0 < code.size) (words_in : R �
   -- where a step goes on, with which visits, and with what it wrote
   so_then : (now : T) (r s : After (Recovering T R) ReleaseState) (xs ys : Visits) (es fs : List (Event T)) → r ≡ s → xs ≡ ys → es ≡ fs
       → RecoverGoes now ys fs s → RecoverGoes now xs es r
-  so_then x0 x1 x2 x3 x4 x5 x6 x7 x8 x9 x10 = grind arith
+  so_then = grind arith
 
   comes_to : (now : T) (index : ℕ) → index ≤ capacity → (visits : Visits) (es : List (Event T)) → es ≡ written visits
       → RecoverGoes now visits es (recover_comes_to c index)
-  comes_to x0 x1 x2 x3 x4 x5 = grind (arith, by_test, goes_to, clothed, nat_tests)
+  comes_to = grind (arith, by_test, goes_to, clothed, nat_tests)
 
   next_to : (now : T) (index : ℕ) → index < capacity → (visits : Visits) (es : List (Event T)) → es ≡ written visits
       → RecoverGoes now visits es (recover_comes_to c (index + 1))
@@ -115,7 +115,7 @@ module _ {T R : Type 0} (code : Coding T) (some : 0 < code.size) (words_in : R �
   -- it has written more of the index that it came to last
   further : (index : ℕ) (came next : Came T) (before : Visits) (es more : List (Event T)) → es ≡ written ((index, came) ∷ before)
       → of_one index came ++ more ≡ of_one index next → es ++ more ≡ written ((index, next) ∷ before)
-  further x0 x1 x2 x3 x4 x5 x6 x7 = grind (arith, append_assoc)
+  further = grind (arith, append_assoc)
 
   -- a yes is told with the next step
   told_even : (index count : ℕ) → is_even count ≡ true → told_yet {T = T} p given.owner (recovers.EmptiesCell index count) ≡ []
@@ -126,27 +126,27 @@ module _ {T R : Type 0} (code : Coding T) (some : 0 < code.size) (words_in : R �
 
   told_then : (index count : ℕ) (came : Came T) → IsToFree count came
       → of_one index came ++ told_yet p given.owner (recovers.EmptiesCell index count) ≡ of_one index (told came)
-  told_then x0 x1 x2 x3 = grind arith
+  told_then = grind arith
 
   freed_then : (index count : ℕ) (came : Came T) → IsToFree count came
       → of_one index (told came) ++ FreedOf p index given.owner ∷ [] ≡ of_one index (freed came)
-  freed_then x0 x1 x2 x3 = grind arith
+  freed_then = grind arith
 
   locked_then : (index : ℕ) (found : Option T) (hid : Bool) → of_one index (HasFreed found hid false) ++ Locked p ∷ [] ≡ of_one index (HasFreed found hid true)
-  locked_then x0 x1 x2 = grind arith
+  locked_then = grind arith
 
   -- what it sees under the number of an element
   sees : (now : T) (index count : ℕ) → index < capacity → (visits : Visits) (es : List (Event T)) → es ≡ written visits
       → RecoverGoes now (seen_under index count visits) (es ++ (if is_even count then Shown p index ∷ [] else [])) (recover_sees c index count)
-  sees x0 x1 x2 x3 x4 x5 x6 = grind (arith, by_bool, so_then, goes_to, append-nil, told_even, clothed)
+  sees = grind (arith, by_bool, so_then, goes_to, append-nil, told_even, clothed)
 
   raised : (now : T) (index : ℕ) → index < capacity → (by : ReleaseMode) → mode ≡ by → (visits : Visits) (es : List (Event T)) → IsFreed index visits
       → es ≡ written visits ++ [] → (r : After Raise ReleaseState) → RecoverGoes now visits es (recover_raised c index by r)
-  raised x0 x1 x2 x3 x4 x5 x6 x7 x8 x9 = grind arith
+  raised = grind arith
 
   counted : (now : T) (index : ℕ) → index < capacity → mode ≡ LockIfLastIndex → (visits : Visits) (es : List (Event T)) → IsFreed index visits
       → es ≡ written visits ++ [] → (r : After Lock ReleaseState) → LockOn capacity r → RecoverGoes now visits es (recover_locked c index r)
-  counted x0 x1 x2 x3 x4 x5 x6 x7 x8 x9 = grind arith
+  counted = grind arith
 
   -- what a step writes, with its question
   abbrev pub wrote : T → RecoverStage → ℕ → List (Event T)

@@ -24,7 +24,7 @@ module _ {T : Type 0} (p owner : ℕ) where
   read visits e = visits
 
   read_one : (visits : List (ℕ × Came T)) (index : ℕ) (came : Came T) → fold read visits (wrote_of p owner index came) ≡ (index, came) ∷ visits
-  read_one x0 x1 x2 = grind arith
+  read_one = grind arith
 
   read_all : (visits : List (ℕ × Came T)) → fold read [] (wrote_visits p owner visits) ≡ visits
   read_all [] = refl
@@ -44,7 +44,7 @@ module _ {T : Type 0} (p owner : ℕ) where
   inside_none start ws = ap (Open start) (sym (append-nil ws))
 
   pub inside_both : (xs ys : List (Event T)) → IsInside xs → IsInside ys → IsInside (xs ++ ys)
-  inside_both x0 x1 x2 x3 x4 x5 = grind (arith, fold-append, fold, append_assoc)
+  inside_both = grind (arith, fold-append, fold, append_assoc)
 
   inside_found : (index : ℕ) (found : Option T) → IsInside (wrote_found p owner index found)
   inside_found index None = λ start ws. refl

@@ -1,12 +1,11 @@
 -- That an acquire and a release of the robust index set, and its looks, are calls of the model.
-use Rattle.history.proofs.Names.{◌≡◌, inl, ℕ, ◌+◌, ◌<◌, nat_lt, nat_le, true, false, None, List, []}
+use Rattle.history.proofs.Names.{Bool, ◌≡◌, inl, ℕ, ◌+◌, ◌<◌, nat_lt, nat_le, true, false, None, List, []}
 use Rattle.history.proofs.Names.{◌++◌, refl, arith, nat_tests, first_borrowed}
 use Rattle.history.proofs.Names.{borrowed_want, borrowed_counted, empty, count_after}
 use Rattle.history.proofs.Names.{Released, load, went_on, Ask}
 use Rattle.history.proofs.Names.{After, GoOn, AcquireStage}
 use Rattle.history.proofs.Names.{Count, GiveBack, ReleaseStage, Answer, Number, Event}
 use Rattle.history.proofs.Names.{Coding, acquire_effects, release_effects, as_it_is, as_call, answered}
-use Rattle.history.proofs.Names.{KeepsRule}
 use Rattle.steps.specs.Indices.Robust.Acquire.{Acquired, first_acquire, acquire_asks, acquire_want}
 use Rattle.steps.specs.Indices.Robust.Acquire.{acquire_after}
 use Rattle.steps.specs.Indices.Robust.Looks.{borrowed_after, locked_after}
@@ -27,18 +26,17 @@ use Rattle.model.specs.declared.families.indices.robust.calls.RobustFlight.TheVa
 use Rattle.model.specs.declared.turn.Kind.TheVariants as kinds
 use Rattle.model.specs.Families.Indices.Robust.Calls.{acquire_answer, release_answer}
 use Rattle.history.specs.declared.view.View.{View}
-use Rattle.history.specs.History.{IsMachine}
 use Rattle.history.specs.Robust.{AcquireIn, ReleaseIn, filled_at, AcquireWrote, takes_owned, freed_at, ReleaseWrote, gives_owned, counts_owned, looks_owned}
-use Rattle.history.specs.Stages.{At, Ends}
-use Rattle.history.proofs.CallsIn.{AsksFor}
-use Rattle.history.proofs.Drives.{IsCallOf, goes, keeps_all}
+use Rattle.history.specs.Stages.{At}
+use Rattle.history.proofs.CallsIn.{AsksFor, Driven, IsCallBy, KeepsEnds}
+use Rattle.history.proofs.Drives.{goes, keeps_to_end}
 use Rattle.history.proofs.RobustParts.{count_found, raise_asks, count_asks, lock_asks, count_on, CountOn}
-use Rattle.history.proofs.Robusts.{robust_effects, cells_and_counter, robusts_owe, robust_starts}
+use Rattle.history.proofs.Robusts.{robust_effects, cells_and_counter, robust_starts, robust_machines}
 
 -- ---- acquire
 
 pub acquire_found : (stage : AcquireStage) (owner : ℕ) (a : Ask) (n : ℕ) → acquire_asks stage owner ≡ wants.Ask a → answered a.op n ≡ n
-acquire_found x0 x1 x2 x3 x4 = grind arith
+acquire_found = grind arith
 
 pub acquire_words : (capacity : ℕ) (stage : AcquireStage) (owner : ℕ) → AcquireIn capacity stage → AsksFor (capacity + 1) (acquire_asks stage owner)
 acquire_words capacity acquires.LoadsCounter owner h = (_, omega arith, refl)
@@ -61,17 +59,16 @@ module _ {T : Type 0} (code : Coding T) (owner : ℕ) where
   takes_on : (capacity p : ℕ) (c : Acquiring) (n : ℕ) (r : After Acquiring Acquired) → (h : (takes_owned {T = T} owner).stands capacity c)
       → acquire_after c n ≡ r
       → AcquireGoes T capacity c h.0 p owner (filled_at p owner c.stage ++ acquire_effects p owner c.stage n) r
-  takes_on x0 x1 x2 x3 x4 x5 x6 = grind arith
+  takes_on = grind arith
 
-  pub acquire_call : IsCallOf code robust_effects cells_and_counter (λ c. acquire_want c owner) acquire_after (λ c m n. m) (takes_owned owner)
+  abbrev pub acquire_driven : Driven T Acquiring (Unit {0}) Acquired
+  acquire_driven = record { want = λ c. acquire_want c owner; after = acquire_after; kept = λ c m n. m; call = takes_owned owner }
+
+  pub acquire_call : IsCallBy code robust_effects cells_and_counter acquire_driven
   acquire_call = grind (arith, as_taken, acquire_found, takes_on, acquire_words)
 
-  pub acquire_keeps : KeepsRule (λ (z : View T). z.asked) (λ (z : View T). z.capacity)
-      (At code kinds.Robust (takes_owned owner)) (Ends code kinds.Robust (takes_owned owner))
-      (λ key. cells_and_counter key + 1) (λ key. key) (λ key. IsMachine code kinds.Robust key) (λ c. acquire_want c owner) acquire_after
-      (λ c m n. m)
-  acquire_keeps = keeps_all code kinds.Robust robust_effects cells_and_counter (robusts_owe code) (λ c. acquire_want c owner) acquire_after (λ c m n. m)
-      (takes_owned owner) acquire_call (λ c n. refl)
+  pub acquire_keeps : KeepsEnds code kinds.Robust cells_and_counter acquire_driven
+  acquire_keeps = keeps_to_end (robust_machines code) acquire_driven acquire_call (λ c n. refl)
 
   pub acquire_first : (v : View T) (m : Unit {0}) → v.going ≡ None → v.other ≡ [] → 0 < v.share.part → owner < empty
       → At code kinds.Robust (takes_owned owner) v v (first_acquire v.capacity) m
@@ -92,7 +89,7 @@ module _ {T : Type 0} (code : Coding T) (owner : ℕ) where
 -- ---- release
 
 pub release_found : (stage : ReleaseStage) (given : GiveBack) (a : Ask) (n : ℕ) → release_asks stage given ≡ wants.Ask a → answered a.op n ≡ n
-release_found x0 x1 x2 x3 x4 = grind arith
+release_found = grind arith
 
 pub release_words : (capacity : ℕ) (stage : ReleaseStage) (given : GiveBack) → given.index < capacity → ReleaseIn capacity given.mode stage
     → AsksFor (capacity + 1) (release_asks stage given)
@@ -107,7 +104,7 @@ module _ (T : Type 0) (capacity : ℕ) (c : Releasing) (same : c.capacity ≡ ca
 
   pub gives_so : (stage : ReleaseStage) (k : ℕ) → ReleaseIn capacity given.mode stage
       → ReleaseGoes (freed_at p given stage ++ release_effects p given stage k) (release_takes c stage given k)
-  gives_so x0 x1 x2 = grind arith
+  gives_so = grind arith
 
 module _ {T : Type 0} (code : Coding T) (given : GiveBack) where
   as_given : (r : After Releasing Released) → as_call flights.Robust (λ answer. answer)
@@ -118,18 +115,16 @@ module _ {T : Type 0} (code : Coding T) (given : GiveBack) where
   gives_on : (capacity p : ℕ) (c : Releasing) (n : ℕ) (r : After Releasing Released) → (h : (gives_owned {T = T} given).stands capacity c)
       → release_after c given n ≡ r
       → ReleaseGoes T capacity c h.0 p given h.1 (freed_at p given c.stage ++ release_effects p given c.stage n) r
-  gives_on x0 x1 x2 x3 x4 x5 x6 = grind arith
+  gives_on = grind arith
 
-  pub release_call : IsCallOf code robust_effects cells_and_counter (λ c. release_want c given) (λ c n. release_after c given n) (λ c m n. m)
-      (gives_owned given)
+  abbrev pub release_driven : Driven T Releasing (Unit {0}) Released
+  release_driven = record { want = λ c. release_want c given; after = λ c n. release_after c given n; kept = λ c m n. m; call = gives_owned given }
+
+  pub release_call : IsCallBy code robust_effects cells_and_counter release_driven
   release_call = grind (arith, as_given, release_found, gives_on, release_words)
 
-  pub release_keeps : KeepsRule (λ (z : View T). z.asked) (λ (z : View T). z.capacity)
-      (At code kinds.Robust (gives_owned given)) (Ends code kinds.Robust (gives_owned given))
-      (λ key. cells_and_counter key + 1) (λ key. key) (λ key. IsMachine code kinds.Robust key) (λ c. release_want c given)
-      (λ c n. release_after c given n) (λ c m n. m)
-  release_keeps = keeps_all code kinds.Robust robust_effects cells_and_counter (robusts_owe code) (λ c. release_want c given) (λ c n. release_after c given n)
-      (λ c m n. m) (gives_owned given) release_call (λ c n. refl)
+  pub release_keeps : KeepsEnds code kinds.Robust cells_and_counter release_driven
+  release_keeps = keeps_to_end (robust_machines code) release_driven release_call (λ c n. refl)
 
   pub release_first : (v : View T) (m : Unit {0}) → v.going ≡ None → v.other ≡ [] → 0 < v.share.part → given.index < v.capacity → given.owner < empty
       → At code kinds.Robust (gives_owned given) v v (first_release v.capacity) m
@@ -156,7 +151,7 @@ CountGoes capacity (Done n) = Unit {0}
 
 pub counts_so : (capacity : ℕ) (c : Counting) → c.capacity ≡ capacity → (r : After Count Counted)
     → CountOn capacity r → CountGoes capacity (borrowed_counted c r)
-counts_so x0 x1 x2 x3 x4 = grind arith
+counts_so = grind arith
 
 module _ {T : Type 0} (code : Coding T) where
   as_counted : (r : After Counting ℕ) → as_call flights.Robust (λ (answer : Answer T). answer)
@@ -164,25 +159,27 @@ module _ {T : Type 0} (code : Coding T) where
   as_counted (GoOn d) = refl
   as_counted (Done n) = refl
 
-  pub count_call : IsCallOf code robust_effects cells_and_counter borrowed_want borrowed_after (λ c m n. m) counts_owned
+  abbrev pub count_driven : Driven T Counting (Unit {0}) ℕ
+  count_driven = record { want = borrowed_want; after = borrowed_after; kept = λ c m n. m; call = counts_owned }
+
+  pub count_call : IsCallBy code robust_effects cells_and_counter count_driven
   count_call = grind (arith, as_counted, count_found, counts_so, count_after, count_on, count_asks)
 
-  pub count_keeps : KeepsRule (λ (z : View T). z.asked) (λ (z : View T). z.capacity) (At code kinds.Robust counts_owned) (Ends code kinds.Robust counts_owned)
-      (λ key. cells_and_counter key + 1) (λ key. key) (λ key. IsMachine code kinds.Robust key) borrowed_want borrowed_after (λ c m n. m)
-  count_keeps = keeps_all code kinds.Robust robust_effects cells_and_counter (robusts_owe code) borrowed_want borrowed_after
-      (λ c m n. m) counts_owned count_call (λ c n. refl)
+  pub count_keeps : KeepsEnds code kinds.Robust cells_and_counter count_driven
+  count_keeps = keeps_to_end (robust_machines code) count_driven count_call (λ c n. refl)
 
   pub count_first : (v : View T) (m : Unit {0}) → v.going ≡ None → v.other ≡ [] → 0 < v.share.part
       → At code kinds.Robust counts_owned v v (first_borrowed v.capacity) m
-  count_first x0 x1 x2 x3 x4 = grind (arith, inl, robust_starts)
+  count_first = grind (arith, inl, robust_starts)
 
-  pub look_call : IsCallOf code robust_effects cells_and_counter (λ c. load 0) locked_after (λ c m n. m) looks_owned
+  abbrev pub look_driven : Driven T Looking (Unit {0}) Bool
+  look_driven = record { want = λ c. load 0; after = locked_after; kept = λ c m n. m; call = looks_owned }
+
+  pub look_call : IsCallBy code robust_effects cells_and_counter look_driven
   look_call = grind arith
 
-  pub look_keeps : KeepsRule (λ (z : View T). z.asked) (λ (z : View T). z.capacity) (At code kinds.Robust looks_owned) (Ends code kinds.Robust looks_owned)
-      (λ key. cells_and_counter key + 1) (λ key. key) (λ key. IsMachine code kinds.Robust key) (λ c. load 0) locked_after (λ c m n. m)
-  look_keeps = keeps_all code kinds.Robust robust_effects cells_and_counter (robusts_owe code) (λ c. load 0) locked_after (λ c m n. m) looks_owned look_call
-      (λ c n. refl)
+  pub look_keeps : KeepsEnds code kinds.Robust cells_and_counter look_driven
+  look_keeps = keeps_to_end (robust_machines code) look_driven look_call (λ c n. refl)
 
   pub look_first : (v : View T) (c : Looking) (m : Unit {0}) → v.going ≡ None → v.other ≡ [] → 0 < v.share.part → At code kinds.Robust looks_owned v v c m
-  look_first x0 x1 x2 x3 x4 x5 = grind (arith, inl, robust_starts)
+  look_first = grind (arith, inl, robust_starts)

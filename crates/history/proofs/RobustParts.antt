@@ -15,7 +15,7 @@ use Rattle.history.proofs.CallsIn.{AsksFor}
 -- ---- an ask that is no store is answered by what was found
 
 pub count_found : (count : Count) (a : Ask) (n : ℕ) → count_want count ≡ wants.Ask a → answered a.op n ≡ n
-count_found x0 x1 x2 x3 = grind arith
+count_found = grind arith
 
 -- ---- the words
 
@@ -45,7 +45,7 @@ module _ (capacity : ℕ) where
 
   module _ (cap : ℕ) (same : cap ≡ capacity) where
     pub count_on : (count : Count) (k : ℕ) → CountOn (count_after cap count k)
-    count_on x0 x1 = grind arith
+    count_on = grind arith
 
     pub lock_on : (lock : Lock) (k : ℕ) → LockOn (lock_after cap lock k)
-    lock_on x0 x1 = grind arith
+    lock_on = grind arith

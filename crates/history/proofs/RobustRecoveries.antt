@@ -5,7 +5,7 @@ use Rattle.history.proofs.Names.{nat_tests, empty, locked, raise_after, lock_aft
 use Rattle.history.proofs.Names.{went_on, Ask, After, GoOn, Want, ReleaseMode, LockIfLastIndex, Default, ReleaseState}
 use Rattle.history.proofs.Names.{Lock, Raise, Answer, Event, Begun, FreedOf, Flight, Coding}
 use Rattle.history.proofs.Names.{is_question, as_it_is, as_call, number_of, raise_asks_none, lock_asks_none, answered}
-use Rattle.history.proofs.Names.{Owes, NextKnown, ToldOf, KeepsRule}
+use Rattle.history.proofs.Names.{Owes, NextKnown, ToldOf}
 use Rattle.steps.specs.Indices.Robust.Recover.{first_recover, recover_asks, recover_want}
 use Rattle.steps.specs.Indices.Robust.Recover.{recover_comes_to}
 use Rattle.steps.specs.Indices.Robust.Recover.{recover_raised, recover_locked, recover_takes, recover_after}
@@ -30,21 +30,22 @@ use Rattle.history.specs.Robust.{RecoverIn, Came, HasAsked, WasTold, HasFreed, H
 use Rattle.history.specs.Robust.{came_to, HasCome, VisitsAt, visits_locked, visits_taken, visits_after, wrote_by}
 use Rattle.history.specs.Robust.{wrote_now, recovers_owned}
 use Rattle.history.specs.Stages.{opened, IsFirst, IsUnderWay, Ends, AtAsked}
-use Rattle.history.proofs.CallsIn.{AsksFor}
+use Rattle.history.proofs.CallsIn.{AsksFor, Driven, KeepsSo}
 use Rattle.history.proofs.Decisions.{IsAskingOf, keeps_asked}
-use Rattle.history.proofs.Drives.{goes, all_kept_laws, acts_alone}
+use Rattle.history.proofs.Drives.{goes, acts_alone, lone_machines}
 use Rattle.history.proofs.RobustParts.{LockOn, lock_on}
 use Rattle.history.proofs.RobustVisits.{same_before, none_yet, wider, one_more, came_past, comes_on, wrote_last, wrote_on, same_visits}
-use Rattle.history.proofs.Robusts.{robust_effects, cells_and_counter, robusts_owe, robust_starts}
+use Rattle.history.proofs.Robusts.{robust_effects, cells_and_counter, robust_starts, robust_machines}
+use Rattle.history.proofs.Cases.{by_bool}
 
 -- ---- what it asks for
 
 recover_found : (stage : RecoverStage) (a : Ask) (n : ℕ) → recover_asks stage ≡ wants.Ask a → answered a.op n ≡ n
-recover_found x0 x1 x2 x3 = grind arith
+recover_found = grind arith
 
 recover_words : (capacity : ℕ) (mode : ReleaseMode) (stage : RecoverStage) → RecoverIn capacity mode stage → is_question (recover_asks stage) ≡ false
     → AsksFor (capacity + 1) (recover_asks stage)
-recover_words x0 x1 x2 x3 x4 = grind arith
+recover_words = grind arith
 
 -- after an answer it goes on, to a word
 abbrev AnswersOn : After Recovering ReleaseState → Type 0
@@ -56,7 +57,7 @@ module _ (c : Recovering) (mode : ReleaseMode) where
   no_answer b still due = (let both : false ≡ true = sym still ∙ due in absurd (cc))
 
   answers_on : (stage : RecoverStage) (n : ℕ) → is_question (recover_asks stage) ≡ true → AnswersOn (recover_takes c stage mode n)
-  answers_on x0 x1 x2 = grind arith
+  answers_on = grind arith
 
 -- ---- where it goes on, and what it has written then
 
@@ -79,7 +80,7 @@ module _ {T : Type 0} (capacity : ℕ) (c : Recovering) (same : c.capacity ≡ c
 
   comes_to : (index : ℕ) → index ≤ capacity → (es : List (Event T)) (visits : List Visit) → AreVisits mode index visits → es ≡ wrote_by p visits
       → RecoverGoes es visits (recover_comes_to c index)
-  comes_to x0 x1 x2 x3 x4 x5 = grind (arith, by_test, between, nat_tests)
+  comes_to = grind (arith, by_test, between, nat_tests)
 
   next_to : (index : ℕ) → index < capacity → (es : List (Event T)) (visits : List Visit) → AreVisits mode (index + 1) visits → es ≡ wrote_by p visits
       → RecoverGoes es visits (recover_comes_to c (index + 1))
@@ -120,19 +121,17 @@ module _ {T : Type 0} (capacity : ℕ) (c : Recovering) (same : c.capacity ≡ c
 
       go : (b : Bool) → (k == empty) ≡ b → RecoverGoes (es ++ recover_effects p (recovers.LoadsCell index) k) visits
           (recover_takes c (recovers.LoadsCell index) mode k)
-      go x0 x1 = grind (arith, next_to, wider, quiet, wrote)
-  recovers_so (recovers.Asks index owner) k es visits h at is = go (k == 0) refl
+      go = grind (arith, next_to, wider, quiet, wrote)
+  recovers_so (recovers.Asks index owner) k es visits h at is =
+      by_bool (k == 0)
+      (λ e. rw e (next_to index h (es ++ []) more (one_more mode index owner HasAsked visits tt at) (quiet es (wrote_by p more) wrote)))
+      (λ e. grind (arith, wrote))
     where
       more : List Visit
       more = visits ++ visit index owner HasAsked ∷ []
 
       wrote : es ≡ wrote_by p more
       wrote = is ∙ sym (wrote_last p visits (visit index owner HasAsked))
-
-      go : (b : Bool) → (k == 0) ≡ b → RecoverGoes (es ++ recover_effects p (recovers.Asks index owner) k) more
-          (recover_takes c (recovers.Asks index owner) mode k)
-      go true e = rw e (next_to index h (es ++ []) more (one_more mode index owner HasAsked visits tt at) (quiet es (wrote_by p more) wrote))
-      go false e = grind (arith, wrote)
   recovers_so (recovers.EmptiesCell index owner) k es visits h at is = go (k == owner) refl
     where
       told : Event T
@@ -164,20 +163,18 @@ module _ {T : Type 0} (capacity : ℕ) (c : Recovering) (same : c.capacity ≡ c
   recovers_so (recovers.Locks index (locks.Counts count)) k es visits h at is =
       counted index h.1 h.0 at.0 (es ++ []) visits at.1 (quiet es (wrote_by p visits) (all_of es (wrote_by p visits) is))
       (lock_after c.capacity (locks.Counts count) k) (lock_on capacity c.capacity same (locks.Counts count) k)
-  recovers_so (recovers.Locks index (locks.ExchangesCounter counter)) k es visits h at is = go (k == counter) refl
+  recovers_so (recovers.Locks index (locks.ExchangesCounter counter)) k es visits h at is =
+      by_bool (k == counter)
+      (λ e. rw e (next_to index h.1 (es ++ Locked p ∷ []) shut
+      (came_past mode index at.0 HasLocked shut h.0 (comes_on mode index at.0 HasFreed HasLocked visits at.1))
+      (wrote_on p mode index at.0 HasFreed HasLocked visits es (Locked p ∷ []) refl at.1 wrote)))
+      (λ e. grind (arith, between, quiet, wrote))
     where
       wrote : es ≡ wrote_by p visits
       wrote = all_of es (wrote_by p visits) is
 
       shut : List Visit
       shut = came_to HasLocked visits
-
-      go : (b : Bool) → (k == counter) ≡ b → RecoverGoes (es ++ recover_effects p (recovers.Locks index (locks.ExchangesCounter counter)) k)
-          (visits_locked (locks.ExchangesCounter counter) visits k) (recover_takes c (recovers.Locks index (locks.ExchangesCounter counter)) mode k)
-      go true e = rw e (next_to index h.1 (es ++ Locked p ∷ []) shut
-          (came_past mode index at.0 HasLocked shut h.0 (comes_on mode index at.0 HasFreed HasLocked visits at.1))
-          (wrote_on p mode index at.0 HasFreed HasLocked visits es (Locked p ∷ []) refl at.1 wrote))
-      go false e = grind (arith, between, quiet, wrote)
   recovers_so recovers.LoadsCounterAgain k es visits h at is = grind (arith, by_test, locked, quiet, all_of)
 
 -- ---- a recovery
@@ -194,11 +191,11 @@ module _ {T : Type 0} (code : Coding T) (mode : ReleaseMode) where
   goes_so : (capacity p : ℕ) (c : Recovering) (n : ℕ) (es : List (Event T)) (visits : List Visit) (r : After Recovering ReleaseState)
       → (h : (recovers_owned {T = T} mode).stands capacity c) → VisitsAt capacity mode c.stage visits → es ≡ wrote_by p visits ++ wrote_now p c.stage
       → after c n ≡ r → RecoverGoes capacity c h.0 p mode (es ++ recover_effects p c.stage n) (visits_after c visits n) r
-  goes_so x0 x1 x2 x3 x4 x5 x6 x7 x8 x9 x10 = grind (arith, recovers_so)
+  goes_so = grind (arith, recovers_so)
 
   -- it may have visited none of the indices that it has passed
   come_first : (index : ℕ) (came : Came) → HasCome mode index came 0 (visit index 0 came ∷ [])
-  come_first x0 x1 = grind arith
+  come_first = grind arith
 
   some_visits : (capacity : ℕ) (stage : RecoverStage) → (visits : List Visit) × VisitsAt capacity mode stage visits
   some_visits capacity recovers.LoadsCounter = ([], refl)
@@ -230,9 +227,12 @@ module _ {T : Type 0} (code : Coding T) (mode : ReleaseMode) where
   -- an answer leaves lists apart that were so
   same_asked : (stage : RecoverStage) (m k : List Visit) (a b : ℕ) → is_question (recover_asks stage) ≡ true
       → visits_taken stage m a ≡ visits_taken stage k b → m ≡ k
-  same_asked x0 x1 x2 x3 x4 x5 x6 = grind (arith, same_before, visit, no_answer, raise_asks_none, lock_asks_none)
+  same_asked = grind (arith, same_before, visit, no_answer, raise_asks_none, lock_asks_none)
 
-  pub recover_call : IsAskingOf code kinds.Robust robust_effects cells_and_counter recover_want after visits_after (recovers_owned mode)
+  abbrev driven : Driven T Recovering (List Visit) ReleaseState
+  driven = record { want = recover_want; after = after; kept = visits_after; call = recovers_owned mode }
+
+  pub recover_call : IsAskingOf code kinds.Robust robust_effects cells_and_counter driven
   recover_call =
       record {
         asking =
@@ -268,11 +268,9 @@ module _ {T : Type 0} (code : Coding T) (mode : ReleaseMode) where
   Ended = Ends code kinds.Robust (recovers_owned mode)
 
   -- each step of a recovery keeps the rule of the table; at a question the machine is handed the answer with the step after it
-  pub recover_keeps : KeepsRule (λ (z : View T). z.asked) (λ (z : View T). z.capacity) At Ended (λ key. cells_and_counter key + 1) (λ key. key)
-      (λ key. IsMachine code kinds.Robust key) recover_want after visits_after
-  recover_keeps = keeps_asked code kinds.Robust tt (λ w. robust_effects) robust_effects cells_and_counter
-      (all_kept_laws code kinds.Robust robust_effects cells_and_counter (robusts_owe code)) recover_want after visits_after (recovers_owned mode)
-      (acts_alone code kinds.Robust robust_effects cells_and_counter (robusts_owe code) (recovers_owned mode)) recover_call
+  pub recover_keeps : KeepsSo code kinds.Robust cells_and_counter driven At Ended
+  recover_keeps =
+      keeps_asked (lone_machines (robust_machines code)) tt robust_effects driven (acts_alone (robust_machines code) (recovers_owned mode)) recover_call
 
   -- a recovery that has asked goes on from the answer
   pub recover_hears : (base v : View T) (c d : Recovering) (m : List Visit) (said : Bool) → is_question (recover_want c) ≡ true
@@ -280,7 +278,7 @@ module _ {T : Type 0} (code : Coding T) (mode : ReleaseMode) where
   recover_hears = grind arith
 
   pub recover_first : (v : View T) → v.going ≡ None → v.other ≡ [] → 0 < v.share.part → At v v (first_recover v.capacity) []
-  recover_first x0 x1 x2 x3 = grind (arith, robust_starts, recovers_owned, first_recover)
+  recover_first = grind (arith, robust_starts, recovers_owned, first_recover)
 
   -- ---- the view tells which visits they are
 
@@ -288,7 +286,7 @@ module _ {T : Type 0} (code : Coding T) (mode : ReleaseMode) where
   made_there : (base v : View T) (c : Recovering) (m : List Visit) → base.going ≡ None
       → (under : IsUnderWay code kinds.Robust (recovers_owned mode) base v c m)
       → v.made ≡ base.made ++ Begun under.party (Robust (Recover mode)) ∷ (wrote_by under.party m ++ wrote_now under.party c.stage)
-  made_there x0 x1 x2 x3 x4 x5 = grind (arith, opened, append-nil)
+  made_there = grind (arith, opened, append-nil)
 
   under_same : (base other v : View T) (c : Recovering) (m k : List Visit) → base.going ≡ None → other.going ≡ None
       → IsUnderWay code kinds.Robust (recovers_owned mode) base v c m → IsUnderWay code kinds.Robust (recovers_owned mode) other v c k → m ≡ k
@@ -305,18 +303,18 @@ module _ {T : Type 0} (code : Coding T) (mode : ReleaseMode) where
 
   -- it does not stand at a question that it has the answer to
   not_both : {A : Type 0} (c asking : Recovering) (n : ℕ) → c ≡ asking → is_question (recover_want asking) ≡ true → after asking n ≡ GoOn c → A
-  not_both x0 x1 x2 x3 x4 x5 = grind arith
+  not_both = grind arith
 
   asked_alike : (stage : RecoverStage) (m : List Visit) (a b : ℕ) → is_question (recover_asks stage) ≡ true → visits_taken stage m a ≡ visits_taken stage m b
-  asked_alike x0 x1 x2 x3 x4 = grind arith
+  asked_alike = grind arith
 
   -- no call is under way in a view in which one is
   clash : {A : Type 0} (base v : View T) (flight : Flight T) → v ≡ base → base.going ≡ None → v.going ≡ Some (Robust (Recover mode), flight) → A
-  clash x0 x1 x2 x3 x4 x5 = grind arith
+  clash = grind arith
 
   going_same : (v : View T) (c d : Recovering) (m k : List Visit) → v.going ≡ Some (Robust (Recover mode), (recovers_owned mode).flight c m)
       → v.going ≡ Some (Robust (Recover mode), (recovers_owned mode).flight d k) → c ≡ d
-  going_same x0 x1 x2 x3 x4 x5 x6 = grind arith
+  going_same = grind arith
 
   same_there : (base other v : View T) (c : Recovering) (m k : List Visit) → base.going ≡ None → other.going ≡ None → At base v c m → At other v c k
       → m ≡ k

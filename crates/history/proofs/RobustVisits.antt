@@ -35,10 +35,10 @@ came_last (v ∷ w ∷ visits) index owner came next = ap (λ zs. v ∷ zs) (cam
 
 module _ (mode : ReleaseMode) where
   pub none_yet : (bound : ℕ) (visits : List Visit) → visits ≡ [] → AreVisits mode bound visits
-  none_yet x0 x1 x2 = grind arith
+  none_yet = grind arith
 
   pub wider : (low high : ℕ) (visits : List Visit) → low ≤ high → AreVisits mode low visits → AreVisits mode high visits
-  wider x0 x1 x2 x3 x4 = grind arith
+  wider = grind arith
 
   pub one_more : (index owner : ℕ) (came : Came) (visits : List Visit) → MayCome mode came → AreVisits mode index visits
       → AreVisits mode (index + 1) (visits ++ visit index owner came ∷ [])
@@ -66,7 +66,7 @@ module _ {T : Type 0} (p : ℕ) where
   wrote visits = wrote_by p visits
 
   pub wrote_last : (visits : List Visit) (v : Visit) → wrote (visits ++ v ∷ []) ≡ wrote visits ++ wrote_of p v
-  wrote_last x0 x1 = grind (arith, flat_map-append, append-nil)
+  wrote_last = grind (arith, flat_map-append, append-nil)
 
   -- the last one has come further, and so much more was written
   pub wrote_on : (mode : ReleaseMode) (index owner : ℕ) (came next : Came) (visits : List Visit) (es more : List (Event T))
@@ -94,7 +94,7 @@ module _ (T : Type 0) (p : ℕ) where
   read visits e = visits
 
   reads_one : (visits : List Visit) (index owner : ℕ) (came : Came) → fold read visits (wrote_to p index owner came) ≡ visits ++ visit index owner came ∷ []
-  reads_one x0 x1 x2 x3 = grind (arith, came_last)
+  reads_one = grind (arith, came_last)
 
   reads : (front visits : List Visit) → fold read front (writes visits) ≡ front ++ visits
   reads front [] = sym (append-nil front)
@@ -106,7 +106,7 @@ module _ (T : Type 0) (p : ℕ) where
   -- what it reads where a recovery stands
   read_there : (before : List (Event T)) (start : Start T) (stage : RecoverStage) (visits : List Visit)
       → fold read [] (before ++ Begun p start ∷ (writes visits ++ wrote_now p stage)) ≡ fold read visits (wrote_now p stage)
-  read_there x0 x1 x2 x3 = grind (arith, fold-append, fold, reads)
+  read_there = grind (arith, fold-append, fold, reads)
 
   told_apart : (capacity : ℕ) (mode : ReleaseMode) (stage : RecoverStage) (a b : List Visit) → VisitsAt capacity mode stage a
       → VisitsAt capacity mode stage b → fold read a (wrote_now p stage) ≡ fold read b (wrote_now p stage) → a ≡ b

@@ -25,7 +25,7 @@ use Rattle.history.proofs.Calls.{stands, IsStateless}
 use Rattle.history.proofs.Known.{AreOf}
 use Rattle.history.proofs.Starting.{starts_by_last}
 use Rattle.history.proofs.Paid.{Pays, progress_within, pays_run}
-use Rattle.history.proofs.Turns.{CallGoesOn, KindLaws}
+use Rattle.history.proofs.Turns.{CallGoesOn, KindLaws, LoneMachines}
 
 module _ {T : Type 0} where
   -- what a step of a set's call writes
@@ -34,7 +34,7 @@ module _ {T : Type 0} where
   robust_effects p flight old = []
 
   effects_own : (p : ℕ) (flight : Flight T) (n : ℕ) → AreOf p (robust_effects p flight n)
-  effects_own x0 x1 x2 = grind arith
+  effects_own = grind arith
 
 -- a counter, and a cell an index
 abbrev pub cells_and_counter : ℕ → ℕ
@@ -66,12 +66,12 @@ module _ {T : Type 0} (code : Coding T) (capacity : ℕ) where
   writes_there : (z : Coding T) (words : List ℕ) (beside : Option (ℕ × ℕ)) (c p old : ℕ) (all : List SetAct) (kept : Registry T) (s : RobustSet T)
       (start : Start T) (flight : Flight T) → kept ≡ registries.Owners s.dead → FlightAt c all start flight
       → (step_of z words beside p start flight old kept).wrote ≡ robust_effects p flight old
-  writes_there x0 x1 x2 x3 x4 x5 x6 x7 x8 x9 x10 x11 x12 = grind arith
+  writes_there = grind arith
 
   goes_there : (z : Coding T) (words : List ℕ) (beside : Option (ℕ × ℕ)) (c p old : ℕ) (all : List SetAct) (kept : Registry T) (s : RobustSet T)
       (start : Start T) (flight : Flight T) → kept ≡ registries.Owners s.dead → FlightAt c all start flight
       → (step_of z words beside p start flight old kept).after ≡ after_of z flight old
-  goes_there x0 x1 x2 x3 x4 x5 x6 x7 x8 x9 x10 x11 x12 = grind arith
+  goes_there = grind arith
 
   goes_on : (t : Trace T) → IsRobust t → (p : ℕ) (start : Start T) (flight : Flight T) → call_in t.world p ≡ Some (start, flight)
       → CallGoesOn code kinds.Robust capacity (cells_and_counter capacity) robust_effects t p flight
@@ -104,7 +104,7 @@ module _ {T : Type 0} (code : Coding T) (capacity : ℕ) where
   }
 
   robust_bounds : (z : Coding T) (c : ℕ) → frame.Bounds (family_by Word z c)
-  robust_bounds x0 x1 = grind (arith, steps_most, held_paid)
+  robust_bounds = grind (arith, steps_most, held_paid)
 
   -- how many steps its calls take
   pub robust_pays : Pays code kinds.Robust capacity
@@ -152,3 +152,6 @@ module _ {T : Type 0} (code : Coding T) (base : View T) where
 
         first_here : first_of kinds.Robust base.capacity call.start t.world.kept ≡ Some (call.flight c m)
         first_here = rw named (first_is t.world.kept)
+
+abbrev pub robust_machines : {T : Type 0} → Coding T → LoneMachines T
+robust_machines code = record { code = code; kind = kinds.Robust; effects = robust_effects; size_of = cells_and_counter; laws = robusts_owe code }

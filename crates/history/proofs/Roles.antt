@@ -23,7 +23,7 @@ module _ {T : Type 0} (owner : ℕ → ℕ) (j : ℕ) where
   MovesIt role = Moves (takes role) (gives role) (role_after role) owner j
 
   moves : (role : Role) (before : List (Event T)) (e : Event T) → GrantsRight before e → MovesIt role before e
-  moves x0 x1 x2 x3 = grind arith
+  moves = grind arith
 
   all_move : (role : Role) (all : List (Event T)) → Each GrantsRight all → Each (MovesIt role) all
   all_move role all each before after e is = moves role before e (each before after e is)

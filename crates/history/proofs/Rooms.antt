@@ -19,15 +19,15 @@ room_set size at word words below = go (nat_lt (length words) size) refl
     same = ap (λ n. nat_lt n size) (length-set words at word)
 
     go : (b : Bool) → nat_lt (length words) size ≡ b → kept_at (room_of size words) at word ≡ room_of size (set words at word)
-    go x0 x1 = grind (arith, length, set, same, set_left, length-set, nat_tests)
+    go = grind (arith, length, set, same, set_left, length-set, nat_tests)
 
 -- the value of its words
 pub room_read : {T : Type 0} (code : Coding T) (words : List ℕ) → read_in code (room_of code.size words) ≡ value_in code.value_of code.size words
 room_read {T} code words = go (nat_lt (length words) code.size) refl
   where
     go : (b : Bool) → nat_lt (length words) code.size ≡ b → read_in code (room_of code.size words) ≡ value_in code.value_of code.size words
-    go x0 x1 = grind (arith, room_of, read_in, length-append, length, value_in, take-append-le, nat_tests)
+    go = grind (arith, room_of, read_in, length-append, length, value_in, take-append-le, nat_tests)
 
 -- a room of zeros
 pub room_fresh : (size n : ℕ) → size ≤ n → n ≤ 128 → room_of size (replicate n 0) ≡ record { words = replicate 128 0 }
-room_fresh x0 x1 x2 x3 = grind (arith, length, length-replicate, false, replicate_both, nat_tests)
+room_fresh = grind (arith, length, length-replicate, false, replicate_both, nat_tests)

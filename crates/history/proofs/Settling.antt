@@ -19,7 +19,7 @@ use Rattle.history.proofs.Known.{by_more, within}
 use Rattle.history.proofs.AllSeen.{known_whole}
 use Rattle.history.proofs.Reached.{MayDecide, decide_as}
 use Rattle.history.proofs.Calls.{stands, flight_is}
-use Rattle.history.proofs.Turns.{KeptLaws, Between, at_first, heard, own_heard, decided, decided_at, decided_took, made_between}
+use Rattle.history.proofs.Turns.{Machines, Between, Answering, at_first, heard, own_heard, decided, decided_at, decided_took, made_between}
 use Rattle.history.proofs.Asked.{Gains, gains_has, asked_at}
 use Rattle.history.proofs.Passes.{set_same}
 use Rattle.history.proofs.OneRun.{continues_all}
@@ -29,7 +29,7 @@ use Rattle.history.proofs.CallsIn.{AsksFor, no_rest, same_rest, none_after}
 no_more : (n : ℕ) → n ≤ n + 1
 no_more n = omega arith
 
--- each step of the call keeps the rule, where it stands so
+-- each step of the call keeps the rule, where it may and stands so
 abbrev pub KeepsWhere : {T : Type 0} → Coding T → Kind → (ℕ → ℕ) → {C M E : Type 0} → (C → Type 0)
     → (View T → View T → C → M → Type 0) → (View T → E → M → View T → Type 0)
     → (C → Want (Unit {0})) → (C → ℕ → After C E) → (C → M → ℕ → M) → Type 0
@@ -37,15 +37,30 @@ KeepsWhere {T} code kind size_of {C} {M} {E} may at ends want after kept =
     (base v : View T) (c : C) (m : M) (key words slots id : ℕ) → may c → words ≡ size_of key + 1 → v.capacity ≡ key → at base v c m
     → Owes (λ (z : View T). z.asked) (IsMachine code kind key) words slots id (Told (λ (z : View T). z.capacity) at ends after kept c m) (want c) (v, [])
 
-module _ {T : Type 0} (code : Coding T) (kind : Kind) (decides : MayDecide kind) (effects : World T → ℕ → Flight T → ℕ → List (Event T))
-    (size_of : ℕ → ℕ) (laws : (capacity : ℕ) → KeptLaws code kind capacity (size_of capacity) effects)
-    (alone : (going : Option (Start T × Flight T)) (late : List (Event T)) → IsLate kind going late → late ≡ [])
-    (quiet : (w : World T) (p : ℕ) (flight : Flight T) (answer : Answer T) → is_question (want_of code flight) ≡ true
-    → goes_of code p flight (number_of false) w.kept ≡ Done answer → effects w p flight (number_of false) ≡ []) where
+-- machines that hear answers, where none writes for another, and an answer that ends a call writes nothing
+pub record Hearing (T : Type 0) : Type 0 where
+  pub machines : Machines T
+  pub decides : MayDecide machines.kind
+  pub alone : (going : Option (Start T × Flight T)) (late : List (Event T)) → IsLate machines.kind going late → late ≡ []
+  pub quiet : (w : World T) (p : ℕ) (flight : Flight T) (answer : Answer T) → is_question (want_of machines.code flight) ≡ true
+      → goes_of machines.code p flight (number_of false) w.kept ≡ Done answer → machines.effects w p flight (number_of false) ≡ []
+
+module _ {T : Type 0} (hearing : Hearing T) where
+  open hearing use {machines.{code, kind, effects, size_of, laws}, decides, alone, quiet}
+
   -- ---- the machine is handed the answer
 
-  module _ (s : State (Unit {0}) (View T)) (v : View T) (key id : ℕ) (r : IsMachine code kind key s) (at : get_elem? s.views id ≡ some v)
-      (known : v.capacity ≡ key) (h : IsResting code v) where
+  -- a seat whose call rests
+  pub record Rests (v : View T) (key id : ℕ) : Type 0 where
+    pub s : State (Unit {0}) (View T)
+    pub r : IsMachine code kind key s
+    pub at : get_elem? s.views id ≡ some v
+    pub known : v.capacity ≡ key
+    pub h : IsResting code v
+
+  module _ {v : View T} {key id : ℕ} (rests : Rests v key id) where
+    open rests use {s, r, at, known, h}
+
     here : Fits r.owner r.trace id v
     here = r.seats id v at
 
@@ -75,6 +90,33 @@ module _ {T : Type 0} (code : Coding T) (kind : Kind) (decides : MayDecide kind)
     free : refusal_as kind r.trace.world (Decide h.party false) ≡ None
     free = grind (arith, decide_as, false, flight_is, stands, there)
 
+    abbrev answering : Answering T
+    answering =
+        record {
+          turning = record {
+            code = code;
+            kind = kind;
+            capacity = key;
+            words = size_of key;
+            effects = effects;
+            laws = laws key;
+            owner = r.owner;
+            s = s;
+            id = id;
+            p = h.party;
+            gained = [];
+            u = r.trace;
+            b = between;
+          };
+          start = h.start;
+          flight = h.flight;
+          next = Done h.answer;
+          said = false;
+          at = there;
+          free = free;
+          comes = comes;
+        }
+
     abbrev end : List (Event T)
     end = Finished h.party h.start h.answer ∷ []
 
@@ -85,9 +127,7 @@ module _ {T : Type 0} (code : Coding T) (kind : Kind) (decides : MayDecide kind)
     gained_then = [] ++ events_by h.party (events_of r.trace.world (Decide h.party false))
 
     pub between_then : Between code kind key r.owner s id h.party gained_then u_then
-    between_then =
-        decided code kind key (size_of key) effects (laws key) r.owner s id h.party [] r.trace between h.start h.flight
-        (Done h.answer) false there free comes
+    between_then = decided answering
 
     -- what the seat would know then
     abbrev pub view_settled : View T
@@ -104,9 +144,7 @@ module _ {T : Type 0} (code : Coding T) (kind : Kind) (decides : MayDecide kind)
           n = 0;
           have = r.asked;
           has = asked_at s.views (steps_of_run code kind key r.one.turns) id v at r.known.shares r.asked;
-          more =
-              decided_took code kind key (size_of key) effects (laws key) r.owner s id h.party [] r.trace between h.start h.flight
-              (Done h.answer) false there free comes;
+          more = decided_took answering;
           own = omega arith;
         }
 
@@ -124,14 +162,10 @@ module _ {T : Type 0} (code : Coding T) (kind : Kind) (decides : MayDecide kind)
     wrote_none = quiet r.trace.world h.party h.flight h.answer h.asks comes
 
     told_end : events_of r.trace.world (Decide h.party false) ≡ end
-    told_end =
-        heard code kind key (size_of key) effects (laws key) r.owner s id h.party [] r.trace between h.start h.flight (Done h.answer) false there free comes
-        ∙ ap (λ zs. zs ++ end) wrote_none
+    told_end = heard answering ∙ ap (λ zs. zs ++ end) wrote_none
 
     own_end : gained_then ≡ end
-    own_end =
-        own_heard code kind key (size_of key) effects (laws key) r.owner s id h.party [] r.trace between h.start h.flight (Done h.answer) false there free comes
-        ∙ ap (λ zs. events_by h.party zs ++ end) wrote_none
+    own_end = own_heard answering ∙ ap (λ zs. events_by h.party zs ++ end) wrote_none
 
     made_end : view_settled.made ≡ v.made ++ end
     made_end = ap (λ zs. v.made ++ zs) own_end
@@ -168,9 +202,7 @@ module _ {T : Type 0} (code : Coding T) (kind : Kind) (decides : MayDecide kind)
           party = sym h.mine;
           share = refl;
           state = state_stays;
-          idle =
-              decided_at code kind key (size_of key) effects (laws key) r.owner s id h.party [] r.trace between h.start
-              h.flight (Done h.answer) false there free comes;
+          idle = decided_at answering;
           asked = no_more v.asked;
           aside = refl;
           fresh = refl;
@@ -192,13 +224,14 @@ module _ {T : Type 0} (code : Coding T) (kind : Kind) (decides : MayDecide kind)
   pub settles_at : (key slots id word : ℕ) (v : View T) → v.capacity ≡ key → IsResting code v
       → Allows (IsMachine code kind key) slots id (v, []) word (λ n. n) (λ found me. Settles code kind v me.0 × (me.1 ≡ []))
   settles_at key slots id word v known h s r long at small =
-      let w = view_settled s v key id r at known h in (
+      let rests : Rests v key id = record { s = s; r = r; at = at; known = known; h = h } in
+      let w = view_settled rests in (
         w,
         table.keeps,
         tt,
         subst (λ ws. IsMachine code kind key (record { words = ws; homes = s.homes; views = slice_set s.views id w })) (sym (set_same s.words word))
-            (machine_settled s v key id r at known h),
-        (settles s v key id r at known h, refl),
+            (machine_settled rests),
+        (settles rests, refl),
       )
 
   -- ---- a call begins after it
@@ -225,12 +258,12 @@ module _ {T : Type 0} (code : Coding T) (kind : Kind) (decides : MayDecide kind)
     -- how it has gone on from there
     onward : (base from : View T) → SettledFrom code kind base from → (a : After C E) (m : M) (w : View T)
         → NextKnown (λ (z : View T). z.capacity) Stage Over from a m w → NextKnown (λ (z : View T). z.capacity) Rested RestedOver base a m w
-    onward x0 x1 x2 x3 x4 x5 x6 = grind arith
+    onward = grind arith
 
     begun_keeps : (base₀ v : View T) (c : C) (m : M) (key words slots id : ℕ) → Stage base₀ v c m → (w : Want (Unit {0}))
         → Owes (λ (z : View T). z.asked) (IsMachine code kind key) words slots id (ToldStage c m) w (v, [])
         → Owes (λ (z : View T). z.asked) (IsMachine code kind key) words slots id (ToldRested c m) w (v, [])
-    begun_keeps x0 x1 x2 x3 x4 x5 x6 x7 x8 x9 x10 = grind arith
+    begun_keeps = grind arith
 
     -- who has still to begin
     module _ (v : View T) (c : C) (m : M) (key words slots id : ℕ) (wide : words ≡ size_of key + 1) (known : v.capacity ≡ key) (h : IsResting code v)
@@ -241,32 +274,27 @@ module _ {T : Type 0} (code : Coding T) (kind : Kind) (decides : MayDecide kind)
       abbrev ask : Ask
       ask = word.0
 
-      first_then : (s : State (Unit {0}) (View T)) (r : IsMachine code kind key s) (at : get_elem? s.views id ≡ some v)
-          → Stage (view_settled s v key id r at known h) (view_settled s v key id r at known h) c m
-      first_then s r at =
-          let x = settles s v key id r at known h in
-          first (view_settled s v key id r at known h) c m (stays v (view_settled s v key id r at known h) c m x begins) x.idle x.fresh h.some
+      -- what the seat knows once the machine has the answer
+      abbrev settled : Rests v key id → View T
+      settled rests = view_settled rests
 
-      told_first : (s : State (Unit {0}) (View T)) (r : IsMachine code kind key s) (at : get_elem? s.views id ≡ some v) (n : ℕ) (w : View T)
-          → ToldStage c m (view_settled s v key id r at known h) n w → ToldRested c m v n w
-      told_first s r at n w told = (told.0, λ base rested. go base rested)
+      first_then : (rests : Rests v key id) → Stage (settled rests) (settled rests) c m
+      first_then rests = (let x = settles rests in first (settled rests) c m (stays v (settled rests) c m x begins) x.idle x.fresh h.some)
+
+      told_first : (rests : Rests v key id) (n : ℕ) (w : View T) → ToldStage c m (settled rests) n w → ToldRested c m v n w
+      told_first rests n w told = (told.0, λ base rested. go base rested)
         where
           go : (base : View T) → Rested base v c m → NextKnown (λ (z : View T). z.capacity) Rested RestedOver base (after c n) (kept c m n) w
           go base (inl x) = absurd (apart x.from v c m h begins x.stage)
           go base (inr waits) =
-              onward base (view_settled s v key id r at known h)
-              (inr (subst (λ z. Settles code kind z (view_settled s v key id r at known h)) waits.is (settles s v key id r at known h)))
-              (after c n) (kept c m n) w
-              (told.1 (view_settled s v key id r at known h) (first_then s r at))
+              onward base (settled rests) (inr (subst (λ z. Settles code kind z (settled rests)) waits.is (settles rests)))
+              (after c n) (kept c m n) w (told.1 (settled rests) (first_then rests))
 
-      owed : (s : State (Unit {0}) (View T)) (r : IsMachine code kind key s) (at : get_elem? s.views id ≡ some v)
-          → OwesAsk (λ (z : View T). z.asked) (IsMachine code kind key) words slots id (ToldStage c m) ask.word
-          ask.op (view_settled s v key id r at known h, [])
-      owed s r at =
-          subst (λ w. Owes (λ (z : View T). z.asked) (IsMachine code kind key) words slots id (ToldStage c m) w
-          (view_settled s v key id r at known h, []))
-          word.2
-          (keeps (view_settled s v key id r at known h) (view_settled s v key id r at known h) c m key words slots id ok wide known (first_then s r at))
+      owed : (rests : Rests v key id)
+          → OwesAsk (λ (z : View T). z.asked) (IsMachine code kind key) words slots id (ToldStage c m) ask.word ask.op (settled rests, [])
+      owed rests =
+          subst (λ w. Owes (λ (z : View T). z.asked) (IsMachine code kind key) words slots id (ToldStage c m) w (settled rests, []))
+          word.2 (keeps (settled rests) (settled rests) c m key words slots id ok wide known (first_then rests))
 
       below : ask.word < words
       below = (let low = word.1 in omega arith)
@@ -275,8 +303,9 @@ module _ {T : Type 0} (code : Coding T) (kind : Kind) (decides : MayDecide kind)
       first_keeps = (
         below,
         λ s r long at small. (
-            let vh = view_settled s v key id r at known h in
-            let x = (owed s r at).1 (table_settled s v key id r at known h) (machine_settled s v key id r at known h) long
+            let rests : Rests v key id = record { s = s; r = r; at = at; known = known; h = h } in
+            let vh = settled rests in
+            let x = (owed rests).1 (table_settled rests) (machine_settled rests) long
             (set_here s.views id vh (within s.views id v at)) small in (
               x.0,
               x.1,
@@ -288,7 +317,7 @@ module _ {T : Type 0} (code : Coding T) (kind : Kind) (decides : MayDecide kind)
                     views = vs;
                   }))
                   (set-set s.views id vh x.0) x.3,
-              (told_first s r at _ x.0 x.4.0, x.4.1, x.4.2),
+              (told_first rests _ x.0 x.4.0, x.4.1, x.4.2),
             )),
       )
 
@@ -305,7 +334,7 @@ module _ {T : Type 0} (code : Coding T) (kind : Kind) (decides : MayDecide kind)
 
     -- it may begin on a pass with no call under way, or with one that rests
     pub begins_idle : (v : View T) (c : C) (m : M) → Begins v c m → v.going ≡ None → v.other ≡ [] → 0 < v.share.part → Rested v v c m
-    begins_idle x0 x1 x2 x3 x4 x5 x6 = grind arith
+    begins_idle = grind arith
 
     pub begins_rested : (v : View T) (c : C) (m : M) → Begins v c m → IsResting code v → Rested v v c m
     begins_rested v c m begins resting = grind (arith, inr)

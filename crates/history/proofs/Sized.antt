@@ -17,17 +17,17 @@ module _ {T C M E : Type 0} (code : Coding T) (kind : Kind) (size_of : ℕ → �
   EndsSized base e m w = Ends code kind (call base.capacity) base e m w
 
   one_size : (n : ℕ) (base v : View T) (c : C) (m : M) → At code kind (call n) base v c m → v.capacity ≡ base.capacity
-  one_size x0 x1 x2 x3 x4 x5 = grind arith
+  one_size = grind arith
 
   sized_next : (n : ℕ) (base w : View T) (r : After C E) (m : M) → base.capacity ≡ n
       → NextKnown (λ (z : View T). z.capacity) (At code kind (call n)) (Ends code kind (call n)) base r m w
       → NextKnown (λ (z : View T). z.capacity) AtSized EndsSized base r m w
-  sized_next x0 x1 x2 x3 x4 x5 x6 = grind arith
+  sized_next = grind arith
 
   told_sized : (base : View T) (c : C) (m : M) (x : View T) (n : ℕ) (w : View T) → x.capacity ≡ base.capacity
       → Told (λ (z : View T). z.capacity) (At code kind (call base.capacity)) (Ends code kind (call base.capacity)) after kept c m x n w
       → Told (λ (z : View T). z.capacity) AtSized EndsSized after kept c m x n w
-  told_sized x0 x1 x2 x3 x4 x5 x6 x7 = grind (arith, one_size, sized_next)
+  told_sized = grind (arith, one_size, sized_next)
 
   pub keeps_sized : ((n : ℕ)
       → KeepsRule (λ (z : View T). z.asked) (λ (z : View T). z.capacity) (At code kind (call n)) (Ends code kind (call n))

@@ -10,4 +10,4 @@ pub starts_by_last : {T C M E : Type 0} (code : Coding T) (kind : Kind) (call : 
     → first_of kind base.capacity call.start t.world.kept ≡ Some (call.flight c m)
     → ((p : ℕ) → first_row (rows_as kind base.capacity t.world.kept p call.start) ≡ None)
     → Starts code kind call base c m t owner j
-starts_by_last x0 x1 x2 x3 x4 x5 x6 x7 x8 x9 x10 x11 x12 x13 = grind arith
+starts_by_last = grind arith

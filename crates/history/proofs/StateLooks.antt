@@ -8,7 +8,6 @@ use Rattle.history.proofs.Names.{step_of, beside_of, first_call, settled_if, sta
 use Rattle.history.proofs.Names.{names_owner, look_effects, after_turn, flight_in, found_put_same, answered, Owes}
 use Rattle.history.proofs.Names.{NextKnown, KeepsRule}
 use mathlib.Core.Option.{some}
-use lib.ListN.{get_elem?}
 use Rattle.atomic_table.specs.Table.{State}
 use Rattle.atomic_table.specs.Table as table
 use Rattle.steps.specs.Copied.{value_in}
@@ -29,11 +28,12 @@ use Rattle.history.specs.Known.{events_by}
 use Rattle.history.specs.Stages.{Calling, At, StepsOnly}
 use Rattle.history.proofs.Calls.{stands, no_flight}
 use Rattle.history.proofs.CallsIn.{AsksFor, goes}
-use Rattle.history.proofs.CallTurns.{then_trace, then_gained}
-use Rattle.history.proofs.CallReady.{same_capacity, some_share, still_stands, Ready, ready}
+use Rattle.history.proofs.CallTurns.{Stepping, then_trace, then_gained}
+use Rattle.history.proofs.KindLaws.{Machines}
+use Rattle.history.proofs.CallReady.{same_capacity, some_share, still_stands, Ready, ready, Seat}
 use Rattle.history.proofs.CallTurns.{next_between, comes_now, kept_now, view_then, gains_then, asked_then, goes_then, ends_then}
 use Rattle.history.proofs.ContainerLooks.{look_words, look_found, LookGoes, looks_so, look_goes_so, look_keeps_so, look_writes_so}
-use Rattle.history.proofs.Containers.{container_effects, effects_of_party, container_words, containers_owe, kept_there}
+use Rattle.history.proofs.Containers.{container_effects, effects_of_party, container_words, container_machines, kept_there}
 use Rattle.history.proofs.Containers.{container_first, container_starts, is_open_container}
 use Rattle.history.proofs.Known.{by_mine}
 use Rattle.history.proofs.Steps.{settle}
@@ -41,6 +41,9 @@ use Rattle.history.proofs.Steps.{settle}
 module _ {T : Type 0} (code : Coding T) (law : IsCoding code) (which : LookOf) (cells : ℕ) (seen : Numbers) where
   abbrev call : Calling T (Looking T) (Showing T) Bool
   call = looking code which cells seen
+
+  abbrev machines : Machines T
+  machines = container_machines code
 
   abbrev want : Looking T → Want (Unit {0})
   want c = look_want code.size c
@@ -70,7 +73,7 @@ module _ {T : Type 0} (code : Coding T) (law : IsCoding code) (which : LookOf) (
       → k ≡ registries.Container dead states → (base.party ≡ Some p → state_in k p ≡ base.state) → IfSome base.party (λ q. q ≡ p)
       → BeginsWith code which cells seen w base m
       → HasState (kept_after_begin code cells (Container (look_start w)) p k) p (state_of_look cells seen m)
-  begins_with x0 x1 x2 x3 x4 x5 x6 x7 x8 x9 x10 = grind (arith, found_put_same, fresh, state_in)
+  begins_with = grind (arith, found_put_same, fresh, state_in)
 
   -- ---- where it goes on, and what it has written then
 
@@ -79,7 +82,7 @@ module _ {T : Type 0} (code : Coding T) (law : IsCoding code) (which : LookOf) (
   none_copied p (suc index) = inl (none_copied p index)
 
   none_looked : (p : ℕ) (stage : LookStage) → LookedAt {T = T} p stage []
-  none_looked x0 x1 = grind (arith, none_copied)
+  none_looked = grind (arith, none_copied)
 
   abbrev value_read : Showing T → T
   value_read m = value_in code.value_of code.size m.copy
@@ -93,11 +96,22 @@ module _ {T : Type 0} (code : Coding T) (law : IsCoding code) (which : LookOf) (
   -- ---- a step
 
   abbrev ReadyAt : State (Unit {0}) (View T) → View T → ℕ → ℕ → Looking T → Showing T → Type 0
-  ReadyAt = Ready code kinds.Container container_effects (container_words code) (containers_owe code) call
+  ReadyAt = Ready machines call
 
-  module _ (s : State (Unit {0}) (View T)) (v : View T) (key id : ℕ) (c : Looking T) (m : Showing T) (at : get_elem? s.views id ≡ some v)
-      (known : v.capacity ≡ key) (y : ReadyAt s v key id c m) (ask : Ask) (low : ask.word < container_words code key) (wants_it : want c ≡ wants.Ask ask)
-      (has : HasState y.u.world.kept y.p (state_of_look cells seen m)) where
+  -- a step of a look of the state, which asks for a word
+  pub record Asking : Type 0 where
+    pub seat : Seat machines call
+    pub ask : Ask
+    pub low : ask.word < container_words code seat.key
+    pub wants_it : want seat.c ≡ wants.Ask ask
+    pub has : HasState seat.y.u.world.kept seat.y.p (state_of_look cells seen seat.m)
+
+  module _ (asking : Asking) where
+    open asking use {seat, seat.{s, v, key, id, c, m, at, known, y}, ask, low, wants_it, has}
+
+    abbrev step : Stepping machines call
+    step = record { seat = seat; ask = Some ask; low = low; asks_it = wants_it; finds = tt }
+
     abbrev n : ℕ
     n = slice_index s.words ask.word
 
@@ -108,12 +122,9 @@ module _ {T : Type 0} (code : Coding T) (law : IsCoding code) (which : LookOf) (
     its_flight = call.flight c m
 
     abbrev view_now : View T
-    view_now = view_then code kinds.Container container_effects (container_words code) (containers_owe code) call s v key id c m at known y (Some ask) low
-        wants_it tt
+    view_now = view_then machines call step
 
-    comes : comes_now code kinds.Container container_effects (container_words code) (containers_owe code) call s v
-        key id c m at known y (Some ask) low wants_it tt
-        ≡ goes call (after c n) now
+    comes : comes_now machines call step ≡ goes call (after c n) now
     comes = look_goes_so code which cells seen y.p c m n y.u.world.kept has
 
     -- the state that it leaves
@@ -125,25 +136,19 @@ module _ {T : Type 0} (code : Coding T) (law : IsCoding code) (which : LookOf) (
         let w = y.u.world in
         let here = stands w y.p call.start its_flight y.there in
         let beside = beside_of w.words w.kept w.latest y.p in
-        ap (λ k. state_in k y.p)
-        (kept_now code kinds.Container container_effects (container_words code) (containers_owe code) call s v key id c m at known y (Some ask) low wants_it tt)
+        ap (λ k. state_in k y.p) (kept_now machines call step)
         ∙ subst (λ z. HasState (step_of z w.words beside y.p here.x.start its_flight n w.kept).kept y.p left) (sym y.between.run.coded)
         (subst (λ st. HasState (step_of code w.words beside y.p st its_flight n w.kept).kept y.p left) (sym here.named)
         (look_keeps_so code which cells seen y.p w.words beside (look_start which) c m n w.kept has))
 
     left_shows : (a : After (Looking T) Bool) → (settled_if a (state_of_look cells seen now)).shown ≡ now
-    left_shows x0 = grind arith
+    left_shows = grind arith
 
     -- at its end it shows what its party has copied
     shows_copied : view_now.going ≡ None → ShowsCopied now view_now
     shows_copied idle p i value is shown =
-        let u =
-        then_trace code kinds.Container container_effects (container_words code) (containers_owe code) call s v key id c m at known y (Some ask) low wants_it tt
-        in
-        let run =
-        (next_between code kinds.Container container_effects (container_words code) (containers_owe code) call s v
-        key id c m at known y (Some ask) low wants_it tt).run
-        in
+        let u = then_trace machines call step in
+        let run = (next_between machines call step).run in
         let still : is_looking (flight_in u.world y.p) ≡ false = ap is_looking (no_flight u.world y.p idle) in
         let copied : WasCopied y.p i value u.events =
         (is_open_container code key u run).states y.p i left value still state_then
@@ -155,22 +160,19 @@ module _ {T : Type 0} (code : Coding T) (law : IsCoding code) (which : LookOf) (
     -- what it writes is its own
     its_own : (es late : List (Event T)) → late ≡ []
         → (es ++ late) ++ events_by y.p (container_effects y.u.world y.p its_flight n) ≡ es ++ look_effects y.p (value_read m) c.stage n
-    its_own x0 x1 x2 = grind (arith, append-nil, by_mine, effects_of_party, look_writes_so)
+    its_own = grind (arith, append-nil, by_mine, effects_of_party, look_writes_so)
 
     steps_so : (base : View T) → At code kinds.Container call base v c m → StepsOnly base view_now
-    steps_so =
-        asked_then code kinds.Container container_effects (container_words code) (containers_owe code) call s v key id c m at known y (Some ask) low
-        wants_it tt refl
+    steps_so = asked_then machines call step refl
 
     known_then : (base : View T) → Stage base v c m → (a : After (Looking T) Bool) → after c n ≡ a
         → NextKnown (λ (z : View T). z.capacity) Stage Over base a now view_now
     known_then base stage (GoOn d) e =
         let there = plain base v c m stage in
-        let standing = still_stands code kinds.Container container_effects (container_words code) (containers_owe code) call base v c m there in (
+        let standing = still_stands code kinds.Container call base v c m there in (
           stage.0,
           inr (
-            goes_then code kinds.Container container_effects (container_words code) (containers_owe code) call s v
-                key id c m at known y (Some ask) low wants_it tt
+            goes_then machines call step
                 base there d now (comes ∙ ap (λ a. goes call a now) e) (goes_so base.capacity y.p c m n [] (GoOn d) standing (none_looked y.p c.stage) e).0
                 (λ k. refl)
                 (λ es late h waits met new. subst (λ zs. LookedAt y.p d.stage zs) (sym (its_own es late waits))
@@ -181,9 +183,9 @@ module _ {T : Type 0} (code : Coding T) (law : IsCoding code) (which : LookOf) (
         )
     known_then base stage (Done changed) e =
         let there = plain base v c m stage in
-        let standing = still_stands code kinds.Container container_effects (container_words code) (containers_owe code) call base v c m there in
+        let standing = still_stands code kinds.Container call base v c m there in
         let ends =
-        ends_then code kinds.Container container_effects (container_words code) (containers_owe code) call s v key id c m at known y (Some ask) low wants_it tt
+        ends_then machines call step
         base there changed now (comes ∙ ap (λ a. goes call a now) e)
         (λ es late h waits met new. subst (λ zs. call.wrote_all base.capacity y.p None changed now zs) (sym (its_own es late waits))
         (λ none. goes_so base.capacity y.p c m n es (Done changed) standing (h new) e) refl)
@@ -199,9 +201,9 @@ module _ {T : Type 0} (code : Coding T) (law : IsCoding code) (which : LookOf) (
       (λ key. IsMachine code kinds.Container key) want after kept
   state_looks_keep base₀ v c m key words slots id wide known at₀ =
       let there₀ = plain base₀ v c m at₀ in
-      let standing = still_stands code kinds.Container container_effects (container_words code) (containers_owe code) call base₀ v c m there₀ in
+      let standing = still_stands code kinds.Container call base₀ v c m there₀ in
       let same : base₀.capacity ≡ key =
-      sym (same_capacity code kinds.Container container_effects (container_words code) (containers_owe code) call base₀ v c m there₀) ∙ known
+      sym (same_capacity code kinds.Container call base₀ v c m there₀) ∙ known
       in
       let asked : AsksFor (container_words code key) (want c) = asks_so standing same in
       let ask = asked.0 in
@@ -212,29 +214,31 @@ module _ {T : Type 0} (code : Coding T) (law : IsCoding code) (which : LookOf) (
       (sym asked.2) (
         below,
         λ s r long at small. (
-            let y = ready code kinds.Container container_effects (container_words code) (containers_owe code) call s v key id c m r at known base₀ there₀ in
-            let has = has_so s y at₀ same in (
-              view_now s v key id c m at known y ask low asked.2 has,
+            let y = ready machines call s v key id c m r at known base₀ there₀ in
+            let asking : Asking =
+            record {
+              seat = record { s = s; v = v; key = key; id = id; c = c; m = m; at = at; known = known; y = y };
+              ask = ask;
+              low = low;
+              wants_it = asked.2;
+              has = has_so s y at₀ same;
+            } in (
+              view_now asking,
               table.keeps,
               tt,
               settle code kinds.Container key id y.p y.owner (v.asked + 1) (v.aside + 0)
                   (slice_set s.words ask.word (written ask.op (slice_index s.words ask.word))) s v
-                  (then_gained code kinds.Container container_effects (container_words code) (containers_owe code) call s v key id c m at known y (Some ask) low
-                  asked.2 tt)
+                  (then_gained machines call (step asking))
                   (after_turn y.u (Next y.p)) at
-                  (some_share code kinds.Container container_effects (container_words code) (containers_owe code) call base₀ v c m there₀)
-                  (next_between code kinds.Container container_effects (container_words code) (containers_owe code)
-                  call s v key id c m at known y (Some ask) low
-                  asked.2 tt)
-                  (gains_then code kinds.Container container_effects (container_words code) (containers_owe code)
-                  call s v key id c m at known y (Some ask) low
-                  asked.2 tt),
-              (told s v key id c m at known y ask low asked.2 has, refl, refl),
+                  (some_share code kinds.Container call base₀ v c m there₀)
+                  (next_between machines call (step asking))
+                  (gains_then machines call (step asking)),
+              (told asking, refl, refl),
             )),
       )
     where
       asks_so : call.stands base₀.capacity c → base₀.capacity ≡ key → AsksFor (container_words code key) (want c)
-      asks_so x0 x1 = grind (arith, look_words)
+      asks_so = grind (arith, look_words)
 
       has_so : (s : State (Unit {0}) (View T)) (y : ReadyAt s v key id c m) → Stage base₀ v c m → base₀.capacity ≡ key
           → HasState y.u.world.kept y.p (state_of_look cells seen m)
@@ -259,8 +263,8 @@ module _ {T : Type 0} (code : Coding T) (law : IsCoding code) (which : LookOf) (
 
     look_flies : (w : LookOf) (capacity : ℕ)
         → flights.Container (first_call capacity (look_start w)) ≡ (looking code w cells seen).flight (first_look capacity) m
-    look_flies x0 x1 = grind arith
+    look_flies = grind arith
 
     pub state_look_first : (v : View T) → v.capacity ≡ cells → v.going ≡ None → v.other ≡ [] → 0 < v.share.part → BeginsWith code which cells seen which v m
         → Stage v v (first_look v.capacity) m
-    state_look_first x0 x1 x2 x3 x4 x5 = grind (arith, look_named, look_flies, inl, fresh, some, container_first, container_starts)
+    state_look_first = grind (arith, look_named, look_flies, inl, fresh, some, container_first, container_starts)

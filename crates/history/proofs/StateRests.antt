@@ -12,8 +12,8 @@ use Rattle.history.specs.Settled.{IsResting, Settles}
 use Rattle.history.specs.Stages.{At}
 use Rattle.history.proofs.CallsIn.{AsksFor}
 use Rattle.history.proofs.ContainerLooks.{look_words}
-use Rattle.history.proofs.ContainerRests.{Keeps, never_late, ends_quiet}
-use Rattle.history.proofs.Containers.{container_effects, container_words, containers_owe}
+use Rattle.history.proofs.ContainerRests.{Keeps, container_hears}
+use Rattle.history.proofs.Containers.{container_words}
 use Rattle.history.proofs.Settling.{keeps_waiting}
 use Rattle.history.proofs.StateLooks.{plain, state_looks_keep, state_look_first}
 
@@ -43,29 +43,28 @@ module _ {T : Type 0} (code : Coding T) (law : IsCoding code) (which : LookOf) (
   -- the pass has its party's state still
   begins_with : (w : LookOf) (v u : View T) (m : Showing T) → Settles code kinds.Container v u → BeginsWith code which cells seen w v m
       → BeginsWith code which cells seen w u m
-  begins_with x0 x1 x2 x3 x4 x5 = grind arith
+  begins_with = grind arith
 
   stays : (v u : View T) (c : Looking T) (m : Showing T) → Settles code kinds.Container v u → Begins v c m → Begins u c m
-  stays x0 x1 x2 x3 x4 x5 = grind (arith, begins_with)
+  stays = grind (arith, begins_with)
 
   first : (v : View T) (c : Looking T) (m : Showing T) → Begins v c m → v.going ≡ None → v.other ≡ [] → 0 < v.share.part → Stage v v c m
-  first x0 x1 x2 x3 x4 x5 x6 = grind (arith, state_look_first)
+  first = grind (arith, state_look_first)
 
   -- who rests is at a question, and a look puts none
   apart_at : (base v : View T) (c : Looking T) (m : Showing T) → IsResting code v → At code kinds.Container (looking code which cells seen) base v c m → ⊥
-  apart_at x0 x1 x2 x3 x4 x5 = grind arith
+  apart_at = grind arith
 
   pub state_rests_keep : Keeps code (RestedLooks code which cells seen) (RestedLooked code which cells seen) want after kept
   state_rests_keep =
-      keeps_waiting code kinds.Container tt container_effects (container_words code) (containers_owe code)
-      (never_late code) (ends_quiet code) want after kept Stage Over
+      keeps_waiting (container_hears code) want after kept Stage Over
       (state_looks_keep code law which cells seen) Begins asks stays first
       (λ base v c m h begins stage. apart_at base v c m h (plain code law which cells seen base v c m stage))
 
   -- it may begin on a pass with no call under way, or with one that rests
   pub state_rests_idle : (v : View T) (c : Looking T) (m : Showing T) → Begins v c m → v.going ≡ None → v.other ≡ [] → 0 < v.share.part
       → RestedLooks code which cells seen v v c m
-  state_rests_idle x0 x1 x2 x3 x4 x5 x6 = grind (arith, inl, first)
+  state_rests_idle = grind (arith, inl, first)
 
   pub state_rests_rested : (v : View T) (c : Looking T) (m : Showing T) → Begins v c m → IsResting code v → RestedLooks code which cells seen v v c m
   state_rests_rested v c m begins resting = inr (record { is = refl; resting = resting; first = begins })

@@ -77,10 +77,10 @@ module _ {T : Type 0} (code : Coding T) (kind : Kind) (capacity id p : ℕ) wher
 
       -- the party's number is one of a seat
       none : (j : ℕ) → length (slice_set s.views id now) ≤ j → j ≡ p → ⊥
-      none x0 x1 x2 = grind (arith, beyond, within)
+      none = grind (arith, beyond, within)
 
       mine : (j : ℕ) (x : View T) → j ≡ id → now ≡ x → Fits owner u j x
-      mine x0 x1 x2 x3 = grind (arith, counts, itself, none_seen, state_in, none_late, inl, append-nil, sum_by-append)
+      mine = grind (arith, counts, itself, none_seen, state_in, none_late, inl, append-nil, sum_by-append)
 
   pub settle : (owner : ℕ → ℕ) (asked aside : ℕ) (words : List ℕ) (s : State (Unit {0}) (View T)) (v : View T) (gained : List (Event T)) (u : Trace T)
       → get_elem? s.views id ≡ some v → 0 < v.share.part

@@ -9,7 +9,7 @@ use Rattle.history.proofs.Known.{by_more, by_same, by_twice, by_apart, owned_non
 
 module _ {T : Type 0} where
   pub longer : (seen events more : List (Event T)) → IsBeginning seen events → IsBeginning seen (events ++ more)
-  longer x0 x1 x2 x3 = grind (arith, append_assoc)
+  longer = grind (arith, append_assoc)
 
   -- ---- what another writes for a seat's call
 
@@ -23,23 +23,23 @@ module _ {T : Type 0} where
       (steps : (q : ℕ) → owner q ≡ j → steps_in w.world q ≡ steps_in u.world q) where
     -- a party with no call under way has nothing written for it
     quiet : (q : ℕ) → owner q ≡ j → call_in u.world q ≡ None → events_by q es ≡ []
-    quiet x0 x1 x2 = grind arith
+    quiet = grind arith
 
     quiet_else : (o : Option ℕ) → v.party ≡ o → (q : ℕ) → owner q ≡ j → o ≢ Some q → events_by q es ≡ []
     quiet_else o is q of_j ne = quiet q of_j (f.idle q of_j (λ e. ne (sym is ∙ e)))
 
     waits_on : (o : Option ℕ) → v.party ≡ o → IsLate kind v.going (f.late ++ by_party o es)
-    waits_on x0 x1 = grind (arith, append-nil, late_more)
+    waits_on = grind (arith, append-nil, late_more)
 
     of_party_on : (o : Option ℕ) → v.party ≡ o → by_party o (f.late ++ by_party o es) ≡ f.late ++ by_party o es
-    of_party_on x0 x1 = grind (arith, by_party, append-nil, by_more, by_twice)
+    of_party_on = grind (arith, by_party, append-nil, by_more, by_twice)
 
     -- of one of its parties it is late by just what the turn wrote for it
     late_is : (o : Option ℕ) → v.party ≡ o → (q : ℕ) → owner q ≡ j → events_by q (by_party o es) ≡ events_by q es
-    late_is x0 x1 x2 x3 = grind (arith, quiet_else, by_twice, by_apart, cases_eq)
+    late_is = grind (arith, quiet_else, by_twice, by_apart, cases_eq)
 
     own_on : (o : Option ℕ) → v.party ≡ o → (q : ℕ) → owner q ≡ j → HasSeenOf q v f.late u → HasSeenOf q v (f.late ++ by_party o es) w
-    own_on x0 x1 x2 x3 x4 = grind (arith, by_more, by_party, late_is, append_assoc, by_same, quiet)
+    own_on = grind (arith, by_more, by_party, late_is, append_assoc, by_same, quiet)
 
     sums_on : (o : Option ℕ) → v.party ≡ o → (g : Event T → ℕ) → sum_by g (by_party o es) ≡ sum_by (owned owner j g) es
     sums_on None is g = grind (arith, owned_none, quiet_else)

@@ -1,9 +1,9 @@
 -- What a begin and a step of a reached machine leave, where a table stands at its words.
 use Rattle.history.proofs.Names.{Bool, false, ◌≡◌, ◌≢◌, ℕ, ◌+◌, ◌<◌, ◌≤◌, Option, Some, None, IfSome, List, [], ◌∷◌}
 use Rattle.history.proofs.Names.{◌++◌, length, slice_index, refl, sym, ap, subst, ◌∙◌, arith, sum_by}
-use Rattle.history.proofs.Names.{sum_by-append, written, Ask, After, Want, Answer, Event, Begun, Start, Flight, Party}
-use Rattle.history.proofs.Names.{Kind, Turn, Begin, Next, Decide, Coding, first_of, kept_after_begin, going_rows}
-use Rattle.history.proofs.Names.{want_of, after_of, goes_of, ask_of, is_look_of, state_in, party_of, ask_in}
+use Rattle.history.proofs.Names.{sum_by-append, written, Ask, After, Want, Answer, Event, Begun, Start, Flight}
+use Rattle.history.proofs.Names.{Kind, Turn, Begin, Next, Decide, Coding, first_of, kept_after_begin}
+use Rattle.history.proofs.Names.{want_of, goes_of, ask_of, is_look_of, party_of, ask_in}
 use Rattle.history.proofs.Names.{call_refusal, first_row, answer_in, after_turn, events_of, words_after, number_of}
 use Rattle.history.proofs.Names.{step_in, ending_of, old_of, World, Trace, flight_in, whose, turn_making, IsFreshCall}
 use Rattle.history.proofs.Names.{Shares, IsAll}
@@ -21,16 +21,18 @@ use Rattle.model.specs.LockFree.{steps_of as turn_steps}
 use Rattle.model.specs.World.{opening}
 use Rattle.history.proofs.Asked.{steps_more}
 use Rattle.history.specs.Stages.{rows_as}
-use Rattle.history.proofs.Known.{by_more, by_same, by_other, by_mine, owned_one, late_none, none_late, AreOf, sum_first}
+use Rattle.history.proofs.Known.{by_more, by_same, by_other, by_mine, owned_one, late_none, none_late, AreOf}
 use Rattle.history.proofs.AllSeen.{owned_whole}
 use Rattle.history.proofs.Reached.{next_as, reached_as_more, fresh_as_more}
 use Rattle.history.proofs.StillFits.{still_fits}
 use Rattle.history.proofs.OneRun.{one_more}
-use Rattle.history.proofs.Calls.{IsStateless, goes_alike, look_begin, look_next, stands, flight_is}
+use Rattle.history.proofs.Calls.{look_begin, look_next, stands, flight_is}
 use Rattle.history.proofs.Calls.{next_other, begin_other, decision_other, begin_own, next_kept}
 use Rattle.history.proofs.Calls.{steps_next_other, steps_begin_other, steps_decision_other}
 use Rattle.history.proofs.Calls.{steps_begin_own, steps_next_own, steps_decision_own, started_next_own, others_begin_own, others_next_own}
 use Rattle.history.proofs.Calls.{call_then, moved, heard_going, heard_events, get_left, set_left, Moved}
+pub use Rattle.history.proofs.KindLaws.{all_someone, StepsOn, KeptLaws, MachineLaws, kept_laws, goes_on_alike, CallGoesOn, KindLaws, machine_laws}
+pub use Rattle.history.proofs.KindLaws.{Machines, SteadyMachines, LoneMachines, kept_machines, steady_machines}
 
 -- what is wanted, where it is a word or nothing
 abbrev pub want_for : Option Ask → Want (Unit {0})
@@ -50,84 +52,6 @@ module _ {T : Type 0} where
   pub both_own : (p : ℕ) (xs ys : List (Event T)) → AreOf p xs → AreOf p ys → AreOf p (xs ++ ys)
   both_own p [] ys a b = b
   both_own p (x ∷ xs) ys a b = (a.0, both_own p xs ys a.1 b)
-
-  pub all_someone : (p : ℕ) (es : List (Event T)) → AreOf p es → sum_by (λ e. of_none (whose e)) es ≡ 0
-  all_someone p [] are = refl
-  all_someone p (e ∷ es) are =
-      let here : of_none (whose e) ≡ 0 = ap of_none are.0 in
-      let more = all_someone p es are.1 in
-      let sum = sum_first (λ x. of_none (whose x)) e es in
-      omega arith
-
-  -- ---- what a kind owes
-
-  module _ (code : Coding T) (kind : Kind) (capacity words : ℕ) (effects : World T → ℕ → Flight T → ℕ → List (Event T)) where
-    -- of each of its calls under way: what a step writes, for another only what may be late there, and where it leads
-    pub record StepsOn (t : Trace T) (p : ℕ) (flight : Flight T) : Type 0 where
-      pub may : first_row (going_rows t.world.coding t.world.kept (Some flight) None) ≡ None
-      pub writes : (x : Party T) (n : ℕ) → party_of p t.world.latest ≡ Some x → (step_in t.world p x flight n).wrote ≡ effects t.world p flight n
-      pub someone : (n : ℕ) → sum_by (λ e. of_none (whose e)) (effects t.world p flight n) ≡ 0
-      pub beside : (n q : ℕ) → q ≢ p → IsLate kind (call_in t.world q) (events_by q (effects t.world p flight n))
-      pub goes : (x : Party T) (n : ℕ) → party_of p t.world.latest ≡ Some x
-          → (step_in t.world p x flight n).after ≡ goes_of t.world.coding p flight n t.world.kept
-
-    -- of a kind whose calls may go on by what is kept
-    pub record KeptLaws : Type 0 where
-      pub size : (t : Trace T) → IsRun code kind capacity t → length t.world.words ≡ words
-      pub steps_on : (t : Trace T) → IsRun code kind capacity t → (p : ℕ) (start : Start T) (flight : Flight T)
-          → call_in t.world p ≡ Some (start, flight) → StepsOn t p flight
-      -- a turn that is no look of a party leaves its state
-      pub states : (t : Trace T) (turn : Turn T) → IsRun code kind capacity t → IsRun code kind capacity (after_turn t turn)
-          → refusal_as kind t.world turn ≡ None → (q : ℕ) → is_look_of t.world q turn ≡ false
-          → state_in (after_turn t turn).world.kept q ≡ state_in t.world.kept q
-
-    -- of one whose calls do not
-    pub record MachineLaws : Type 0 where
-      pub size : (t : Trace T) → IsRun code kind capacity t → length t.world.words ≡ words
-      pub steps_on : (t : Trace T) → IsRun code kind capacity t → (p : ℕ) (start : Start T) (flight : Flight T)
-          → call_in t.world p ≡ Some (start, flight) → StepsOn t p flight
-      pub stateless : (t : Trace T) → IsRun code kind capacity t → IsStateless t.world.kept
-
-    pub kept_laws : MachineLaws → KeptLaws
-    kept_laws x0 = grind arith
-
-    pub goes_on_alike : MachineLaws → (t : Trace T) → IsRun code kind capacity t → (p : ℕ) (flight : Flight T) (n : ℕ)
-        → goes_of code p flight n t.world.kept ≡ after_of code flight n
-    goes_on_alike laws t run p flight n = goes_alike code p flight n t.world.kept (laws.stateless t run)
-
-  -- what a kind owes whose parties write for themselves alone
-  module _ (code : Coding T) (kind : Kind) (capacity words : ℕ) (effects : ℕ → Flight T → ℕ → List (Event T)) where
-    pub record CallGoesOn (t : Trace T) (p : ℕ) (flight : Flight T) : Type 0 where
-      pub may : first_row (going_rows t.world.coding t.world.kept (Some flight) None) ≡ None
-      pub writes : (x : Party T) (n : ℕ) → party_of p t.world.latest ≡ Some x → (step_in t.world p x flight n).wrote ≡ effects p flight n
-      pub own : (n : ℕ) → AreOf p (effects p flight n)
-      pub goes : (x : Party T) (n : ℕ) → party_of p t.world.latest ≡ Some x → (step_in t.world p x flight n).after ≡ after_of t.world.coding flight n
-
-    pub record KindLaws : Type 0 where
-      pub size : (t : Trace T) → IsRun code kind capacity t → length t.world.words ≡ words
-      pub goes_on : (t : Trace T) → IsRun code kind capacity t → (p : ℕ) (start : Start T) (flight : Flight T)
-          → call_in t.world p ≡ Some (start, flight) → CallGoesOn t p flight
-      pub alone : (going : Option (Start T × Flight T)) (late : List (Event T)) → IsLate kind going late → late ≡ []
-      pub stateless : (t : Trace T) → IsRun code kind capacity t → IsStateless t.world.kept
-
-    own_beside : (w : World T) (p q : ℕ) (es : List (Event T)) → q ≢ p → AreOf p es → IsLate kind (call_in w q) (events_by q es)
-    own_beside x0 x1 x2 x3 x4 x5 = grind (arith, by_other, none_late)
-
-    pub machine_laws : KindLaws → MachineLaws code kind capacity words (λ w. effects)
-    machine_laws laws =
-        record {
-          size = laws.size;
-          steps_on = λ t run p start flight at. (
-              let own = laws.goes_on t run p start flight at in
-              record {
-                may = own.may;
-                writes = own.writes;
-                someone = λ n. all_someone p (effects p flight n) (own.own n);
-                beside = λ n q ne. own_beside t.world p q (effects p flight n) ne (own.own n);
-                goes = λ x n found. own.goes x n found ∙ sym (goes_alike t.world.coding p flight n t.world.kept (laws.stateless t run));
-              });
-          stateless = laws.stateless;
-        }
 
   module _ (code : Coding T) (kind : Kind) (capacity : ℕ) where
     -- the machine stands at the table's words, every other seat at its place in it, and this one has gained these events
@@ -184,276 +108,324 @@ module _ {T : Type 0} where
     pub made_between : (owner : ℕ → ℕ) (id p : ℕ) (gained : List (Event T)) (u : Trace T) (s : State (Unit {0}) (View T))
         → Between owner s id p gained u → (v : View T) → get_elem? s.views id ≡ some v → IsAll v.share
         → (f : Event T → ℕ) → sum_by f u.events ≡ sum_by f (v.made ++ gained)
-    made_between x0 x1 x2 x3 x4 x5 x6 x7 x8 x9 x10 = grind (arith, owned_whole, sum_by-append)
+    made_between = grind (arith, owned_whole, sum_by-append)
 
     pub run_more : (t : Trace T) (turn : Turn T) → refusal_as kind t.world turn ≡ None → IsFreshTurn t turn → IsRun code kind capacity t
         → IsRun code kind capacity (after_turn t turn)
-    run_more x0 x1 x2 x3 x4 = grind (arith, turn_making, reached_as_more, fresh_as_more)
+    run_more = grind (arith, turn_making, reached_as_more, fresh_as_more)
 
-    module _ (words : ℕ) (effects : World T → ℕ → Flight T → ℕ → List (Event T))
-        (laws : KeptLaws code kind capacity words effects) (owner : ℕ → ℕ) (s : State (Unit {0}) (View T)) (id p : ℕ)
-        (gained : List (Event T)) (u : Trace T) (b : Between owner s id p gained u) where
-      -- a party of another seat is another
-      not_mine : (j q : ℕ) → j ≢ id → owner q ≡ j → q ≢ p
-      not_mine j q ne own e = ne (sym own ∙ (ap owner e ∙ b.mine))
+-- a party of a seat that takes the next turn of a machine
+pub record Turning (T : Type 0) : Type 0 where
+  pub code : Coding T
+  pub kind : Kind
+  pub capacity : ℕ
+  pub words : ℕ  -- so many has the machine
+  pub effects : World T → ℕ → Flight T → ℕ → List (Event T)
+  pub laws : KeptLaws code kind capacity words effects
+  pub owner : ℕ → ℕ  -- the seat of each party
+  pub s : State (Unit {0}) (View T)
+  pub id : ℕ  -- of the seat
+  pub p : ℕ  -- the party
+  pub gained : List (Event T)  -- its events that the seat has not seen
+  pub u : Trace T
+  pub b : Between code kind capacity owner s id p gained u
 
-      -- a turn of this party that leaves these words and writes these events
-      turned : (words' : List ℕ) (turn : Turn T) → refusal_as kind u.world turn ≡ None → IsFreshTurn u turn
-          → words' ≡ (after_turn u turn).world.words ++ 0 ∷ [] → sum_by (λ e. of_none (whose e)) (events_of u.world turn) ≡ 0
-          → ((q : ℕ) → q ≢ p → IsLate kind (call_in u.world q) (events_by q (events_of u.world turn)))
-          → ((j : ℕ) → j ≢ p → call_in (after_turn u turn).world j ≡ call_in u.world j)
-          → ((q : ℕ) → q ≢ p → is_look_of u.world q turn ≡ false)
-          → ((q : ℕ) → q ≢ p → steps_in (after_turn u turn).world q ≡ steps_in u.world q)
-          → Between owner (record { words = words'; homes = s.homes; views = s.views }) id p
-          (gained ++ events_by p (events_of u.world turn)) (after_turn u turn)
-      turned words' turn free fresh_turn same someone beside apart no_look still =
-          let es = events_of u.world turn in
-          let run = run_more u turn free fresh_turn b.run in
-          record {
-            run = run;
-            words = same;
-            others =
-                λ j v ne at. still_fits kind owner u (after_turn u turn) es j v (b.others j v ne at) b.run.of_kind
-                run.of_kind refl (λ q of_j. beside q (not_mine j q ne of_j)) (λ q of_j. apart q (not_mine j q ne of_j))
-                (λ q of_j. laws.states u turn b.run run free q (no_look q (not_mine j q ne of_j)))
-                (λ q of_j. still q (not_mine j q ne of_j));
-            mine = b.mine;
-            self = b.self;
-            idle = λ q of_id ne. apart q ne ∙ b.idle q of_id ne;
-            made_own = λ v at f. (
-                let was = b.made_own v at f in
-                let one = sum_by-append f gained (events_by p es) in
-                let two = sum_by-append (owned owner id f) u.events es in
-                let all = owned_one owner id p f es b.mine (λ q of_id ne. none_of es beside q ne (b.idle q of_id ne)) in
-                omega arith);
-            inside = b.inside;
-            fresh = b.fresh;
-            further = λ j ne past. apart j ne ∙ b.further j ne past;
-            made_none = λ j ne past. by_same j u.events es (none_of es beside j ne (b.further j ne past)) ∙ b.made_none j ne past;
-            shares = b.shares;
-            someone = (
-                let was = b.someone in
-                let two = sum_by-append (λ e. of_none (whose e)) u.events es in
-                omega arith);
-            spent = b.spent;
-            one = one_more code kind capacity s.views u turn free fresh_turn b.one;
-          }
-        where
-          none_of : (es : List (Event T)) → ((q : ℕ) → q ≢ p → IsLate kind (call_in u.world q) (events_by q es))
-              → (q : ℕ) → q ≢ p → call_in u.world q ≡ None → events_by q es ≡ []
-          none_of x0 x1 x2 x3 x4 = grind (arith, late_none)
+module _ {T : Type 0} (turning : Turning T) where
+  open turning use {code, kind, capacity, words, effects, laws, owner, s, id, p, gained, u, b}
 
-      -- ---- a call begins
+  -- a party of another seat is another
+  not_mine : (j q : ℕ) → j ≢ id → owner q ≡ j → q ≢ p
+  not_mine j q ne own e = ne (sym own ∙ (ap owner e ∙ b.mine))
 
-      module _ (start : Start T) (flight : Flight T) (idle : call_in u.world p ≡ None)
-          (first : first_of kind capacity start u.world.kept ≡ Some flight)
-          (may : first_row (rows_as kind capacity u.world.kept p start) ≡ None) where
-        first_here : first_of u.world.kind u.world.capacity start u.world.kept ≡ Some flight
-        first_here = grind arith
+  -- a turn of this party that leaves these words and writes these events
+  turned : (words' : List ℕ) (turn : Turn T) → refusal_as kind u.world turn ≡ None → IsFreshTurn u turn
+      → words' ≡ (after_turn u turn).world.words ++ 0 ∷ [] → sum_by (λ e. of_none (whose e)) (events_of u.world turn) ≡ 0
+      → ((q : ℕ) → q ≢ p → IsLate kind (call_in u.world q) (events_by q (events_of u.world turn)))
+      → ((j : ℕ) → j ≢ p → call_in (after_turn u turn).world j ≡ call_in u.world j)
+      → ((q : ℕ) → q ≢ p → is_look_of u.world q turn ≡ false)
+      → ((q : ℕ) → q ≢ p → steps_in (after_turn u turn).world q ≡ steps_in u.world q)
+      → Between code kind capacity owner (record { words = words'; homes = s.homes; views = s.views }) id p
+      (gained ++ events_by p (events_of u.world turn)) (after_turn u turn)
+  turned words' turn free fresh_turn same someone beside apart no_look still =
+      let es = events_of u.world turn in
+      let run = run_more code kind capacity u turn free fresh_turn b.run in
+      record {
+        run = run;
+        words = same;
+        others =
+            λ j v ne at. still_fits kind owner u (after_turn u turn) es j v (b.others j v ne at) b.run.of_kind
+            run.of_kind refl (λ q of_j. beside q (not_mine j q ne of_j)) (λ q of_j. apart q (not_mine j q ne of_j))
+            (λ q of_j. laws.states u turn b.run run free q (no_look q (not_mine j q ne of_j)))
+            (λ q of_j. still q (not_mine j q ne of_j));
+        mine = b.mine;
+        self = b.self;
+        idle = λ q of_id ne. apart q ne ∙ b.idle q of_id ne;
+        made_own = λ v at f. (
+            let was = b.made_own v at f in
+            let one = sum_by-append f gained (events_by p es) in
+            let two = sum_by-append (owned owner id f) u.events es in
+            let all = owned_one owner id p f es b.mine (λ q of_id ne. none_of es beside q ne (b.idle q of_id ne)) in
+            omega arith);
+        inside = b.inside;
+        fresh = b.fresh;
+        further = λ j ne past. apart j ne ∙ b.further j ne past;
+        made_none = λ j ne past. by_same j u.events es (none_of es beside j ne (b.further j ne past)) ∙ b.made_none j ne past;
+        shares = b.shares;
+        someone = (
+            let was = b.someone in
+            let two = sum_by-append (λ e. of_none (whose e)) u.events es in
+            omega arith);
+        spent = b.spent;
+        one = one_more code kind capacity s.views u turn free fresh_turn b.one;
+      }
+    where
+      none_of : (es : List (Event T)) → ((q : ℕ) → q ≢ p → IsLate kind (call_in u.world q) (events_by q es))
+          → (q : ℕ) → q ≢ p → call_in u.world q ≡ None → events_by q es ≡ []
+      none_of = grind (arith, late_none)
 
-        pub begins_free : refusal_as kind u.world (Begin p start) ≡ None
-        begins_free = grind arith
+-- ---- a call begins
 
-        begins : Between owner s id p (gained ++ events_by p (Begun p start ∷ [])) (after_turn u (Begin p start))
-        begins = turned s.words (Begin p start) begins_free tt
-            (b.words ∙ ap (λ ws. ws ++ 0 ∷ []) (sym (writes_one_word u.world (Begin p start)))) refl
-            (λ q ne. subst (λ zs. IsLate kind (call_in u.world q) zs) (sym (by_other p q (Begun p start ∷ []) ne (refl, tt)))
-            (none_late kind (call_in u.world q))) (λ j ne. begin_other u.world p j start ne (first_of u.world.kind u.world.capacity start u.world.kept))
-            (λ q ne. look_begin u.world p q start ne)
-            (λ q ne. steps_begin_other u.world p q start ne (first_of u.world.kind u.world.capacity start u.world.kept))
+-- its party begins a call
+pub record Beginning (T : Type 0) : Type 0 where
+  pub turning : Turning T
+  pub start : Start T
+  pub flight : Flight T
+  pub idle : call_in turning.u.world turning.p ≡ None
+  pub first : first_of turning.kind turning.capacity start turning.u.world.kept ≡ Some flight
+  pub may : first_row (rows_as turning.kind turning.capacity turning.u.world.kept turning.p start) ≡ None
 
-        -- with no step yet
-        pub begun_steps : steps_in (after_turn u (Begin p start)).world p ≡ 0
-        begun_steps = steps_begin_own u.world p start flight (first_of u.world.kind u.world.capacity start u.world.kept) first_here
+module _ {T : Type 0} (beginning : Beginning T) where
+  open beginning use {turning, turning.{code, kind, capacity, words, effects, laws, owner, s, id, p, gained, u, b}, start, flight, idle, first, may}
 
-        -- and no change by another
-        pub begun_others : others_in (after_turn u (Begin p start)).world p ≡ 0
-        begun_others = others_begin_own u.world p start flight (first_of u.world.kind u.world.capacity start u.world.kept) first_here
+  first_here : first_of u.world.kind u.world.capacity start u.world.kept ≡ Some flight
+  first_here = grind arith
 
-        pub begun : Between owner s id p (gained ++ Begun p start ∷ []) (after_turn u (Begin p start))
-        begun =
-            let b' : Between owner s id p (gained ++ events_by p (Begun p start ∷ [])) (after_turn u (Begin p start)) = begins in
-            let same : events_by p (Begun p start ∷ []) ≡ Begun p start ∷ [] = by_mine p (Begun p start ∷ []) (refl, tt) in
-            record {
-              run = b'.run;
-              words = b'.words;
-              others = b'.others;
-              mine = b'.mine;
-              self = b'.self;
-              idle = b'.idle;
-              made_own = λ v at f. ap (λ zs. sum_by f v.made + sum_by f (gained ++ zs)) (sym same) ∙ b'.made_own v at f;
-              inside = b'.inside;
-              fresh = b'.fresh;
-              further = b'.further;
-              made_none = b'.made_none;
-              shares = b'.shares;
-              someone = b'.someone;
-              spent = b'.spent;
-              one = b'.one;
-            }
+  pub begins_free : refusal_as kind u.world (Begin p start) ≡ None
+  begins_free = grind arith
 
-        pub begun_took : steps_of_run code kind capacity begun.one.turns ≡ steps_of_run code kind capacity b.one.turns + 0
-        unfolding begun begins turned
-        begun_took = more_steps b.one.turns u (Begin p start) 0 b.one.is refl
+  begins : Between code kind capacity owner s id p (gained ++ events_by p (Begun p start ∷ [])) (after_turn u (Begin p start))
+  begins = turned turning s.words (Begin p start) begins_free tt
+      (b.words ∙ ap (λ ws. ws ++ 0 ∷ []) (sym (writes_one_word u.world (Begin p start)))) refl
+      (λ q ne. subst (λ zs. IsLate kind (call_in u.world q) zs) (sym (by_other p q (Begun p start ∷ []) ne (refl, tt)))
+      (none_late kind (call_in u.world q))) (λ j ne. begin_other u.world p j start ne (first_of u.world.kind u.world.capacity start u.world.kept))
+      (λ q ne. look_begin u.world p q start ne)
+      (λ q ne. steps_begin_other u.world p q start ne (first_of u.world.kind u.world.capacity start u.world.kept))
 
-        pub begun_at : call_in (after_turn u (Begin p start)).world p ≡ Some (start, flight)
-        begun_at = grind (arith, begin_own, first_of, first_here)
+  -- with no step yet
+  pub begun_steps : steps_in (after_turn u (Begin p start)).world p ≡ 0
+  begun_steps = steps_begin_own u.world p start flight (first_of u.world.kind u.world.capacity start u.world.kept) first_here
 
-        pub begun_kept : (after_turn u (Begin p start)).world.kept ≡ kept_after_begin code capacity start p u.world.kept
-        begun_kept = grind arith
+  -- and no change by another
+  pub begun_others : others_in (after_turn u (Begin p start)).world p ≡ 0
+  begun_others = others_begin_own u.world p start flight (first_of u.world.kind u.world.capacity start u.world.kept) first_here
 
-      -- ---- it goes on, at a word or at none
+  pub begun : Between code kind capacity owner s id p (gained ++ Begun p start ∷ []) (after_turn u (Begin p start))
+  begun =
+      let b' : Between code kind capacity owner s id p (gained ++ events_by p (Begun p start ∷ [])) (after_turn u (Begin p start)) = begins in
+      let same : events_by p (Begun p start ∷ []) ≡ Begun p start ∷ [] = by_mine p (Begun p start ∷ []) (refl, tt) in
+      record {
+        run = b'.run;
+        words = b'.words;
+        others = b'.others;
+        mine = b'.mine;
+        self = b'.self;
+        idle = b'.idle;
+        made_own = λ v at f. ap (λ zs. sum_by f v.made + sum_by f (gained ++ zs)) (sym same) ∙ b'.made_own v at f;
+        inside = b'.inside;
+        fresh = b'.fresh;
+        further = b'.further;
+        made_none = b'.made_none;
+        shares = b'.shares;
+        someone = b'.someone;
+        spent = b'.spent;
+        one = b'.one;
+      }
 
-      module _ (start : Start T) (flight : Flight T) (ask : Option Ask) (low : IfSome ask (λ a. a.word < words))
-          (at : call_in u.world p ≡ Some (start, flight)) (asks : want_of code flight ≡ want_for ask)
-          (finds : IsFreshCall (at_ask s.words ask) flight) where
-        mine : StepsOn code kind capacity words effects u p flight
-        mine = laws.steps_on u b.run p start flight at
+  pub begun_took : steps_of_run code kind capacity begun.one.turns ≡ steps_of_run code kind capacity b.one.turns + 0
+  unfolding begun begins turned
+  begun_took = more_steps code kind capacity b.one.turns u (Begin p start) 0 b.one.is refl
 
-        here : flight_in u.world p ≡ Some flight
-        here = flight_is u.world p start flight (stands u.world p start flight at)
+  pub begun_at : call_in (after_turn u (Begin p start)).world p ≡ Some (start, flight)
+  begun_at = grind (arith, begin_own, first_of, first_here)
 
-        pub goes_free : call_refusal u.world (Next p) ≡ None
-        goes_free = grind arith
+  pub begun_kept : (after_turn u (Begin p start)).world.kept ≡ kept_after_begin code capacity start p u.world.kept
+  begun_kept = grind arith
 
-        pub asked : ask_in u.world (Next p) ≡ ask
-        asked = grind arith
+-- ---- it goes on, at a word or at none
 
-        asked_of : ask_of (want_of u.world.coding flight) ≡ ask
-        asked_of = grind arith
+-- its call under way takes a step
+pub record Going (T : Type 0) : Type 0 where
+  pub turning : Turning T
+  pub start : Start T
+  pub flight : Flight T
+  pub ask : Option Ask
+  pub low : IfSome ask (λ a. a.word < turning.words)
+  pub at : call_in turning.u.world turning.p ≡ Some (start, flight)
+  pub asks : want_of turning.code flight ≡ want_for ask
+  pub finds : IsFreshCall (at_ask turning.s.words ask) flight
 
-        pub found_old : old_of u.world.words (ask_of (want_of u.world.coding flight)) ≡ at_ask s.words ask
-        found_old = ap (old_of u.world.words) asked_of ∙ go ask low
-          where
-            go : (o : Option Ask) → IfSome o (λ a. a.word < words) → old_of u.world.words o ≡ at_ask s.words o
-            go None below = refl
-            go (Some a) below =
-                sym (ap (λ ws. slice_index ws a.word) b.words
-                ∙ get_left u.world.words (0 ∷ []) a.word (let all = laws.size u b.run in omega arith))
+module _ {T : Type 0} (going : Going T) where
+  open going use {turning, turning.{code, kind, capacity, words, effects, laws, owner, s, id, p, gained, u, b}, start, flight, ask, low, at, asks, finds}
 
-        abbrev found : ℕ
-        found = at_ask s.words ask
+  mine : StepsOn code kind capacity words effects u p flight
+  mine = laws.steps_on u b.run p start flight at
 
-        its_step : Moved u.world p start flight (old_of u.world.words (ask_of (want_of u.world.coding flight)))
-            (effects u.world p flight (old_of u.world.words (ask_of (want_of u.world.coding flight))))
-        its_step = moved u.world p start flight (effects u.world p flight) (stands u.world p start flight at) mine.goes mine.writes
+  here : flight_in u.world p ≡ Some flight
+  here = flight_is u.world p start flight (stands u.world p start flight at)
 
-        -- what it comes to, from the word that the table had
-        abbrev goes_then : ℕ → After (Flight T) (Answer T)
-        goes_then n = goes_of code p flight n u.world.kept
+  pub goes_free : call_refusal u.world (Next p) ≡ None
+  goes_free = grind arith
 
-        pub goes_to : call_in (after_turn u (Next p)).world p ≡ call_then start (goes_then found)
-        goes_to = grind (arith, its_step, call_then, goes_of, old_of, ask_of, want_of, found_old)
+  pub asked : ask_in u.world (Next p) ≡ ask
+  asked = grind arith
 
-        abbrev pub tells : List (Event T)
-        tells = effects u.world p flight found ++ ending_of p start (answer_in (goes_then found))
+  asked_of : ask_of (want_of u.world.coding flight) ≡ ask
+  asked_of = grind arith
 
-        pub told : events_of u.world (Next p) ≡ tells
-        told = grind (arith, its_step, old_of, ask_of, want_of, ending_of, answer_in, goes_of, found_old)
+  pub found_old : old_of u.world.words (ask_of (want_of u.world.coding flight)) ≡ at_ask s.words ask
+  found_old = ap (old_of u.world.words) asked_of ∙ go ask low
+    where
+      go : (o : Option Ask) → IfSome o (λ a. a.word < words) → old_of u.world.words o ≡ at_ask s.words o
+      go None below = refl
+      go (Some a) below =
+          sym (ap (λ ws. slice_index ws a.word) b.words
+          ∙ get_left u.world.words (0 ∷ []) a.word (let all = laws.size u b.run in omega arith))
 
-        -- and what is kept then
-        pub kept_then : (after_turn u (Next p)).world.kept ≡ (step_in u.world p (stands u.world p start flight at).x flight found).kept
-        kept_then =
-            next_kept u.world p start flight (stands u.world p start flight at)
-            ∙ ap (λ n. (step_in u.world p (stands u.world p start flight at).x flight n).kept) found_old
+  abbrev found : ℕ
+  found = at_ask s.words ask
 
-        ends_own : AreOf p (ending_of p start (answer_in (goes_then found)))
-        ends_own = ending_of_own p start (answer_in (goes_then found))
+  its_step : Moved u.world p start flight (old_of u.world.words (ask_of (want_of u.world.coding flight)))
+      (effects u.world p flight (old_of u.world.words (ask_of (want_of u.world.coding flight))))
+  its_step = moved u.world p start flight (effects u.world p flight) (stands u.world p start flight at) mine.goes mine.writes
 
-        someone : sum_by (λ e. of_none (whose e)) (events_of u.world (Next p)) ≡ 0
-        someone =
-            let all : sum_by (λ e. of_none (whose e)) (events_of u.world (Next p)) ≡ sum_by (λ e. of_none (whose e)) tells =
-            ap (sum_by (λ e. of_none (whose e))) told in
-            let one = sum_by-append (λ e. of_none (whose e)) (effects u.world p flight found) (ending_of p start (answer_in (goes_then found))) in
-            let wrote = mine.someone found in
-            let ends = all_someone p (ending_of p start (answer_in (goes_then found))) ends_own in
-            omega arith
+  -- what it comes to, from the word that the table had
+  abbrev goes_then : ℕ → After (Flight T) (Answer T)
+  goes_then n = goes_of code p flight n u.world.kept
 
-        beside : (q : ℕ) → q ≢ p → IsLate kind (call_in u.world q) (events_by q (events_of u.world (Next p)))
-        beside x0 x1 = grind (arith, call_in, events_by, told, by_same, ending_of, answer_in, by_other, ends_own, mine)
+  pub goes_to : call_in (after_turn u (Next p)).world p ≡ call_then start (goes_then found)
+  goes_to = grind (arith, its_step, call_then, goes_of, old_of, ask_of, want_of, found_old)
 
-        -- what it writes of its own
-        pub own_told : events_by p (events_of u.world (Next p))
-            ≡ events_by p (effects u.world p flight found) ++ ending_of p start (answer_in (goes_then found))
-        own_told = grind (arith, told, by_more, by_mine, ends_own)
+  abbrev pub tells : List (Event T)
+  tells = effects u.world p flight found ++ ending_of p start (answer_in (goes_then found))
 
-        words_then : words_after s.words ask ≡ (after_turn u (Next p)).world.words ++ 0 ∷ []
-        words_then = go ask low asked
-          where
-            go : (o : Option Ask) → IfSome o (λ a. a.word < words) → ask_in u.world (Next p) ≡ o
-                → words_after s.words o ≡ (after_turn u (Next p)).world.words ++ 0 ∷ []
-            go None below e = grind (arith, writes_one_word)
-            go (Some a) below e = grind (arith, length, get_left, after_turn, written, writes_one_word, set_left)
+  pub told : events_of u.world (Next p) ≡ tells
+  told = grind (arith, its_step, old_of, ask_of, want_of, ending_of, answer_in, goes_of, found_old)
 
-        pub fresh_now : IsFreshTurn u (Next p)
-        fresh_now x0 x1 = grind (arith, here, found_old)
+  -- and what is kept then
+  pub kept_then : (after_turn u (Next p)).world.kept ≡ (step_in u.world p (stands u.world p start flight at).x flight found).kept
+  kept_then =
+      next_kept u.world p start flight (stands u.world p start flight at)
+      ∙ ap (λ n. (step_in u.world p (stands u.world p start flight at).x flight n).kept) found_old
 
-        pub gone : Between owner (record { words = words_after s.words ask; homes = s.homes; views = s.views }) id p
-            (gained ++ events_by p (events_of u.world (Next p))) (after_turn u (Next p))
-        gone = turned (words_after s.words ask) (Next p) (next_as kind u.world p goes_free) fresh_now words_then someone beside
-            (λ j ne. next_other u.world p j ne (party_of p u.world.latest)) (λ q ne. look_next u.world p q ne)
-            (λ q ne. steps_next_other u.world p q ne (party_of p u.world.latest))
+  ends_own : AreOf p (ending_of p start (answer_in (goes_then found)))
+  ends_own = ending_of_own p start (answer_in (goes_then found))
 
-        pub gone_took : steps_of_run code kind capacity gone.one.turns ≡ steps_of_run code kind capacity b.one.turns + step_count ask
-        unfolding gone turned
-        gone_took = more_steps b.one.turns u (Next p) (step_count ask) b.one.is (ap step_count asked)
+  someone : sum_by (λ e. of_none (whose e)) (events_of u.world (Next p)) ≡ 0
+  someone =
+      let all : sum_by (λ e. of_none (whose e)) (events_of u.world (Next p)) ≡ sum_by (λ e. of_none (whose e)) tells =
+      ap (sum_by (λ e. of_none (whose e))) told in
+      let one = sum_by-append (λ e. of_none (whose e)) (effects u.world p flight found) (ending_of p start (answer_in (goes_then found))) in
+      let wrote = mine.someone found in
+      let ends = all_someone p (ending_of p start (answer_in (goes_then found))) ends_own in
+      omega arith
 
-        pub gone_named : started (party_of p (after_turn u (Next p)).world.latest) ≡ Some start
-        gone_named = started_next_own u.world p start flight (stands u.world p start flight at)
+  beside : (q : ℕ) → q ≢ p → IsLate kind (call_in u.world q) (events_by q (events_of u.world (Next p)))
+  beside = grind (arith, call_in, events_by, told, by_same, ending_of, answer_in, by_other, ends_own, mine)
 
-        -- no other has changed a word meanwhile
-        pub gone_others : others_in (after_turn u (Next p)).world p ≡ others_in u.world p
-        gone_others = others_next_own u.world p start flight (stands u.world p start flight at)
+  -- what it writes of its own
+  pub own_told : events_by p (events_of u.world (Next p))
+      ≡ events_by p (effects u.world p flight found) ++ ending_of p start (answer_in (goes_then found))
+  own_told = grind (arith, told, by_more, by_mine, ends_own)
 
-        -- by one step, where it asks for a word
-        pub gone_steps : steps_in (after_turn u (Next p)).world p ≡ steps_in u.world p + step_count ask
-        gone_steps =
-            steps_next_own u.world p start flight (stands u.world p start flight at)
-            ∙ ap (λ o. steps_in u.world p + step_count o) asked_of
+  words_then : words_after s.words ask ≡ (after_turn u (Next p)).world.words ++ 0 ∷ []
+  words_then = go ask low asked
+    where
+      go : (o : Option Ask) → IfSome o (λ a. a.word < words) → ask_in u.world (Next p) ≡ o
+          → words_after s.words o ≡ (after_turn u (Next p)).world.words ++ 0 ∷ []
+      go None below e = grind (arith, writes_one_word)
+      go (Some a) below e = grind (arith, length, get_left, after_turn, written, writes_one_word, set_left)
 
-      -- ---- it is handed an answer to its question, and goes on without a word, or ends
+  pub fresh_now : IsFreshTurn u (Next p)
+  fresh_now = grind (arith, here, found_old)
 
-      module _ (start : Start T) (flight : Flight T) (next : After (Flight T) (Answer T)) (said : Bool) (at : call_in u.world p ≡ Some (start, flight))
-          (free : refusal_as kind u.world (Decide p said) ≡ None) (comes : goes_of code p flight (number_of said) u.world.kept ≡ next) where
-        steps_so : StepsOn code kind capacity words effects u p flight
-        steps_so = laws.steps_on u b.run p start flight at
+  pub gone : Between code kind capacity owner (record { words = words_after s.words ask; homes = s.homes; views = s.views }) id p
+      (gained ++ events_by p (events_of u.world (Next p))) (after_turn u (Next p))
+  gone = turned turning (words_after s.words ask) (Next p) (next_as kind u.world p goes_free) fresh_now words_then someone beside
+      (λ j ne. next_other u.world p j ne (party_of p u.world.latest)) (λ q ne. look_next u.world p q ne)
+      (λ q ne. steps_next_other u.world p q ne (party_of p u.world.latest))
 
-        abbrev hears : List (Event T)
-        hears = effects u.world p flight (number_of said)
+  pub gone_took : steps_of_run code kind capacity gone.one.turns ≡ steps_of_run code kind capacity b.one.turns + step_count ask
+  unfolding gone turned
+  gone_took = more_steps code kind capacity b.one.turns u (Next p) (step_count ask) b.one.is (ap step_count asked)
 
-        abbrev ends_so : List (Event T)
-        ends_so = ending_of p start (answer_in next)
+  pub gone_named : started (party_of p (after_turn u (Next p)).world.latest) ≡ Some start
+  gone_named = started_next_own u.world p start flight (stands u.world p start flight at)
 
-        comes_here : goes_of u.world.coding p flight (number_of said) u.world.kept ≡ next
-        comes_here = grind arith
+  -- no other has changed a word meanwhile
+  pub gone_others : others_in (after_turn u (Next p)).world p ≡ others_in u.world p
+  gone_others = others_next_own u.world p start flight (stands u.world p start flight at)
 
-        pub heard : events_of u.world (Decide p said) ≡ hears ++ ends_so
-        heard = grind (arith, heard_events, stands, steps_so, ending_of, answer_in, comes_here)
+  -- by one step, where it asks for a word
+  pub gone_steps : steps_in (after_turn u (Next p)).world p ≡ steps_in u.world p + step_count ask
+  gone_steps =
+      steps_next_own u.world p start flight (stands u.world p start flight at)
+      ∙ ap (λ o. steps_in u.world p + step_count o) asked_of
 
-        -- what it writes of its own
-        pub own_heard : events_by p (events_of u.world (Decide p said)) ≡ events_by p hears ++ ends_so
-        own_heard = grind (arith, heard, by_more, by_mine, ending_of_own)
+-- ---- it is handed an answer to its question, and goes on without a word, or ends
 
-        heard_someone : sum_by (λ e. of_none (whose e)) (events_of u.world (Decide p said)) ≡ 0
-        heard_someone = grind (arith, sum_by, of_none, whose, events_of, heard, sum_by-append, steps_so, number_of, all_someone)
+-- its call under way is handed an answer
+pub record Answering (T : Type 0) : Type 0 where
+  pub turning : Turning T
+  pub start : Start T
+  pub flight : Flight T
+  pub next : After (Flight T) (Answer T)
+  pub said : Bool
+  pub at : call_in turning.u.world turning.p ≡ Some (start, flight)
+  pub free : refusal_as turning.kind turning.u.world (Decide turning.p said) ≡ None
+  pub comes : goes_of turning.code turning.p flight (number_of said) turning.u.world.kept ≡ next
 
-        heard_beside : (q : ℕ) → q ≢ p → IsLate kind (call_in u.world q) (events_by q (events_of u.world (Decide p said)))
-        heard_beside x0 x1 = grind (arith, call_in, events_by, heard, by_same, by_other, ending_of_own, answer_in, steps_so, number_of)
+module _ {T : Type 0} (answering : Answering T) where
+  open answering use {turning, turning.{code, kind, capacity, words, effects, laws, owner, s, id, p, gained, u, b}, start, flight, next, said, at, free, comes}
 
-        pub decided : Between owner s id p (gained ++ events_by p (events_of u.world (Decide p said))) (after_turn u (Decide p said))
-        decided =
-            turned s.words (Decide p said) free tt (b.words ∙ ap (λ ws. ws ++ 0 ∷ []) (sym (writes_one_word u.world (Decide p said))))
-            heard_someone heard_beside (λ j ne. decision_other u.world p j said ne (party_of p u.world.latest)) (λ q ne. refl)
-            (λ q ne. steps_decision_other u.world p q said ne (party_of p u.world.latest))
+  steps_so : StepsOn code kind capacity words effects u p flight
+  steps_so = laws.steps_on u b.run p start flight at
 
-        pub decided_took : steps_of_run code kind capacity decided.one.turns ≡ steps_of_run code kind capacity b.one.turns + 0
-        unfolding decided turned
-        decided_took = more_steps b.one.turns u (Decide p said) 0 b.one.is refl
+  abbrev hears : List (Event T)
+  hears = effects u.world p flight (number_of said)
 
-        pub decided_steps : steps_in (after_turn u (Decide p said)).world p ≡ steps_in u.world p + 0
-        decided_steps = steps_decision_own u.world p start flight said (stands u.world p start flight at)
+  abbrev ends_so : List (Event T)
+  ends_so = ending_of p start (answer_in next)
 
-        pub decided_at : call_in (after_turn u (Decide p said)).world p ≡ call_then start next
-        decided_at =
-            heard_going u.world p start flight (effects u.world p flight) (stands u.world p start flight at) steps_so.goes steps_so.writes said
-            ∙ ap (call_then start) comes_here
+  comes_here : goes_of u.world.coding p flight (number_of said) u.world.kept ≡ next
+  comes_here = grind arith
+
+  pub heard : events_of u.world (Decide p said) ≡ hears ++ ends_so
+  heard = grind (arith, heard_events, stands, steps_so, ending_of, answer_in, comes_here)
+
+  -- what it writes of its own
+  pub own_heard : events_by p (events_of u.world (Decide p said)) ≡ events_by p hears ++ ends_so
+  own_heard = grind (arith, heard, by_more, by_mine, ending_of_own)
+
+  heard_someone : sum_by (λ e. of_none (whose e)) (events_of u.world (Decide p said)) ≡ 0
+  heard_someone = grind (arith, sum_by, of_none, whose, events_of, heard, sum_by-append, steps_so, number_of, all_someone)
+
+  heard_beside : (q : ℕ) → q ≢ p → IsLate kind (call_in u.world q) (events_by q (events_of u.world (Decide p said)))
+  heard_beside = grind (arith, call_in, events_by, heard, by_same, by_other, ending_of_own, answer_in, steps_so, number_of)
+
+  pub decided : Between code kind capacity owner s id p (gained ++ events_by p (events_of u.world (Decide p said))) (after_turn u (Decide p said))
+  decided =
+      turned turning s.words (Decide p said) free tt (b.words ∙ ap (λ ws. ws ++ 0 ∷ []) (sym (writes_one_word u.world (Decide p said))))
+      heard_someone heard_beside (λ j ne. decision_other u.world p j said ne (party_of p u.world.latest)) (λ q ne. refl)
+      (λ q ne. steps_decision_other u.world p q said ne (party_of p u.world.latest))
+
+  pub decided_took : steps_of_run code kind capacity decided.one.turns ≡ steps_of_run code kind capacity b.one.turns + 0
+  unfolding decided turned
+  decided_took = more_steps code kind capacity b.one.turns u (Decide p said) 0 b.one.is refl
+
+  pub decided_steps : steps_in (after_turn u (Decide p said)).world p ≡ steps_in u.world p + 0
+  decided_steps = steps_decision_own u.world p start flight said (stands u.world p start flight at)
+
+  pub decided_at : call_in (after_turn u (Decide p said)).world p ≡ call_then start next
+  decided_at =
+      heard_going u.world p start flight (effects u.world p flight) (stands u.world p start flight at) steps_so.goes steps_so.writes said
+      ∙ ap (call_then start) comes_here

@@ -5,7 +5,7 @@ use Rattle.history.proofs.Names.{arith, written, Ask, After, GoOn, before_versio
 use Rattle.history.proofs.Names.{store_asks, store_want, store_takes, store_after, first_load, at_load}
 use Rattle.history.proofs.Names.{load_asks, load_begins, load_want, load_takes, load_after, load_keeps, load_kept}
 use Rattle.history.proofs.Names.{Truth, Acted, Flight, Coding, IsCoding, after_of, producer_word, kept_at, answered}
-use Rattle.history.proofs.Names.{KeepsRule, IsFreshStore}
+use Rattle.history.proofs.Names.{IsFreshStore}
 use Rattle.steps.specs.declared.ask.Op.TheVariants as ops
 use Rattle.steps.specs.declared.ask.After.TheVariants.{Done}
 use Rattle.steps.specs.declared.ask.Want.TheVariants as wants
@@ -19,6 +19,8 @@ use Rattle.steps.specs.declared.copied.Buffer as buffers
 use Rattle.steps.specs.Atomic.{cell_word}
 use Rattle.steps.specs.Queues.Ring.{word_at}
 use Rattle.steps.specs.Queues.Roles.{acquire_want, acquire_after, release_want, release_after}
+use Rattle.steps.specs.declared.queues.roles.AcquireRole.{AcquireRole}
+use Rattle.steps.specs.declared.queues.roles.ReleaseRole.{ReleaseRole}
 use Rattle.model.specs.declared.event.Answer.TheVariants as answers
 use Rattle.model.specs.declared.event.Start.TheVariants.{Atomic}
 use Rattle.model.specs.declared.families.Flight.TheVariants as flights
@@ -28,51 +30,49 @@ use Rattle.model.specs.declared.families.atomic.calls.AtomicFlight.TheVariants a
 use Rattle.model.specs.declared.turn.Kind.TheVariants as kinds
 use Rattle.model.specs.Families.Atomic.Calls.{fresh}
 use Rattle.history.specs.declared.view.View.{View}
-use Rattle.history.specs.History.{IsMachine}
 use Rattle.history.specs.Rooms.{room_of}
-use Rattle.history.specs.Stages.{Calling, At, Ends, Over}
+use Rattle.history.specs.Stages.{Calling, At}
 use Rattle.history.specs.Value.{HasProducer, acquires_producer, releases_producer, store_skips, StoreStands}
 use Rattle.history.specs.Value.{stores_value, LoadStands, value_of_room, loads_value}
-use Rattle.history.proofs.Drives.{IsCallOf, goes, keeps, keeps_all}
+use Rattle.history.proofs.Drives.{goes, keeps, keeps_to_end}
 use Rattle.history.proofs.QueueCalls.{holds_it}
 use Rattle.history.proofs.Rooms.{room_set, room_read}
-use Rattle.history.proofs.Values.{value_effects, value_owes, plain_starts, producer_starts}
+use Rattle.history.proofs.Values.{value_effects, plain_starts, producer_starts}
+use Rattle.history.proofs.CallsIn.{Driven, IsCallBy, KeepsEnds, KeepsOver}
+use Rattle.history.proofs.Values.{value_machines}
+use Rattle.history.proofs.Cases.{by_bool}
 
 module _ {T : Type 0} (code : Coding T) where
   abbrev size_of : ℕ → ℕ
   size_of capacity = 2 + code.size * 2
 
-  abbrev Keeps : {C M E : Type 0} → Calling T C M E → (C → Rattle.steps.specs.declared.ask.Want.Want (Unit {0}))
-      → (C → ℕ → After C E) → (C → M → ℕ → M) → Type 0
-  Keeps call =
-      KeepsRule (λ (z : View T). z.asked) (λ (z : View T). z.capacity) (At code kinds.Atomic call) (Ends code kinds.Atomic call)
-      (λ key. 2 + code.size * 2 + 1) (λ key. key) (λ key. IsMachine code kinds.Atomic key)
-
   -- a word of a cell is one of the value's words
   cell_low : (version cell at : ℕ) → cell ≡ cell_word code.size version → at < code.size → word_at cell at < 2 + code.size * 2
-  cell_low x0 x1 x2 x3 x4 = grind arith
+  cell_low = grind arith
 
   -- ---- the producer's role
 
-  acquire_is_call : IsCallOf code (value_effects code) size_of acquire_want acquire_after (λ c m n. m) acquires_producer
+  abbrev pub acquire_driven : Driven T AcquireRole (Unit {0}) Bool
+  acquire_driven = record { want = acquire_want; after = acquire_after; kept = λ c m n. m; call = acquires_producer }
+
+  acquire_is_call : IsCallBy code (value_effects code) size_of acquire_driven
   acquire_is_call = grind arith
 
-  pub acquire_keeps : Keeps acquires_producer acquire_want acquire_after (λ c m n. m)
-  acquire_keeps =
-      keeps_all code kinds.Atomic (value_effects code) size_of (value_owes code) acquire_want acquire_after (λ c m n. m)
-      acquires_producer acquire_is_call (λ c n. refl)
+  pub acquire_keeps : KeepsEnds code kinds.Atomic size_of acquire_driven
+  acquire_keeps = keeps_to_end (value_machines code) acquire_driven acquire_is_call (λ c n. refl)
 
   pub acquire_first : (x : View T) (m : Unit {0}) → x.going ≡ None → x.other ≡ [] → 0 < x.share.part
       → At code kinds.Atomic acquires_producer x x (record { word = producer_word }) m
-  acquire_first x0 x1 x2 x3 x4 = grind (arith, inl, fresh, plain_starts, acquires_producer)
+  acquire_first = grind (arith, inl, fresh, plain_starts, acquires_producer)
 
-  release_is_call : IsCallOf code (value_effects code) size_of release_want release_after (λ c m n. m) releases_producer
+  abbrev pub release_driven : Driven T ReleaseRole (Unit {0}) (Unit {0})
+  release_driven = record { want = release_want; after = release_after; kept = λ c m n. m; call = releases_producer }
+
+  release_is_call : IsCallBy code (value_effects code) size_of release_driven
   release_is_call = grind arith
 
-  pub release_keeps : Keeps releases_producer release_want release_after (λ c m n. m)
-  release_keeps =
-      keeps_all code kinds.Atomic (value_effects code) size_of (value_owes code) release_want release_after (λ c m n. m)
-      releases_producer release_is_call (λ c n. refl)
+  pub release_keeps : KeepsEnds code kinds.Atomic size_of release_driven
+  release_keeps = keeps_to_end (value_machines code) release_driven release_is_call (λ c n. refl)
 
   pub release_first : (x : View T) (m : Unit {0}) → x.going ≡ None → x.other ≡ [] → 0 < x.share.part
       → HasProducer x.made → At code kinds.Atomic releases_producer x x (record { word = producer_word }) m
@@ -97,7 +97,7 @@ module _ {T : Type 0} (code : Coding T) (law : IsCoding code) (value : T) where
   storing = stores_value code value
 
   store_same_after : (c : Storing T) (m : Unit {0}) (n : ℕ) → after_of code (storing.flight c m) n ≡ goes storing (store_after code.size c n) m
-  store_same_after x0 x1 x2 = grind arith
+  store_same_after = grind arith
 
   -- the events of a step that goes on, and of one that ends
   store_quiet : (p : ℕ) (c d : Storing T) (m : Unit {0}) (n : ℕ) → store_after code.size c n ≡ GoOn d → value_effects code p (storing.flight c m) n ≡ []
@@ -110,13 +110,13 @@ module _ {T : Type 0} (code : Coding T) (law : IsCoding code) (value : T) where
   -- a store that is no look answers true
   store_true : (c : Storing T) (n : ℕ) (b : Bool) (stage : StoreStage) → store_skips stage n ≡ false
       → store_takes code.size c stage n ≡ Done b → b ≡ true
-  store_true x0 x1 x2 x3 x4 x5 = grind arith
+  store_true = grind arith
 
   abbrev StandsNext : Storing T → Type 0
   StandsNext d = StoreStands code.size d.stage × ((k : ℕ) → store_skips d.stage k ≡ false)
 
   store_stays : (c d : Storing T) (n : ℕ) (stage : StoreStage) → StoreStands code.size stage → store_takes code.size c stage n ≡ GoOn d → StandsNext d
-  store_stays x0 x1 x2 x3 x4 x5 = grind arith
+  store_stays = grind arith
 
   store_finds_word : (stage : StoreStage) → StoreStands code.size stage
       → (a : Ask) × (a.word < 2 + code.size * 2) × (store_asks code.words_of stage value ≡ wants.Ask a)
@@ -131,27 +131,24 @@ module _ {T : Type 0} (code : Coding T) (law : IsCoding code) (value : T) where
   store_hears : (c : Storing T) (a : Ask) (n : ℕ) (stage : StoreStage)
       → store_asks code.words_of stage value ≡ wants.Ask a
       → store_takes code.size c stage (answered a.op n) ≡ store_takes code.size c stage n
-  store_hears x0 x1 x2 x3 x4 = grind arith
+  store_hears = grind arith
 
   store_finds : (n : ℕ) (stage : StoreStage) → n < 2 ^ 64 → store_skips stage n ≡ false → IsFreshStore n stage
-  store_finds x0 x1 x2 x3 = grind arith
+  store_finds = grind arith
 
   store_leaves : (c : Storing T) (a : Ask) (n : ℕ) (stage : StoreStage) → store_skips stage n ≡ true
       → store_asks code.words_of stage value ≡ wants.Ask a
       → (written a.op n ≡ n) × (e : Bool) × (e ≡ false) × (store_takes code.size c stage n ≡ Done e)
-  store_leaves x0 x1 x2 x3 x4 x5 = grind arith
+  store_leaves = grind arith
 
-  store_is_call : IsCallOf code (value_effects code) (size_of code) (λ c. store_want code.words_of c value)
-      (λ c n. store_after code.size c n) (λ c m n. m) storing
+  abbrev pub store_driven : Driven T (Storing T) (Unit {0}) Bool
+  store_driven = record { want = λ c. store_want code.words_of c value; after = λ c n. store_after code.size c n; kept = λ c m n. m; call = storing }
+
+  store_is_call : IsCallBy code (value_effects code) (size_of code) store_driven
   store_is_call = grind (arith, store_same_after, store_hears, store_stays, store_finds_word, store_finds, store_leaves, store_quiet, store_true, store_acts)
 
-  pub store_keeps : KeepsRule (λ (z : View T). z.asked) (λ (z : View T). z.capacity) (At code kinds.Atomic storing)
-      (Over code kinds.Atomic storing) (λ key. 2 + code.size * 2 + 1) (λ key. key)
-      (λ key. IsMachine code kinds.Atomic key) (λ c. store_want code.words_of c value)
-      (λ c n. store_after code.size c n) (λ c m n. m)
-  store_keeps =
-      keeps code kinds.Atomic (value_effects code) (size_of code) (value_owes code)
-      (λ c. store_want code.words_of c value) (λ c n. store_after code.size c n) (λ c m n. m) storing store_is_call
+  pub store_keeps : KeepsOver code kinds.Atomic (size_of code) store_driven
+  store_keeps = keeps (value_machines code) store_driven store_is_call
 
   pub store_first : (x : View T) (m : Unit {0}) → x.going ≡ None → x.other ≡ [] → 0 < x.share.part
       → HasProducer x.made → At code kinds.Atomic storing x x first_store m
@@ -190,24 +187,18 @@ module _ {T R : Type 0} (code : Coding T) (law : IsCoding code) (words_in : R �
       → after_of code (flight_at stage (room_of code.size (words_in m))) n
       ≡ goes loading (load_takes code.size c stage n) (load_keeps with_word m stage n)
   load_same_after c m n loads.LoadsVersion h = refl
-  load_same_after c m n (loads.LoadsCell version cell at) h = go (nat_lt (at + 1) code.size) refl
-    where
-      go : (b : Bool) → nat_lt (at + 1) code.size ≡ b
-          → after_of code (flight_at (loads.LoadsCell version cell at) (room_of code.size (words_in m))) n
-          ≡ goes loading (load_takes code.size c (loads.LoadsCell version cell at) n) (with_word m at n)
-      go true t = rw t (ap (λ r. GoOn (flight_at (loads.LoadsCell version cell (at + 1)) r)) (put_there m at n h.1))
-      go false t = rw t (ap (λ r. GoOn (flight_at (loads.ChecksVersion version) r)) (put_there m at n h.1))
-  load_same_after c m n (loads.ChecksVersion version) h = go (n == version) refl
-    where
-      go : (b : Bool) → (n == version) ≡ b
-          → after_of code (flight_at (loads.ChecksVersion version) (room_of code.size (words_in m))) n
-          ≡ goes loading (load_takes code.size c (loads.ChecksVersion version) n) m
-      go true t = rw t (ap (λ x. Done (answers.Loaded x)) (room_read code (words_in m)))
-      go false t = rw t refl
+  load_same_after c m n (loads.LoadsCell version cell at) h =
+      by_bool (nat_lt (at + 1) code.size)
+      (λ t. rw t (ap (λ r. GoOn (flight_at (loads.LoadsCell version cell (at + 1)) r)) (put_there m at n h.1)))
+      (λ t. rw t (ap (λ r. GoOn (flight_at (loads.ChecksVersion version) r)) (put_there m at n h.1)))
+  load_same_after c m n (loads.ChecksVersion version) h =
+      by_bool (n == version)
+      (λ t. rw t (ap (λ x. Done (answers.Loaded x)) (room_read code (words_in m))))
+      (λ t. rw t refl)
 
   load_quiet : (p : ℕ) (c d : Loading T R) (m : R) (n : ℕ) → load_after code.size c n ≡ GoOn d
       → LoadStands code.size c.stage → value_effects code p (loading.flight c m) n ≡ []
-  load_quiet x0 x1 x2 x3 x4 x5 x6 = grind arith
+  load_quiet = grind arith
 
   load_acts : (p : ℕ) (c : Loading T R) (m : R) (n : ℕ) (stage : LoadStage) → load_takes code.size c stage n ≡ Done tt
       → value_effects code p (flight_at stage (room_of code.size (words_in m))) n
@@ -223,17 +214,14 @@ module _ {T R : Type 0} (code : Coding T) (law : IsCoding code) (words_in : R �
           → A
       go true e = absurd (cc)
       go false e = absurd (cc)
-  load_acts p c m n (loads.ChecksVersion version) e = go (n == version) refl
-    where
-      go : (b : Bool) → (n == version) ≡ b
-          → value_effects code p (flight_at (loads.ChecksVersion version) (room_of code.size (words_in m))) n
-          ≡ Acted p (Atomic Load) (answers.Loaded (value_of_room code words_in m)) ∷ []
-      go true t = rw t (ap (λ x. Acted p (Atomic Load) (answers.Loaded x) ∷ []) (room_read code (words_in m)))
-      go false t = (let no : GoOn (at_load c (load_begins code.size n)) ≡ Done tt = rw t at e in absurd (cc))
+  load_acts p c m n (loads.ChecksVersion version) e =
+      by_bool (n == version)
+      (λ t. rw t (ap (λ x. Acted p (Atomic Load) (answers.Loaded x) ∷ []) (room_read code (words_in m))))
+      (λ t. (let no : GoOn (at_load c (load_begins code.size n)) ≡ Done tt = rw t at e in absurd (cc)))
 
   load_stays : (c d : Loading T R) (n : ℕ) (stage : LoadStage) → LoadStands code.size stage
       → load_takes code.size c stage n ≡ GoOn d → LoadStands code.size d.stage
-  load_stays x0 x1 x2 x3 x4 x5 = grind arith
+  load_stays = grind arith
 
   load_finds_word : (stage : LoadStage) → LoadStands code.size stage → (a : Ask) × (a.word < 2 + code.size * 2) × (load_asks stage ≡ wants.Ask a)
   load_finds_word loads.LoadsVersion h = (record { word = 0; op = ops.Load }, omega arith, refl)
@@ -244,18 +232,16 @@ module _ {T R : Type 0} (code : Coding T) (law : IsCoding code) (words_in : R �
   load_hears : (c : Loading T R) (m : R) (a : Ask) (n : ℕ) (stage : LoadStage) → load_asks stage ≡ wants.Ask a
       → (load_takes code.size c stage (answered a.op n) ≡ load_takes code.size c stage n)
       × (load_keeps with_word m stage (answered a.op n) ≡ load_keeps with_word m stage n)
-  load_hears x0 x1 x2 x3 x4 x5 = grind arith
+  load_hears = grind arith
 
-  load_is_call : IsCallOf code (value_effects code) (size_of code) (λ (c : Loading T R). load_want c) (λ c n. load_after code.size c n) keeps_word loading
+  abbrev pub load_driven : Driven T (Loading T R) R (Unit {0})
+  load_driven = record { want = λ (c : Loading T R). load_want c; after = λ c n. load_after code.size c n; kept = keeps_word; call = loading }
+
+  load_is_call : IsCallBy code (value_effects code) (size_of code) load_driven
   load_is_call = grind (arith, load_same_after, load_hears, load_stays, load_finds_word, load_quiet, load_acts)
 
-  pub load_keeps_rule : KeepsRule (λ (z : View T). z.asked) (λ (z : View T). z.capacity) (At code kinds.Atomic loading)
-      (Ends code kinds.Atomic loading) (λ key. 2 + code.size * 2 + 1) (λ key. key)
-      (λ key. IsMachine code kinds.Atomic key) (λ (c : Loading T R). load_want c) (λ c n. load_after code.size c n)
-      keeps_word
-  load_keeps_rule =
-      keeps_all code kinds.Atomic (value_effects code) (size_of code) (value_owes code)
-      (λ (c : Loading T R). load_want c) (λ c n. load_after code.size c n) keeps_word loading load_is_call (λ c n. refl)
+  pub load_keeps_rule : KeepsEnds code kinds.Atomic (size_of code) load_driven
+  load_keeps_rule = keeps_to_end (value_machines code) load_driven load_is_call (λ c n. refl)
 
   -- in a room of zeros in which a value fits
   pub load_first : (x : View T) (m : R) → room_of code.size (words_in m) ≡ fresh → x.going ≡ None → x.other ≡ []

@@ -24,7 +24,7 @@ module _ {T : Type 0} where
   module _ (en : Coding T) (c : ℕ) (t : Trace T) (s : frame.Sound (family en c) t) where
     step_right : (p n : ℕ) (x : Party T) (flight : Flight T) (since : ℕ) → party_of p t.world.latest ≡ Some x
         → x.doing ≡ Going flight since → Right t.events (step_in t.world p x flight n).wrote
-    step_right x0 x1 x2 x3 x4 x5 x6 = grind arith
+    step_right = grind arith
 
 module _ {T : Type 0} (code : Coding T) (capacity : ℕ) where
   by_producers : (t : Trace T) → IsRun code kinds.Atomic capacity t → Each ByProducer t.events
@@ -48,11 +48,11 @@ module _ {T : Type 0} (code : Coding T) (capacity : ℕ) where
 module _ {T : Type 0} (p : ℕ) where
   back_from : (before : List (Event T)) (e : Event T) → ByProducer before e → is_party p (whose e) ≡ false
       → holder_after (holder_of before) e ≡ Some p → (holder_of before ≡ Some p) × (stores e ≡ [])
-  back_from x0 x1 x2 x3 x4 = grind arith
+  back_from = grind arith
 
   forth_from : (before : List (Event T)) (e : Event T) → ByProducer before e → GrantsRight before e
       → is_party p (whose e) ≡ false → holder_of before ≡ Some p → (stores e ≡ []) × (holder_after (Some p) e ≡ Some p)
-  forth_from x0 x1 x2 x3 x4 x5 = grind arith
+  forth_from = grind arith
 
 module _ {T : Type 0} where
   abbrev pub value_role : RoleEvents T T

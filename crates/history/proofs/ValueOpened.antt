@@ -28,7 +28,7 @@ use Rattle.history.proofs.Alone.{same_seat}
 use Rattle.history.proofs.Calls.{set_left}
 use Rattle.history.proofs.QueueCalls.{holds_it}
 use Rattle.history.proofs.Rooms.{replicate_both}
-use Rattle.history.proofs.Turns.{MachineLaws, machine_laws}
+use Rattle.history.proofs.Turns.{machine_laws}
 use Rattle.history.proofs.Values.{value_effects, value_owes, plain_starts, producer_starts}
 
 -- ---- lists of words
@@ -72,7 +72,7 @@ two_same zero xs = refl
 two_same (suc p) xs = refl
 
 two_length : (p size : ℕ) (xs ys : List ℕ) → length xs ≡ size → length ys ≡ size → length (two p xs ys) ≡ size * 2
-two_length x0 x1 x2 x3 x4 x5 = grind (arith, length-append)
+two_length = grind (arith, length-append)
 
 two_set : (p size : ℕ) (xs ys : List ℕ) (at n : ℕ) → p < 2 → length xs ≡ size → length ys ≡ size → at < size
     → set (two p xs ys) (size * p + at) n ≡ two p (set xs at n) ys
@@ -93,18 +93,26 @@ module _ {T : Type 0} (code : Coding T) (law : IsCoding code) (value : T) where
   abbrev effects : World T → ℕ → Flight T → ℕ → List (Event T)
   effects w = value_effects code
 
-  laws : MachineLaws code kinds.Atomic 1 (2 + code.size * 2) effects
-  laws = machine_laws code kinds.Atomic 1 (2 + code.size * 2) (value_effects code) (value_owes code 1)
+  abbrev machine : alone.OneMachine T
+  machine =
+      record {
+        code = code;
+        kind = kinds.Atomic;
+        capacity = 1;
+        size = 2 + code.size * 2;
+        effects = λ w. value_effects code;
+        laws = machine_laws code kinds.Atomic 1 (2 + code.size * 2) (value_effects code) (value_owes code 1);
+      }
 
   abbrev Here : List ℕ → List (Turn T) → List (Event T) → Option (Start T × Flight T) → Type 0
-  Here = alone.Here code kinds.Atomic 1 (2 + code.size * 2) effects laws
+  Here = alone.Here machine
 
   abbrev maker : List (Turn T) → List (Event T) → View T
-  maker = alone.maker code kinds.Atomic 1 (2 + code.size * 2) effects laws
+  maker = alone.maker machine
 
   sums : (words : List ℕ) (ts : List (Turn T)) (es : List (Event T)) → (h : Here words ts es None)
       → (f : Event T → ℕ) → sum_by f es ≡ sum_by (owned same_seat 0 f) h.u.events
-  sums words ts es h = alone.sums code kinds.Atomic 1 (2 + code.size * 2) effects laws words ts es None h
+  sums words ts es h = alone.sums machine words ts es None h
 
   -- the version, the role, and the two cells
   abbrev words_at : ℕ → ℕ → List ℕ → List ℕ
@@ -145,13 +153,13 @@ module _ {T : Type 0} (code : Coding T) (law : IsCoding code) (value : T) where
         ∙ ap (λ zs. two (v % 2) zs y) (mix_step at ws x (omega arith) (omega arith))))
 
     word_low : (at : ℕ) → at < code.size → word_at cell at < 2 + code.size * 2
-    word_low x0 x1 = grind arith
+    word_low = grind arith
 
     next : (ts : List (Turn T)) (es : List (Event T)) (at : ℕ) → at + 1 < code.size → Here (now at) ts es (Some (name, storing at))
         → Here (now (suc at)) (ts ++ Next 0 ∷ []) es (Some (name, storing (at + 1)))
     next ts es at more h =
         let t : nat_lt (at + 1) code.size ≡ true = grind (arith, nat_tests) in
-        alone.goes_on code kinds.Atomic 1 (2 + code.size * 2) effects laws (now at) ts es name (storing at) h
+        alone.goes_on machine (now at) ts es name (storing at) h
         (record { word = word_at cell at; op = ops.Store (get_or ws at 0) }) (word_low at (omega arith)) refl tt
         (now (suc at)) (storing (at + 1)) (put at (omega arith)) (rw t refl) (rw t refl)
 
@@ -159,7 +167,7 @@ module _ {T : Type 0} (code : Coding T) (law : IsCoding code) (value : T) where
         → Here (now (suc at)) (ts ++ Next 0 ∷ []) es (Some (name, flight_at stores.AddsVersion))
     last ts es at all h =
         let t : nat_lt (at + 1) code.size ≡ false = grind (arith, nat_tests) in
-        alone.goes_on code kinds.Atomic 1 (2 + code.size * 2) effects laws (now at) ts es name (storing at) h
+        alone.goes_on machine (now at) ts es name (storing at) h
         (record { word = word_at cell at; op = ops.Store (get_or ws at 0) }) (word_low at (omega arith)) refl tt
         (now (suc at)) (flight_at stores.AddsVersion) (put at (omega arith)) (rw t refl) (rw t refl)
 
@@ -185,18 +193,18 @@ module _ {T : Type 0} (code : Coding T) (law : IsCoding code) (value : T) where
         let ts2 = ts1 ++ Next 0 ∷ [] in
         let filling : List (Turn T) = replicate (suc (code.size - 1)) (Next 0) in
         let ended : List (Event T) = Acted 0 name (Truth true) ∷ Finished 0 name (Truth true) ∷ [] in
-        let a = alone.begins code kinds.Atomic 1 (2 + code.size * 2) effects laws (stores_value code value) first_store tt (now 0) ts es h
+        let a = alone.begins machine (stores_value code value) first_store tt (now 0) ts es h
         (producer_starts code (maker ts es) (stores_value code value) (Store value) first_store tt refl (λ kept. refl)
         (λ o p. tt) (λ holder p is. holds_it holder p is) has h.u same_seat 0 h.between.run refl refl
         (sums (now 0) ts es h)) in
         let b =
-        alone.goes_on code kinds.Atomic 1 (2 + code.size * 2) effects laws (now 0) ts1 xs name
+        alone.goes_on machine (now 0) ts1 xs name
         (flight_at stores.LoadsVersion) a (record { word = 0; op = ops.Load }) (omega arith) refl small
         (now 0) (storing 0) refl (rw not_last refl) (rw not_last refl) in
         let c = fills ts2 xs (code.size - 1) 0 (let some = law.some in omega arith) b in
         let one : (v + 1) % 2 ^ 64 ≡ v + 1 = omega arith in
         let d =
-        alone.ends code kinds.Atomic 1 (2 + code.size * 2) effects laws (now code.size) (ts2 ++ filling) xs name
+        alone.ends machine (now code.size) (ts2 ++ filling) xs name
         (flight_at stores.AddsVersion) c (record { word = 0; op = ops.Add 1 }) (omega arith) refl tt
         (words_at (v + 1) 0 (cells code.size)) (Truth true) (Acted 0 name (Truth true) ∷ [])
         (ap (λ n. words_at n 0 (cells code.size)) one) refl refl (refl, tt) in
@@ -233,14 +241,14 @@ module _ {T : Type 0} (code : Coding T) (law : IsCoding code) (value : T) where
       let start = Atomic AcquireProducer in
       let h : Here (words_at 1 1 (zeros ++ zeros)) [] [] None =
       subst (λ zs. Here (words_at 1 1 zs) [] [] None) cells
-      (alone.opens_here code kinds.Atomic 1 (2 + code.size * 2) effects laws law refl) in
+      (alone.opens_here machine law refl) in
       let a =
-      alone.begins code kinds.Atomic 1 (2 + code.size * 2) effects laws acquires_producer
+      alone.begins machine acquires_producer
       (record { word = producer_word }) tt (words_at 1 1 (zeros ++ zeros)) [] [] h
       (plain_starts code (maker [] []) acquires_producer AcquireProducer (record { word = producer_word }) tt refl
       (λ kept. refl) (λ o p is. is) (λ holder p. refl) h.u same_seat 0 h.between.run refl refl
       (sums (words_at 1 1 (zeros ++ zeros)) [] [] h)) in
-      alone.ends code kinds.Atomic 1 (2 + code.size * 2) effects laws (words_at 1 1 (zeros ++ zeros))
+      alone.ends machine (words_at 1 1 (zeros ++ zeros))
       (Begin 0 start ∷ []) (Begun 0 start ∷ []) start (acquires_producer.flight (record { word = producer_word }) tt) a
       (record { word = producer_word; op = ops.Exchange 1 0 }) (omega arith) refl tt (words_at 1 0 (zeros ++ zeros))
       (Truth true) [] refl refl refl tt
@@ -274,12 +282,12 @@ module _ {T : Type 0} (code : Coding T) (law : IsCoding code) (value : T) where
       let es = stored_times value n in
       let ts = stored_turns value code.size n in
       let h = stored n low in
-      let a = alone.begins code kinds.Atomic 1 (2 + code.size * 2) effects laws releases_producer (record { word = producer_word }) tt ws' ts es h
+      let a = alone.begins machine releases_producer (record { word = producer_word }) tt ws' ts es h
       (producer_starts code (maker ts es) releases_producer ReleaseProducer (record { word = producer_word }) tt refl
       (λ kept. refl) (λ o p. tt) (λ holder p is. holds_it holder p is) (has_it n) h.u same_seat 0 h.between.run refl
       refl (sums ws' ts es h)) in
       let b =
-      alone.ends code kinds.Atomic 1 (2 + code.size * 2) effects laws ws' (ts ++ Begin 0 start ∷ []) (es ++ Begun 0 start ∷ []) start
+      alone.ends machine ws' (ts ++ Begin 0 start ∷ []) (es ++ Begun 0 start ∷ []) start
       (releases_producer.flight (record { word = producer_word }) tt) a
       (record { word = producer_word; op = ops.Store 1 }) (omega arith) refl tt
       (words_at (n + 1) 1 (opened_cells code value n)) answers.Done [] refl refl refl tt in
@@ -288,7 +296,7 @@ module _ {T : Type 0} (code : Coding T) (law : IsCoding code) (value : T) where
       (append_assoc es (Begun 0 start ∷ []) (Finished 0 start answers.Done ∷ [])) b)
 
   few : (version : ℕ) → version < 2 ^ 64 → first_stores version < 2 ^ 64 - 1
-  few x0 x1 = grind arith
+  few = grind arith
 
   -- a table opens so, at any version
   pub value_opens : (version : ℕ) → version < 2 ^ 64 → (words : List ℕ)
@@ -297,12 +305,12 @@ module _ {T : Type 0} (code : Coding T) (law : IsCoding code) (value : T) where
   value_opens version low words same =
       let n = first_stores version in
       subst (λ zs. IsMachine code kinds.Atomic 1 (opening zs [] (opened_view value code.size version))) (sym same)
-      (alone.opens_so code kinds.Atomic 1 (2 + code.size * 2) effects laws
+      (alone.opens_so machine
       (words_at (n + 1) 1 (opened_cells code value n)) (opened_turns value code.size n) (opened value n) (given n (few version low)))
 
   -- and its first pass knows the run that led there
   pub value_knows : (version : ℕ) → version < 2 ^ 64 → Knows code kinds.Atomic 1 (opened_view value code.size version)
   value_knows version low =
       let n = first_stores version in
-      alone.knows_so code kinds.Atomic 1 (2 + code.size * 2) effects laws
+      alone.knows_so machine
       (words_at (n + 1) 1 (opened_cells code value n)) (opened_turns value code.size n) (opened value n) (given n (few version low))

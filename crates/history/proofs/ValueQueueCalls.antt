@@ -4,7 +4,7 @@ use Rattle.history.proofs.Names.{true, false, Option, Some, None, List, [], ◌+
 use Rattle.history.proofs.Names.{sym, ap, ◌∙◌, arith, written, Ask, After, GoOn}
 use Rattle.history.proofs.Names.{after_position}
 use Rattle.history.proofs.Names.{Flight, Pop, Values, Coding, IsCoding, after_of, fresh_cell, kept_at}
-use Rattle.history.proofs.Names.{push_effect, answered, KeepsRule, IsFresh, Producer, Consumer}
+use Rattle.history.proofs.Names.{push_effect, answered, IsFresh, Producer, Consumer}
 use Rattle.steps.specs.declared.ask.Op.TheVariants.{Load, Store}
 use Rattle.steps.specs.declared.ask.After.TheVariants.{Done}
 use Rattle.steps.specs.declared.ask.Want.TheVariants as wants
@@ -26,20 +26,21 @@ use Rattle.model.specs.declared.families.queues.calls.RingCall.TheVariants as ri
 use Rattle.model.specs.declared.turn.Kind.TheVariants as kinds
 use Rattle.model.specs.Families.Queues.Steps.{effects_of}
 use Rattle.history.specs.declared.view.View.{View}
-use Rattle.history.specs.History.{IsMachine}
 use Rattle.history.specs.Queues.{push_skips}
 use Rattle.history.specs.Roles.{HasRole}
 use Rattle.history.specs.Rooms.{room_of}
-use Rattle.history.specs.Stages.{Calling, At, Ends, Over}
+use Rattle.history.specs.Stages.{Calling, At}
 use Rattle.history.specs.ValueQueue.{IsWordOf, PushPlace, PopPlace, value_pop_wrote, pushes_value, value_there, pops_value}
-use Rattle.history.proofs.Drives.{IsCallOf, goes, keeps, keeps_all}
+use Rattle.history.proofs.Drives.{goes, keeps, keeps_to_end}
 use Rattle.history.proofs.QueueCalls.{holds_it}
-use Rattle.history.proofs.Queues.{queue_effects, values_owe, role_starts}
+use Rattle.history.proofs.Queues.{queue_effects, role_starts, queue_machines}
 use Rattle.history.proofs.Rooms.{room_set, room_read}
+use Rattle.history.proofs.CallsIn.{Driven, IsCallBy, KeepsEnds, KeepsOver}
+use Rattle.history.proofs.Cases.{by_bool}
 
 -- a word of a cell is one of the queue's words
 cell_low : (size capacity position cell at : ℕ) → IsWordOf size capacity position cell at → word_at cell at < 4 + size * capacity
-cell_low x0 x1 x2 x3 x4 x5 = grind arith
+cell_low = grind arith
 
 -- ---- pushes
 
@@ -48,7 +49,7 @@ module _ {T : Type 0} (code : Coding T) (law : IsCoding code) (v : T) where
   pushing = pushes_value code v
 
   push_same_after : (c : Pushing T) (m : Unit {0}) (n : ℕ) → after_of code (pushing.flight c m) n ≡ goes pushing (push_after code.size c n) m
-  push_same_after x0 x1 x2 = grind arith
+  push_same_after = grind arith
 
   -- the events of a step that goes on, and of one that ends
   effects_on : (p : ℕ) (c d : Pushing T) (m : Unit {0}) (n : ℕ) → push_after code.size c n ≡ GoOn d
@@ -57,7 +58,7 @@ module _ {T : Type 0} (code : Coding T) (law : IsCoding code) (v : T) where
 
   quiet : (p n : ℕ) (c d : Pushing T) (stage : PushStage) → push_takes code.size c stage n ≡ GoOn d
       → effects_of {T = T} p (Push v) (push_effect (Value v) stage) None ≡ []
-  quiet x0 x1 x2 x3 x4 x5 = grind arith
+  quiet = grind arith
 
   -- where it stands next
   module _ (capacity : ℕ) where
@@ -66,7 +67,7 @@ module _ {T : Type 0} (code : Coding T) (law : IsCoding code) (v : T) where
 
     push_stays : (c d : Pushing T) (n : ℕ) (stage : PushStage) → c.capacity ≡ capacity
         → PushPlace code.size capacity stage → push_takes code.size c stage n ≡ GoOn d → PushesNext d
-    push_stays x0 x1 x2 x3 x4 x5 x6 = grind arith
+    push_stays = grind arith
 
   push_finds_word : (capacity : ℕ) (stage : PushStage) → PushPlace code.size capacity stage
       → (a : Ask) × (a.word < 4 + code.size * capacity) × (push_asks code.words_of stage v ≡ wants.Ask a)
@@ -79,27 +80,24 @@ module _ {T : Type 0} (code : Coding T) (law : IsCoding code) (v : T) where
   push_hears : (c : Pushing T) (a : Ask) (n : ℕ) (stage : PushStage)
       → push_asks code.words_of stage v ≡ wants.Ask a
       → push_takes code.size c stage (answered a.op n) ≡ push_takes code.size c stage n
-  push_hears x0 x1 x2 x3 x4 = grind arith
+  push_hears = grind arith
 
   push_finds : (n : ℕ) (stage : PushStage) → n < 2 ^ 64 → push_skips stage n ≡ false → IsFresh n stage
-  push_finds x0 x1 x2 x3 = grind arith
+  push_finds = grind arith
 
   push_leaves : (c : Pushing T) (a : Ask) (n : ℕ) (stage : PushStage) → push_skips stage n ≡ true
       → push_asks code.words_of stage v ≡ wants.Ask a
       → (written a.op n ≡ n) × (e : Bool) × (e ≡ false) × (push_takes code.size c stage n ≡ Done e)
-  push_leaves x0 x1 x2 x3 x4 x5 = grind arith
+  push_leaves = grind arith
 
-  push_is_call : IsCallOf code (queue_effects code) (λ capacity. 4 + code.size * capacity)
-      (λ c. push_want code.words_of c v) (λ c n. push_after code.size c n) (λ c m n. m) pushing
+  abbrev pub push_driven : Driven T (Pushing T) (Unit {0}) Bool
+  push_driven = record { want = λ c. push_want code.words_of c v; after = λ c n. push_after code.size c n; kept = λ c m n. m; call = pushing }
+
+  push_is_call : IsCallBy code (queue_effects code) (λ capacity. 4 + code.size * capacity) push_driven
   push_is_call = grind (arith, push_same_after, push_hears, push_stays, push_finds_word, push_finds, push_leaves, queue_effects, effects_on, quiet)
 
-  pub value_push_keeps : KeepsRule (λ (z : View T). z.asked) (λ (z : View T). z.capacity) (At code kinds.Queue pushing)
-      (Over code kinds.Queue pushing) (λ key. 4 + code.size * key + 1) (λ key. key)
-      (λ key. IsMachine code kinds.Queue key) (λ c. push_want code.words_of c v) (λ c n. push_after code.size c n)
-      (λ c m n. m)
-  value_push_keeps =
-      keeps code kinds.Queue (queue_effects code) (λ capacity. 4 + code.size * capacity) (values_owe code)
-      (λ c. push_want code.words_of c v) (λ c n. push_after code.size c n) (λ c m n. m) pushing push_is_call
+  pub value_push_keeps : KeepsOver code kinds.Queue (λ capacity. 4 + code.size * capacity) push_driven
+  value_push_keeps = keeps (queue_machines code) push_driven push_is_call
 
   pub value_push_first : (x : View T) (m : Unit {0}) → x.going ≡ None → x.other ≡ [] → 0 < x.share.part
       → x.capacity < 2 ^ 32 → HasRole Producer x.made → At code kinds.Queue pushing x x (first_push x.capacity) m
@@ -145,41 +143,31 @@ module _ {T R : Type 0} (code : Coding T) (law : IsCoding code) (words_in : R �
       → after_of code (flight_at c.capacity stage (room_in m)) n
       ≡ goes popping (pop_takes code.size c stage n) (pop_keeps with_word m stage n)
   pop_same_after capacity c m n pops.LoadsRead h = refl
-  pop_same_after capacity c m n (pops.LoadsWrite read) h = go (c.capacity == 0 || n == read) refl
-    where
-      go : (b : Bool) → (c.capacity == 0 || n == read) ≡ b
-          → after_of code (flight_at c.capacity (pops.LoadsWrite read) (room_in m)) n
-          ≡ goes popping (pop_takes code.size c (pops.LoadsWrite read) n) m
-      go true t = rw t refl
-      go false t = rw t refl
-  pop_same_after capacity c m n (pops.LoadsCell read cell at) h = go (nat_lt (at + 1) code.size) refl
-    where
-      go : (b : Bool) → nat_lt (at + 1) code.size ≡ b
-          → after_of code (flight_at c.capacity (pops.LoadsCell read cell at) (room_in m)) n
-          ≡ goes popping (pop_takes code.size c (pops.LoadsCell read cell at) n) (with_word m at n)
-      go true t = rw t (ap (λ r. GoOn (flight_at c.capacity (pops.LoadsCell read cell (at + 1)) r)) (put_there m at n h.2))
-      go false t = rw t (ap (λ r. GoOn (flight_at c.capacity (pops.StoresRead read) r)) (put_there m at n h.2))
+  pop_same_after capacity c m n (pops.LoadsWrite read) h =
+      by_bool (c.capacity == 0 || n == read)
+      (λ t. rw t refl)
+      (λ t. rw t refl)
+  pop_same_after capacity c m n (pops.LoadsCell read cell at) h =
+      by_bool (nat_lt (at + 1) code.size)
+      (λ t. rw t (ap (λ r. GoOn (flight_at c.capacity (pops.LoadsCell read cell (at + 1)) r)) (put_there m at n h.2)))
+      (λ t. rw t (ap (λ r. GoOn (flight_at c.capacity (pops.StoresRead read) r)) (put_there m at n h.2)))
   pop_same_after capacity c m n (pops.StoresRead read) h = grind (arith, room_read)
 
   pop_quiet : (p n : ℕ) (c d : Popping T R) (m : R) (stage : PopStage) → pop_takes code.size c stage n ≡ GoOn d
       → queue_effects code p (flight_at c.capacity stage (room_in m)) n ≡ []
-  pop_quiet x0 x1 x2 x3 x4 x5 x6 = grind arith
+  pop_quiet = grind arith
 
   pop_loud : (p n : ℕ) (c : Popping T R) (m : R) (b : Bool) (stage : PopStage)
       → pop_takes code.size c stage n ≡ Done b
       → queue_effects code p (flight_at c.capacity stage (room_in m)) n
       ≡ value_pop_wrote p (value_there code words_in (pop_keeps with_word m stage n)) b
   pop_loud p n c m b pops.LoadsRead e = absurd (cc)
-  pop_loud p n c m b (pops.LoadsWrite read) e = go (c.capacity == 0 || n == read) refl
-    where
-      go : (t : Bool) → (c.capacity == 0 || n == read) ≡ t
-          → queue_effects code p (flight_at c.capacity (pops.LoadsWrite read) (room_in m)) n
-          ≡ value_pop_wrote p (value_there code words_in m) b
-      go true t =
-          let no : ◌≡◌ {A = After (Popping T R) Bool} (Done false) (Done b) = rw t at e in
-          let same : false ≡ b = cc in
-          rw t (ap (value_pop_wrote p (value_there code words_in m)) same)
-      go false t = (let no : GoOn (at_pop c (pops.LoadsCell read (cell_word c.capacity code.size read) 0)) ≡ Done b = rw t at e in absurd (cc))
+  pop_loud p n c m b (pops.LoadsWrite read) e =
+      by_bool (c.capacity == 0 || n == read)
+      (λ t. let no : ◌≡◌ {A = After (Popping T R) Bool} (Done false) (Done b) = rw t at e in
+      let same : false ≡ b = cc in
+      rw t (ap (value_pop_wrote p (value_there code words_in m)) same))
+      (λ t. (let no : GoOn (at_pop c (pops.LoadsCell read (cell_word c.capacity code.size read) 0)) ≡ Done b = rw t at e in absurd (cc)))
   pop_loud p n c m b (pops.LoadsCell read cell at) e = go (nat_lt (at + 1) code.size) e
     where
       go : (t : Bool) → cond {A = After (Popping T R) Bool} t (GoOn (at_pop c (pops.LoadsCell read cell (at + 1))))
@@ -196,7 +184,7 @@ module _ {T R : Type 0} (code : Coding T) (law : IsCoding code) (words_in : R �
 
     pop_stays : (c d : Popping T R) (n : ℕ) (stage : PopStage) → c.capacity ≡ capacity
         → PopPlace code.size capacity stage → pop_takes code.size c stage n ≡ GoOn d → PopsNext d
-    pop_stays x0 x1 x2 x3 x4 x5 x6 = grind arith
+    pop_stays = grind arith
 
   pop_finds_word : (capacity : ℕ) (stage : PopStage) → PopPlace code.size capacity stage
       → (a : Ask) × (a.word < 4 + code.size * capacity) × (pop_asks stage ≡ wants.Ask a)
@@ -209,10 +197,12 @@ module _ {T R : Type 0} (code : Coding T) (law : IsCoding code) (words_in : R �
   pop_hears : (c : Popping T R) (m : R) (a : Ask) (n : ℕ) (stage : PopStage) → pop_asks stage ≡ wants.Ask a
       → (pop_takes code.size c stage (answered a.op n) ≡ pop_takes code.size c stage n)
       × (pop_keeps with_word m stage (answered a.op n) ≡ pop_keeps with_word m stage n)
-  pop_hears x0 x1 x2 x3 x4 x5 = grind arith
+  pop_hears = grind arith
 
-  pop_is_call : IsCallOf code (queue_effects code) (λ capacity. 4 + code.size * capacity)
-      (λ (c : Popping T R). pop_want c) (λ c n. pop_after code.size c n) keeps_word popping
+  abbrev pub pop_driven : Driven T (Popping T R) R Bool
+  pop_driven = record { want = λ (c : Popping T R). pop_want c; after = λ c n. pop_after code.size c n; kept = keeps_word; call = popping }
+
+  pop_is_call : IsCallBy code (queue_effects code) (λ capacity. 4 + code.size * capacity) pop_driven
   pop_is_call =
       record {
         same_want = λ c m. refl;
@@ -229,13 +219,8 @@ module _ {T R : Type 0} (code : Coding T) (law : IsCoding code) (words_in : R �
             ∙ pop_loud p n c m b c.stage e;
       }
 
-  pub value_pop_keeps : KeepsRule (λ (z : View T). z.asked) (λ (z : View T). z.capacity) (At code kinds.Queue popping)
-      (Ends code kinds.Queue popping) (λ key. 4 + code.size * key + 1) (λ key. key)
-      (λ key. IsMachine code kinds.Queue key) (λ (c : Popping T R). pop_want c) (λ c n. pop_after code.size c n)
-      keeps_word
-  value_pop_keeps =
-      keeps_all code kinds.Queue (queue_effects code) (λ capacity. 4 + code.size * capacity) (values_owe code)
-      (λ (c : Popping T R). pop_want c) (λ c n. pop_after code.size c n) keeps_word popping pop_is_call (λ c n. refl)
+  pub value_pop_keeps : KeepsEnds code kinds.Queue (λ capacity. 4 + code.size * capacity) pop_driven
+  value_pop_keeps = keeps_to_end (queue_machines code) pop_driven pop_is_call (λ c n. refl)
 
   -- in a room of zeros in which a value fits
   pub value_pop_first : (x : View T) (m : R) → room_in m ≡ fresh_cell → x.going ≡ None → x.other ≡ []

@@ -1,66 +1,56 @@
 -- The calls on the roles and the lengths of a queue of values: they are those of an index queue, over wider cells.
 use Rattle.history.proofs.Names.{◌≡◌, ℕ, ◌+◌, ◌-◌, ◌*◌, ◌^◌, ◌<◌, ◌≤◌, nat_lt, false, None, List, [], ◌∷◌, ◌++◌}
-use Rattle.history.proofs.Names.{replicate, refl, arith, nat_tests, After, Want, first_len, len_want}
+use Rattle.history.proofs.Names.{replicate, refl, arith, nat_tests, first_len, len_want}
 use Rattle.history.proofs.Names.{len_after, LengthOf, Coding, IsCoding, KeepsRule}
 use Rattle.atomic_table.specs.Table.{opening}
 use Rattle.steps.specs.declared.queues.roles.Role.{Role}
-use Rattle.steps.specs.Queues.Roles.{acquire_want, acquire_after, release_want, release_after}
 use Rattle.model.specs.declared.families.queues.QueueKind.TheVariants as queues
 use Rattle.model.specs.declared.turn.Kind.TheVariants as kinds
 use Rattle.history.specs.declared.view.View.{View}
 use Rattle.history.specs.History.{IsMachine}
 use Rattle.history.specs.Queues.{takes_role, gives_role, counts_waiting}
 use Rattle.history.specs.Roles.{role_word, HasRole}
-use Rattle.history.specs.Stages.{Calling, At, Ends}
+use Rattle.history.specs.Stages.{At, Ends}
 use Rattle.history.proofs.AnyRoles.{wider, acquire_first_on, release_first_on, len_first_on}
-use Rattle.history.proofs.Drives.{keeps_all, keeps_sized}
+use Rattle.history.proofs.Drives.{keeps_sized, keeps_to_end}
 use Rattle.history.specs.Views.{first_view}
 use Rattle.history.proofs.Passes.{opens}
-use Rattle.history.proofs.QueueRoles.{acquire_is_call, release_is_call, len_is_call}
-use Rattle.history.proofs.Queues.{queue_effects, values_owe}
+use Rattle.history.proofs.QueueRoles.{acquire_driven, release_driven, len_driven, acquire_is_call, release_is_call, len_is_call}
+use Rattle.history.proofs.Queues.{queue_effects}
+use Rattle.history.proofs.CallsIn.{KeepsEnds}
+use Rattle.history.proofs.Queues.{queue_machines}
 
 module _ {T : Type 0} (code : Coding T) (law : IsCoding code) where
   abbrev words_of : ℕ → ℕ
   words_of capacity = 4 + code.size * capacity
 
   low : (capacity : ℕ) → 4 + capacity ≤ words_of capacity
-  low x0 = grind arith
-
-  abbrev Keeps : {C M E : Type 0} → Calling T C M E → (C → Want (Unit {0})) → (C → ℕ → After C E) → (C → M → ℕ → M) → Type 0
-  Keeps call =
-      KeepsRule (λ (z : View T). z.asked) (λ (z : View T). z.capacity) (At code kinds.Queue call) (Ends code kinds.Queue call)
-      (λ key. 4 + code.size * key + 1) (λ key. key) (λ key. IsMachine code kinds.Queue key)
+  low = grind arith
 
   module _ (role : Role) where
-    pub value_acquire_keeps : Keeps (takes_role role) acquire_want acquire_after (λ c m n. m)
+    pub value_acquire_keeps : KeepsEnds code kinds.Queue words_of (acquire_driven code role)
     value_acquire_keeps =
-        keeps_all code kinds.Queue (queue_effects code) words_of (values_owe code) acquire_want acquire_after (λ c m n. m) (takes_role role)
-        (wider code (queue_effects code) (λ capacity. 4 + capacity) words_of acquire_want acquire_after (λ c m n. m)
-        (takes_role role) low (acquire_is_call code role))
-        (λ c n. refl)
+        keeps_to_end (queue_machines code) (acquire_driven code role)
+        (wider code (queue_effects code) (λ capacity. 4 + capacity) words_of (acquire_driven code role) low (acquire_is_call code role)) (λ c n. refl)
 
     pub value_acquire_first : (x : View T) (m : Unit {0}) → x.going ≡ None → x.other ≡ [] → 0 < x.share.part
         → At code kinds.Queue (takes_role role) x x (record { word = role_word role }) m
     value_acquire_first x m idle alone any = acquire_first_on code queues.Queue x m idle alone any role
 
-    pub value_release_keeps : Keeps (gives_role role) release_want release_after (λ c m n. m)
+    pub value_release_keeps : KeepsEnds code kinds.Queue words_of (release_driven code role)
     value_release_keeps =
-        keeps_all code kinds.Queue (queue_effects code) words_of (values_owe code) release_want release_after (λ c m n. m) (gives_role role)
-        (wider code (queue_effects code) (λ capacity. 4 + capacity) words_of release_want release_after (λ c m n. m)
-        (gives_role role) low (release_is_call code role))
-        (λ c n. refl)
+        keeps_to_end (queue_machines code) (release_driven code role)
+        (wider code (queue_effects code) (λ capacity. 4 + capacity) words_of (release_driven code role) low (release_is_call code role)) (λ c n. refl)
 
     pub value_release_first : (x : View T) (m : Unit {0}) → x.going ≡ None → x.other ≡ [] → 0 < x.share.part
         → HasRole role x.made → At code kinds.Queue (gives_role role) x x (record { word = role_word role }) m
     value_release_first x m idle alone any has = release_first_on code queues.Queue x m idle alone any role has
 
   module _ (which : LengthOf) where
-    len_keeps : (size : ℕ) → Keeps (counts_waiting which size) len_want len_after (λ c m n. m)
+    len_keeps : (size : ℕ) → KeepsEnds code kinds.Queue words_of (len_driven code which size)
     len_keeps size =
-        keeps_all code kinds.Queue (queue_effects code) words_of (values_owe code) len_want len_after (λ c m n. m) (counts_waiting which size)
-        (wider code (queue_effects code) (λ capacity. 4 + capacity) words_of len_want len_after (λ c m n. m)
-        (counts_waiting which size) low (len_is_call code which size))
-        (λ c n. refl)
+        keeps_to_end (queue_machines code) (len_driven code which size)
+        (wider code (queue_effects code) (λ capacity. 4 + capacity) words_of (len_driven code which size) low (len_is_call code which size)) (λ c n. refl)
 
     -- for any capacity
     pub value_lens_keep : KeepsRule (λ (z : View T). z.asked) (λ (z : View T). z.capacity)

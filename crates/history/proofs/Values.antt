@@ -27,7 +27,7 @@ use Rattle.history.proofs.Calls.{stands, IsStateless}
 use Rattle.history.proofs.Known.{AreOf}
 use Rattle.history.proofs.Ledger.{Moves, held_by_one, at_most}
 use Rattle.history.proofs.Paid.{Pays, progress_kept, pays_run}
-use Rattle.history.proofs.Turns.{CallGoesOn, KindLaws}
+use Rattle.history.proofs.Turns.{CallGoesOn, KindLaws, LoneMachines}
 
 module _ {T : Type 0} where
   -- the name of a call under way
@@ -43,7 +43,7 @@ module _ {T : Type 0} where
   value_effects code p flight found = []
 
   effects_own : (code : Coding T) (p : ℕ) (flight : Flight T) (n : ℕ) → AreOf p (value_effects code p flight n)
-  effects_own x0 x1 x2 x3 = grind arith
+  effects_own = grind arith
 
   -- the step of a call that stands so, whatever its name
   record Facts (z : Coding T) (words : List ℕ) (waits : Option (ℕ × ℕ)) (p n : ℕ) (start : Start T) (flight : Flight T) (kept : Registry T) : Type 0 where
@@ -55,7 +55,7 @@ module _ {T : Type 0} where
       (flight : Flight T) (kept : Registry T)
       → kept ≡ registries.Atomic s.holder → (family z c).At s p start flight
       → Facts z words waits p n start flight kept
-  facts x0 x1 x2 x3 x4 x5 x6 x7 x8 x9 x10 x11 = grind arith
+  facts = grind arith
 
 -- ---- what the kind owes
 
@@ -119,7 +119,7 @@ module _ {T : Type 0} (owner : ℕ → ℕ) (j : ℕ) where
   MovesIt = Moves takes_producer gives_producer holder_after owner j
 
   moves : (before : List (Event T)) (e : Event T) → GrantsRight before e → MovesIt before e
-  moves x0 x1 x2 = grind arith
+  moves = grind arith
 
   all_move : (all : List (Event T)) → Each GrantsRight all → Each MovesIt all
   all_move all each before after e is = moves before e (each before after e is)
@@ -192,3 +192,7 @@ module _ {T C M E : Type 0} (code : Coding T) (base : View T) (call : Calling T 
       let by = producer_by owner j t.events base.made value.roles sums has in
       let keeps : KeepsHolder (registries.Atomic kept.0) t.events = subst (λ k. KeepsHolder k t.events) kept.1 value.holder in
       as_party t owner j by.0 run by.1 (by_any base.party by.0) kept.0 kept.1 (free kept.0 by.0 (keeps ∙ by.2))
+
+abbrev pub value_machines : {T : Type 0} → Coding T → LoneMachines T
+value_machines code =
+    record { code = code; kind = kinds.Atomic; effects = value_effects code; size_of = λ capacity. 2 + code.size * 2; laws = value_owes code }

@@ -9,7 +9,7 @@ use Rattle.history.proofs.CallsIn.{span_since}
 module _ {T C M E : Type 0} (code : Coding T) (kind : Kind) (call : Calling T C M E) where
   pub written_since : (base v : View T) (c : C) (m : M) → base.going ≡ None → (under : IsUnderWay code kind call base v c m)
       → span_of under.party v.seen ≡ fold own_after (Open call.start []) under.wrote
-  written_since x0 x1 x2 x3 x4 x5 = grind (arith, opened, span_since, fold, append-nil)
+  written_since = grind (arith, opened, span_since, fold, append-nil)
 
   -- so two tellings of it that begin with it are one
   pub same_written : (base other v : View T) (c d : C) (m k : M) → base.going ≡ None → other.going ≡ None

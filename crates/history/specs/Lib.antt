@@ -1,3 +1,4 @@
+-- What a pass has seen of a machine: its runs, the calls that stand in it, and what each contract says of them.
 pub mod Known
 pub mod Held
 pub mod Roles

@@ -20,6 +20,17 @@ pub record SetState (T : Type 0) : Type 0 where
   pub words : List ℕ
   pub events : List (Event T)
 
+-- where a party's call stands, with the machine around it
+pub record SetScene (T : Type 0) : Type 0 where
+  pub state : SetState T
+  pub events : List (Event T)
+  pub turns : ℕ
+  pub party : ℕ
+  pub changes : ℕ  -- how often words have changed
+  pub since : ℕ  -- how often they had when the call began
+  pub steps : ℕ  -- of the call
+  pub backs : ℕ  -- so often it has turned back
+
 -- what is said of one of the two kinds
 pub record SetOutline (T : Type 0) : Type 1 where
   pub kind : Kind
@@ -78,7 +89,9 @@ module _ {T : Type 0} where
 
     -- ---- what a turn shows
 
-    module _ (code : Coding T) (c : ℕ) (s : SetState T) (events : List (Event T)) (turns p changes : ℕ) where
+    module _ (code : Coding T) (c : ℕ) (scene : SetScene T) where
+      open scene use {state as s, events, turns, party as p, changes, since, steps, backs}
+
       abbrev pub then_state : List ℕ → List (Event T) → SetState T
       then_state words es = record { words = words; events = events ++ es }
 
@@ -92,36 +105,34 @@ module _ {T : Type 0} where
 
       -- ---- what a step shows
 
-      module _ (since steps backs : ℕ) where
-        -- the party after a step that does this operation
-        abbrev pub party_then : BitsStart → Option Ask → Bool → After BitsFlight (Answer T) → Party T
-        party_then start ask back after =
-            record {
-              start = Bits start;
-              steps = steps + step_count ask;
-              backs = backs + one_if back;
-              doing = doing_after (changes + change_of s.words ask) (since + change_of s.words ask) (any_call after);
-            }
+      -- the party after a step that does this operation
+      abbrev pub party_then : BitsStart → Option Ask → Bool → After BitsFlight (Answer T) → Party T
+      party_then start ask back after =
+          record {
+            start = Bits start;
+            steps = steps + step_count ask;
+            backs = backs + one_if back;
+            doing = doing_after (changes + change_of s.words ask) (since + change_of s.words ask) (any_call after);
+          }
 
-        abbrev pub events_then : BitsStart → List (Event T) → After BitsFlight (Answer T) → List (Event T)
-        events_then start wrote after = wrote ++ ending_of p (Bits start) (answer_in (any_call after))
+      abbrev pub events_then : BitsStart → List (Event T) → After BitsFlight (Answer T) → List (Event T)
+      events_then start wrote after = wrote ++ ending_of p (Bits start) (answer_in (any_call after))
 
-        -- a step that shows what it has to, where its party's call had written this
-        abbrev pub StepShows : List (Event T) → BitsStart → Option Ask → Bool → After BitsFlight (Answer T) → List (Event T) → Type 0
-        StepShows before start ask back after wrote =
-            Shows (words_after s.words ask) (Open (Bits start) before) (party_then start ask back after)
-            (events_then start wrote after) (changes + change_of s.words ask)
+      -- a step that shows what it has to, where its party's call had written this
+      abbrev pub StepShows : List (Event T) → BitsStart → Option Ask → Bool → After BitsFlight (Answer T) → List (Event T) → Type 0
+      StepShows before start ask back after wrote =
+          Shows (words_after s.words ask) (Open (Bits start) before) (party_then start ask back after)
+          (events_then start wrote after) (changes + change_of s.words ask)
 
-        -- the step of a call under way
-        abbrev pub ShowsStep : List (Event T) → BitsStart → BitsFlight → Type 0
-        ShowsStep before start flight =
-            StepShows before start (ask_of (want flight)) (goes_back flight (old_of s.words (ask_of (want flight))))
-            (after flight (old_of s.words (ask_of (want flight))))
-            (effects_of p flight (old_of s.words (ask_of (want flight))))
+      -- the step of a call under way
+      abbrev pub ShowsStep : List (Event T) → BitsStart → BitsFlight → Type 0
+      ShowsStep before start flight =
+          StepShows before start (ask_of (want flight)) (goes_back flight (old_of s.words (ask_of (want flight))))
+          (after flight (old_of s.words (ask_of (want flight)))) (effects_of p flight (old_of s.words (ask_of (want flight))))
 
-        -- what is asked of it, where the call has this name and its party's span was this
-        abbrev pub StepOf : BitsStart → BitsFlight → List (Event T) → Type 0
-        StepOf start flight wrote =
-            K.At c (wrote_in (span_of p s.events)) start flight → span_of p events ≡ Open (Bits start) wrote
-            → wrote ≡ K.wrote p flight (span_of p s.events) → steps ≤ K.number flight backs
-            → K.Knows p events s.words since changes backs flight → ShowsStep wrote start flight
+      -- what is asked of it, where the call has this name and its party's span was this
+      abbrev pub StepOf : BitsStart → BitsFlight → List (Event T) → Type 0
+      StepOf start flight wrote =
+          K.At c (wrote_in (span_of p s.events)) start flight → span_of p events ≡ Open (Bits start) wrote
+          → wrote ≡ K.wrote p flight (span_of p s.events) → steps ≤ K.number flight backs
+          → K.Knows p events s.words since changes backs flight → ShowsStep wrote start flight

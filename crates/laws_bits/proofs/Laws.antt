@@ -22,7 +22,7 @@ use Rattle.model.proofs.FamilyLaws.{Turns, AllTurns, Owed}
 use Rattle.model.proofs.Frame.{Sound}
 use Rattle.model.proofs.Rows.{row_passed}
 use Rattle.model.proofs.Scenes.{StandsThere, step_from}
-use Rattle.laws_bits.proofs.Family.{SetState, SetOutline, FlightAt, KnowsFlight, number_by, wrote_by, outline, family, StepOf}
+use Rattle.laws_bits.proofs.Family.{SetState, SetScene, SetOutline, FlightAt, KnowsFlight, number_by, wrote_by, outline, family, StepOf}
 use Rattle.laws_bits.proofs.Spans.{wrote_in}
 
 -- the name is one of a bit set's calls
@@ -69,9 +69,8 @@ module _ {T : Type 0} (K : SetOutline T) where
         → K.At c wrote start flight → K.number flight backs ≤ K.promise.most_steps c code.size (Bits start) backs
     pub paid : (p : ℕ) (events : List (Event T)) (words : List ℕ) (since changes backs : ℕ) (flight : BitsFlight)
         → K.Knows p events words since changes backs flight → backs ≤ changes - since
-    pub step : (s : SetState T) (events : List (Event T)) (turns p changes since steps backs : ℕ)
-        → K.Holds c s.words events turns → (start : BitsStart) (flight : BitsFlight) (wrote : List (Event T))
-        → StepOf K code c s events turns p changes since steps backs start flight wrote
+    pub step : (scene : SetScene T) → K.Holds c scene.state.words scene.events scene.turns
+        → (start : BitsStart) (flight : BitsFlight) (wrote : List (Event T)) → StepOf K code c scene start flight wrote
 
   -- ---- what it owes as a family
 
@@ -102,8 +101,18 @@ module _ {T : Type 0} (K : SetOutline T) where
       step_shows : (x : Party T) (since : ℕ) (start : Start T) (flight : Flight T) → StandsThere (family K code c) t s p x since start flight
           → families.StepOf (outline K) (scene_of (outline K) code c t s p x.steps x.backs since) start flight
       step_shows x since (Bits start) (flights.Bits flight) here =
-          let shows =
-          L.step s.state t.events t.world.turns p t.world.changes since x.steps x.backs s.holds.0 start flight _ here.at here.span refl here.steps here.knows in
+          let there : SetScene T =
+          record {
+            state = s.state;
+            events = t.events;
+            turns = t.world.turns;
+            party = p;
+            changes = t.world.changes;
+            since = since;
+            steps = x.steps;
+            backs = x.backs;
+          } in
+          let shows = L.step there s.holds.0 start flight _ here.at here.span refl here.steps here.knows in
           record {
             state = record { words = _; events = _ };
             kept = refl;

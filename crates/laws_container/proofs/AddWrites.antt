@@ -3,7 +3,7 @@ use Rattle.laws_container.proofs.Names.{◌≡◌, ◌≢◌, ◌⊎◌, ⊎_eli
 use Rattle.laws_container.proofs.Names.{if◌then◌else◌, nat_lt, Bool, false, true, Option, Some, None, is_some, List}
 use Rattle.laws_container.proofs.Names.{[], ◌∷◌, ◌++◌, get_or, set, refl, sym, ap, subst, ◌∙◌, append-nil, arith}
 use Rattle.laws_container.proofs.Names.{cases_eq, nat_tests, fold-append, Ask, After, GoOn, AddStage, Added}
-use Rattle.laws_container.proofs.Names.{first_add, at_add, change_word, count_word, element_word, is_even, empty}
+use Rattle.laws_container.proofs.Names.{first_add, at_add, change_word, count_word, element_word, is_even}
 use Rattle.laws_container.proofs.Names.{one_more, went_on, Answer, Index, Placed, Hidden, Finished, Container}
 use Rattle.laws_container.proofs.Names.{ContainerStart, ContainerFlight, Party, added, Act, Places, Hides, places}
 use Rattle.laws_container.proofs.Names.{contents_after, contents_of, announced_after, announced_of, SetAct}
@@ -16,10 +16,10 @@ use Rattle.steps.specs.declared.container.add.AddStage.TheVariants as adds
 use Rattle.model.specs.declared.families.container.ContainerStart.TheVariants.{Add}
 use Rattle.model.specs.declared.families.container.calls.ContainerFlight.TheVariants as calls
 use Rattle.laws_robust.proofs.Stages as set_stages
-use Rattle.laws_container.proofs.Adds.{acquire_step}
+use Rattle.laws_container.proofs.Adds.{Adding, acquire_step}
 use Rattle.laws_container.proofs.Contents.{store_writes}
 use Rattle.laws_container.proofs.Core.{count_at, count_set}
-use Rattle.laws_container.proofs.Invariant.{Scene, Inv, ActsFor, before, after, of_set, inv_of_set, view}
+use Rattle.laws_container.proofs.Invariant.{before, after, of_set, inv_of_set, view}
 use Rattle.laws_container.proofs.Knows.{AddOwns, Covers, Writes, HasPlaced, Stood, AddKnows, Knows}
 use Rattle.laws_container.proofs.Left.{left_after, left_of}
 use Rattle.laws_container.proofs.WellFormed.{IsWellFormedSoFar}
@@ -32,16 +32,17 @@ use Rattle.laws_container.proofs.Steps.{loads, stores_word, hides, places as pla
 use Rattle.laws_container.proofs.Turns.{WellFormed, add_owes, count_in}
 use Rattle.laws_container.proofs.Writers.{IsWriter, one_writer}
 use Rattle.laws_container.proofs.Writing.{even_is, odd_is, adds_one, stores_to, adds_to_count, adds_to_change, hides_count}
+use Rattle.laws_robust.proofs.Cases.{on_bool}
 
 -- what it has placed, once it has placed this
 pub placed_once : {T : Type 0} (acts : List (Act T)) (i : ℕ) (value : T) → (acts ≡ []) ⊎ (acts ≡ Hides i ∷ [])
     → places (acts ++ Places i value ∷ []) ≡ (i, value) ∷ []
-placed_once x0 x1 x2 x3 = grind (arith, places)
+placed_once = grind (arith, places)
 
-module _ {T : Type 0} (scene : Scene T) (inv : Inv scene) (value : T) (owner : ℕ) (fits : owner < empty)
-    (acts : ActsFor scene owner) (i : ℕ)
-    (granted : IsGranted scene.capacity scene.coding.size (all scene) (done scene) owner i) where
-  open scene use {coding as code, capacity as c, party as p, steps as steps, backs as backs, events as events, latest as latest}
+module _ {T : Type 0} (adding : Adding T) (i : ℕ)
+    (granted : IsGranted adding.scene.capacity adding.scene.coding.size (all adding.scene) (done adding.scene) adding.owner i) where
+  open adding use {scene, inv, value, owner, fits, acts}
+  open adding.scene use {coding as code, capacity as c, party as p, steps, backs, events, latest}
 
   abbrev ws : List ℕ
   ws = scene.words
@@ -71,19 +72,19 @@ module _ {T : Type 0} (scene : Scene T) (inv : Inv scene) (value : T) (owner : �
     mine well_formed = inl (k.owns well_formed.calm (acts.stays well_formed.kept)).by
 
     nobody_else : {A : Type 0} → WellFormed (before scene) → (q : ℕ) → q ≢ p → (o : ℕ) → IsWriter q i o events → A
-    nobody_else x0 x1 x2 x3 x4 = grind (arith, one_writer, mine)
+    nobody_else = grind (arith, one_writer, mine)
 
     -- it owns its index still
     owns_calm : (ask : Option Ask) (y : Party T)
         → AddOwns c owner i (view scene.terms (words_after ws ask) scene.states (put p y latest) events p (since_then scene ask)
         (changes_then scene ask) (backs_then scene false))
-    owns_calm x0 x1 = grind (arith, below)
+    owns_calm = grind (arith, below)
 
     owns_hidden : (ask : Option Ask) (y : Party T) → AddOwns c owner i (then_sees scene ask false scene.states y (Hidden p i ∷ []))
-    owns_hidden x0 x1 = grind (arith, below, calm_less, gone_less, fold-append)
+    owns_hidden = grind (arith, below, calm_less, gone_less, fold-append)
 
     owns_placed : (ask : Option Ask) (y : Party T) → AddOwns c owner i (then_sees scene ask false scene.states y (Placed p i value ∷ []))
-    owns_placed x0 x1 = grind (arith, below, calm_less, gone_less, fold-append)
+    owns_placed = grind (arith, below, calm_less, gone_less, fold-append)
 
     -- ---- a step that changes nothing and writes nothing
 
@@ -119,25 +120,25 @@ module _ {T : Type 0} (scene : Scene T) (inv : Inv scene) (value : T) (owner : �
       number = count_in code c (before scene) i
 
       loads_step : StepOf scene start (at_stage (adds.LoadsCount i))
-      loads_step = go (is_even number) refl
-        where
-          go : (b : Bool) → is_even number ≡ b → Leads scene start (Some (set_stages.loads (count_word c i))) false scene.states []
-              (as_add (if b then GoOn (at_add (first_add c) (adds.Stores i 0)) else GoOn (at_add (first_add c) (adds.Hides i number))))
-          go true t =
-              let some = inv.elements.coded.some in
-              calm_step (adds.LoadsCount i) (adds.Stores i 0) load_it
-              (loads_same ws (count_word c i)) here refl (omega arith) (granted, inl none, omega arith) (
-                owns_calm load_it (then_at (adds.Stores i 0) load_it),
-                first_word load_it (then_at (adds.Stores i 0) load_it) (loads_same ws (count_word c i))
-                    (λ holds. even_is number t)
-                    (was_well_formed_calmly scene start tt here.span (then_at (adds.Stores i 0) load_it)),
-              )
-          go false t =
-              calm_step (adds.LoadsCount i) (adds.Hides i number) load_it
-              (loads_same ws (count_word c i)) here refl (omega arith) (granted, none, odd_is number t) (
-                owns_calm load_it (then_at (adds.Hides i number) load_it),
-                (λ holds lives. inl (ap (λ w. count_at c w i) (loads_same ws (count_word c i)))),
-              )
+      loads_step =
+          on_bool (λ b. Leads scene start (Some (set_stages.loads (count_word c i))) false scene.states []
+          (as_add (if b then GoOn (at_add (first_add c) (adds.Stores i 0)) else GoOn (at_add (first_add c) (adds.Hides i number)))))
+          (is_even number)
+          (λ t.
+          let some = inv.elements.coded.some in
+          calm_step (adds.LoadsCount i) (adds.Stores i 0) load_it
+          (loads_same ws (count_word c i)) here refl (omega arith) (granted, inl none, omega arith) (
+            owns_calm load_it (then_at (adds.Stores i 0) load_it),
+            first_word load_it (then_at (adds.Stores i 0) load_it) (loads_same ws (count_word c i))
+                (λ holds. even_is number t)
+                (was_well_formed_calmly scene start tt here.span (then_at (adds.Stores i 0) load_it)),
+          ))
+          (λ t.
+          calm_step (adds.LoadsCount i) (adds.Hides i number) load_it
+          (loads_same ws (count_word c i)) here refl (omega arith) (granted, none, odd_is number t) (
+            owns_calm load_it (then_at (adds.Hides i number) load_it),
+            (λ holds lives. inl (ap (λ w. count_at c w i) (loads_same ws (count_word c i)))),
+          ))
 
     -- ---- what stands there is hidden
 
@@ -151,43 +152,42 @@ module _ {T : Type 0} (scene : Scene T) (inv : Inv scene) (value : T) (owner : �
       now_at = count_in code c (before scene) i
 
       hides_step : StepOf scene start (at_stage (adds.Hides i count))
-      hides_step = go (now_at == count) refl
-        where
-          go : (b : Bool) → (now_at == count) ≡ b
-              → Leads scene start (Some (exchanges (count_word c i) count (one_more count))) false scene.states
-              ((if b then Hidden p i ∷ [] else []) ++ []) (GoOn (at_stage (adds.Stores i 0)))
-          go true t =
-              let is : now_at ≡ count = grind (arith, nat_tests) in
-              let some = inv.elements.coded.some in
-              let wide = inv.elements.wide in
-              let y = then_at (adds.Stores i 0) hide_it in
-              let new = hides_count scene inv i count below is in
-              let now_odd : now_at % 2 ≡ 1 = ap (λ n. n % 2) is ∙ odd in
-              let well_formed = was_well_formed scene start tt here.span (words_after ws hide_it) y (Hidden p i ∷ []) (refl, tt) in
-              let after : count_at c (words_after ws hide_it) i ≡ one_more now_at =
-              ap (λ w. count_at c w i) new ∙ count_set c code.size ws i (one_more now_at) (omega arith) in
-              goes_on scene start (at_stage (adds.Stores i 0)) hide_it false scene.states (Hidden p i ∷ []) here.span (λ start w. refl)
-              (hides scene inv start (at_stage (adds.Hides i count)) tt here y (words_after ws hide_it)
-              i below new refl now_odd (λ holds q ne o theirs fresh. nobody_else holds q ne o theirs) well_formed)
-              ((granted.1, none), tt) (omega arith)
-              (refl, refl, fits, ((below, ap (λ (d : List SetAct). d ++ []) granted.1), inr (ap (λ d. d ++ Hides i ∷ []) none), omega arith)) (
-                owns_hidden hide_it y,
-                record {
-                  few = omega arith;
-                  has = λ holds lives. record { even = ap (λ n. n % 2) after ∙ omega arith; written = λ j js. absurd (omega arith) };
-                },
-              )
-          go false t =
-              let other : now_at ≢ count = grind (arith, nat_tests) in
-              let some = inv.elements.coded.some in
-              let y = then_at (adds.Stores i 0) hide_it in
-              let same = fails_same ws (count_word c i) count (one_more count) other in
-              calm_step (adds.Hides i count) (adds.Stores i 0) hide_it same here refl (omega arith) (granted, inl none, omega arith) (
-                owns_calm hide_it y,
-                first_word hide_it y same
-                    (λ holds. ⊎_elim (λ e. absurd (other e)) (λ even. even) (covers holds (acts.stays holds.kept)))
-                    (was_well_formed_calmly scene start tt here.span y),
-              )
+      hides_step =
+          on_bool (λ b. Leads scene start (Some (exchanges (count_word c i) count (one_more count))) false scene.states
+          ((if b then Hidden p i ∷ [] else []) ++ []) (GoOn (at_stage (adds.Stores i 0))))
+          (now_at == count)
+          (λ t.
+          let is : now_at ≡ count = grind (arith, nat_tests) in
+          let some = inv.elements.coded.some in
+          let wide = inv.elements.wide in
+          let y = then_at (adds.Stores i 0) hide_it in
+          let new = hides_count scene inv i count below is in
+          let now_odd : now_at % 2 ≡ 1 = ap (λ n. n % 2) is ∙ odd in
+          let well_formed = was_well_formed scene start tt here.span (words_after ws hide_it) y (Hidden p i ∷ []) (refl, tt) in
+          let after : count_at c (words_after ws hide_it) i ≡ one_more now_at =
+          ap (λ w. count_at c w i) new ∙ count_set c code.size ws i (one_more now_at) (omega arith) in
+          goes_on scene start (at_stage (adds.Stores i 0)) hide_it false scene.states (Hidden p i ∷ []) here.span (λ start w. refl)
+          (hides scene inv start (at_stage (adds.Hides i count)) tt here y (words_after ws hide_it)
+          i below new refl now_odd (λ holds q ne o theirs fresh. nobody_else holds q ne o theirs) well_formed)
+          ((granted.1, none), tt) (omega arith)
+          (refl, refl, fits, ((below, ap (λ (d : List SetAct). d ++ []) granted.1), inr (ap (λ d. d ++ Hides i ∷ []) none), omega arith)) (
+            owns_hidden hide_it y,
+            record {
+              few = omega arith;
+              has = λ holds lives. record { even = ap (λ n. n % 2) after ∙ omega arith; written = λ j js. absurd (omega arith) };
+            },
+          ))
+          (λ t.
+          let other : now_at ≢ count = grind (arith, nat_tests) in
+          let some = inv.elements.coded.some in
+          let y = then_at (adds.Stores i 0) hide_it in
+          let same = fails_same ws (count_word c i) count (one_more count) other in
+          calm_step (adds.Hides i count) (adds.Stores i 0) hide_it same here refl (omega arith) (granted, inl none, omega arith) (
+            owns_calm hide_it y,
+            first_word hide_it y same
+                (λ holds. ⊎_elim (λ e. absurd (other e)) (λ even. even) (covers holds (acts.stays holds.kept)))
+                (was_well_formed_calmly scene start tt here.span y),
+          ))
 
     -- ---- a word is stored
 
@@ -226,30 +226,28 @@ module _ {T : Type 0} (scene : Scene T) (inv : Inv scene) (value : T) (owner : �
           }
 
       stores_step : StepOf scene start (at_stage (adds.Stores i at))
-      stores_step = go (nat_lt (at + 1) code.size) refl
-        where
-          go : (b : Bool) → nat_lt (at + 1) code.size ≡ b
-              → Leads scene start (Some (stores_to (element_word c code.size i at) (get_or (code.words_of value) at 0)))
-              false scene.states []
-              (as_add (if b then GoOn (at_add (first_add c) (adds.Stores i (at + 1))) else GoOn
-              (at_add (first_add c) (adds.AddsCount i))))
-          go true t =
-              let more : at + 1 < code.size = grind (arith, nat_tests) in
-              store_to (adds.Stores i (at + 1)) refl (omega arith) (granted, hidden, more) (
-                owns_calm store_it (then_at (adds.Stores i (at + 1)) store_it),
-                one_more_word (adds.Stores i (at + 1)),
-              )
-          go false t =
-              let last : code.size ≤ at + 1 = grind (arith, nat_tests) in
-              let is : at + 1 ≡ code.size = omega arith in
-              store_to (adds.AddsCount i) refl (omega arith) (granted, hidden) (
-                owns_calm store_it (then_at (adds.AddsCount i) store_it),
-                subst (λ n. Writes code c owner i value n
-                    (view scene.terms (words_after ws store_it) scene.states
-                    (put p (then_at (adds.AddsCount i) store_it) latest) events p (since_then scene store_it)
-                    (changes_then scene store_it) (backs_then scene false)))
-                    is (one_more_word (adds.AddsCount i)),
-              )
+      stores_step =
+          on_bool (λ b. Leads scene start (Some (stores_to (element_word c code.size i at) (get_or (code.words_of value) at 0)))
+          false scene.states []
+          (as_add (if b then GoOn (at_add (first_add c) (adds.Stores i (at + 1))) else GoOn (at_add (first_add c) (adds.AddsCount i)))))
+          (nat_lt (at + 1) code.size)
+          (λ t.
+          let more : at + 1 < code.size = grind (arith, nat_tests) in
+          store_to (adds.Stores i (at + 1)) refl (omega arith) (granted, hidden, more) (
+            owns_calm store_it (then_at (adds.Stores i (at + 1)) store_it),
+            one_more_word (adds.Stores i (at + 1)),
+          ))
+          (λ t.
+          let last : code.size ≤ at + 1 = grind (arith, nat_tests) in
+          let is : at + 1 ≡ code.size = omega arith in
+          store_to (adds.AddsCount i) refl (omega arith) (granted, hidden) (
+            owns_calm store_it (then_at (adds.AddsCount i) store_it),
+            subst (λ n. Writes code c owner i value n
+                (view scene.terms (words_after ws store_it) scene.states
+                (put p (then_at (adds.AddsCount i) store_it) latest) events p (since_then scene store_it)
+                (changes_then scene store_it) (backs_then scene false)))
+                is (one_more_word (adds.AddsCount i)),
+          ))
 
     -- ---- the value is placed
 
@@ -270,42 +268,41 @@ module _ {T : Type 0} (scene : Scene T) (inv : Inv scene) (value : T) (owner : �
       new = adds_to_count scene inv i below
 
       places_step : StepOf scene start (at_stage (adds.AddsCount i))
-      places_step = go (is_even count_now) refl
-        where
-          go : (b : Bool) → is_even count_now ≡ b
-              → Leads scene start (Some (adds_one (count_word c i))) false scene.states
-              ((if b then Placed p i value ∷ [] else []) ++ []) (GoOn (at_stage (adds.AddsChange i)))
-          go true t =
-              let es = Placed p i value ∷ [] in
-              let well_formed = was_well_formed scene start tt here.span (words_after ws add_it) y es (refl, tt) in
-              goes_on scene start (at_stage (adds.AddsChange i)) add_it false scene.states es here.span (λ start w. refl)
-              (places_it scene inv start (at_stage (adds.AddsCount i)) tt here y (words_after ws add_it)
-              i below new refl value owner acts mine (λ holds. w.has holds (acts.stays holds.kept)) well_formed)
-              ((refl, granted.1, hidden), tt) (omega arith)
-              (refl, refl, fits, (below, ap (λ (d : List SetAct). d ++ []) granted.1)) (
-                owns_placed add_it y,
-                (λ holds. ap (λ a. places a) (acts_more scene start here.span es (refl, tt) (λ start w. refl)) ∙ placed_once (done scene) i value hidden),
-                (λ holds lives. (
-                  fold-append (left_after i) true events es ∙ at_same i i false (left_of i events) refl,
-                  ap is_some (fold-append (contents_after i) None events es ∙ at_same i i (Some value) (contents_of i events) refl),
-                )),
-              )
-          go false t =
-              let well_formed = was_well_formed scene start tt here.span (words_after ws add_it) y [] tt in
-              let ill_formed =
-              λ (holds : WellFormed (after scene (words_after ws add_it) y [])).
-              let even = (w.has (well_formed holds) (acts.stays holds.kept)).even in
-              let odd = odd_is count_now t in
-              absurd {A = ⊥} (omega arith) in
-              goes_calmly scene start (at_stage (adds.AddsChange i)) add_it false scene.states here.span
-              (misplaces scene inv start (at_stage (adds.AddsCount i)) tt here y (words_after ws add_it) i below new refl well_formed ill_formed)
-              (omega arith) (refl, refl, fits, granted) (
-                owns_calm add_it y,
-                (λ holds. absurd
-                    (ill_formed (subst (λ es. IsWellFormedSoFar scene.terms (put p y latest) es) (sym (append-nil events)) holds))),
-                (λ holds lives. absurd
-                    (ill_formed (subst (λ es. IsWellFormedSoFar scene.terms (put p y latest) es) (sym (append-nil events)) holds))),
-              )
+      places_step =
+          on_bool (λ b. Leads scene start (Some (adds_one (count_word c i))) false scene.states
+          ((if b then Placed p i value ∷ [] else []) ++ []) (GoOn (at_stage (adds.AddsChange i))))
+          (is_even count_now)
+          (λ t.
+          let es = Placed p i value ∷ [] in
+          let well_formed = was_well_formed scene start tt here.span (words_after ws add_it) y es (refl, tt) in
+          goes_on scene start (at_stage (adds.AddsChange i)) add_it false scene.states es here.span (λ start w. refl)
+          (places_it scene inv start (at_stage (adds.AddsCount i)) tt here y (words_after ws add_it)
+          i below new refl value owner acts mine (λ holds. w.has holds (acts.stays holds.kept)) well_formed)
+          ((refl, granted.1, hidden), tt) (omega arith)
+          (refl, refl, fits, (below, ap (λ (d : List SetAct). d ++ []) granted.1)) (
+            owns_placed add_it y,
+            (λ holds. ap (λ a. places a) (acts_more scene start here.span es (refl, tt) (λ start w. refl)) ∙ placed_once (done scene) i value hidden),
+            (λ holds lives. (
+              fold-append (left_after i) true events es ∙ at_same i i false (left_of i events) refl,
+              ap is_some (fold-append (contents_after i) None events es ∙ at_same i i (Some value) (contents_of i events) refl),
+            )),
+          ))
+          (λ t.
+          let well_formed = was_well_formed scene start tt here.span (words_after ws add_it) y [] tt in
+          let ill_formed =
+          λ (holds : WellFormed (after scene (words_after ws add_it) y [])).
+          let even = (w.has (well_formed holds) (acts.stays holds.kept)).even in
+          let odd = odd_is count_now t in
+          absurd {A = ⊥} (omega arith) in
+          goes_calmly scene start (at_stage (adds.AddsChange i)) add_it false scene.states here.span
+          (misplaces scene inv start (at_stage (adds.AddsCount i)) tt here y (words_after ws add_it) i below new refl well_formed ill_formed)
+          (omega arith) (refl, refl, fits, granted) (
+            owns_calm add_it y,
+            (λ holds. absurd
+                (ill_formed (subst (λ es. IsWellFormedSoFar scene.terms (put p y latest) es) (sym (append-nil events)) holds))),
+            (λ holds lives. absurd
+                (ill_formed (subst (λ es. IsWellFormedSoFar scene.terms (put p y latest) es) (sym (append-nil events)) holds))),
+          ))
 
     -- ---- the change is counted, and the call ends
 
@@ -333,18 +330,20 @@ module _ {T : Type 0} (scene : Scene T) (inv : Inv scene) (value : T) (owner : �
           says : WellFormed (before scene) → (a : ℕ)
               → announced_after a (announced_of a events) (Finished p (Container (Add value owner)) (Index i)) ≡ true
               → is_some (contents_of a events) ≡ true
-          says x0 x1 x2 = grind (arith, is_some, at_other, cases_eq)
+          says = grind (arith, is_some, at_other, cases_eq)
 
 -- ---- any step of an add
 
-module _ {T : Type 0} (scene : Scene T) (inv : Inv scene) (value : T) (owner : ℕ) (fits : owner < empty) (acts : ActsFor scene owner) where
+module _ {T : Type 0} (adding : Adding T) where
+  open adding use {scene, value, owner}
+
   pub add_step : (stage : AddStage) → IsHere scene (Add value owner) (add_at scene.capacity value owner stage)
       → AddAt scene.capacity scene.coding.size (all scene) (done scene) owner stage
       → AddKnows scene.coding scene.capacity value owner stage (sees_now scene)
       → scene.steps ≤ add_number scene.capacity scene.coding.size stage scene.backs → StepOf scene (Add value owner) (add_at scene.capacity value owner stage)
-  add_step (adds.Acquires stage) here at k s = acquire_step scene inv value owner fits acts stage here at.1 at.0 k s
-  add_step (adds.LoadsCount i) here at k s = loads_step scene inv value owner fits acts i at.0 k here at.1 s
-  add_step (adds.Hides i count) here at k s = hides_step scene inv value owner fits acts i at.0 k.0 count here at.1 at.2 k.1 s
-  add_step (adds.Stores i word) here at k s = stores_step scene inv value owner fits acts i at.0 k.0 word here at.1 at.2 k.1 s
-  add_step (adds.AddsCount i) here at k s = places_step scene inv value owner fits acts i at.0 k.0 here at.1 k.1 s
-  add_step (adds.AddsChange i) here at k s = ends_step scene inv value owner fits acts i at k.0 here k.1 k.2 s
+  add_step (adds.Acquires stage) here at k s = acquire_step adding stage here at.1 at.0 k s
+  add_step (adds.LoadsCount i) here at k s = loads_step adding i at.0 k here at.1 s
+  add_step (adds.Hides i count) here at k s = hides_step adding i at.0 k.0 count here at.1 at.2 k.1 s
+  add_step (adds.Stores i word) here at k s = stores_step adding i at.0 k.0 word here at.1 at.2 k.1 s
+  add_step (adds.AddsCount i) here at k s = places_step adding i at.0 k.0 here at.1 k.1 s
+  add_step (adds.AddsChange i) here at k s = ends_step adding i at k.0 here k.1 k.2 s

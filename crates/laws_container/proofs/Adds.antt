@@ -31,9 +31,19 @@ use Rattle.laws_container.proofs.CallProgress.{add_at}
 use Rattle.laws_container.proofs.Steps.{loads, ends_calmly}
 use Rattle.laws_container.proofs.Turns.{WellFormed}
 
-module _ {T : Type 0} (scene : Scene T) (inv : Inv scene) (value : T) (owner : ℕ) (fits : owner < empty) (acts : ActsFor scene owner) (stage : AcquireStage)
-    (here : IsHere scene (Add value owner) (add_at scene.capacity value owner (adds.Acquires stage))) where
-  open scene use {capacity as c, party as p, steps as steps, backs as backs}
+-- an add by the party of the scene, for an owner that is not gone
+pub record Adding (T : Type 0) : Type 0 where
+  pub scene : Scene T
+  pub inv : Inv scene
+  pub value : T
+  pub owner : ℕ
+  pub fits : owner < empty
+  pub acts : ActsFor scene owner
+
+module _ {T : Type 0} (adding : Adding T) (stage : AcquireStage)
+    (here : IsHere adding.scene (Add adding.value adding.owner) (add_at adding.scene.capacity adding.value adding.owner (adds.Acquires stage))) where
+  open adding use {scene, inv, value, owner, fits, acts}
+  open adding.scene use {capacity as c, party as p, steps, backs}
 
   abbrev ws : List ℕ
   ws = scene.words

@@ -20,13 +20,23 @@ module _ {T : Type 0} where
   calls : (scene : Scene T) → Inv scene → CallSteps scene
   calls scene inv =
       record {
-        add = λ value owner fits acts stage here at k s. add_step scene inv value owner fits acts stage here at k s;
+        add =
+            λ value owner fits acts stage here at k s.
+            add_step (record { scene = scene; inv = inv; value = value; owner = owner; fits = fits; acts = acts }) stage here at k s;
         remove = λ index owner mode fits acts stage at here k s. remove_step scene inv index owner mode fits acts stage at here k s;
         replace = λ index value owner fits acts stage at here k s. replace_step scene inv index value owner fits acts stage at here k s;
-        find = λ owner fits room stage at here k s. find_step scene inv owner fits room stage at here k s;
-        find_decided = λ owner fits room index found at here k s answer. find_decided scene inv owner fits room index found at here k s answer;
-        recover = λ owner mode fits room stage at here k s. recover_step scene inv owner mode fits room stage at here k s;
-        recover_decided = λ owner mode fits room index count at here k s answer. recover_decided scene inv owner mode fits room index count at here k s answer;
+        find =
+            λ owner fits room stage at here k s.
+            find_step (record { scene = scene; inv = inv; owner = owner; fits = fits }) room stage at here k s;
+        find_decided =
+            λ owner fits room index found at here k s answer.
+            find_decided (record { scene = scene; inv = inv; owner = owner; fits = fits }) room index found at here k s answer;
+        recover =
+            λ owner mode fits room stage at here k s.
+            recover_step (record { scene = scene; inv = inv; owner = owner; mode = mode; fits = fits }) room stage at here k s;
+        recover_decided =
+            λ owner mode fits room index count at here k s answer.
+            recover_decided (record { scene = scene; inv = inv; owner = owner; mode = mode; fits = fits }) room index count at here k s answer;
         look = λ which stage at here k s. look_step scene inv which stage here at k s;
         count = λ which count at none here k s. count_step scene inv which count here at none k s;
         lock = λ none here k s. lock_step scene inv here none k s;

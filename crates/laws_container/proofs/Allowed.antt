@@ -9,7 +9,7 @@ module _ {T : Type 0} where
   IsAllowed w turn = Unit {0}
 
   pub allowed_by : (w : World T) (turn : Turn T) → call_refusal w turn ≡ None → IsAllowed w turn
-  allowed_by x0 x1 x2 = grind (arith, must_be_due)
+  allowed_by = grind (arith, must_be_due)
 
   pub allowed_open : (w : World T) (turn : Turn T) → open_refusal w turn ≡ None → IsAllowed w turn
   allowed_open w turn e = grind arith

@@ -6,7 +6,7 @@ use Rattle.laws_container.proofs.Names.{IsOwnOrDeath, WasAlone, BeginsNone, Span
 use Rattle.laws_container.proofs.Names.{span_after, span_of, IsShut, began_earlier}
 
 not_theirs : (p q : ℕ) (o : Option ℕ) → q ≢ p → is_party p o ≡ true → is_party q o ≡ false
-not_theirs x0 x1 x2 x3 x4 = grind (arith, ne_eqb, nat_tests)
+not_theirs = grind (arith, ne_eqb, nat_tests)
 
 module _ {T : Type 0} where
   all_less : (P : Event T → Type 0) (xs ys : List (Event T)) → AllByRecursion P (xs ++ ys) → AllByRecursion P xs
@@ -45,7 +45,7 @@ module _ {T : Type 0} where
   -- ---- the others have no call under way
 
   theirs_stays : (p q : ℕ) (span : Span T) (e : Event T) → q ≢ p → IsOwnOrDeath p e → span_after q span e ≡ span
-  theirs_stays x0 x1 x2 x3 x4 x5 = grind (arith, not_theirs, whose)
+  theirs_stays = grind (arith, not_theirs, whose)
 
   all_stay : (p q : ℕ) (span : Span T) (es : List (Event T)) → q ≢ p → AllByRecursion (IsOwnOrDeath p) es → fold (span_after q) span es ≡ span
   all_stay p q span [] ne h = refl

@@ -10,10 +10,10 @@ module _ {T : Type 0} where
   module _ (worn worn' : Type 0) (on : worn → worn') where
     pub each_on : (mode : ReleaseMode) (p owner : ℕ) (events : List (Event T))
         → FilledSinceEachBy worn mode p owner events → FilledSinceEachBy worn' mode p owner events
-    each_on x0 x1 x2 x3 x4 = grind (arith, inl, inr)
+    each_on = grind (arith, inl, inr)
 
     still_right : (by : GoneBy) (c : ℕ) (before : List (Event T)) (e : Event T) → AnswersBy by worn c before e → AnswersBy by worn' c before e
-    still_right x0 x1 x2 x3 x4 = grind (arith, inl, inr, each_on)
+    still_right = grind (arith, inl, inr, each_on)
 
     -- a counter that was at its end still is
     pub answers_on : (by : GoneBy) (c : ℕ) (events : List (Event T)) → Each (AnswersBy by worn c) events → Each (AnswersBy by worn' c) events
@@ -23,28 +23,28 @@ module _ {T : Type 0} where
 
   module _ (worn : Type 0) (not_worn : worn → ⊥) where
     each_right : (mode : ReleaseMode) (p owner : ℕ) (events : List (Event T)) → FilledSinceEachBy worn mode p owner events → FilledSinceEach mode p owner events
-    each_right x0 x1 x2 x3 x4 = grind arith
+    each_right = grind arith
 
     answer_right : (by : GoneBy) (c : ℕ) (before : List (Event T)) (e : Event T) → IsHonestBy by before → AnswersBy by worn c before e → AnswersRight c before e
-    answer_right x0 x1 x2 x3 x4 x5 = grind (arith, each_right)
+    answer_right = grind (arith, each_right)
 
     pub answers_right : (by : GoneBy) (c : ℕ) (events : List (Event T)) → IsHonestBy by events
         → Each (AnswersBy by worn c) events → Each (AnswersRight c) events
-    answers_right x0 x1 x2 x3 x4 x5 x6 x7 x8 = grind (arith, answer_right, honest_less)
+    answers_right = grind (arith, answer_right, honest_less)
 
   -- ---- where owners die
 
   ask_right : (before : List (Event T)) (e : Event T) → AsksBy Death before e → AsksRight before e
-  ask_right x0 x1 x2 = grind arith
+  ask_right = grind arith
 
   pub asks_right : (events : List (Event T)) → Each (AsksBy Death) events → Each AsksRight events
   asks_right events asks before after e is = ask_right before e (asks before after e is)
 
   freed_right : (p i o : ℕ) (before : List (Event T)) (span : Span T) → FreedBy Death p i o before span → FreedRight p i o before span
-  freed_right x0 x1 x2 x3 x4 x5 = grind arith
+  freed_right = grind arith
 
   recover_right : (before : List (Event T)) (e : Event T) → RecoversBy Death before e → RecoversRight before e
-  recover_right x0 x1 x2 = grind (arith, freed_right)
+  recover_right = grind (arith, freed_right)
 
   pub recovers_right : (events : List (Event T)) → Each (RecoversBy Death) events → Each RecoversRight events
   recovers_right events recovers before after e is = recover_right before e (recovers before after e is)

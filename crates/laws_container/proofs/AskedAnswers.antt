@@ -100,7 +100,7 @@ module _ {T : Type 0} (shown : Shown T) (terms : Terms) (code : Coding T) (t : T
       hears : (flight : ContainerFlight T)
           → At c code.size (set_acts_of p t.events) (acts_of p t.events) (starts.Recover owner mode) flight
           → Hears flight
-      hears x0 x1 = grind (arith, stage_hears)
+      hears = grind (arith, stage_hears)
 
       abbrev Stays : ContainerFlight T → Type 0
       Stays flight =
@@ -109,7 +109,7 @@ module _ {T : Type 0} (shown : Shown T) (terms : Terms) (code : Coding T) (t : T
 
       stage_stays : (given : DeadOwner) (capacity : ℕ) (room : buffers.Buffer 128) (stage : RecoverStage)
           → Stays (recover_at capacity given.owner given.mode room stage)
-      stage_stays x0 x1 x2 x3 x4 x5 = grind (arith, append-nil, both_ways, raise_asks_none, lock_asks_none)
+      stage_stays = grind (arith, append-nil, both_ways, raise_asks_none, lock_asks_none)
 
       stays : (flight : ContainerFlight T)
           → At c code.size (set_acts_of p t.events) (acts_of p t.events) (starts.Recover owner mode) flight
@@ -166,10 +166,10 @@ module _ {T : Type 0} (shown : Shown T) (terms : Terms) (code : Coding T) (t : T
         w.flight w.at w.due w.asked w.wrote)
 
     tells_yes : YesTells t turn (after_turn t turn)
-    tells_yes x0 x1 x2 x3 x4 = grind (arith, waiting, by_turn, after_turn, hears)
+    tells_yes = grind (arith, waiting, by_turn, after_turn, hears)
 
     tells_no : NoTells t turn (after_turn t turn)
-    tells_no x0 x1 x2 x3 x4 = grind (arith, waiting, false, by_turn, after_turn, stays)
+    tells_no = grind (arith, waiting, false, by_turn, after_turn, stays)
 
     answered : IsAnswered turn (after_turn t turn)
     answered p said is =

@@ -46,7 +46,7 @@ module _ {T : Type 0} (shown : Shown T) (terms : Terms) (code : Coding T) (t : T
   silent_there : (q old : ℕ) (flight : ContainerFlight T)
       → At c code.size (set_acts_of q t.events) (acts_of q t.events) (starts.Find owner) flight
       → Silent code q (state_of q s.state.states) (Number number) flight old
-  silent_there x0 x1 x2 x3 = grind (arith, stage_silent)
+  silent_there = grind (arith, stage_silent)
 
   ends_alone : (wrote : List (Event T)) → events_of t.world turn ≡ wrote ++ Finished p (Container (starts.Find owner)) (Number number) ∷ [] → wrote ≡ []
   ends_alone wrote e =

@@ -35,7 +35,7 @@ module _ {T : Type 0} where
   world_asks w p = question_in w.coding (flight_in w p)
 
   doing_call : (changes since : ℕ) (a : After (Flight T) (Answer T)) → flight_of (Some (doing_after changes since a)) ≡ call_in a
-  doing_call x0 x1 x2 = grind arith
+  doing_call = grind arith
 
   -- the party asks as its call does, and any other as before
   module _ (w : World T) (q : ℕ) (x : Party T) (since : ℕ) (flight : Flight T) (answer : ℕ) where
@@ -43,10 +43,10 @@ module _ {T : Type 0} where
     step_there = step_in w q x flight answer
 
     same_asks : (ask : _) → world_asks (after_step w q x since ask step_there) q ≡ question_in w.coding (call_in step_there.after)
-    same_asks x0 = grind (arith, party_put_same, doing_call)
+    same_asks = grind (arith, party_put_same, doing_call)
 
     other_asks : (ask : _) (p : ℕ) → p ≢ q → world_asks (after_step w q x since ask step_there) p ≡ world_asks w p
-    other_asks x0 x1 x2 = grind (arith, party_put_other)
+    other_asks = grind (arith, party_put_other)
 
 -- ---- a call goes on
 

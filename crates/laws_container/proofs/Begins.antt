@@ -55,7 +55,7 @@ module _ {T : Type 0} (scene : Scene T)
   -- ---- what it does to the elements
 
   stands_shut : (o : Option (Party T)) → StandsWellFormed p o events
-  stands_shut x0 = grind arith
+  stands_shut = grind arith
 
   was_well_formed : (start : ContainerStart T) → WellFormed (m' start) → WellFormed m
   was_well_formed start = well_formed_before scene.terms p (y start) latest events (begun start) (refl, tt) (λ well_formed. stands_shut (party_of p latest))
@@ -71,13 +71,13 @@ module _ {T : Type 0} (scene : Scene T)
 
   -- who owed a raise was another party
   still_owing : (start : ContainerStart T) → Owing latest → Owing (put p (y start) latest)
-  still_owing x0 x1 = grind (arith, owes, false, both_ways, party_put_other)
+  still_owing = grind (arith, owes, false, both_ways, party_put_other)
 
   passes : (start : ContainerStart T) → Passes code c m (m' start)
-  passes x0 = grind (arith, was_well_formed, same_contents, same_announced, same_left, still_owing)
+  passes = grind (arith, was_well_formed, same_contents, same_announced, same_left, still_owing)
 
   changes_none : (start : ContainerStart T) → Changes scene scene.words (y start) (begun start)
-  changes_none x0 = grind (arith, passes, same_contents, same_left, is_some, was_well_formed, same_announced)
+  changes_none = grind (arith, passes, same_contents, same_left, is_some, was_well_formed, same_announced)
 
   -- ---- and to the states
 
@@ -198,7 +198,7 @@ module _ {T : Type 0} (scene : Scene T)
   gone_then : (by : GoneBy) (owner : ℕ) (mode : ReleaseMode)
       → MayRecover by events (starts.Recover owner mode)
       → is_gone by owner (events ++ begun (starts.Recover owner mode)) ≡ true
-  gone_then x0 x1 x2 x3 = grind (arith, fold-append, false, gone_begun)
+  gone_then = grind (arith, fold-append, false, gone_begun)
 
   knows_first : (start : ContainerStart T) → MayRecover scene.terms.by events start → Knows code c (first c start) (v start)
   knows_first (starts.Add value owner) r =

@@ -30,7 +30,7 @@ module _ {T : Type 0} (c z : ℕ) (all : List SetAct) (done : List (Act T)) wher
   replace_most index stage at = grind arith
 
   find_most : (stage : FindStage) → FindAt c z all done stage → find_number z stage ≤ c * (z + 3)
-  find_most x0 x1 = grind (arith, times_below)
+  find_most = grind (arith, times_below)
 
   recover_at_most : (owner : ℕ) (mode : ReleaseMode) (stage : RecoverStage) (backs : ℕ) → z + 7 ≤ for_index c z mode
       → ((lock : Lock) → mode ≡ LockIfLastIndex → LockAt c lock → lock_number c lock + z + 5 ≤ for_index c z mode)
@@ -40,7 +40,7 @@ module _ {T : Type 0} (c z : ℕ) (all : List SetAct) (done : List (Act T)) wher
   recover_most : (owner : ℕ) (mode : ReleaseMode) (stage : RecoverStage) (backs : ℕ)
       → RecoverAt c z all done owner mode stage
       → recover_number c z mode stage backs ≤ most_steps {T = T} c z (starts.Recover owner mode) backs
-  recover_most x0 x1 x2 x3 x4 = grind (arith, recover_at_most, lock_most)
+  recover_most = grind (arith, recover_at_most, lock_most)
 
   look_most : (stage : LookStage) (backs : ℕ) → LookAt c z all done stage → look_number z stage backs ≤ 1 + c * (z + 2) + backs * (z + 1)
   look_most looks.LoadsChange backs at = omega arith
@@ -50,7 +50,7 @@ module _ {T : Type 0} (c z : ℕ) (all : List SetAct) (done : List (Act T)) wher
 
   steps_most : (backs : ℕ) (start : ContainerStart T) (flight : ContainerFlight T) → At c z all done start flight
       → number_of c z flight backs ≤ most_steps c z start backs
-  steps_most x0 x1 x2 x3 = grind (arith, add_most, remove_most, place_of, replace_most, find_most, recover_most, look_most, count_most)
+  steps_most = grind (arith, add_most, remove_most, place_of, replace_most, find_most, recover_most, look_most, count_most)
 
 -- ---- how often it has turned back
 

@@ -31,20 +31,20 @@ module _ {T : Type 0} (code : Coding T) (c : ℕ) where
 
   -- an even count: nothing stands there
   none_stands : (words : List ℕ) (i : ℕ) (o : Option T) → Stands words i o → count_at c words i % 2 ≡ 0 → o ≡ None
-  none_stands x0 x1 x2 x3 x4 = grind arith
+  none_stands = grind arith
 
   -- an odd one: something does
   pub some_stands : (words : List ℕ) (i : ℕ) (o : Option T) → Stands words i o → count_at c words i % 2 ≡ 1 → o ≢ None
-  some_stands x0 x1 x2 x3 x4 x5 = grind arith
+  some_stands = grind arith
 
   -- where count and data words stay, so does what stands
   pub stands_on : (words words' : List ℕ) (i : ℕ) (o : Option T) → count_at c words' i ≡ count_at c words i
       → ((j : ℕ) → j < z → datum_at c z words' i j ≡ datum_at c z words i j) → Stands words i o → Stands words' i o
-  stands_on x0 x1 x2 x3 x4 x5 x6 = grind arith
+  stands_on = grind arith
 
   pub writes_on : (words words' : List ℕ) (i : ℕ) (value : T) (k : ℕ) → k ≤ z → count_at c words' i ≡ count_at c words i
       → ((j : ℕ) → j < z → datum_at c z words' i j ≡ datum_at c z words i j) → Writing words i value k → Writing words' i value k
-  writes_on x0 x1 x2 x3 x4 x5 x6 x7 x8 = grind arith
+  writes_on = grind arith
 
   module _ (words : List ℕ) (events : List (Event T)) (whole : IsWhole words events) (wide : length words ≡ 2 + (c + c) + z * c) (i : ℕ) (below : i < c) where
     -- ---- a writer stores a word
@@ -102,14 +102,14 @@ module _ {T : Type 0} (code : Coding T) (c : ℕ) where
     place_none value w = none_stands words i (contents_of i events) (whole i below) w.even
 
     pub place_whole : (p n : ℕ) (value : T) → Writing words i value z → n % 2 ≡ 1 → IsWhole (set words (count_word c i) n) (events ++ Placed p i value ∷ [])
-    place_whole x0 x1 x2 x3 x4 = grind (arith, count_there, fold-append, at_other, at_same, is_now, data_all_stay)
+    place_whole = grind (arith, count_there, fold-append, at_other, at_same, is_now, data_all_stay)
 
     -- anyone makes an odd count even: what stood is gone
     pub hide_some : count_at c words i % 2 ≡ 1 → contents_of i events ≢ None
     hide_some odd = some_stands words i (contents_of i events) (whole i below) odd
 
     pub hide_whole : (p n : ℕ) → n % 2 ≡ 0 → IsWhole (set words (count_word c i) n) (events ++ Hidden p i ∷ [])
-    hide_whole x0 x1 x2 = grind (arith, count_there, fold-append, at_other, at_same, is_now)
+    hide_whole = grind (arith, count_there, fold-append, at_other, at_same, is_now)
 
   -- ---- a copy
 

@@ -14,7 +14,7 @@ module _ {T : Type 0} (code : Coding T) (c : ℕ) where
 
   pub copying_first : (v : View T) (index count : ℕ) (copy : List ℕ) → index < c → length copy ≡ 128 → count % 2 ≡ 1
       → HasCome code c index count v → Copying code c index count copy 0 v
-  copying_first x0 x1 x2 x3 x4 x5 x6 x7 = grind arith
+  copying_first = grind arith
 
   -- ---- a word is read, by a step that leaves the words
 

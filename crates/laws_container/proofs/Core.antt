@@ -39,13 +39,13 @@ module _ (c z : ℕ) (words : List ℕ) where
     stored = set words (element_word c z i k) x
 
     pub counts_stay : (j : ℕ) → j < c → count_at c stored j ≡ count_at c words j
-    counts_stay x0 x1 = grind (arith, get_or-set_other)
+    counts_stay = grind (arith, get_or-set_other)
 
     pub datum_set : element_word c z i k < length words → datum_at c z stored i k ≡ x
     datum_set within = get_or-set_same words (element_word c z i k) x 0 within
 
     pub datum_before : (j : ℕ) → j < k → datum_at c z stored i j ≡ datum_at c z words i j
-    datum_before x0 x1 = grind (arith, get_or-set_other)
+    datum_before = grind (arith, get_or-set_other)
 
     pub data_stay : (a j : ℕ) → a ≢ i → j < z → k < z → datum_at c z stored a j ≡ datum_at c z words a j
     data_stay a j other js ks =
@@ -65,7 +65,7 @@ module _ (c z : ℕ) (words : List ℕ) where
     count_stays j ne = get_or-set_other words (count_word c i) (count_word c j) n 0 (λ e. ne (omega arith))
 
     pub data_all_stay : (a j : ℕ) → i < c → datum_at c z counted a j ≡ datum_at c z words a j
-    data_all_stay x0 x1 x2 = grind (arith, get_or-set_other)
+    data_all_stay = grind (arith, get_or-set_other)
 
   -- ---- the number of changes
 
@@ -80,4 +80,4 @@ module _ (c z : ℕ) (words : List ℕ) where
     changes_no_count j = get_or-set_other words (change_word c) (count_word c j) n 0 (λ e. absurd (omega arith))
 
     pub changes_no_datum : (a j : ℕ) → datum_at c z changed a j ≡ datum_at c z words a j
-    changes_no_datum x0 x1 = grind (arith, get_or-set_other)
+    changes_no_datum = grind (arith, get_or-set_other)

@@ -44,33 +44,33 @@ module _ (T : Type 0) where
 
   at_count : (which : CountOf) (c z : ℕ) (set_acts : List SetAct) (acts : List (Act T)) (count : Counting)
       → CountAt c count → set_acts ≡ [] → At c z set_acts acts (counts_as which) (count_at which c count)
-  at_count x0 x1 x2 x3 x4 x5 x6 x7 = grind arith
+  at_count = grind arith
 
   few_count : (which : CountOf) (c z n backs : ℕ) → n ≤ c + 2 + backs * (c + 2) → n ≤ most_steps c z (counts_as {T = T} which) backs
-  few_count x0 x1 x2 x3 x4 x5 = grind arith
+  few_count = grind arith
 
   answers_count : (by : GoneBy) (worn : Type 0) (which : CountOf) (c p number : ℕ) (events : List (Event T))
       → IsLength p c number events
       → AnswersBy by worn c events (Finished p (Container (counts_as which)) (counted which number))
-  answers_count x0 x1 x2 x3 x4 x5 x6 x7 = grind arith
+  answers_count = grind arith
 
   does_count : (which : CountOf) (number : ℕ) (set_acts : List SetAct) (acts : List (Act T)) → set_acts ≡ []
       → HasDone (counts_as {T = T} which) (counted which number) set_acts acts
-  does_count x0 x1 x2 x3 x4 = grind arith
+  does_count = grind arith
 
   settles_not : (which : CountOf) (p number i : ℕ) (o : Option ℕ)
       → settled_after {T = T} i o (Finished p (Container (counts_as which)) (counted which number)) ≡ o
-  settles_not x0 x1 x2 x3 x4 = grind arith
+  settles_not = grind arith
 
   rights_not : (which : CountOf) (p number i : ℕ) (r : Right) → right_after {T = T} i r (Finished p (Container (counts_as which)) (counted which number)) ≡ r
-  rights_not x0 x1 x2 x3 x4 = grind arith
+  rights_not = grind arith
 
   announces_not : (which : CountOf) (p number i : ℕ) (b : Bool)
       → announced_after {T = T} i b (Finished p (Container (counts_as which)) (counted which number)) ≡ b
-  announces_not x0 x1 x2 x3 x4 = grind arith
+  announces_not = grind arith
 
   places_not : (which : CountOf) (p number : ℕ) (events : List (Event T)) → EndsRight events (Finished p (Container (counts_as which)) (counted which number))
-  places_not x0 x1 x2 x3 = grind arith
+  places_not = grind arith
 
 module _ {T : Type 0} (scene : Scene T) (inv : Inv scene) where
   open scene use {coding as code, capacity as c, party as p, steps as steps, backs as backs, events as events}

@@ -58,12 +58,12 @@ module _ {T : Type 0} (scene : Scene T) (inv : Inv scene) (words' : List ℕ) (y
   -- so it is where its events change no reading of the elements
   pub reads_same : ((i : ℕ) (o : Option T) → fold (contents_after i) o es ≡ o) → ((i : ℕ) (b : Bool) → fold (announced_after i) b es ≡ b)
       → ((i : ℕ) (b : Bool) → fold (left_after i) b es ≡ b) → IsCalm
-  reads_same x0 x1 x2 = grind (arith, fold-append, false, left_after)
+  reads_same = grind (arith, fold-append, false, left_after)
 
   still_stands : ((i : ℕ) → i < c → count_in code c m' i ≡ count_in code c m i)
       → ((i : ℕ) → i < c → (j : ℕ) → j < code.size → datum_in code c m' i j ≡ datum_in code c m i j)
       → ((i : ℕ) → contents_of i (events ++ es) ≡ contents_of i events) → WellFormed m' → IsWhole code c words' (events ++ es)
-  still_stands x0 x1 x2 x3 x4 x5 = grind (arith, stands_on)
+  still_stands = grind (arith, stands_on)
 
   -- ---- nothing of them
 
@@ -109,13 +109,13 @@ module _ {T : Type 0} (scene : Scene T) (inv : Inv scene) (words' : List ℕ) (y
     raised = ap (change_at c) new ∙ change_set c code.size ws (one_more (change_in code c m)) within_words
 
     raised_few : Keeps scene.terms → change_in code c m' ≡ change_in code c m + 1
-    raised_few x0 = grind (arith, raised)
+    raised_few = grind (arith, raised)
 
     count_as_it_was : (i : ℕ) → count_in code c m' i ≡ count_in code c m i
     count_as_it_was i = ap (λ w. count_at c w i) new ∙ changes_no_count c code.size ws (one_more (change_in code c m)) i
 
     datum_as_it_was : (i j : ℕ) → datum_in code c m' i j ≡ datum_in code c m i j
-    datum_as_it_was x0 x1 = grind (arith, changes_no_datum, one_more)
+    datum_as_it_was = grind (arith, changes_no_datum, one_more)
 
     pub counts_change : Changes scene words' y es
     counts_change = grind (arith, count_as_it_was, datum_as_it_was, raised, raised_few, length, length-set, one_more, is_some, still_stands)
@@ -129,7 +129,7 @@ module _ {T : Type 0} (scene : Scene T) (inv : Inv scene) (words' : List ℕ) (y
     count_kept a low = ap (λ w. count_at c w a) new ∙ counts_stay c code.size ws i k _ a low
 
     datum_kept : (a j : ℕ) → a ≢ i → j < code.size → datum_in code c m' a j ≡ datum_in code c m a j
-    datum_kept x0 x1 x2 x3 = grind (arith, data_stay)
+    datum_kept = grind (arith, data_stay)
 
     change_kept : change_in code c m' ≡ change_in code c m
     change_kept = grind (arith, get_or-set_other)
@@ -181,13 +181,13 @@ module _ {T : Type 0} (scene : Scene T) (inv : Inv scene) (words' : List ℕ) (y
     count_here = grind (arith, count_at, count_set, one_more)
 
     count_few : Keeps scene.terms → count_in code c m' i ≡ count_in code c m i + 1
-    count_few x0 = grind (arith, count_here)
+    count_few = grind (arith, count_here)
 
     count_there : (a : ℕ) → a ≢ i → count_in code c m' a ≡ count_in code c m a
     count_there a ne = ap (λ w. count_at c w a) new ∙ count_stays c code.size ws i (one_more (count_in code c m i)) a ne
 
     datum_all : (a j : ℕ) → datum_in code c m' a j ≡ datum_in code c m a j
-    datum_all x0 x1 = grind (arith, data_all_stay, one_more)
+    datum_all = grind (arith, data_all_stay, one_more)
 
     change_same : change_in code c m' ≡ change_in code c m
     change_same = grind (arith, get_or-set_other)
@@ -200,6 +200,7 @@ module _ {T : Type 0} (scene : Scene T) (inv : Inv scene) (words' : List ℕ) (y
     not_alone q ne was =
         absurd (subst IsShut open_now (others_shut q p events (λ e. ne (sym e)) (alone_less q events es (others_begin_none q p es ne own) was)))
 
+    -- what is so where the turn adds one to the count of index `i` and changes no other word of the elements
     pub record IsCounted : Type 0 where
       pub contents : (a : ℕ) → a ≢ i → contents_of a (events ++ es) ≡ contents_of a events
       pub announced : WellFormed m' → (a : ℕ) → announced_of a (events ++ es) ≡ true → (a ≢ i) × (announced_of a events ≡ true)

@@ -1,8 +1,8 @@
 -- A find checks the number of what it has copied, and is told whether to go on; and any step of one.
-use Rattle.laws_container.proofs.Names.{◌≡◌, ◌≢◌, ⊎_elim, ℕ, ◌+◌, ◌*◌, ◌<◌, ◌≤◌, ◌==◌, if◌then◌else◌, Bool, false}
+use Rattle.laws_container.proofs.Names.{◌≡◌, ◌≢◌, ⊎_elim, ℕ, ◌+◌, ◌*◌, ◌≤◌, ◌==◌, if◌then◌else◌, Bool, false}
 use Rattle.laws_container.proofs.Names.{true, Option, Some, None, is_some, List, [], ◌∷◌, ◌++◌, set, refl, sym, ap}
 use Rattle.laws_container.proofs.Names.{subst, ◌∙◌, arith, cases_eq, nat_tests, set-get_or, Ask, After, GoOn}
-use Rattle.laws_container.proofs.Names.{FindStage, at_find, find_comes_to, count_word, empty, went_on, Answer, Event}
+use Rattle.laws_container.proofs.Names.{FindStage, at_find, find_comes_to, count_word, went_on, Answer, Event}
 use Rattle.laws_container.proofs.Names.{Copied, ContainerStart, ContainerFlight, Copies, acts_of, contents_of}
 use Rattle.laws_container.proofs.Names.{IsFilledWith, SetAct, IsOneOf, as_it_is, read_in, as_call, words_after}
 use Rattle.laws_container.proofs.Names.{held_later, times_below, count_later, through_less, exchanges, exchange_sets}
@@ -15,7 +15,7 @@ use Rattle.model.specs.declared.event.Answer.TheVariants as answers
 use Rattle.model.specs.declared.families.container.ContainerStart.TheVariants.{Find}
 use Rattle.model.specs.declared.families.container.calls.ContainerFlight.TheVariants as calls
 use Rattle.laws_container.proofs.Copies.{copied_value}
-use Rattle.laws_container.proofs.Invariant.{Scene, Inv, before}
+use Rattle.laws_container.proofs.Invariant.{before}
 use Rattle.laws_container.proofs.Knows.{View, FindKnows, Knows}
 use Rattle.laws_container.proofs.Silent.{silently}
 use Rattle.laws_container.proofs.Stages.{IsHere, all, done, sees_now, StepOf, AnswerOf, Leads}
@@ -23,11 +23,13 @@ use Rattle.laws_container.proofs.Stages.{acts_more, goes_on}
 use Rattle.laws_container.proofs.Stages.{owes_none, was_well_formed}
 use Rattle.laws_container.proofs.CallProgress.{find_at, find_number, FindAt}
 use Rattle.laws_container.proofs.Turns.{count_in}
-use Rattle.laws_container.proofs.Finds.{below_more, cell_step, comes_to_next, count_step, ends_there, found_past}
+use Rattle.laws_container.proofs.Finds.{Finding, below_more, cell_step, comes_to_next, count_step, ends_there, found_past}
 use Rattle.laws_container.proofs.Finds.{has_last, has_more, seen_more, then_at, word_step}
+use Rattle.laws_robust.proofs.Cases.{on_bool}
 
-module _ {T : Type 0} (scene : Scene T) (inv : Inv scene) (owner : ℕ) (fits : owner < empty) where
-  open scene use {coding as code, capacity as c, party as p, steps as steps, events as events}
+module _ {T : Type 0} (finding : Finding T) where
+  open finding use {scene, inv, owner, fits}
+  open finding.scene use {coding as code, capacity as c, party as p, steps, events}
 
   abbrev ws : List ℕ
   ws = scene.words
@@ -47,7 +49,7 @@ module _ {T : Type 0} (scene : Scene T) (inv : Inv scene) (owner : ℕ) (fits : 
   abbrev first : find_calls.Find T (buffers.Buffer 128)
   first = record { capacity = c; stage = finds.LoadsCell 0 0; of = record {} }
 
-  -- ---- its (number scene inv owner fits) is checked
+  -- ---- its number is checked
 
   module _ (room : buffers.Buffer 128) (k found count : ℕ)
       (here : IsHere scene (Find owner) (find_at c owner room (finds.ChecksCount k found count)))
@@ -70,9 +72,7 @@ module _ {T : Type 0} (scene : Scene T) (inv : Inv scene) (owner : ℕ) (fits : 
     copies is =
         let same : words_after ws check_it ≡ ws =
         exchange_sets ws (count_word c k) count count is ∙ (ap (set ws (count_word c k)) (sym is) ∙ set-get_or ws (count_word c k) 0) in
-        let y =
-        (then_at scene inv owner fits) room (finds.ChecksCount k found count) here stands.0 room
-        (finds.Asks k found) check_it in
+        let y = then_at finding room (finds.ChecksCount k found count) here stands.0 room (finds.Asks k found) check_it in
         let well_formed = was_well_formed scene start tt here.span (words_after ws check_it) y copying (refl, tt) in
         let acts_then : acts_of p (events ++ copying) ≡ done scene ++ Copies k value ∷ [] =
         acts_more scene start here.span copying (refl, tt) (λ start w. refl) in
@@ -131,20 +131,19 @@ module _ {T : Type 0} (scene : Scene T) (inv : Inv scene) (owner : ℕ) (fits : 
 
     fails : count_now ≢ count → Leads scene start check_it false scene.states [] (as_find room (find_comes_to first (k + 1) found))
     fails other =
-        (comes_to_next scene inv owner fits) room (finds.ChecksCount k found count) here stands.0 check_it
+        comes_to_next finding room (finds.ChecksCount k found count) here stands.0 check_it
         (fails_same ws (count_word c k) count count other) k found stands.1.0 h.0.0 (omega arith)
         (below_more k (k + 1) _ (omega arith) stands.1.1) h.0.1
-        ((found_past scene inv owner fits) k found (λ holds through. other (h.1 holds through)) h.0.2) h.2.room
+        (found_past finding k found (λ holds through. other (h.1 holds through)) h.0.2) h.2.room
 
     check_step : StepOf scene start (find_at c owner room (finds.ChecksCount k found count))
-    check_step = go (count_now == count) refl
-      where
-        go : (b : Bool) → (count_now == count) ≡ b
-            → Leads scene start (Some (exchanges (count_word c k) count count)) false scene.states
-            ((if b then Copied p k (read_in code room) ∷ [] else []) ++ [])
-            (as_find room (if b then GoOn (at_find first (finds.Asks k found)) else find_comes_to first (k + 1) found))
-        go true t = let is : count_now ≡ count = grind (arith, nat_tests) in copies is
-        go false t = let other : count_now ≢ count = grind (arith, nat_tests) in fails other
+    check_step =
+        on_bool (λ b. Leads scene start (Some (exchanges (count_word c k) count count)) false scene.states
+        ((if b then Copied p k (read_in code room) ∷ [] else []) ++ [])
+        (as_find room (if b then GoOn (at_find first (finds.Asks k found)) else find_comes_to first (k + 1) found)))
+        (count_now == count)
+        (λ t. let is : count_now ≡ count = grind (arith, nat_tests) in copies is)
+        (λ t. let other : count_now ≢ count = grind (arith, nat_tests) in fails other)
 
   -- ---- it is told whether to go on
 
@@ -159,18 +158,17 @@ module _ {T : Type 0} (scene : Scene T) (inv : Inv scene) (owner : ℕ) (fits : 
       go : (b : Bool) → Leads scene start None false scene.states [] (as_find room (if b then Done found else find_comes_to first (k + 1) found))
       go true = let all_of = times_below c k (z + 3) at.1 in
           let below = at.1 in
-          (ends_there scene inv owner fits) room (finds.Asks k found) here at.0 None refl (k + 1) found (omega arith) h.1.0.0 (omega arith) h.1.0.1
+          ends_there finding room (finds.Asks k found) here at.0 None refl (k + 1) found (omega arith) h.1.0.0 (omega arith) h.1.0.1
       go false =
-          (comes_to_next scene inv owner fits) room (finds.Asks k found) here at.0 None refl k found at.1
-          h.1.0.0 (omega arith) at.2 h.1.0.1 h.1.0.2 h.0
+          comes_to_next finding room (finds.Asks k found) here at.0 None refl k found at.1 h.1.0.0 (omega arith) at.2 h.1.0.1 h.1.0.2 h.0
 
   -- ---- any step
 
   pub find_step : (room : buffers.Buffer 128) (stage : FindStage) → FindAt c z (all scene) (done scene) stage
       → IsHere scene (Find owner) (find_at c owner room stage) → Knows code c (find_at c owner room stage) v
       → steps ≤ find_number z stage → StepOf scene (Find owner) (find_at c owner room stage)
-  find_step room (finds.LoadsCell k found) at here h s = (cell_step scene inv owner fits) room h.0 k found here at h.1 s
-  find_step room (finds.LoadsCount k found) at here h s = (count_step scene inv owner fits) room h.0 k found here at h.1 s
-  find_step room (finds.LoadsWord k found count word) at here h s = (word_step scene inv owner fits) room k found count word here at h.1 s
+  find_step room (finds.LoadsCell k found) at here h s = cell_step finding room h.0 k found here at h.1 s
+  find_step room (finds.LoadsCount k found) at here h s = count_step finding room h.0 k found here at h.1 s
+  find_step room (finds.LoadsWord k found count word) at here h s = word_step finding room k found count word here at h.1 s
   find_step room (finds.ChecksCount k found count) at here h s = check_step room k found count here at h.1 s
   find_step room (finds.Asks k found) at here h s = find_decided room k found at here h s 0

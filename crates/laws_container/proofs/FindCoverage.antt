@@ -23,7 +23,7 @@ use Rattle.model.specs.declared.families.container.ContainerStart.TheVariants.{F
 use Rattle.model.specs.declared.families.container.calls.ContainerFlight.TheVariants as calls
 use Rattle.model.proofs.Frame as frame
 use Rattle.laws_robust.proofs.FindCoverage.{IsEnd, ends_alone}
-use Rattle.laws_container.proofs.Finds.{nothing_stands, none_counts, found_none, found_past}
+use Rattle.laws_container.proofs.Finds.{Finding, nothing_stands, none_counts, found_none, found_past}
 use Rattle.laws_container.proofs.Invariant.{Scene, Inv, before, family_by}
 use Rattle.laws_container.proofs.Knows.{HasFoundBelow, Knows}
 use Rattle.laws_container.proofs.WellFormed.{IsWellFormedSoFar}
@@ -41,6 +41,9 @@ use Rattle.laws_container.proofs.Allowed.{IsAllowed}
 
 module _ {T : Type 0} (scene : Scene T) (inv : Inv scene) (owner : ℕ) (fits : owner < empty) where
   open scene use {coding as code, capacity as c, party as p, events as events}
+
+  abbrev finding : Finding T
+  finding = record { scene = scene; inv = inv; owner = owner; fits = fits }
 
   -- so many indices below the bound have the owner, and in a well-formed run it has copied what stood at them
   pub record Has (bound number : ℕ) : Type 0 where
@@ -72,7 +75,7 @@ module _ {T : Type 0} (scene : Scene T) (inv : Inv scene) (owner : ℕ) (fits : 
       go false t e = (grind (arith, nat_tests), cc)
 
   ended : (k found number : ℕ) → k < c → (c ≤ k + 1) × (found ≡ number) → Has (k + 1) found → Has c number
-  ended x0 x1 x2 x3 x4 x5 = grind arith
+  ended = grind arith
 
   abbrev Tells : ℕ → Bool → ContainerFlight T → Type 0
   Tells number due flight =
@@ -96,8 +99,8 @@ module _ {T : Type 0} (scene : Scene T) (inv : Inv scene) (owner : ℕ) (fits : 
           let other : cell scene.words k ≢ owner = grind (arith, nat_tests) in
           ended k found number at.1 (comes_is (finds.LoadsCell k found) k found number r)
           (record {
-            count = none_counts scene inv owner fits k found at.1 other h.1.1;
-            whole = λ well_formed. whole_of (k + 1) found (found_none scene inv owner fits k found at.1 other h.1.2 well_formed);
+            count = none_counts finding k found at.1 other h.1.1;
+            whole = λ well_formed. whole_of (k + 1) found (found_none finding k found at.1 other h.1.2 well_formed);
           })
   stage_tells number due room (finds.LoadsCount k found) at here h asks answer loads told e = go (is_even answer) refl (done_is _ number _ e)
     where
@@ -112,9 +115,7 @@ module _ {T : Type 0} (scene : Scene T) (inv : Inv scene) (owner : ℕ) (fits : 
           ended k found number at.1 (comes_is (finds.LoadsCount k found) k found number r)
           (record {
             count = h.1.0.1;
-            whole = λ well_formed. whole_of (k + 1) found
-                (found_past scene inv owner fits k found
-                (λ holds through. both_ways (is_some (contents_of k events))
+            whole = λ well_formed. whole_of (k + 1) found (found_past finding k found (λ holds through. both_ways (is_some (contents_of k events))
                 (nothing_stands code c scene.words k (contents_of k events) (inv.elements.whole holds k at.1)
                 (even_is (count_in code c (before scene) k) even))
                 (through_now p (λ part. is_some (contents_of k part) ≡ true) events through))
@@ -149,15 +150,14 @@ module _ {T : Type 0} (scene : Scene T) (inv : Inv scene) (owner : ℕ) (fits : 
           (record {
             count = h.1.0.1;
             whole =
-                λ well_formed. whole_of (k + 1) found
-                (found_past scene inv owner fits k found (λ holds through. other (h.1.1 holds through)) h.1.0.2 well_formed);
+                λ well_formed. whole_of (k + 1) found (found_past finding k found (λ holds through. other (h.1.1 holds through)) h.1.0.2 well_formed);
           })
   stage_tells number due room (finds.Asks k found) at here h asks answer loads told e = go (answer == 0) refl (done_is _ number _ e)
     where
       go : (b : Bool) → (answer == 0) ≡ b
           → (if b then Done found else find_comes_to (at_stage (finds.Asks k found)) (k + 1) found) ≡ Done number
           → Has c number
-      go x0 x1 x2 = grind (arith, ended, comes_is, whole_of, nat_tests)
+      go = grind (arith, ended, comes_is, whole_of, nat_tests)
 
   -- a no ends it where it asked
   abbrev Stops : ℕ → ℕ → T → ContainerFlight T → Type 0
@@ -168,7 +168,7 @@ module _ {T : Type 0} (scene : Scene T) (inv : Inv scene) (owner : ℕ) (fits : 
       → Has (index + 1) number
 
   stage_stops : (number index : ℕ) (value : T) (room : buffers.Buffer 128) (stage : FindStage) → Stops number index value (find_at c owner room stage)
-  stage_stops x0 x1 x2 x3 x4 x5 x6 x7 = grind (arith, read_in, whole_of)
+  stage_stops = grind (arith, read_in, whole_of)
 
 module _ {T : Type 0} (scene : Scene T) (inv : Inv scene) (owner : ℕ) where
   open scene use {coding as code, capacity as c, party as p, events as events}
@@ -202,10 +202,35 @@ module _ {T : Type 0} where
 
 -- ---- a step of a party's call
 
-module _ {T : Type 0} (shown : Shown T) (terms : Terms) (code : Coding T) (c : ℕ) (t : Trace T)
-    (s : frame.Sound (family_by terms code c) t) (q : ℕ) (x : Party T) (since : ℕ) (may : MayGoOn terms t)
-    (found : party_of q t.world.latest ≡ Some x) (turn : Turn T)
-    (mine : IsParty turn q) (answer p owner number : ℕ) where
+-- the call of party `q` is handed this answer, and party `p` may so have ended a find of this owner with this number
+pub record Handed (T : Type 0) : Type 0 where
+  pub shown : Shown T
+  pub terms : Terms
+  pub code : Coding T
+  pub c : ℕ
+  pub t : Trace T
+  pub s : frame.Sound (family_by terms code c) t
+  pub q : ℕ
+  pub x : Party T
+  pub since : ℕ
+  pub may : MayGoOn terms t
+  pub found : party_of q t.world.latest ≡ Some x
+  pub turn : Turn T
+  pub mine : IsParty turn q
+  pub answer : ℕ
+  pub p : ℕ
+  pub owner : ℕ
+  pub number : ℕ
+
+module _ {T : Type 0} (handed : Handed T) where
+  open handed use {shown, terms, code, c, t, s, q, x, since, may, found, turn, mine, answer, p, owner, number}
+
+  abbrev scene : Scene T
+  scene = scene_of shown terms code c t s q x since
+
+  abbrev inv : Inv scene
+  inv = inv_with shown terms code c t s q x since found may
+
   -- it wrote that a find is done, and nothing else
   abbrev Wrote : Coding T → Registry T → Start T → Flight T → Type 0
   Wrote y kept start flight =
@@ -232,17 +257,15 @@ module _ {T : Type 0} (shown : Shown T) (terms : Terms) (code : Coding T) (c : �
         → IsFoundWhole p owner bound number t.events
 
   ends_with : (bound : ℕ) (flight : ContainerFlight T) → q ≡ p
-      → IsHere (scene_of shown terms code c t s q x since) (Find owner) flight → (fits : owner < empty)
-      → Has (scene_of shown terms code c t s q x since) (inv_with shown terms code c t s q x since found may) owner fits bound number
+      → IsHere scene (Find owner) flight → (fits : owner < empty)
+      → Has scene inv owner fits bound number
       → Ends bound
   ends_with bound flight is here fits h =
       record {
         party = is;
         count = subst (λ n. IsCount n (IsFilledWith owner) bound number t.events) is h.count;
         whole = λ y well_formed.
-            subst (λ n. IsFoundWhole n owner bound number t.events) is
-            (h.whole
-            (was_well_formed (scene_of shown terms code c t s q x since) (Find owner) tt here.span s.state.words y
+            subst (λ n. IsFoundWhole n owner bound number t.events) is (h.whole (was_well_formed scene (Find owner) tt here.span s.state.words y
             (Finished p (Container (Find owner)) (Number number) ∷ []) (ap Some (sym is), tt) well_formed));
       }
 
@@ -255,10 +278,8 @@ module _ {T : Type 0} (shown : Shown T) (terms : Terms) (code : Coding T) (c : �
       let name = find_name start owner end.name in
       let stands = subst (λ a. StandsThere (family_by terms code c) t s q x since (Container a) (flights.Container flight)) name h in
       let there = is_there shown terms code c t s q x since found (Find owner) flight stands in
-      let scene = scene_of shown terms code c t s q x since in
-      let fits = owner_fits scene (inv_with shown terms code c t s q x since found may) owner flight there.at in
-      ends_with c flight end.party there.here fits
-      (find_tells scene (inv_with shown terms code c t s q x since found may) owner number due flight there.at fits
+      let fits = owner_fits scene inv owner flight there.at in
+      ends_with c flight end.party there.here fits (find_tells scene inv owner number due flight there.at fits
       there.here there.knows asks answer loads told end.done)
   counted due told start flight h asks loads e = absurd h.at
 
@@ -271,17 +292,14 @@ module _ {T : Type 0} (shown : Shown T) (terms : Terms) (code : Coding T) (c : �
       let name = find_name start owner end.name in
       let stands = subst (λ a. StandsThere (family_by terms code c) t s q x since (Container a) (flights.Container flight)) name h in
       let there = is_there shown terms code c t s q x since found (Find owner) flight stands in
-      let scene = scene_of shown terms code c t s q x since in
-      let fits = owner_fits scene (inv_with shown terms code c t s q x since found may) owner flight there.at in
-      ends_with (index + 1) flight end.party there.here fits
-      (find_stops scene (inv_with shown terms code c t s q x since found may) owner number index value flight
-      there.at fits there.knows asks
+      let fits = owner_fits scene inv owner flight there.at in
+      ends_with (index + 1) flight end.party there.here fits (find_stops scene inv owner number index value flight there.at fits there.knows asks
       (subst (λ n. answer_in (any_call (after code (state_of q s.state.states) flight n)) ≡ Some (Number number)) zero end.done))
   stopped index value zero start flight h asks e = absurd h.at
 
   own_end : (start : Start T) (flight : Flight T) → StandsThere (family_by terms code c) t s q x since start flight
       → Wrote code (kept_now shown terms code c t s) start flight → q ≡ p
-  own_end x0 x1 x2 x3 = grind (arith, wrote_end)
+  own_end = grind (arith, wrote_end)
 
   -- by the words, and what is kept beside them
   module _ (flight : Flight T) (doing : x.doing ≡ Going flight since) (e : Wrote t.world.coding t.world.kept x.start flight) where
@@ -317,6 +335,28 @@ module _ {T : Type 0} (shown : Shown T) (terms : Terms) (code : Coding T) (c : �
   abbrev Ended : List (Event T) → Type 0
   Ended es = es ≡ Finished p (Container (Find owner)) (Number number) ∷ []
 
+  abbrev handed : (q : ℕ) {x : Party T} → MayGoOn terms t → party_of q t.world.latest ≡ Some x → ℕ → (turn : Turn T) → IsParty turn q → ℕ → Handed T
+  handed q {x} may found since turn mine answer =
+      record {
+        shown = shown;
+        terms = terms;
+        code = code;
+        c = c;
+        t = t;
+        s = s;
+        q = q;
+        x = x;
+        since = since;
+        may = may;
+        found = found;
+        turn = turn;
+        mine = mine;
+        answer = answer;
+        p = p;
+        owner = owner;
+        number = number;
+      }
+
   -- what the turn tells that leaves this machine
   abbrev Told : ℕ → List (ℕ × Party T) → Type 0
   Told bound latest =
@@ -336,8 +376,7 @@ module _ {T : Type 0} (shown : Shown T) (terms : Terms) (code : Coding T) (c : �
       go (Going flight since) d e =
           let here : flight_in t.world q ≡ Some flight = ap (λ o. flight_of (doing_of o)) found ∙ ap (λ d. flight_of (Some d)) d in
           let h =
-          all_counted shown terms code c t s q x since may found (Next q) refl
-          (old_of t.world.words (ask_of (want_of t.world.coding flight))) p owner number flight d e false
+          all_counted (handed q may found since (Next q) refl (old_of t.world.words (ask_of (want_of t.world.coding flight)))) flight d e false
           (λ told. absurd (cc)) (rw here at free) (λ no. refl) in
           (h.count, h.whole _)
 
@@ -357,13 +396,12 @@ module _ {T : Type 0} (shown : Shown T) (terms : Terms) (code : Coding T) (c : �
           by true is =
               let here : flight_in t.world q ≡ Some flight = ap (λ o. flight_of (doing_of o)) found ∙ ap (λ d. flight_of (Some d)) d in
               let h =
-              all_counted shown terms code c t s q x since may found (Decide q said) refl (number_of said) p owner
-              number flight d e true
+              all_counted (handed q may found since (Decide q said) refl (number_of said)) flight d e true
               (λ told zero. let one : number_of said ≡ 1 = ap number_of is in absurd (omega arith)) (rw here at due)
               (λ no. absurd (cc)) in
               (h.count, h.whole _)
           by false is =
-              let party = own_party shown terms code c t s q x since may found (Decide q said) refl (number_of said) p owner number flight d e in
+              let party = own_party (handed q may found since (Decide q said) refl (number_of said)) flight d e in
               absurd (ne (ap (λ n. Decide n said) party ∙ ap (λ b. Decide p b) is))
 
   stop_tells : (index : ℕ) (value : T) → MayGoOn terms t → (o : Option (Party T)) → party_of p t.world.latest ≡ o
@@ -378,14 +416,12 @@ module _ {T : Type 0} (shown : Shown T) (terms : Terms) (code : Coding T) (c : �
           → Told (index + 1) (after_answer t.world p x None (number_of false) doing).latest
       go (Over others) d asks e = absurd (cc)
       go (Going flight since) d asks e =
-          let h =
-          all_stopped shown terms code c t s p x since may found (Decide p false) refl (number_of false) p owner
-          number flight d e index value refl asks in
+          let h = all_stopped (handed p may found since (Decide p false) refl (number_of false)) flight d e index value refl asks in
           (h.count, h.whole _)
 
   -- no decision is due in a step
   not_due : (q : ℕ) → call_refusal t.world (Next q) ≡ None → is_due t.world.coding (flight_in t.world q) ≡ false
-  not_due x0 x1 = grind (arith, row_passed, is_none)
+  not_due = grind (arith, row_passed, is_none)
 
   tells : MayGoOn terms t → (turn : Turn T) → IsAllowed t.world turn → Ended (events_of t.world turn)
       → turn ≢ Decide p false → Told c (after_turn t turn).world.latest
@@ -404,7 +440,7 @@ module _ {T : Type 0} (shown : Shown T) (terms : Terms) (code : Coding T) (t : T
       → (after_turn t turn).events ≡ t.events ++ Finished p (Container (Find owner)) (Number number) ∷ []
       → Told shown terms code t.world.capacity t s p owner number bound (after_turn t turn).world.latest
       → CountsIf well_formed p owner bound number t.events
-  right x0 x1 x2 x3 x4 x5 = grind (arith, after_turn)
+  right = grind (arith, after_turn)
 
   pub counts_all : (p owner number : ℕ)
       → (after_turn t turn).events ≡ t.events ++ Finished p (Container (Find owner)) (Number number) ∷ []

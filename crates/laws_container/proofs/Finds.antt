@@ -32,6 +32,7 @@ use Rattle.laws_container.proofs.Stages.{goes_calmly, ends, owes_none, was_well_
 use Rattle.laws_container.proofs.CallProgress.{find_at, find_number, AreBelow, FindAt}
 use Rattle.laws_container.proofs.Turns.{WellFormed, count_in, datum_in}
 use Rattle.laws_container.proofs.Writing.{even_is, odd_is}
+use Rattle.laws_robust.proofs.Cases.{on_bool}
 
 -- ---- what it has seen, and done
 
@@ -44,10 +45,10 @@ below_more n m xs few h = all_so (λ i. i < n) (λ i. i < m) xs (λ i less. omeg
 
 module _ {T : Type 0} where
   pub seen_more : (n : ℕ) (all : List (Act T)) (one : Act T) → AreBelow n (seen_in all) → AreBelow n (index_seen one) → AreBelow n (seen_in (all ++ one ∷ []))
-  seen_more x0 x1 x2 x3 x4 = grind (arith, flat_map-append, append-nil, all_both)
+  seen_more = grind (arith, flat_map-append, append-nil, all_both)
 
   pub has_more : (one : Act T) (acts more : List (Act T)) → IsOneOf one acts → IsOneOf one (acts ++ more)
-  has_more x0 x1 x2 x3 = grind (arith, before, append_assoc)
+  has_more = grind (arith, before, append_assoc)
 
   pub has_last : (one : Act T) (all : List (Act T)) → IsOneOf one (all ++ one ∷ [])
   has_last one all = record { before = all; after = []; is = refl }
@@ -55,10 +56,18 @@ module _ {T : Type 0} where
   -- under an even number nothing stands
   pub nothing_stands : (code : Coding T) (c : ℕ) (words : List ℕ) (i : ℕ) (o : Option T) → Stands code c words i o
       → count_at c words i % 2 ≡ 0 → is_some o ≡ false
-  nothing_stands x0 x1 x2 x3 x4 x5 x6 = grind arith
+  nothing_stands = grind arith
 
-module _ {T : Type 0} (scene : Scene T) (inv : Inv scene) (owner : ℕ) (fits : owner < empty) where
-  open scene use {coding as code, capacity as c, party as p, steps as steps, events as events, latest as latest}
+-- a find by the party of the scene
+pub record Finding (T : Type 0) : Type 0 where
+  pub scene : Scene T
+  pub inv : Inv scene
+  pub owner : ℕ
+  pub fits : owner < empty
+
+module _ {T : Type 0} (finding : Finding T) where
+  open finding use {scene, inv, owner, fits}
+  open finding.scene use {coding as code, capacity as c, party as p, steps, events, latest}
 
   abbrev ws : List ℕ
   ws = scene.words
@@ -142,7 +151,7 @@ module _ {T : Type 0} (scene : Scene T) (inv : Inv scene) (owner : ℕ) (fits : 
         found_with true (one_more found) next (λ e. filled_by (of_set scene) (inv_of_set scene inv) k below owner fits is) (λ e. absurd (cc)) (h well_formed)
 
     pub found_none : cell ws k ≢ owner → HasFound k k found → HasFound (k + 1) (k + 1) found
-    found_none x0 x1 x2 = grind (arith, found_without, false)
+    found_none = grind (arith, found_without, false)
 
   -- an index where nothing stands now, or whose number has changed, has not stood
   pub found_past : (k found : ℕ) → (WellFormed (before scene) → StoodThere p k events → ⊥) → HasFound (k + 1) k found → HasFound (k + 1) (k + 1) found
@@ -168,7 +177,7 @@ module _ {T : Type 0} (scene : Scene T) (inv : Inv scene) (owner : ℕ) (fits : 
         (since_then scene ask) (changes_then scene ask) (backs_then scene false)
 
     right_none : (words' : List ℕ) (y : Party T) → AreAllRight scene words' y []
-    right_none x0 x1 = grind arith
+    right_none = grind arith
 
     calm_step : (room' : buffers.Buffer 128) (next : FindStage) (ask : Option Ask) → words_after ws ask ≡ ws
         → steps + step_count ask ≤ find_number z next → FindAt c z (all scene) (done scene) next
@@ -214,16 +223,15 @@ module _ {T : Type 0} (scene : Scene T) (inv : Inv scene) (owner : ℕ) (fits : 
         → steps + step_count ask ≤ (k + 1) * (z + 3) → AreBelow (k + 1) (seen_in (done scene)) → Counted (k + 1) found
         → HasFound (k + 1) (k + 1) found → IsLong room
         → Leads scene start ask false scene.states [] (as_find room (find_comes_to first (k + 1) found))
-    comes_to_next ask same k found below paid few seen counted has long = go (nat_lt (k + 1) c) refl
-      where
-        go : (b : Bool) → nat_lt (k + 1) c ≡ b
-            → Leads scene start ask false scene.states []
-            (as_find room (if b then GoOn (at_find first (finds.LoadsCell (k + 1) found)) else Done found))
-        go true t =
-            let more : k + 1 < c = grind (arith, nat_tests) in
-            calm_step room (finds.LoadsCell (k + 1) found) ask same few (nothing, more, seen)
-            (long, counts_calm room (finds.LoadsCell (k + 1) found) ask (k + 1) (k + 1) found paid counted has)
-        go false t = let all_of = times_below c k (z + 3) below in ends_there ask same (k + 1) found (omega arith) paid (omega arith) counted
+    comes_to_next ask same k found below paid few seen counted has long =
+        on_bool (λ b. Leads scene start ask false scene.states []
+        (as_find room (if b then GoOn (at_find first (finds.LoadsCell (k + 1) found)) else Done found)))
+        (nat_lt (k + 1) c)
+        (λ t.
+        let more : k + 1 < c = grind (arith, nat_tests) in
+        calm_step room (finds.LoadsCell (k + 1) found) ask same few (nothing, more, seen)
+        (long, counts_calm room (finds.LoadsCell (k + 1) found) ask (k + 1) (k + 1) found paid counted has))
+        (λ t. let all_of = times_below c k (z + 3) below in ends_there ask same (k + 1) found (omega arith) paid (omega arith) counted)
 
   -- ---- a cell is loaded
 
@@ -232,29 +240,29 @@ module _ {T : Type 0} (scene : Scene T) (inv : Inv scene) (owner : ℕ) (fits : 
       (at : FindAt c z (all scene) (done scene) (finds.LoadsCell k found))
       (h : Finds code c owner k k found v) (s : steps ≤ k * (z + 3)) where
     pub cell_step : StepOf scene start (find_at c owner room (finds.LoadsCell k found))
-    cell_step = go (cell ws k == owner) refl
-      where
-        go : (b : Bool) → (cell ws k == owner) ≡ b → Leads scene start (Some (set_stages.loads (cell_word k))) false scene.states []
-            (as_find room (if b then GoOn (at_find first (finds.LoadsCount k (one_more found))) else find_comes_to first (k + 1) found))
-        go true t =
-            let is : cell ws k ≡ owner = grind (arith, nat_tests) in
-            calm_step room (finds.LoadsCell k found) here at.0 room
-            (finds.LoadsCount k (one_more found)) (Some (set_stages.loads (cell_word k)))
-            (loads_same ws (cell_word k)) (omega arith) at (
-              long,
-              (
-                counts_calm room (finds.LoadsCell k found) here at.0 room
-                    (finds.LoadsCount k (one_more found)) (Some (set_stages.loads (cell_word k))) (k + 1) k
-                    (one_more found) h.0 (one_counts k found at.1 is h.1) (found_one k found at.1 is h.2 h.1),
-                held_now p (IsFilledWith owner k) events (filled_by (of_set scene) (inv_of_set scene inv) k at.1 owner fits is),
-              ),
-            )
-        go false t =
-            let other : cell ws k ≢ owner = grind (arith, nat_tests) in
-            comes_to_next room (finds.LoadsCell k found) here at.0
-            (Some (set_stages.loads (cell_word k))) (loads_same ws (cell_word k)) k found at.1 h.0 (omega arith)
-            (below_more k (k + 1) _ (omega arith) at.2)
-            (none_counts k found at.1 other h.1) (found_none k found at.1 other h.2) long
+    cell_step =
+        on_bool (λ b. Leads scene start (Some (set_stages.loads (cell_word k))) false scene.states []
+        (as_find room (if b then GoOn (at_find first (finds.LoadsCount k (one_more found))) else find_comes_to first (k + 1) found)))
+        (cell ws k == owner)
+        (λ t.
+        let is : cell ws k ≡ owner = grind (arith, nat_tests) in
+        calm_step room (finds.LoadsCell k found) here at.0 room
+        (finds.LoadsCount k (one_more found)) (Some (set_stages.loads (cell_word k)))
+        (loads_same ws (cell_word k)) (omega arith) at (
+          long,
+          (
+            counts_calm room (finds.LoadsCell k found) here at.0 room
+                (finds.LoadsCount k (one_more found)) (Some (set_stages.loads (cell_word k))) (k + 1) k
+                (one_more found) h.0 (one_counts k found at.1 is h.1) (found_one k found at.1 is h.2 h.1),
+            held_now p (IsFilledWith owner k) events (filled_by (of_set scene) (inv_of_set scene inv) k at.1 owner fits is),
+          ),
+        ))
+        (λ t.
+        let other : cell ws k ≢ owner = grind (arith, nat_tests) in
+        comes_to_next room (finds.LoadsCell k found) here at.0
+        (Some (set_stages.loads (cell_word k))) (loads_same ws (cell_word k)) k found at.1 h.0 (omega arith)
+        (below_more k (k + 1) _ (omega arith) at.2)
+        (none_counts k found at.1 other h.1) (found_none k found at.1 other h.2) long)
 
   -- ---- the number of the element is loaded
 
@@ -269,37 +277,37 @@ module _ {T : Type 0} (scene : Scene T) (inv : Inv scene) (owner : ℕ) (fits : 
     load_it = Some (set_stages.loads (count_word c k))
 
     pub count_step : StepOf scene start (find_at c owner room (finds.LoadsCount k found))
-    count_step = go (is_even number) refl
-      where
-        go : (b : Bool) → is_even number ≡ b → Leads scene start (Some (set_stages.loads (count_word c k))) false scene.states []
-            (as_find room (if b then find_comes_to first (k + 1) found else GoOn (at_find first (finds.LoadsWord k found number 0))))
-        go true t =
-            comes_to_next room (finds.LoadsCount k found) here at.0 load_it
-            (loads_same ws (count_word c k)) k found at.1 h.0.0 (omega arith)
-            (below_more k (k + 1) _ (omega arith) at.2) h.0.1
-            (found_past k found
-            (λ holds through. both_ways (is_some (contents_of k events))
-            (nothing_stands code c ws k (contents_of k events) (inv.elements.whole holds k at.1) (even_is number t))
-            (through_now p (λ part. is_some (contents_of k part) ≡ true) events through))
-            h.0.2) long
-        go false t =
-            let some = inv.elements.coded.some in
-            let same = loads_same ws (count_word c k) in
-            calm_step room (finds.LoadsCount k found) here at.0 room
-            (finds.LoadsWord k found number 0) load_it same (omega arith)
-            (at.0, (at.1, at.2, odd_is number t), omega arith) (
-              long,
-              (
-                counts_calm room (finds.LoadsCount k found) here at.0 room
-                    (finds.LoadsWord k found number 0) load_it (k + 1) k found h.0.0 h.0.1 h.0.2,
-                (λ holds through. ap (λ w. count_at c w k) same),
-                copying_first code c (SeesCalmly room (finds.LoadsCount k found) here at.0 room
-                    (finds.LoadsWord k found number 0) load_it)
-                    k number room.words at.1 long (odd_is number t)
-                    (λ kept. let eq = ap (λ w. count_at c w k) same in omega arith),
-                h.1,
-              ),
-            )
+    count_step =
+        on_bool (λ b. Leads scene start (Some (set_stages.loads (count_word c k))) false scene.states []
+        (as_find room (if b then find_comes_to first (k + 1) found else GoOn (at_find first (finds.LoadsWord k found number 0)))))
+        (is_even number)
+        (λ t.
+        comes_to_next room (finds.LoadsCount k found) here at.0 load_it
+        (loads_same ws (count_word c k)) k found at.1 h.0.0 (omega arith)
+        (below_more k (k + 1) _ (omega arith) at.2) h.0.1
+        (found_past k found
+        (λ holds through. both_ways (is_some (contents_of k events))
+        (nothing_stands code c ws k (contents_of k events) (inv.elements.whole holds k at.1) (even_is number t))
+        (through_now p (λ part. is_some (contents_of k part) ≡ true) events through))
+        h.0.2) long)
+        (λ t.
+        let some = inv.elements.coded.some in
+        let same = loads_same ws (count_word c k) in
+        calm_step room (finds.LoadsCount k found) here at.0 room
+        (finds.LoadsWord k found number 0) load_it same (omega arith)
+        (at.0, (at.1, at.2, odd_is number t), omega arith) (
+          long,
+          (
+            counts_calm room (finds.LoadsCount k found) here at.0 room
+                (finds.LoadsWord k found number 0) load_it (k + 1) k found h.0.0 h.0.1 h.0.2,
+            (λ holds through. ap (λ w. count_at c w k) same),
+            copying_first code c (SeesCalmly room (finds.LoadsCount k found) here at.0 room
+                (finds.LoadsWord k found number 0) load_it)
+                k number room.words at.1 long (odd_is number t)
+                (λ kept. let eq = ap (λ w. count_at c w k) same in omega arith),
+            h.1,
+          ),
+        ))
 
   -- ---- a word of it is loaded
 
@@ -345,38 +353,38 @@ module _ {T : Type 0} (scene : Scene T) (inv : Inv scene) (owner : ℕ) (fits : 
     long_on = length-set room.words at word ∙ h.2.room
 
     pub word_step : StepOf scene start (find_at c owner room (finds.LoadsWord k found count at))
-    word_step = go (nat_lt (at + 1) z) refl
-      where
-        go : (b : Bool) → nat_lt (at + 1) z ≡ b → Leads scene start (Some (set_stages.loads (element_word c z k at))) false scene.states []
-            (as_find room' (if b then GoOn (at_find first (finds.LoadsWord k found count (at + 1))) else GoOn
-            (at_find first (finds.ChecksCount k found count))))
-        go true t =
-            let more : at + 1 < z = grind (arith, nat_tests) in
-            calm_step room (finds.LoadsWord k found count at) here stands.0 room'
-            (finds.LoadsWord k found count (at + 1)) load_word same_words (omega arith)
-            (stands.0, stands.1, more) (
-              long_on,
-              (
-                counted_on (finds.LoadsWord k found count (at + 1)),
-                steady_on (finds.LoadsWord k found count (at + 1)),
-                copied_on (finds.LoadsWord k found count (at + 1)),
-                h.3,
-              ),
-            )
-        go false t =
-            let last : z ≤ at + 1 = grind (arith, nat_tests) in
-            let ats = stands.2 in
-            let is : at + 1 ≡ z = omega arith in
-            calm_step room (finds.LoadsWord k found count at) here stands.0 room'
-            (finds.ChecksCount k found count) load_word same_words (omega arith) (stands.0, stands.1) (
-              long_on,
-              (
-                counted_on (finds.ChecksCount k found count),
-                steady_on (finds.ChecksCount k found count),
-                subst (λ n. Copying code c k count room'.words n
-                    (SeesCalmly room (finds.LoadsWord k found count at) here stands.0 room'
-                    (finds.ChecksCount k found count) load_word))
-                    is (copied_on (finds.ChecksCount k found count)),
-                h.3,
-              ),
-            )
+    word_step =
+        on_bool (λ b. Leads scene start (Some (set_stages.loads (element_word c z k at))) false scene.states []
+        (as_find room' (if b then GoOn (at_find first (finds.LoadsWord k found count (at + 1))) else GoOn
+        (at_find first (finds.ChecksCount k found count)))))
+        (nat_lt (at + 1) z)
+        (λ t.
+        let more : at + 1 < z = grind (arith, nat_tests) in
+        calm_step room (finds.LoadsWord k found count at) here stands.0 room'
+        (finds.LoadsWord k found count (at + 1)) load_word same_words (omega arith)
+        (stands.0, stands.1, more) (
+          long_on,
+          (
+            counted_on (finds.LoadsWord k found count (at + 1)),
+            steady_on (finds.LoadsWord k found count (at + 1)),
+            copied_on (finds.LoadsWord k found count (at + 1)),
+            h.3,
+          ),
+        ))
+        (λ t.
+        let last : z ≤ at + 1 = grind (arith, nat_tests) in
+        let ats = stands.2 in
+        let is : at + 1 ≡ z = omega arith in
+        calm_step room (finds.LoadsWord k found count at) here stands.0 room'
+        (finds.ChecksCount k found count) load_word same_words (omega arith) (stands.0, stands.1) (
+          long_on,
+          (
+            counted_on (finds.ChecksCount k found count),
+            steady_on (finds.ChecksCount k found count),
+            subst (λ n. Copying code c k count room'.words n
+                (SeesCalmly room (finds.LoadsWord k found count at) here stands.0 room'
+                (finds.ChecksCount k found count) load_word))
+                is (copied_on (finds.ChecksCount k found count)),
+            h.3,
+          ),
+        ))

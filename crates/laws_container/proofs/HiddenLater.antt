@@ -17,7 +17,7 @@ module _ {T : Type 0} where
   -- at this moment nothing stands at an index that has been freed
   pub empty_now : (p owner i index : ℕ) (events : List (Event T)) → IsOneOf (Frees i owner) (set_acts_of p events)
       → i ≡ index → contents_of index events ≡ None → EmptySinceFreed p owner i events
-  empty_now x0 x1 x2 x3 x4 x5 x6 x7 = grind (arith, held_now)
+  empty_now = grind (arith, held_now)
 
 module _ {T : Type 0} (code : Coding T) (c q owner index count : ℕ) (m : Now T) (words' : List ℕ)
     (latest' : List (ℕ × Party T)) (es : List (Event T)) (goes : Goes m.words words' m.events es)
@@ -42,20 +42,20 @@ module _ {T : Type 0} (code : Coding T) (c q owner index count : ℕ) (m : Now T
       (h before lives began)
 
   pub recover_covers : is_gone m.terms.by owner m.events ≡ true → RecoverCovers code c owner index count m → RecoverCovers code c owner index count m'
-  recover_covers x0 x1 x2 x3 = grind (arith, stays_lost, inl, inr)
+  recover_covers = grind (arith, stays_lost, inl, inr)
 
   -- what stood there stands, or is hidden now
   stands_on : WellFormed m' → (i : ℕ) → IsOneOf (Frees i owner) (set_acts_of q (m.events ++ es))
       → StillStands code c index count m i → (b : Bool) → is_some (contents_of index (m.events ++ es)) ≡ b
       → EmptySinceFreed q owner i (m.events ++ es) ⊎ StillStands code c index count m' i
-  stands_on x0 x1 x2 x3 x4 x5 = grind (arith, inr, inl, empty_now, nothing_is)
+  stands_on = grind (arith, inr, inl, empty_now, nothing_is)
 
   pub hidden_stands : HasHidden code c q owner (StillStands code c index count m) m → HasHidden code c q owner (StillStands code c index count m') m'
-  hidden_stands x0 x1 x2 x3 = grind (arith, inl, held_later, stands_on, is_some)
+  hidden_stands = grind (arith, inl, held_later, stands_on, is_some)
 
 module _ {T : Type 0} (code : Coding T) (c q owner : ℕ) (But : ℕ → Type 0) (m : Now T) (words' : List ℕ)
     (latest' : List (ℕ × Party T)) (es : List (Event T)) (spares : Spares m.terms.by q m.events es)
     (passes : Passes code c m (record { terms = m.terms; words = words'; latest = latest'; events = m.events ++ es })) where
   pub hidden_later : HasHidden code c q owner But m
       → HasHidden code c q owner But (record { terms = m.terms; words = words'; latest = latest'; events = m.events ++ es })
-  hidden_later x0 x1 x2 x3 = grind (arith, inl, held_later, inr)
+  hidden_later = grind (arith, inl, held_later, inr)

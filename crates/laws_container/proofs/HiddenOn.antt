@@ -23,7 +23,7 @@ module _ {T : Type 0} (code : Coding T) (c p owner index count : ℕ) (m : Now T
 
   -- nor where the number is another by now
   pub hidden_other : count_in code c m index ≢ count → HasHidden code c p owner (StillStands code c index count m) m → HasHidden code c p owner no_index m
-  hidden_other x0 x1 x2 x3 x4 = grind (arith, inl)
+  hidden_other = grind (arith, inl)
 
 -- ---- a step of its own
 
@@ -119,7 +119,7 @@ module _ {T : Type 0} (scene : Scene T) (start : ContainerStart T) (none : NoRep
         → Covered code c index count (before scene) → (o : Option T) → contents_of index events ≡ o
         → Stands code c scene.words index o
         → EmptySinceFreed p owner i (events ++ free) ⊎ StillStands code c index count freed_is i
-    freed_now x0 x1 x2 x3 x4 x5 x6 = grind (arith, inl, empty_now, same_contents, inr, is_some)
+    freed_now = grind (arith, inl, empty_now, same_contents, inr, is_some)
 
     pub hidden_freed : HasHidden code c p owner no_index (before scene)
         → (WellFormed (before scene) → WellFormed freed_is → Covered code c index count (before scene))

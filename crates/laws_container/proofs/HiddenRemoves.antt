@@ -27,11 +27,12 @@ use Rattle.laws_container.proofs.CallProgress.{remove_at, release_total, RemoveA
 use Rattle.laws_container.proofs.Steps.{loads, hides, ends_counted}
 use Rattle.laws_container.proofs.Turns.{count_in}
 use Rattle.laws_container.proofs.Writing.{adds_one, adds_to_change, hides_count}
+use Rattle.laws_robust.proofs.Cases.{by_bool, on_bool}
 
 -- a release and 3 steps
 pub total_is : (c z index owner : ℕ) (mode : ReleaseMode) (backs : ℕ) (T : Type 0)
     → 3 + release_total c index owner mode backs ≡ most_steps {T = T} c z (Remove index owner mode) backs
-total_is x0 x1 x2 x3 x4 x5 x6 = grind arith
+total_is = grind arith
 
 -- it has freed its index
 removed_frees : (T : Type 0) (index owner : ℕ) (mode : ReleaseMode) (state : ReleaseState) (made : List SetAct)
@@ -51,9 +52,20 @@ removed_done : {T : Type 0} (index owner : ℕ) (mode : ReleaseMode) (state : Re
     → HasDone {T = T} (Remove index owner mode) (answers.State state) made done
 removed_done index owner mode state made acts h = grind arith
 
-module _ {T : Type 0} (scene : Scene T) (inv : Inv scene) (index owner : ℕ) (mode : ReleaseMode)
-    (fits : owner < empty) (acts : ActsFor scene owner) (below : index < scene.capacity) where
-  open scene use {coding as code, capacity as c, party as p, steps as steps, backs as backs, events as events}
+-- a remove by the party of the scene, for an owner that is not gone
+pub record Removing (T : Type 0) : Type 0 where
+  pub scene : Scene T
+  pub inv : Inv scene
+  pub index : ℕ
+  pub owner : ℕ
+  pub mode : ReleaseMode
+  pub fits : owner < empty
+  pub acts : ActsFor scene owner
+  pub below : index < scene.capacity
+
+module _ {T : Type 0} (removing : Removing T) where
+  open removing use {scene, inv, index, owner, mode, fits, below}
+  open removing.scene use {coding as code, capacity as c, party as p, steps, backs, events}
 
   abbrev ws : List ℕ
   ws = scene.words
@@ -97,17 +109,16 @@ module _ {T : Type 0} (scene : Scene T) (inv : Inv scene) (index owner : ℕ) (m
 
     -- the exchange leaves the counter
     counter_stays : counter_of ws ≡ greatest → counter_of (words_after ws hide_it) ≡ greatest
-    counter_stays end = go (count_now == count) refl
-      where
-        go : (b : Bool) → (count_now == count) ≡ b → counter_of (words_after ws hide_it) ≡ greatest
-        go true t =
-            let is : count_now ≡ count = grind (arith, nat_tests) in
-            (leaves_behind (of_set scene) (inv_of_set scene inv) (words_after ws hide_it) (count_word c index) _
-            (omega arith) (hides_count scene inv index count below is)).stuck
-            end
-        go false t =
-            let other : count_now ≢ count = grind (arith, nat_tests) in
-            ap counter_of (fails_same ws (count_word c index) count (one_more count) other) ∙ end
+    counter_stays end =
+        by_bool (count_now == count)
+        (λ t.
+        let is : count_now ≡ count = grind (arith, nat_tests) in
+        (leaves_behind (of_set scene) (inv_of_set scene inv) (words_after ws hide_it) (count_word c index) _
+        (omega arith) (hides_count scene inv index count below is)).stuck
+        end)
+        (λ t.
+        let other : count_now ≢ count = grind (arith, nat_tests) in
+        ap counter_of (fails_same ws (count_word c index) count (one_more count) other) ∙ end)
 
     says_then : (m : ReleaseMode) (t : ReleaseState) (es : List (Event T)) → BeginsNone p es → (y : Party T)
         → RemoveSays code c index owner m t (sees_now scene)
@@ -123,59 +134,58 @@ module _ {T : Type 0} (scene : Scene T) (inv : Inv scene) (index owner : ℕ) (m
     )
 
     pub hides_step : StepOf scene start (at_stage (removes.Hides count state))
-    hides_step = go (count_now == count) refl
-      where
-        go : (b : Bool) → (count_now == count) ≡ b
-            → Leads scene start (Some (exchanges (count_word c index) count (one_more count))) false scene.states
-            ((if b then Hidden p index ∷ [] else []) ++ []) (GoOn (at_stage (removes.AddsChange state)))
-        go true t =
-            let is : count_now ≡ count = grind (arith, nat_tests) in
-            let y = then_at next hide_it false in
-            let es = Hidden p index ∷ [] in
-            let odd : count_now % 2 ≡ 1 = ap (λ n. n % 2) is ∙ stands.4 in
-            let total = same_total in
-            goes_on scene start (at_stage next) hide_it false scene.states es here.span (λ start w. refl)
-            (hides scene inv start (at_stage (removes.Hides count state)) tt here y
-            (words_after ws hide_it) index below (hides_count scene inv index count below is) refl odd
-            (λ holds q ne o theirs fresh. both_ways (left_of index events) fresh (k.2.left holds is))
-            (was_well_formed scene start tt here.span (words_after ws hide_it) y es (refl, tt)))
-            ((refl, stands.2, stands.3), tt) (omega arith) (
-              refl,
-              given_is,
-              fits,
-              (
-                below,
-                subst (λ d. HasDone {T = T} (Remove index owner mode) (answers.State state) d []) (sym (append-nil (all scene))) stands.1,
-              ),
-            ) (
-              let paid = k.0 in
-                  omega arith,
-              says_then mode state es tt y k.1,
-              hides_it scene start tt here.span owner (words_after ws hide_it) y index count k.3,
-            )
-        go false t =
-            let other : count_now ≢ count = grind (arith, nat_tests) in
-            let y = then_at next hide_it false in
-            let total = same_total in
-            goes_on scene start (at_stage next) hide_it false scene.states [] here.span none_lengthens
-            (loads scene inv start (at_stage (removes.Hides count state)) tt here y
-            (words_after ws hide_it) (fails_same ws (count_word c index) count (one_more count) other)
-            (was_well_formed scene start tt here.span (words_after ws hide_it) y [] tt) (λ was. refl))
-            tt (omega arith) (
-              refl,
-              given_is,
-              fits,
-              (
-                below,
-                subst (λ d. HasDone {T = T} (Remove index owner mode) (answers.State state) d []) (sym (append-nil (all scene))) stands.1,
-              ),
-            ) (
-              let paid = k.0 in omega arith,
-              says_then mode state [] tt y k.1,
-              hidden_on scene start tt here.span owner (words_after ws hide_it) y [] tt tt none_lengthens
-                  (λ i was. subst (IsOneOf (Frees i owner)) (append-nil (all scene)) was)
-                  (hidden_other code c p owner index count (before scene) other k.3),
-            )
+    hides_step =
+        on_bool (λ b. Leads scene start (Some (exchanges (count_word c index) count (one_more count))) false scene.states
+        ((if b then Hidden p index ∷ [] else []) ++ []) (GoOn (at_stage (removes.AddsChange state))))
+        (count_now == count)
+        (λ t.
+        let is : count_now ≡ count = grind (arith, nat_tests) in
+        let y = then_at next hide_it false in
+        let es = Hidden p index ∷ [] in
+        let odd : count_now % 2 ≡ 1 = ap (λ n. n % 2) is ∙ stands.4 in
+        let total = same_total in
+        goes_on scene start (at_stage next) hide_it false scene.states es here.span (λ start w. refl)
+        (hides scene inv start (at_stage (removes.Hides count state)) tt here y
+        (words_after ws hide_it) index below (hides_count scene inv index count below is) refl odd
+        (λ holds q ne o theirs fresh. both_ways (left_of index events) fresh (k.2.left holds is))
+        (was_well_formed scene start tt here.span (words_after ws hide_it) y es (refl, tt)))
+        ((refl, stands.2, stands.3), tt) (omega arith) (
+          refl,
+          given_is,
+          fits,
+          (
+            below,
+            subst (λ d. HasDone {T = T} (Remove index owner mode) (answers.State state) d []) (sym (append-nil (all scene))) stands.1,
+          ),
+        ) (
+          let paid = k.0 in
+              omega arith,
+          says_then mode state es tt y k.1,
+          hides_it scene start tt here.span owner (words_after ws hide_it) y index count k.3,
+        ))
+        (λ t.
+        let other : count_now ≢ count = grind (arith, nat_tests) in
+        let y = then_at next hide_it false in
+        let total = same_total in
+        goes_on scene start (at_stage next) hide_it false scene.states [] here.span none_lengthens
+        (loads scene inv start (at_stage (removes.Hides count state)) tt here y
+        (words_after ws hide_it) (fails_same ws (count_word c index) count (one_more count) other)
+        (was_well_formed scene start tt here.span (words_after ws hide_it) y [] tt) (λ was. refl))
+        tt (omega arith) (
+          refl,
+          given_is,
+          fits,
+          (
+            below,
+            subst (λ d. HasDone {T = T} (Remove index owner mode) (answers.State state) d []) (sym (append-nil (all scene))) stands.1,
+          ),
+        ) (
+          let paid = k.0 in omega arith,
+          says_then mode state [] tt y k.1,
+          hidden_on scene start tt here.span owner (words_after ws hide_it) y [] tt tt none_lengthens
+              (λ i was. subst (IsOneOf (Frees i owner)) (append-nil (all scene)) was)
+              (hidden_other code c p owner index count (before scene) other k.3),
+        ))
 
   -- ---- the change is counted, and the call ends
 
@@ -195,7 +205,7 @@ module _ {T : Type 0} (scene : Scene T) (inv : Inv scene) (index owner : ℕ) (m
     answers_right : (m : ReleaseMode) (t : ReleaseState) → RemoveSays code c index owner m t (sees_now scene)
         → AnswersBy scene.terms.by (IsWorn scene.terms.by (words_after ws end_it)) c events
         (Finished p (Container (Remove index owner m)) (answers.State t))
-    answers_right x0 x1 x2 = grind (arith, inl, worn_on, counter_stays_then, inr)
+    answers_right = grind (arith, inl, worn_on, counter_stays_then, inr)
 
     pub end_step : StepOf scene start (at_stage (removes.AddsChange state))
     end_step =

@@ -48,7 +48,7 @@ module _ {T : Type 0} (events : List (Event T)) where
 
 module _ (p : ℕ) where
   at_party : (o : Option ℕ) (P : ℕ → Type 0) → o ≡ Some p → IfSome o P → P p
-  at_party x0 x1 x2 x3 = grind arith
+  at_party = grind arith
 
 module _ {T : Type 0} (p : ℕ) where
   effect_own : (e : Event T) → IsEffectOf (Next p) e → whose e ≡ Some p
@@ -75,7 +75,7 @@ module _ {T : Type 0} (p : ℕ) where
 
     stays : (start : ContainerStart T) (e : Event T) → IsEffectOf (Next p) e → may_stand e (at start) → IsForLiving events start
         → IsForLiving (events ++ e ∷ []) start
-    stays x0 x1 x2 x3 x4 = grind (arith, fold-append, false, add_leaves, remove_leaves)
+    stays = grind (arith, fold-append, false, add_leaves, remove_leaves)
 
     acts_right : (start : ContainerStart T) (e : Event T) → IsEffectOf (Next p) e → span_of p events ≡ at start → may_stand e (at start)
         → IsForLiving events start → ActsForRight events e

@@ -168,7 +168,7 @@ module _ {T : Type 0} where
     pub small : Keeps scene.terms → scene.turns < 2 ^ 64 - 2
 
   pub inv_of_set : (scene : Scene T) → Inv scene → set.Inv (of_set scene)
-  inv_of_set x0 x1 = grind arith
+  inv_of_set = grind arith
 
   -- the turn is of a call for this owner
   pub record ActsFor (scene : Scene T) (owner : ℕ) : Type 0 where
@@ -316,7 +316,7 @@ module _ {T : Type 0} (scene : Scene T) where
       (h : Holds scene.terms code c old latest events turns)
       (inv : frame.Inv (family_by scene.terms code c) old latest events scene.changes) where
     still_wrote : (q : ℕ) → q ≢ p → wrote_of q (events ++ es) ≡ wrote_of q old.events
-    still_wrote x0 x1 = grind (arith, span_of-other)
+    still_wrote = grind (arith, span_of-other)
 
     pub owes : span_of p events ≡ from → frame.Owes (family_by scene.terms code c) (then_is words' states' y es) p y latest events es changes'
     owes is =

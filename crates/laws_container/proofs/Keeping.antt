@@ -33,11 +33,11 @@ module _ {T : Type 0} where
   -- a replace that has taken a step was begun rightly, in a well-formed run
   pub may_replace : (index owner : ℕ) (value : T) (v : View T) → HasFound index owner value v
       → WasFilled owner index v → WellFormed (now v) → MayReplace v.party index owner v.events
-  may_replace x0 x1 x2 x3 x4 x5 x6 = grind arith
+  may_replace = grind arith
 
   pub replacing : (c index owner : ℕ) (value : T) (v : View T) → ReplaceKnows c index owner value v
       → WellFormed (now v) → Lives owner v → Replacing v.party index owner v.events
-  replacing x0 x1 x2 x3 x4 x5 x6 x7 = grind (arith, may_replace)
+  replacing = grind (arith, may_replace)
 
   -- a turn of another party, to the party that knows this
   pub record OthersTurn (code : Coding T) (c : ℕ) (v : View T) : Type 0 where
@@ -119,7 +119,7 @@ module _ {T : Type 0} (code : Coding T) (c : ℕ) (v : View T) (turn : OthersTur
       record { paid = paid h.paid; within = h.within; owns = add_later v.terms.by events es q index owner spares h.owns }
 
   pub found : (index owner : ℕ) (value : T) → HasFound index owner value v → HasFound index owner value later
-  found x0 x1 x2 x3 = grind arith
+  found = grind arith
 
   replace_owns : (index owner : ℕ) → ReplaceOwns v.terms.by q index owner events → ReplaceOwns v.terms.by q index owner (events ++ es)
   replace_owns index owner h = replace_later v.terms.by events es q index owner spares h
@@ -155,7 +155,7 @@ module _ {T : Type 0} (code : Coding T) (c : ℕ) (v : View T) (turn : OthersTur
   placed index value h well_formed = ap (λ a. places a) acts_same ∙ h (passes.well_formed well_formed)
 
   stood : (owner index : ℕ) → index < c → IsTheWriter owner index → Stood code c owner index v → Stood code c owner index later
-  stood x0 x1 x2 x3 x4 x5 x6 = grind (arith, lives)
+  stood = grind (arith, lives)
 
   pub add_knows : (value : T) (owner : ℕ) (stage : AddStage) → AddKnows code c value owner stage v → AddKnows code c value owner stage later
   add_knows value owner (adds.Acquires stage) h = set_knows (acquire_at c owner stage) h
@@ -194,7 +194,7 @@ module _ {T : Type 0} (code : Coding T) (c : ℕ) (v : View T) (turn : OthersTur
 
   remove_says : (index owner : ℕ) (mode : ReleaseMode) (state : ReleaseState)
       → RemoveSays code c index owner mode state v → RemoveSays code c index owner mode state later
-  remove_says x0 x1 x2 x3 x4 = grind (arith, locked_later, once, inl, worn, inr, freed_later)
+  remove_says = grind (arith, locked_later, once, inl, worn, inr, freed_later)
 
   pub count_below : (index count : ℕ) → index < c → HasCome code c index count v → HasCome code c index count later
   count_below index count low h kept = grind arith
@@ -241,7 +241,7 @@ module _ {T : Type 0} (code : Coding T) (c : ℕ) (v : View T) (turn : OthersTur
   -- ---- a copy, and a find
 
   pub copying : (index count : ℕ) (copy : List ℕ) (k : ℕ) → Copying code c index count copy k v → Copying code c index count copy k later
-  copying x0 x1 x2 x3 x4 = grind (arith, count_below, was_there)
+  copying = grind (arith, count_below, was_there)
 
   pub has_copied : (index : ℕ) (room : buffers.Buffer 128) → HasCopied code c index room v → HasCopied code c index room later
   has_copied index room h = subst (IsLatest (Copies index (read_in code room))) (sym acts_same) h
@@ -265,10 +265,10 @@ module _ {T : Type 0} (code : Coding T) (c : ℕ) (v : View T) (turn : OthersTur
       }
 
   finds_on : (owner bound k number : ℕ) → Finds code c owner bound k number v → Finds code c owner bound k number later
-  finds_on x0 x1 x2 x3 x4 = grind (arith, paid, count_later, found_below)
+  finds_on = grind (arith, paid, count_later, found_below)
 
   steady : (index count : ℕ) → index < c → Steady code c index count v → Steady code c index count later
-  steady x0 x1 x2 x3 x4 x5 = grind (arith, through_before, through_now, is_some)
+  steady = grind (arith, through_before, through_now, is_some)
 
   pub find_knows : (owner : ℕ) (room : buffers.Buffer 128) (stage : FindStage) → FindKnows code c owner room stage v → FindKnows code c owner room stage later
   find_knows owner room (finds.LoadsCell index number) h = finds_on owner index index number h

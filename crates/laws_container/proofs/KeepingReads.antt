@@ -59,11 +59,11 @@ module _ {T : Type 0} (code : Coding T) (c : ℕ) (v : View T) (turn : OthersTur
   -- what it was told or shown by now, it was before
   told_before : (i owner : ℕ) → IsOneOf (Yes i owner) (set_acts_of q (events ++ es)) ⊎ WasShown q i (events ++ es)
       → IsOneOf (Yes i owner) (set_acts_of q events) ⊎ WasShown q i events
-  told_before x0 x1 x2 = grind (arith, inl, set_acts_same, inr, acts_same)
+  told_before = grind (arith, inl, set_acts_same, inr, acts_same)
 
   asked_later : (i owner : ℕ) → IsOneOf (Asks i owner) (set_acts_of q events) ⊎ WasShown q i events
       → IsOneOf (Asks i owner) (set_acts_of q (events ++ es)) ⊎ WasShown q i (events ++ es)
-  asked_later x0 x1 x2 = grind (arith, inl, set_acts_same, inr, acts_same)
+  asked_later = grind (arith, inl, set_acts_same, inr, acts_same)
 
   asked_below : (owner k : ℕ) → AskedBelow code c owner k v → AskedBelow code c owner k later
   asked_below owner k h i below through =
@@ -77,7 +77,7 @@ module _ {T : Type 0} (code : Coding T) (c : ℕ) (v : View T) (turn : OthersTur
 
   -- nobody who is gone fills an index, so one that he has lost stays lost to him
   gone_but : (owner : ℕ) (Here : ℕ → Type 0) → IsGone owner v → GoneBut code c owner Here v → GoneBut code c owner Here later
-  gone_but x0 x1 x2 x3 x4 x5 x6 = grind (arith, inl, lost, inr, honest_less, told_before)
+  gone_but = grind (arith, inl, lost, inr, honest_less, told_before)
 
   recovers_then : (owner k : ℕ) (Here But But' : ℕ → Type 0)
       → (HasHidden code c q owner But (now v) → HasHidden code c q owner But' (now later))
@@ -117,10 +117,10 @@ module _ {T : Type 0} (code : Coding T) (c : ℕ) (v : View T) (turn : OthersTur
 
   fills : (owner : ℕ) (mode : ReleaseMode) (But : ℕ → Type 0) → FilledBut (Worn v) mode q owner But events
       → FilledBut (Worn later) mode q owner But (events ++ es)
-  fills x0 x1 x2 x3 = grind (arith, filled_then, worn, inl, set_acts_same, locked_later)
+  fills = grind (arith, filled_then, worn, inl, set_acts_same, locked_later)
 
   recover_fills : (owner : ℕ) (mode : ReleaseMode) (stage : RecoverStage) → RecoverFills code c owner mode stage v → RecoverFills code c owner mode stage later
-  recover_fills x0 x1 x2 x3 = grind (arith, fills, says_later, set_acts_same)
+  recover_fills = grind (arith, fills, says_later, set_acts_same)
 
   abbrev none : ℕ → Type 0
   none i = ⊥

@@ -50,7 +50,7 @@ module _ {T : Type 0} (terms : Terms) (code : Coding T) (t : Trace T) (s : frame
   asked_by p index value o k e = grind arith
 
   pub questions : AsksCopies t
-  questions x0 x1 x2 x3 = grind (arith, asked_by)
+  questions = grind (arith, asked_by)
 
   pub states : ShowsCopies t.world t.events
   states p i state value idle found shown =

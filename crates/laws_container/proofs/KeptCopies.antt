@@ -44,7 +44,7 @@ module _ {T : Type 0} where
 
   -- nothing is shown past the elements
   not_past : (c : ℕ) (s : ContainerState T) (i : ℕ) (value : T) → length s.shown.elements ≡ c → shows s i ≡ Some value → i ≢ c
-  not_past x0 x1 x2 x3 x4 x5 x6 = grind (arith, shows, slice_get_past, some_none)
+  not_past = grind (arith, shows, slice_get_past, some_none)
 
   -- what a get_state that was under way shows then
   abbrev pub ShowsCopied : ℕ → ContainerState T → List (Event T) → List (Event T) → Type 0
@@ -63,7 +63,7 @@ module _ {T : Type 0} where
   -- ---- a step of the call's own
 
   has_more : (one : Act T) (all more : List (Act T)) → IsOneOf one all → IsOneOf one (all ++ more)
-  has_more x0 x1 x2 x3 = grind (arith, append_assoc)
+  has_more = grind (arith, append_assoc)
 
   module _ (p : ℕ) (events : List (Event T)) (start : Start T) (w : List (Event T)) (here : span_of p events ≡ Open start w) where
     module _ (what : Option (ℕ × T)) (es : List (Event T)) (own : AreOwn p es) (span : Span T)
@@ -83,4 +83,4 @@ module _ {T : Type 0} where
 
     -- it goes on, or ends
     pub calls_on : (what : Option (ℕ × T)) (outcome : Option (Answer T)) → CallsOn p what events (events ++ (copies_of p what ++ ending_of p start outcome))
-    calls_on x0 x1 = grind (arith, calls, append-nil)
+    calls_on = grind (arith, calls, append-nil)

@@ -47,19 +47,19 @@ module _ {T : Type 0} where
     pub filled_calm : (worn worn' : Type 0) → (worn → worn')
         → (mode : ReleaseMode) (But : ℕ → Type 0) (events : List (Event T)) → FilledBut worn mode p owner But events
         → FilledBut worn' mode p owner But (events ++ [])
-    filled_calm x0 x1 x2 x3 x4 x5 x6 = grind (arith, filled_then, inl, append-nil)
+    filled_calm = grind (arith, filled_then, inl, append-nil)
 
     -- it has freed nothing
     pub filled_none : (worn : Type 0) (mode : ReleaseMode) (But : ℕ → Type 0) (events : List (Event T))
         → set_acts_of p events ≡ [] → FilledBut worn mode p owner But events
-    filled_none x0 x1 x2 x3 x4 = grind (arith, no_more)
+    filled_none = grind (arith, no_more)
 
     pub filled_locked : (worn : Type 0) (mode : ReleaseMode) (But : ℕ → Type 0) (events : List (Event T))
         → is_locked events ≡ true → FilledBut worn mode p owner But events
-    filled_locked x0 x1 x2 x3 x4 = grind (arith, inl, inr)
+    filled_locked = grind (arith, inl, inr)
 
     pub filled_worn : (worn : Type 0) (mode : ReleaseMode) (But : ℕ → Type 0) (events : List (Event T)) → worn → FilledBut worn mode p owner But events
-    filled_worn x0 x1 x2 x3 x4 = grind (arith, inl, inr)
+    filled_worn = grind (arith, inl, inr)
 
     pub filled_last : (worn : Type 0) (mode : ReleaseMode) (But : ℕ → Type 0) (events : List (Event T))
         → FilledAtLast p events → FilledBut worn mode p owner But events
@@ -80,15 +80,15 @@ module _ {T : Type 0} where
 
     pub unlocked_later : (events es : List (Event T)) → BeginsNone p es
         → set_acts_of p (events ++ es) ≡ set_acts_of p events → UnlockedAtLast p events → UnlockedAtLast p (events ++ es)
-    unlocked_later x0 x1 x2 x3 x4 = grind (arith, held_so, held_later)
+    unlocked_later = grind (arith, held_so, held_later)
 
     -- ---- a lock
 
     last_later : (events es : List (Event T)) → BeginsNone p es → set_acts_of p (events ++ es) ≡ set_acts_of p events
         → FilledAtLast p events → FilledAtLast p (events ++ es)
-    last_later x0 x1 x2 x3 x4 = grind (arith, held_so, held_later)
+    last_later = grind (arith, held_so, held_later)
 
     pub says_later : (c : ℕ) (events es : List (Event T)) → BeginsNone p es
         → set_acts_of p (events ++ es) ≡ set_acts_of p events → (lock : Lock) → LockSays c (FoundFilled p events) lock
         → LockSays c (FoundFilled p (events ++ es)) lock
-    says_later x0 x1 x2 x3 x4 x5 x6 = grind (arith, last_later)
+    says_later = grind (arith, last_later)

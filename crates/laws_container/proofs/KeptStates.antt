@@ -40,12 +40,12 @@ module _ {T : Type 0} where
   written : (code : Coding T) (q : ℕ) (call : Look T) (old p : ℕ) → p ≢ q
       → (states : List (ℕ × ContainerState T)) (o : Option (ContainerState T))
       → state_of p (writes_state code q call old o states) ≡ state_of p states
-  written x0 x1 x2 x3 x4 x5 x6 x7 = grind (arith, written_other)
+  written = grind (arith, written_other)
 
   stays : (code : Coding T) (q : ℕ) (flight : ContainerFlight T) (n : ℕ) (states : List (ℕ × ContainerState T)) (p : ℕ)
       → IsApart p q (flights.Container flight)
       → state_of p (states_after code q flight n states) ≡ state_of p states
-  stays x0 x1 x2 x3 x4 x5 x6 = grind (arith, written)
+  stays = grind (arith, written)
 
   apart_is : (p q : ℕ) (flight : Flight T) → ((q == p) && is_looking (Some flight)) ≡ false → IsApart p q flight
   apart_is p q flight none = grind arith
@@ -70,7 +70,7 @@ module _ {T : Type 0} where
   held_stays code capacity p q start kept w none = refl
 
   loan_stays : (q : ℕ) (start : LoanStart) (kept : Registry T) → state_in (loan_keeps start kept) q ≡ state_in kept q
-  loan_stays x0 x1 x2 = grind arith
+  loan_stays = grind arith
 
   begun_stays : (code : Coding T) (capacity p q : ℕ) (start : Start T) (kept : Registry T) (w : World T)
       → is_look_of w q (Begin p start) ≡ false
@@ -97,7 +97,7 @@ module _ {T : Type 0} (shown : Shown T) (terms : Terms) (code : Coding T) (c : �
   step_stays : (n : ℕ) (a : Start T) (flight : Flight T)
       → StandsThere (family_by terms code c) t s q x since a flight
       → Stays n code (kept_now shown terms code c t s) a flight
-  step_stays x0 x1 x2 x3 x4 x5 = grind (arith, stays)
+  step_stays = grind (arith, stays)
 
   any_stays : (n : ℕ) (flight : Flight T) → x.doing ≡ Going flight since → Stays n t.world.coding t.world.kept x.start flight
   any_stays n flight doing =
@@ -110,7 +110,7 @@ module _ {T : Type 0} (shown : Shown T) (terms : Terms) (code : Coding T) (c : �
 module _ {T : Type 0} (shown : Shown T) (terms : Terms) (code : Coding T) (t : Trace T) (s : frame.Sound (family_by terms code t.world.capacity) t) where
   flies : (q : ℕ) (x : Party T) (flight : Flight T) (since : ℕ) → party_of q t.world.latest ≡ Some x
       → x.doing ≡ Going flight since → flight_in t.world q ≡ Some flight
-  flies x0 x1 x2 x3 x4 x5 = grind arith
+  flies = grind arith
 
   next_moves : (q p : ℕ) → ((q == p) && is_looking (flight_in t.world q)) ≡ false → (o : Option (Party T))
       → party_of q t.world.latest ≡ o → state_in (after_next t.world q o).kept p ≡ state_in t.world.kept p
@@ -148,14 +148,14 @@ module _ {T : Type 0} (shown : Shown T) (terms : Terms) (code : Coding T) (t : T
 
   update_begins : (p : ℕ) (state : ContainerState T) → state_in t.world.kept p ≡ Some state
       → (o : Option (Flight T)) → state_in (after_begin t.world p (Container UpdateState) o).kept p ≡ Some state
-  update_begins x0 x1 x2 x3 = grind (arith, update_keeps)
+  update_begins = grind (arith, update_keeps)
 
   module _ (turn : Turn T) (r : IsAllowed t.world turn) where
     moves : MovesInLooks t turn (after_turn t turn)
-    moves x0 x1 = grind (arith, next_moves, decision_moves, begin_moves)
+    moves = grind (arith, next_moves, decision_moves, begin_moves)
 
     begins : BeginsWithState t turn (after_turn t turn)
-    begins x0 x1 x2 x3 = grind (arith, state_in, after_turn, update_begins, first_of)
+    begins = grind (arith, state_in, after_turn, update_begins, first_of)
 
 -- ---- an update that answers false
 

@@ -55,7 +55,7 @@ module _ {T : Type 0} (shown : AllShown T) (terms : Terms) (code : Coding T) (c 
   step_visits : (n : ℕ) (a : Start T) (flight : Flight T)
       → StandsThere (family_by terms code c) t s q x since a flight
       → Visits n code (kept_now shown terms code c t s) a flight
-  step_visits x0 x1 x2 x3 = grind (arith, with_end, after, all_visit, all_effects, began_by, is_there)
+  step_visits = grind (arith, with_end, after, all_visit, all_effects, began_by, is_there)
 
   any_visits : (n : ℕ) (flight : Flight T) → x.doing ≡ Going flight since → Visits n t.world.coding t.world.kept x.start flight
   any_visits n flight doing = let by_step_visits = step_visits in grind arith
@@ -81,8 +81,8 @@ module _ {T : Type 0} (shown : AllShown T) (terms : Terms) (code : Coding T) (t 
       go (Going flight since) d = any_visits shown terms code t.world.capacity t s may q x since found _ flight d
 
   visits : (u : Turn T) → AllByRecursion (VisitsRight t.events) (events_of t.world u)
-  visits x0 = grind (arith, next_visits, decision_visits)
+  visits = grind (arith, next_visits, decision_visits)
 
   -- as the promise says it
   pub visits_unlocked : VisitsUnlocked t (after_turn t turn)
-  visits_unlocked x0 x1 = grind (arith, append_cancel_left, visits)
+  visits_unlocked = grind (arith, append_cancel_left, visits)

@@ -48,9 +48,9 @@ pub record View (T : Type 0) : Type 0 where
   pub latest : List (ℕ × Party T)
   pub events : List (Event T)
   pub party : ℕ
-  pub since : ℕ
-  pub changes : ℕ
-  pub backs : ℕ
+  pub since : ℕ  -- how often words had changed when the call began
+  pub changes : ℕ  -- how often they have
+  pub backs : ℕ  -- so often the call has turned back
 
 module _ {T : Type 0} where
   -- the same of the set alone

@@ -9,7 +9,7 @@ use Rattle.model.specs.declared.families.Flight.TheVariants as flights
 use Rattle.model.specs.declared.families.Registry.TheVariants as registries
 use Rattle.model.proofs.Frame as frame
 use Rattle.laws_robust.proofs.Alive.{Leaves}
-use Rattle.laws_robust.proofs.Told.{joined}
+use Rattle.laws_robust.proofs.Decisions.{joined}
 use Rattle.laws_container.proofs.Invariant.{family_by}
 use Rattle.laws_container.proofs.Stages.{any_call}
 use Rattle.laws_container.proofs.Terms.{Terms}

@@ -56,6 +56,7 @@ use Rattle.laws_container.proofs.MeasuredLooks.{find_falls, find_comes, recover_
 use Rattle.laws_container.proofs.Looks.{written_same, written_other}
 use Rattle.laws_container.proofs.MeasuredMost.{most}
 use Rattle.laws_container.proofs.CallProgress.{add_at, remove_at, replace_at, find_at, recover_at, look_at, count_at}
+use Rattle.laws_robust.proofs.Cases.{on_bool}
 
 -- ---- where a call goes on, it stands there
 
@@ -65,7 +66,7 @@ module _ {T : Type 0} (code : Coding T) (c : ℕ) where
   StandsAfter (Done answer) = Unit {0}
 
   place_within : (index : ℕ) → place_of c index ≤ c
-  place_within x0 = grind (arith, nat_tests)
+  place_within = grind (arith, nat_tests)
 
   first_stands : (start : ContainerStart T) → IsDefault (starts.Container start) → CallStands c (first c start)
   first_stands (container_starts.Add value owner) such = (refl, tt)
@@ -90,7 +91,7 @@ module _ {T : Type 0} (code : Coding T) (c : ℕ) where
   first_stands container_starts.IsLocked such = tt
 
   pub call_goes : (state : Option (ContainerState T)) (flight : ContainerFlight T) (old : ℕ) → CallStands c flight → StandsAfter (after code state flight old)
-  call_goes x0 x1 x2 x3 = grind (arith, nat_tests)
+  call_goes = grind (arith, nat_tests)
 
   -- ---- a party that looks has a state
 
@@ -138,11 +139,10 @@ module _ {T : Type 0} (code : Coding T) (c : ℕ) where
 
   -- where a look begins
   look_has : (p : ℕ) (states : List (ℕ × ContainerState T)) → has_state p (states_at_begin code c container_starts.UpdateState p states)
-  look_has p states = go (is_some (state_of p states)) refl
-    where
-      go : (t : Bool) → is_some (state_of p states) ≡ t → has_state p (cond t states (with_state p (fresh code c) states))
-      go true t = t
-      go false t = ap is_some (found_put_same p (fresh code c) states)
+  look_has p states =
+      on_bool (λ t. has_state p (cond t states (with_state p (fresh code c) states))) (is_some (state_of p states))
+      (λ t. t)
+      (λ t. ap is_some (found_put_same p (fresh code c) states))
 
   abbrev pub in_states : List ℕ → List (ℕ × ContainerState T) → Registry T
   in_states dead states = registries.Container dead states
@@ -162,7 +162,7 @@ module _ {T : Type 0} (code : Coding T) (c : ℕ) where
   pub call_known : (p : ℕ) (dead : List ℕ) (states : List (ℕ × ContainerState T)) (o : Option (ContainerState T)) (flight : ContainerFlight T) (old : ℕ)
       → Known p (in_states dead states) (flights.Container flight)
       → KnownAfter outline p (in_states dead states) (any_call code c [] (after code o flight old))
-  call_known x0 x1 x2 x3 x4 x5 x6 = grind arith
+  call_known = grind arith
 
   -- ---- each step of a call falls
 
@@ -233,11 +233,11 @@ module _ {T : Type 0} (code : Coding T) (c : ℕ) where
   recover_decides words owner room (recovers.Raises index raise) said due = let none = no_raise raise in absurd (cc)
     where
       no_raise : (raise : raises.Raise) → is_question (raise_want raise) ≡ false
-      no_raise x0 = grind arith
+      no_raise = grind arith
   recover_decides words owner room (recovers.Locks index lock) said due = let none = no_lock lock in absurd (cc)
     where
       no_lock : (lock : locks.Lock) → is_question (lock_want lock) ≡ false
-      no_lock x0 = grind arith
+      no_lock = grind arith
   recover_decides words owner room recovers.LoadsCounterAgain said due = absurd (cc)
   recover_decides words owner room (recovers.AddsChange end) said due = absurd (cc)
 
@@ -248,7 +248,7 @@ module _ {T : Type 0} (code : Coding T) (c : ℕ) where
   may_ask flight = false
 
   pub never_asks : (flight : ContainerFlight T) → is_question (want code flight) ≡ true → may_ask flight ≡ true
-  never_asks x0 x1 = grind arith
+  never_asks = grind arith
 
   pub call_decides : (words : List ℕ) (state : Option (ContainerState T)) (flight : ContainerFlight T) → CallStands c flight → Decided words state flight
   call_decides words state (calls.Find run) at said due =
@@ -277,7 +277,7 @@ module _ {T : Type 0} (code : Coding T) (c : ℕ) where
 
   told : (words : List ℕ) (beside : Option (ℕ × ℕ)) (p : ℕ) (start : Start T) (flight : Flight T) (old : ℕ) (kept : Registry T)
       → At code c start flight → Kept kept → (step_of code words beside p start flight old kept).after ≡ goes_of code p flight old kept
-  told x0 x1 x2 x3 x4 x5 x6 x7 x8 = grind arith
+  told = grind arith
 
   stays : (words : List ℕ) (beside : Option (ℕ × ℕ)) (p : ℕ) (start : Start T) (flight : Flight T) (old : ℕ) (kept : Registry T)
       → At code c start flight → Kept kept
@@ -304,7 +304,7 @@ module _ {T : Type 0} (code : Coding T) (c : ℕ) where
   begins : (start : Start T) (kept : Registry T) (flight : Flight T) → IsDefault start → Kept kept
       → first_of kinds.Container c start kept ≡ Some flight
       → At code c start flight × ((p : ℕ) → Kept (kept_after_begin code c start p kept))
-  begins x0 x1 x2 x3 x4 x5 = grind (arith, first_stands)
+  begins = grind (arith, first_stands)
 
   is_first : (start : Start T) (kept : Registry T) (flight : Flight T) → first_of kinds.Container c start kept ≡ Some flight
       → (begun : ContainerStart T) × (start ≡ starts.Container begun) × (flight ≡ flights.Container (first c begun))

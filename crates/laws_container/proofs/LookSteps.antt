@@ -86,11 +86,11 @@ module _ {T : Type 0} where
 
       -- under an even number nothing is shown
       pub counted_none : is_even n ≡ true → shows counting i ≡ None
-      counted_none x0 = grind (arith, count_here)
+      counted_none = grind (arith, count_here)
 
       -- under the number that stands there, what is shown stays
       pub counted_same : n ≡ number_at s i → shows counting i ≡ shows s i
-      counted_same x0 = grind (arith, number_in, count_here)
+      counted_same = grind (arith, number_in, count_here)
 
     -- a value, under an odd number
     module _ (value_of : List ℕ → T) (size n : ℕ) where
@@ -111,7 +111,7 @@ module _ {T : Type 0} where
       value_number = ap number_in (put_here s.shown.elements i _ low)
 
       pub value_here : is_even n ≡ false → shows showing i ≡ Some (value_in value_of size s.shown.copy)
-      value_here x0 = grind (arith, put_here, value_in)
+      value_here = grind (arith, put_here, value_in)
 
 module _ {T : Type 0} (code : Coding T) (c : ℕ) (m : Now T) (p : ℕ) where
   -- ---- the look begins to go over the indices
@@ -140,7 +140,7 @@ module _ {T : Type 0} (code : Coding T) (c : ℕ) (m : Now T) (p : ℕ) where
     room_then = ap length put.copy ∙ h.room
 
     unseen_then : (i : ℕ) → k ≤ i → i < c → i ≢ k → i ≢ x → slice_index_or s'.seen.counts i 0 ≡ number_at s' i
-    unseen_then x0 x1 x2 x3 x4 = grind (arith, number_there)
+    unseen_then = grind (arith, number_there)
 
     -- it is to be copied: what is shown of it is not yet its value
     module _ (apart : (i : ℕ) → i < c → i ≢ k → i ≢ x) where
@@ -263,4 +263,4 @@ module _ {T : Type 0} (code : Coding T) (c : ℕ) (m : Now T) (p : ℕ) where
   over_at (n ∷ ns) (x ∷ xs) (suc i) e low = over_at ns xs i (omega arith) (omega arith)
 
   pub rests_settled : (s : ContainerState T) → Course code c m p s c c → Rests code c m p (settled s)
-  rests_settled x0 x1 = grind (arith, length, over_length, over_at)
+  rests_settled = grind (arith, length, over_length, over_at)

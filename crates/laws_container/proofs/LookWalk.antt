@@ -28,6 +28,7 @@ use Rattle.laws_container.proofs.Stages.{all, done, sees_now, since_then, change
 use Rattle.laws_container.proofs.CallProgress.{AreBelow, LookAt, look_number}
 use Rattle.laws_container.proofs.Turns.{Now, WellFormed, count_in, datum_in, change_in}
 use Rattle.laws_container.proofs.Writing.{even_is, odd_is}
+use Rattle.laws_robust.proofs.Cases.{on_bool}
 
 -- ---- the indices that it has come to
 
@@ -45,17 +46,17 @@ not_even n odd = ne_eqb (n % 2) 0 (λ e. absurd (omega arith))
 module _ {T : Type 0} where
   pub seen_copied : (index : ℕ) (value : T) (did : List (Act T)) → AreBelow index (seen_in did)
       → AreBelow (index + 1) (seen_in (did ++ Copies index value ∷ []))
-  seen_copied x0 x1 x2 x3 = grind (arith, flat_map-append, below_both, below_more)
+  seen_copied = grind (arith, flat_map-append, below_both, below_more)
 
   pub seen_passed : (index : ℕ) (did : List (Act T)) → AreBelow index (seen_in did) → AreBelow (index + 1) (seen_in (did ++ []))
-  seen_passed x0 x1 x2 = grind (arith, append-nil, below_more)
+  seen_passed = grind (arith, append-nil, below_more)
 
   pub seen_still : (index : ℕ) (did : List (Act T)) → AreBelow index (seen_in did) → AreBelow index (seen_in (did ++ []))
   seen_still index did h = subst (λ a. AreBelow index (seen_in a)) (sym (append-nil did)) h
 
   -- under an even number nothing stands
   pub nothing_stands : (code : Coding T) (c : ℕ) (words : List ℕ) (i : ℕ) (o : Option T) → Stands code c words i o → count_at c words i % 2 ≡ 0 → o ≡ None
-  nothing_stands x0 x1 x2 x3 x4 x5 x6 = grind arith
+  nothing_stands = grind arith
 
 module _ {T : Type 0} (scene : Scene T) (inv : Inv scene) where
   open scene use {coding as code, capacity as c, party as p, steps as steps, backs as backs, latest as latest, events as events}
@@ -125,7 +126,7 @@ module _ {T : Type 0} (scene : Scene T) (inv : Inv scene) where
           (paid : backs_then scene back + since_then scene ask ≤ changes_then scene ask)
           (index : ℕ) (below : index < c) where
         none_more : (what : Option (ℕ × T)) → all scene ++ set_acts (copies_of p what) ≡ []
-        none_more x0 = grind arith
+        none_more = grind arith
 
         comes_to : (what : Option (ℕ × T)) (s' : ContainerState T) → IsRight what
             → AreBelow (index + 1) (seen_in (done scene ++ acts (copies_of p what)))
@@ -180,40 +181,37 @@ module _ {T : Type 0} (scene : Scene T) (inv : Inv scene) where
               (λ getting value is. some_none (shows s' index) value (counted_none s index low n even) is)
 
           finds : Lead back [] s' (look_finds (call_at stage) index n)
-          finds = go (is_even n) refl
-            where
-              go : (b : Bool) → is_even n ≡ b
-                  → Lead back [] s'
-                  (if b then look_comes_to (call_at stage) (index + 1) else GoOn (call_at (stages.LoadsWord index n 0)))
-              go true t =
-                  comes_to None s' tt (seen_passed index (done scene) seen) (omega arith) (passed_even t)
-              go false t =
-                  let some = inv.elements.coded.some in
-                  let odd = odd_is n t in
-                  walker.goes (stages.LoadsWord index n 0) back None s' tt same
-                  (none_more None, (below, seen_still index (done scene) seen, odd), omega arith) (omega arith)
-                  (λ words' states' latest' es' comes found.
-                  let m' : Now T = record { terms = scene.terms; words = words'; latest = latest'; events = es' } in
-                  let is = count_same m' None comes in (
-                    inl (is, paid),
-                    record {
-                      looks =
-                          record {
-                            state = s';
-                            found = found;
-                            course =
-                                course_copying code c m' p s s' index x below (comes.later s index x course)
-                                (count_put s index low n) (number_is m' None comes)
-                                (λ i less ne. apart i ne (λ e. absurd (omega arith)));
-                          };
-                      number = counted_number s index low n;
-                      copying =
-                          copying_first code c
-                          (view scene.terms words' states' latest' es' p (since_then scene ask) (changes_then scene ask)
-                          (backs_then scene back))
-                          index n s'.shown.copy below course.room odd (λ kept. omega arith);
-                    },
-                  ))
+          finds =
+              on_bool (λ b. Lead back [] s' (if b then look_comes_to (call_at stage) (index + 1) else GoOn (call_at (stages.LoadsWord index n 0)))) (is_even n)
+              (λ t.
+              comes_to None s' tt (seen_passed index (done scene) seen) (omega arith) (passed_even t))
+              (λ t.
+              let some = inv.elements.coded.some in
+              let odd = odd_is n t in
+              walker.goes (stages.LoadsWord index n 0) back None s' tt same
+              (none_more None, (below, seen_still index (done scene) seen, odd), omega arith) (omega arith)
+              (λ words' states' latest' es' comes found.
+              let m' : Now T = record { terms = scene.terms; words = words'; latest = latest'; events = es' } in
+              let is = count_same m' None comes in (
+                inl (is, paid),
+                record {
+                  looks =
+                      record {
+                        state = s';
+                        found = found;
+                        course =
+                            course_copying code c m' p s s' index x below (comes.later s index x course)
+                            (count_put s index low n) (number_is m' None comes)
+                            (λ i less ne. apart i ne (λ e. absurd (omega arith)));
+                      };
+                  number = counted_number s index low n;
+                  copying =
+                      copying_first code c
+                      (view scene.terms words' states' latest' es' p (since_then scene ask) (changes_then scene ask)
+                      (backs_then scene back))
+                      index n s'.shown.copy below course.room odd (λ kept. omega arith);
+                },
+              )))
 
           -- the number that was seen: the index is as it was
           module _ (was : n ≡ number_at s index) (other : index ≢ x) where
@@ -302,7 +300,7 @@ module _ {T : Type 0} (scene : Scene T) (inv : Inv scene) where
             → CheckPaid code c index count
             (view scene.terms words' states' latest' es' p (since_then scene word_ask) (changes_then scene word_ask)
             (backs_then scene false))
-        paid_then x0 x1 x2 x3 x4 = grind (arith, inl, count_at, inr)
+        paid_then = grind (arith, inl, count_at, inr)
 
         pub walks_word : Walker s (Some (loads (element_word c code.size index at))) Lead → WalkAt (stages.LoadsWord index count at)
         walks_word walker =
@@ -405,27 +403,25 @@ module _ {T : Type 0} (scene : Scene T) (inv : Inv scene) where
               subst (λ v. HasCopied p index v m'.events) eq (comes.on.now index value refl))
 
         pub walks_check : Walker s (Some (exchanges (count_word c index) count count)) Lead → WalkAt (stages.ChecksCount index count)
-        walks_check walker = go (count_in code c m index == count) refl
-          where
-            go : (b : Bool) → (count_in code c m index == count) ≡ b → Lead (not b) (if b then Copied p index (copy_in code s) ∷ [] else [])
-                (record s {
-                  shown =
-                      if b then shown_now.shown else
-                      (look_shows code (call_at (stages.LoadsCount index)) s (count_in code c m index)).shown;
-                })
-                (if b then look_comes_to (call_at (stages.ChecksCount index count)) (index + 1) else
-                look_finds (call_at (stages.ChecksCount index count)) index (count_in code c m index))
-            go true t =
-                let is : count_in code c m index ≡ count = grind (arith, nat_tests) in
-                let paid_now : backs + scene.since ≤ scene.changes = ⊎_elim (λ k. k.1) (λ more. omega arith) paid in
-                comes_to (stages.ChecksCount index count)
-                (Some (exchanges (count_word c index) count count)) walker false (same_count is) (omega arith) index
-                below (Some (index, value)) shown_now (seen, stands_now is)
-                (seen_copied index value (done scene) seen) (omega arith) (passed_copied is)
-            go false t =
-                let other : count_in code c m index ≢ count = grind (arith, nat_tests) in
-                let paid_now : backs + scene.since + 1 ≤ scene.changes = ⊎_elim (λ k. absurd (other k.0)) (λ more. more) paid in
-                finds (stages.ChecksCount index count)
-                (Some (exchanges (count_word c index) count count)) walker true
-                (fails_same ws (count_word c index) count count other) (omega arith) index below index
-                (λ i ne out. ne) course seen (omega arith)
+        walks_check walker =
+            on_bool (λ b. Lead (not b) (if b then Copied p index (copy_in code s) ∷ [] else []) (record s {
+              shown =
+                  if b then shown_now.shown else (look_shows code (call_at (stages.LoadsCount index)) s (count_in code c m index)).shown;
+            })
+            (if b then look_comes_to (call_at (stages.ChecksCount index count)) (index + 1) else look_finds
+            (call_at (stages.ChecksCount index count)) index (count_in code c m index)))
+            (count_in code c m index == count)
+            (λ t.
+            let is : count_in code c m index ≡ count = grind (arith, nat_tests) in
+            let paid_now : backs + scene.since ≤ scene.changes = ⊎_elim (λ k. k.1) (λ more. omega arith) paid in
+            comes_to (stages.ChecksCount index count)
+            (Some (exchanges (count_word c index) count count)) walker false (same_count is) (omega arith) index
+            below (Some (index, value)) shown_now (seen, stands_now is)
+            (seen_copied index value (done scene) seen) (omega arith) (passed_copied is))
+            (λ t.
+            let other : count_in code c m index ≢ count = grind (arith, nat_tests) in
+            let paid_now : backs + scene.since + 1 ≤ scene.changes = ⊎_elim (λ k. absurd (other k.0)) (λ more. more) paid in
+            finds (stages.ChecksCount index count)
+            (Some (exchanges (count_word c index) count count)) walker true
+            (fails_same ws (count_word c index) count count other) (omega arith) index below index
+            (λ i ne out. ne) course seen (omega arith))

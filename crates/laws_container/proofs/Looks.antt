@@ -44,7 +44,7 @@ module _ {X : Type 0} where
       → found_at p (e ∷ es) ≡ Some y
       → (found_at p es ≡ Some y → found_at p (set_value (is_at (nat_cmp p)) es x) ≡ Some x)
       → found_at p (set_value (is_at (nat_cmp p)) (e ∷ es) x) ≡ Some x
-  same_by x0 x1 x2 x3 x4 x5 x6 x7 x8 = grind arith
+  same_by = grind arith
 
   pub written_same : (p : ℕ) (x y : X) (es : List (ℕ × X)) → found_at p es ≡ Some y → found_at p (set_value (is_at (nat_cmp p)) es x) ≡ Some x
   written_same p x y [] found = absurd (cc)
@@ -76,34 +76,34 @@ looks_as kinds.UpdateState = starts.UpdateState
 
 module _ (T : Type 0) where
   pub no_replace : (which : LookOf) → NoReplace (looks_as {T = T} which)
-  no_replace x0 = grind arith
+  no_replace = grind arith
 
   pub silent_end : (which : LookOf) → EndsSilently (looks_as {T = T} which)
-  silent_end x0 = grind arith
+  silent_end = grind arith
 
   at_look : (which : LookOf) (c z : ℕ) (made : List SetAct) (did : List (Act T)) (stage : LookStage)
       → LookAt c z made did stage → At c z made did (looks_as which) (look_at which c stage)
-  at_look x0 x1 x2 x3 x4 x5 x6 = grind arith
+  at_look = grind arith
 
   few_look : (which : LookOf) (c z n backs : ℕ) → n ≤ 1 + c * (z + 2) + backs * (z + 1) → n ≤ most_steps c z (looks_as {T = T} which) backs
-  few_look x0 x1 x2 x3 x4 x5 = grind arith
+  few_look = grind arith
 
   answers_look : (by : GoneBy) (worn : Type 0) (which : LookOf) (c p : ℕ) (s : ContainerState T) (changed : Bool)
       (events : List (Event T))
       → AnswersBy by worn c events (Finished p (Container (looks_as which)) (looked which s changed))
-  answers_look x0 x1 x2 x3 x4 x5 x6 x7 = grind arith
+  answers_look = grind arith
 
   places_look : (which : LookOf) (p : ℕ) (s : ContainerState T) (changed : Bool) (events : List (Event T))
       → EndsRight events (Finished p (Container (looks_as which)) (looked which s changed))
-  places_look x0 x1 x2 x3 x4 = grind arith
+  places_look = grind arith
 
   does_look : (which : LookOf) (s : ContainerState T) (changed : Bool) (made : List SetAct) (acts : List (Act T))
       → made ≡ [] → HasDone (looks_as which) (looked which s changed) made acts
-  does_look x0 x1 x2 x3 x4 x5 = grind arith
+  does_look = grind arith
 
   copy_stands : (which : LookOf) (p index : ℕ) (value : T) (w : List (Event T)) → AreBelow index (seen_in (acts w))
       → may_stand (Copied p index value) (Open (Container (looks_as which)) w)
-  copy_stands x0 x1 x2 x3 x4 x5 = grind arith
+  copy_stands = grind arith
 
 -- ---- a step
 
@@ -268,7 +268,7 @@ module _ {T : Type 0} (scene : Scene T) (inv : Inv scene) (which : LookOf) (stag
         (few_look T which c code.size _ (backs_then scene back) few) (omega arith)
       where
         set_acts_one : (copy : ℕ × T) → all scene ≡ [] → set_acts (wrote_of p events ++ Copied p copy.0 copy.1 ∷ []) ≡ []
-        set_acts_one x0 x1 = grind (arith, flat_map-append)
+        set_acts_one = grind (arith, flat_map-append)
 
     stays_with : words_after ws ask ≡ ws → all scene ≡ [] → steps + step_count ask ≤ 1
         → backs_then scene false + since_then scene ask ≤ changes_then scene ask → Rests code c m p s

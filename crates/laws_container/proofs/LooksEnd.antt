@@ -30,17 +30,17 @@ use Rattle.laws_container.proofs.Turns.{Owing, owes, Now, WellFormed, change_in}
 module _ {T : Type 0} where
   answers_passed : (which : LookOf) (st : ContainerState T) (o : Option (ContainerState T))
       → AnswersOfState (looks_as which) (looked which st true) o (settled st)
-  answers_passed x0 x1 x2 = grind arith
+  answers_passed = grind arith
 
   answers_same : (which : LookOf) (st s : ContainerState T) → st ≡ s → AnswersOfState (looks_as which) (looked which st false) (Some s) st
-  answers_same x0 x1 x2 x3 = grind arith
+  answers_same = grind arith
 
   moments_passed : (which : LookOf) (p c : ℕ) (st : ContainerState T) (es : List (Event T))
       → ShowsMoments p c (settled st) es → MomentsOfState p c (looks_as which) (looked which st true) (settled st) es
-  moments_passed x0 x1 x2 x3 x4 x5 = grind arith
+  moments_passed = grind arith
 
   moments_same : (which : LookOf) (p c : ℕ) (st : ContainerState T) (es : List (Event T)) → MomentsOfState p c (looks_as which) (looked which st false) st es
-  moments_same x0 x1 x2 x3 x4 = grind arith
+  moments_same = grind arith
 
 module _ {T : Type 0} (scene : Scene T) (inv : Inv scene) (which : LookOf) (stage : LookStage)
     (here : IsHere scene (looks_as which) (look_at which scene.capacity stage))
@@ -176,7 +176,7 @@ module _ {T : Type 0} (scene : Scene T) (inv : Inv scene) (which : LookOf) (stag
         nobody {A = A} was o = ⊎_elim mine theirs (cases_eq o.party p)
           where
             mine : o.party ≡ p → A
-            mine x0 = grind (arith, both_ways, owes, owes_is, look_at)
+            mine = grind (arith, both_ways, owes, owes_is, look_at)
 
             theirs : o.party ≢ p → A
             theirs ne = absurd (alone_now o.party o.is (others_shut p o.party events ne was))
@@ -213,7 +213,7 @@ module _ {T : Type 0} (scene : Scene T) (inv : Inv scene) (which : LookOf) (stag
   module _ (did : List (Event T)) (st : ContainerState T) (answer : Answer T) (left : ContainerState T) where
     -- the state that it wrote
     is_left : (wrote : ContainerState T) → state_of p (set_state p wrote scene.states) ≡ Some left → wrote ≡ left
-    is_left x0 x1 = grind (arith, written_same)
+    is_left = grind (arith, written_same)
 
     by_after : (r : After (Look T) Bool) → EndsSo ask_now (look_goes_back stage old) did st r
         → answer_in (any_call (look_came which st r)) ≡ Some answer

@@ -100,7 +100,7 @@ module _ {T : Type 0} where
 
   look_stands : (which : LookOf) (c z : ℕ) (made : List SetAct) (did : List (Act T)) (stage : LookStage)
       → At c z made did (looks_as which) (look_at which c stage) → LookAt c z made did stage
-  look_stands x0 x1 x2 x3 x4 x5 x6 = grind arith
+  look_stands = grind arith
 
 look_counts : (size c : ℕ) (stage : LookStage) → step_count (ask_of (look_asks size c stage)) ≡ 1
 look_counts size c stage = grind arith
@@ -116,6 +116,7 @@ module _ {T : Type 0} (shown : Shown T) (terms : Terms) (code : Coding T) (c : �
   abbrev old : LookStage → ℕ
   old stage = old_of s.state.words (ask_of (look_asks code.size c stage))
 
+  -- the turn is a step of a look of party `q`, which leaves this and writes these events
   pub record LookTurn (q : ℕ) (kept : Registry T) (latest : List (ℕ × Party T)) (es : List (Event T)) : Type 0 where
     pub same : q ≡ p
     pub party : Party T
@@ -194,7 +195,7 @@ module _ {T : Type 0} (shown : Shown T) (terms : Terms) (code : Coding T) (c : �
         → StandsThere (family_by terms code c) t s q x since a flight
         → (is_question (want_of code flight) ≡ false → n ≡ old_of s.state.words (ask_of (want_of code flight)))
         → StepFrom n code (kept_now shown terms code c t s) a flight
-    step_look x0 x1 x2 x3 x4 x5 x6 x7 = grind (arith, last_of, container_is, is_there, look_flight, all, done, look_case)
+    step_look = grind (arith, last_of, container_is, is_there, look_flight, all, done, look_case)
 
     -- by the words, and what is kept beside them
     pub any_look : (n : ℕ) (flight : Flight T) → x.doing ≡ Going flight since
@@ -342,7 +343,7 @@ module _ {T : Type 0} (shown : Shown T) (terms : Terms) (code : Coding T) (t : T
     (may : MayGoOn terms t) where
   pub ended : (p : ℕ) (start : ContainerStart T) (answer : Answer T) (ends : EndsLook p start answer t (after_turn t turn))
       → LookEnd shown terms code t.world.capacity t s may p start answer ends.is_look ends.wrote (after_turn t turn)
-  ended x0 x1 x2 x3 = grind (arith, look_end, append_cancel_left)
+  ended = grind (arith, look_end, append_cancel_left)
 
   pub looks_right : (well_formed : Type 0)
       (so_far : well_formed → IsWellFormedSoFar terms (after_turn t turn).world.latest (after_turn t turn).events)

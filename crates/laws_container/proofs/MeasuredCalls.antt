@@ -37,6 +37,7 @@ use Rattle.model.proofs.LockFree.Falls.{load_leaves, LeavesAll}
 use Rattle.model.proofs.LockFree.Measure.{WordMeasure}
 use Rattle.model.proofs.LockFree.Own.{Outline}
 use Rattle.laws_robust.proofs.Measured.{raise_left, acquire_left, count_left, release_left, ReleaseStands}
+use Rattle.laws_robust.proofs.Cases.{by_bool, on_bool}
 
 -- ---- how many steps a call takes at most before its last one, while the counter stays and no element is placed
 
@@ -290,14 +291,13 @@ module _ (size c : ℕ) (words : List ℕ) where
       leaves size c words (set words word new) (get_or-set_other words word 0 new 0 (λ e. absurd (omega arith))) fewer
     where
       fewer : (index count : ℕ) → again_at size c (set words word new) index count ≤ again_at size c words index count
-      fewer index count = go (nat_lt index c) refl
-        where
-          go : (t : Bool) → nat_lt index c ≡ t → again_at size c (set words word new) index count ≤ again_at size c words index count
-          go true t =
-              let less : index < c = grind (arith, nat_tests) in
-              let stays = get_or-set_other words word (count_word c index) new 0 (λ e. apart index less (sym e)) in
-              rw (t, stays) (omega arith)
-          go false t = rw t (omega arith)
+      fewer index count =
+          by_bool (nat_lt index c)
+          (λ t.
+          let less : index < c = grind (arith, nat_tests) in
+          let stays = get_or-set_other words word (count_word c index) new 0 (λ e. apart index less (sym e)) in
+          rw (t, stays) (omega arith))
+          (λ t. rw t (omega arith))
 
   pub cell_leaves : {T : Type 0} → (index new : ℕ) → index ≤ c → LeavesAll (measure {T = T} size c) words (set words (cell_word index) new)
   cell_leaves index new within = apart_leaves (cell_word index) new (omega arith) (λ other less e. absurd (omega arith))
@@ -337,11 +337,9 @@ module _ (size c : ℕ) (words : List ℕ) where
             rw stays (omega arith)
 
     pub hide_leaves : {T : Type 0} → LeavesAll (measure {T = T} size c) words (set words (count_word c index) (cond (stood == count) (one_more count) stood))
-    hide_leaves {T} = go (stood == count) refl
-      where
-        go : (t : Bool) → (stood == count) ≡ t
-            → LeavesAll (measure {T = T} size c) words (set words (count_word c index) (cond t (one_more count) stood))
-        go true t =
-            leaves size c words hidden
-            (get_or-set_other words (count_word c index) 0 (one_more count) 0 (λ e. absurd (omega arith))) (hidden_fewer t)
-        go false t = λ other. subst (λ ws. left size c ws other ≤ left size c words other) (sym (load_leaves words (count_word c index))) (omega arith)
+    hide_leaves {T} =
+        on_bool (λ t. LeavesAll (measure {T = T} size c) words (set words (count_word c index) (cond t (one_more count) stood))) (stood == count)
+        (λ t.
+        leaves size c words hidden
+        (get_or-set_other words (count_word c index) 0 (one_more count) 0 (λ e. absurd (omega arith))) (hidden_fewer t))
+        (λ t. λ other. subst (λ ws. left size c ws other ≤ left size c words other) (sym (load_leaves words (count_word c index))) (omega arith))

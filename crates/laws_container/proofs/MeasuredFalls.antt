@@ -38,6 +38,7 @@ use Rattle.laws_robust.proofs.Measured.{acquire_left}
 use Rattle.laws_container.proofs.MeasuredCalls.{measure, cell_leaves, hide_leaves, apart_leaves}
 use Rattle.laws_container.proofs.MeasuredCalls.{AcquireStands, AddStands, RemoveStands, ReplaceStands}
 use Rattle.laws_container.proofs.CallProgress.{add_at, remove_at, replace_at}
+use Rattle.laws_robust.proofs.Cases.{by_bool, on_bool}
 
 -- the next index has so many less behind it
 pub behind_next : (c each index : ℕ) → index + 1 < c → (c - (index + 1)) * each ≡ (c - (index + 1 + 1)) * each + each
@@ -54,13 +55,12 @@ behind_last c each index last =
 -- an exchange for the same number leaves the words
 pub check_leaves : (words : List ℕ) (word count : ℕ)
     → set words word (cond (get_or words word 0 == count) count (get_or words word 0)) ≡ words
-check_leaves words word count = go (get_or words word 0 == count) refl
-  where
-    go : (t : Bool) → (get_or words word 0 == count) ≡ t → set words word (cond t count (get_or words word 0)) ≡ words
-    go true t =
-        let same : count ≡ get_or words word 0 = grind (arith, nat_tests) in
-        subst (λ n. set words word n ≡ words) (sym same) (load_leaves words word)
-    go false t = load_leaves words word
+check_leaves words word count =
+    on_bool (λ t. set words word (cond t count (get_or words word 0)) ≡ words) (get_or words word 0 == count)
+    (λ t.
+    let same : count ≡ get_or words word 0 = grind (arith, nat_tests) in
+    subst (λ n. set words word n ≡ words) (sym same) (load_leaves words word))
+    (λ t. load_leaves words word)
 
 module _ {T : Type 0} (code : Coding T) (c : ℕ) (words : List ℕ) where
   abbrev pub M : WordMeasure T
@@ -121,12 +121,11 @@ module _ {T : Type 0} (code : Coding T) (c : ℕ) (words : List ℕ) where
             rw (t, u) (inl (load_leaves words (cell_word index), rw v (omega arith), omega arith))
         go false t false u true v = rw (t, u) (inl (load_leaves words (cell_word index), rw v (omega arith), omega arith))
         go false t false u false v = rw (t, u) (inl (load_leaves words (cell_word index), rw v (omega arith), omega arith))
-    acquire_falls value owner (acquires.ChecksCounter counter) at = go (now == counter) refl
-      where
-        go : (t : Bool) → (now == counter) ≡ t → Shown (add_at c value owner (adds.Acquires (acquires.ChecksCounter counter)))
-        go true t = rw t tt
-        go false t =
-            rw t (acquire_sees_falls _ value owner (acquires.ChecksCounter counter) (load_leaves words 0) (rw t (omega arith)))
+    acquire_falls value owner (acquires.ChecksCounter counter) at =
+        by_bool (now == counter)
+        (λ t. rw t tt)
+        (λ t.
+        rw t (acquire_sees_falls _ value owner (acquires.ChecksCounter counter) (load_leaves words 0) (rw t (omega arith))))
     acquire_falls value owner (acquires.Raises index raises.LoadsCounter) at = go (now == locked) refl (now == greatest) refl
       where
         go : (t : Bool) → (now == locked) ≡ t → (u : Bool) → (now == greatest) ≡ u
@@ -146,21 +145,19 @@ module _ {T : Type 0} (code : Coding T) (c : ℕ) (words : List ℕ) where
 
     pub add_falls : (value : T) (owner : ℕ) (stage : AddStage) → AddStands c stage → Shown (add_at c value owner stage)
     add_falls value owner (adds.Acquires stage) at = acquire_falls value owner stage at
-    add_falls value owner (adds.LoadsCount index) at = go (is_even (get_or words (count_word c index) 0)) refl
-      where
-        go : (t : Bool) → is_even (get_or words (count_word c index) 0) ≡ t → Shown (add_at c value owner (adds.LoadsCount index))
-        go true t = rw t (inl (load_leaves words (count_word c index), omega arith, omega arith))
-        go false t = rw t (inl (load_leaves words (count_word c index), omega arith, omega arith))
+    add_falls value owner (adds.LoadsCount index) at =
+        by_bool (is_even (get_or words (count_word c index) 0))
+        (λ t. rw t (inl (load_leaves words (count_word c index), omega arith, omega arith)))
+        (λ t. rw t (inl (load_leaves words (count_word c index), omega arith, omega arith)))
     add_falls value owner (adds.Hides index count) at =
         inr (omega arith, inl (hide_leaves code.size c words index count at, omega arith))
-    add_falls value owner (adds.Stores index at) stands = go (nat_lt (at + 1) code.size) refl
-      where
-        go : (t : Bool) → nat_lt (at + 1) code.size ≡ t → Shown (add_at c value owner (adds.Stores index at))
-        go true t =
-            let less : at + 1 < code.size = grind (arith, nat_tests) in
-            rw t (inr (omega arith, inl (apart_leaves code.size c words _ _ (omega arith) (λ i few e. absurd (omega arith)), omega arith)))
-        go false t =
-            rw t (inr (omega arith, inl (apart_leaves code.size c words _ _ (omega arith) (λ i few e. absurd (omega arith)), omega arith)))
+    add_falls value owner (adds.Stores index at) stands =
+        by_bool (nat_lt (at + 1) code.size)
+        (λ t.
+        let less : at + 1 < code.size = grind (arith, nat_tests) in
+        rw t (inr (omega arith, inl (apart_leaves code.size c words _ _ (omega arith) (λ i few e. absurd (omega arith)), omega arith))))
+        (λ t.
+        rw t (inr (omega arith, inl (apart_leaves code.size c words _ _ (omega arith) (λ i few e. absurd (omega arith)), omega arith))))
     add_falls value owner (adds.AddsCount index) at = inr (omega arith, inr (omega arith))
     add_falls value owner (adds.AddsChange index) at = tt
 
@@ -168,12 +165,10 @@ module _ {T : Type 0} (code : Coding T) (c : ℕ) (words : List ℕ) where
 
     release_falls : (index owner count : ℕ) (stage : ReleaseStage) → index ≤ c → RemoveStands (removes.Releases count stage)
         → Shown (remove_at c index owner Default (removes.Releases count stage))
-    release_falls index owner count releases.EmptiesCell within at = go (get_or words (cell_word index) 0 == owner) refl
-      where
-        go : (t : Bool) → (get_or words (cell_word index) 0 == owner) ≡ t
-            → Shown (remove_at c index owner Default (removes.Releases count releases.EmptiesCell))
-        go true t = rw t (inr (omega arith, inl (cell_leaves code.size c words index empty within, omega arith)))
-        go false t = rw t tt
+    release_falls index owner count releases.EmptiesCell within at =
+        by_bool (get_or words (cell_word index) 0 == owner)
+        (λ t. rw t (inr (omega arith, inl (cell_leaves code.size c words index empty within, omega arith))))
+        (λ t. rw t tt)
     release_falls index owner count (releases.Raises raises.LoadsCounter) within at =
         go (now == locked) refl (now == greatest) refl (is_even count) refl
       where
@@ -211,25 +206,22 @@ module _ {T : Type 0} (code : Coding T) (c : ℕ) (words : List ℕ) where
 
     pub replace_falls : (index : ℕ) (value : T) (owner : ℕ) (stage : ReplaceStage) → ReplaceStands stage → Shown (replace_at c index value owner stage)
     replace_falls index value owner replaces.Refuses at = tt
-    replace_falls index value owner replaces.LoadsCell at = go (get_or words (cell_word index) 0 == owner) refl
-      where
-        go : (t : Bool) → (get_or words (cell_word index) 0 == owner) ≡ t → Shown (replace_at c index value owner replaces.LoadsCell)
-        go true t = rw t (inl (load_leaves words (cell_word index), omega arith, omega arith))
-        go false t = rw t tt
-    replace_falls index value owner replaces.LoadsCount at = go (is_even (get_or words (count_word c index) 0)) refl
-      where
-        go : (t : Bool) → is_even (get_or words (count_word c index) 0) ≡ t → Shown (replace_at c index value owner replaces.LoadsCount)
-        go true t = rw t (inl (load_leaves words (count_word c index), omega arith, omega arith))
-        go false t = rw t (inl (load_leaves words (count_word c index), omega arith, omega arith))
+    replace_falls index value owner replaces.LoadsCell at =
+        by_bool (get_or words (cell_word index) 0 == owner)
+        (λ t. rw t (inl (load_leaves words (cell_word index), omega arith, omega arith)))
+        (λ t. rw t tt)
+    replace_falls index value owner replaces.LoadsCount at =
+        by_bool (is_even (get_or words (count_word c index) 0))
+        (λ t. rw t (inl (load_leaves words (count_word c index), omega arith, omega arith)))
+        (λ t. rw t (inl (load_leaves words (count_word c index), omega arith, omega arith)))
     replace_falls index value owner (replaces.Hides count) at =
         inr (omega arith, inl (hide_leaves code.size c words index count at, omega arith))
-    replace_falls index value owner (replaces.Stores at) stands = go (nat_lt (at + 1) code.size) refl
-      where
-        go : (t : Bool) → nat_lt (at + 1) code.size ≡ t → Shown (replace_at c index value owner (replaces.Stores at))
-        go true t =
-            let less : at + 1 < code.size = grind (arith, nat_tests) in
-            rw t (inr (omega arith, inl (apart_leaves code.size c words _ _ (omega arith) (λ i few e. absurd (omega arith)), omega arith)))
-        go false t =
-            rw t (inr (omega arith, inl (apart_leaves code.size c words _ _ (omega arith) (λ i few e. absurd (omega arith)), omega arith)))
+    replace_falls index value owner (replaces.Stores at) stands =
+        by_bool (nat_lt (at + 1) code.size)
+        (λ t.
+        let less : at + 1 < code.size = grind (arith, nat_tests) in
+        rw t (inr (omega arith, inl (apart_leaves code.size c words _ _ (omega arith) (λ i few e. absurd (omega arith)), omega arith))))
+        (λ t.
+        rw t (inr (omega arith, inl (apart_leaves code.size c words _ _ (omega arith) (λ i few e. absurd (omega arith)), omega arith))))
     replace_falls index value owner replaces.AddsCount at = inr (omega arith, inr (omega arith))
     replace_falls index value owner replaces.AddsChange at = tt

@@ -35,6 +35,7 @@ use Rattle.laws_container.proofs.MeasuredCalls.{behind, cell_leaves, hide_leaves
 use Rattle.laws_container.proofs.MeasuredCalls.{recover_left, find_left, look_left, recover_pays}
 use Rattle.laws_container.proofs.MeasuredFalls.{behind_next, check_leaves, M, any_call, ShownBy}
 use Rattle.laws_container.proofs.CallProgress.{find_at, recover_at, look_at, count_at}
+use Rattle.laws_robust.proofs.Cases.{by_bool}
 
 module _ {T : Type 0} (code : Coding T) (c : ℕ) (words : List ℕ) where
   abbrev There : ContainerFlight T → Type 0
@@ -54,47 +55,39 @@ module _ {T : Type 0} (code : Coding T) (c : ℕ) (words : List ℕ) where
       → FallsIn (M code c words) words new steps (flights.Container (find_at c owner was stage))
       (any_call code c words (as_call calls.Find answers.Number (went_on as_it_is owner room
       (find_comes_to (record { capacity = c; stage = stage; of = record {} }) (index + 1) found))))
-  find_comes new steps index found owner was room stage same enough = go (nat_lt (index + 1) c) refl
-    where
-      go : (u : Bool) → nat_lt (index + 1) c ≡ u
-          → FallsIn (M code c words) words new steps (flights.Container (find_at c owner was stage))
-          (any_call code c words (as_call calls.Find answers.Number (went_on as_it_is owner room
-          (find_comes_to (record { capacity = c; stage = stage; of = record {} }) (index + 1) found))))
-      go true u =
-          let less : index + 1 < c = grind (arith, nat_tests) in
-          let on = behind_next c (code.size - 1 + 4) index less in
-          rw u (inl (same, omega arith, omega arith))
-      go false u = rw u tt
+  find_comes new steps index found owner was room stage same enough =
+      by_bool (nat_lt (index + 1) c)
+      (λ u.
+      let less : index + 1 < c = grind (arith, nat_tests) in
+      let on = behind_next c (code.size - 1 + 4) index less in
+      rw u (inl (same, omega arith, omega arith)))
+      (λ u. rw u tt)
 
   pub find_falls : (owner : ℕ) (room : buffers.Buffer 128) (stage : FindStage) → There (find_at c owner room stage)
-  find_falls owner room (finds.LoadsCell index found) = go (get_or words (cell_word index) 0 == owner) refl
-    where
-      go : (t : Bool) → (get_or words (cell_word index) 0 == owner) ≡ t → There (find_at c owner room (finds.LoadsCell index found))
-      go true t = rw t (inl (load_leaves words (cell_word index), omega arith, omega arith))
-      go false t =
-          rw t (find_comes _ 1 index found owner room room (finds.LoadsCell index found) (load_leaves words (cell_word index)) (omega arith))
-  find_falls owner room (finds.LoadsCount index found) = go (is_even (stands_at index)) refl
-    where
-      go : (t : Bool) → is_even (stands_at index) ≡ t → There (find_at c owner room (finds.LoadsCount index found))
-      go true t =
-          rw t (find_comes _ 1 index found owner room room (finds.LoadsCount index found) (load_leaves words (count_word c index)) (omega arith))
-      go false t = rw t (inl (load_leaves words (count_word c index), omega arith, omega arith))
-  find_falls owner room (finds.LoadsWord index found count at) = go (nat_lt (at + 1) code.size) refl
-    where
-      go : (t : Bool) → nat_lt (at + 1) code.size ≡ t → There (find_at c owner room (finds.LoadsWord index found count at))
-      go true t =
-          let less : at + 1 < code.size = grind (arith, nat_tests) in
-          rw t (inl (load_leaves words _, omega arith, omega arith))
-      go false t = rw t (inl (load_leaves words _, omega arith, omega arith))
-  find_falls owner room (finds.ChecksCount index found count) = go (stands_at index == count) refl
-    where
-      go : (t : Bool) → (stands_at index == count) ≡ t → There (find_at c owner room (finds.ChecksCount index found count))
-      go true t =
-          let same = check_leaves words (count_word c index) count in
-          rw t (inl (rw t at same, omega arith, omega arith))
-      go false t =
-          rw t (find_comes _ 1 index found owner room room (finds.ChecksCount index found count) (load_leaves words (count_word c index))
-          (omega arith))
+  find_falls owner room (finds.LoadsCell index found) =
+      by_bool (get_or words (cell_word index) 0 == owner)
+      (λ t. rw t (inl (load_leaves words (cell_word index), omega arith, omega arith)))
+      (λ t.
+      rw t (find_comes _ 1 index found owner room room (finds.LoadsCell index found) (load_leaves words (cell_word index)) (omega arith)))
+  find_falls owner room (finds.LoadsCount index found) =
+      by_bool (is_even (stands_at index))
+      (λ t.
+      rw t (find_comes _ 1 index found owner room room (finds.LoadsCount index found) (load_leaves words (count_word c index)) (omega arith)))
+      (λ t. rw t (inl (load_leaves words (count_word c index), omega arith, omega arith)))
+  find_falls owner room (finds.LoadsWord index found count at) =
+      by_bool (nat_lt (at + 1) code.size)
+      (λ t.
+      let less : at + 1 < code.size = grind (arith, nat_tests) in
+      rw t (inl (load_leaves words _, omega arith, omega arith)))
+      (λ t. rw t (inl (load_leaves words _, omega arith, omega arith)))
+  find_falls owner room (finds.ChecksCount index found count) =
+      by_bool (stands_at index == count)
+      (λ t.
+      let same = check_leaves words (count_word c index) count in
+      rw t (inl (rw t at same, omega arith, omega arith)))
+      (λ t.
+      rw t (find_comes _ 1 index found owner room room (finds.ChecksCount index found count) (load_leaves words (count_word c index))
+      (omega arith)))
   find_falls owner room (finds.Asks index found) = tt
 
   -- ---- a recovery
@@ -109,18 +102,13 @@ module _ {T : Type 0} (code : Coding T) (c : ℕ) (words : List ℕ) where
       (any_call code c words (as_call calls.Recover answers.State
       (went_on as_it_is (record { owner = owner; mode = Default }) room
       (recover_comes_to (record { capacity = c; stage = stage; of = record {} }) (index + 1)))))
-  recover_comes new steps index owner was room stage same enough pays = go (nat_lt (index + 1) c) refl
-    where
-      go : (u : Bool) → nat_lt (index + 1) c ≡ u
-          → FallsIn (M code c words) words new steps (flights.Container (recovering owner was stage))
-          (any_call code c words (as_call calls.Recover answers.State
-          (went_on as_it_is (record { owner = owner; mode = Default }) room
-          (recover_comes_to (record { capacity = c; stage = stage; of = record {} }) (index + 1)))))
-      go true u =
-          let less : index + 1 < c = grind (arith, nat_tests) in
-          let on = behind_next c (code.size - 1 + 8) index less in
-          rw u (inl (same, omega arith, omega arith))
-      go false u = rw u (inl (same, omega arith, omega arith))
+  recover_comes new steps index owner was room stage same enough pays =
+      by_bool (nat_lt (index + 1) c)
+      (λ u.
+      let less : index + 1 < c = grind (arith, nat_tests) in
+      let on = behind_next c (code.size - 1 + 8) index less in
+      rw u (inl (same, omega arith, omega arith)))
+      (λ u. rw u (inl (same, omega arith, omega arith)))
 
   pub recover_falls : (owner : ℕ) (room : buffers.Buffer 128) (stage : RecoverStage) → RecoverStands c stage → There (recovering owner room stage)
   recover_falls owner room recovers.LoadsCounter at = go (now == locked) refl (nat_lt 0 c) refl
@@ -129,13 +117,12 @@ module _ {T : Type 0} (code : Coding T) (c : ℕ) (words : List ℕ) where
       go true t u e = rw t (inl (load_leaves words 0, omega arith, omega arith))
       go false t true u = rw (t, u) (inl (load_leaves words 0, omega arith, omega arith))
       go false t false u = rw (t, u) (inl (load_leaves words 0, omega arith, omega arith))
-  recover_falls owner room (recovers.LoadsCell index) at = go (get_or words (cell_word index) 0 == owner) refl
-    where
-      go : (t : Bool) → (get_or words (cell_word index) 0 == owner) ≡ t → There (recovering owner room (recovers.LoadsCell index))
-      go true t = rw t (inl (load_leaves words (cell_word index), omega arith, omega arith))
-      go false t =
-          rw t (recover_comes _ 1 index owner room room (recovers.LoadsCell index) (load_leaves words (cell_word index))
-          (omega arith) (omega arith))
+  recover_falls owner room (recovers.LoadsCell index) at =
+      by_bool (get_or words (cell_word index) 0 == owner)
+      (λ t. rw t (inl (load_leaves words (cell_word index), omega arith, omega arith)))
+      (λ t.
+      rw t (recover_comes _ 1 index owner room room (recovers.LoadsCell index) (load_leaves words (cell_word index))
+      (omega arith) (omega arith)))
   recover_falls owner room (recovers.LoadsCount index) at = go (is_even (stands_at index)) refl (nat_lt index c) refl
     where
       go : (t : Bool) → is_even (stands_at index) ≡ t → (u : Bool) → nat_lt index c ≡ u → There (recovering owner room (recovers.LoadsCount index))
@@ -144,13 +131,12 @@ module _ {T : Type 0} (code : Coding T) (c : ℕ) (words : List ℕ) where
           let self = same_is (stands_at index) in
           rw t (inl (load_leaves words (count_word c index), rw (u, self) (omega arith), omega arith))
       go false t false u = rw t (inl (load_leaves words (count_word c index), rw u (omega arith), omega arith))
-  recover_falls owner room (recovers.LoadsWord index count at) stands = go (nat_lt (at + 1) code.size) refl
-    where
-      go : (t : Bool) → nat_lt (at + 1) code.size ≡ t → There (recovering owner room (recovers.LoadsWord index count at))
-      go true t =
-          let less : at + 1 < code.size = grind (arith, nat_tests) in
-          rw t (inl (load_leaves words _, omega arith, omega arith))
-      go false t = rw t (inl (load_leaves words _, omega arith, omega arith))
+  recover_falls owner room (recovers.LoadsWord index count at) stands =
+      by_bool (nat_lt (at + 1) code.size)
+      (λ t.
+      let less : at + 1 < code.size = grind (arith, nat_tests) in
+      rw t (inl (load_leaves words _, omega arith, omega arith)))
+      (λ t. rw t (inl (load_leaves words _, omega arith, omega arith)))
   recover_falls owner room (recovers.ChecksCount index count) stands =
       go (stands_at index == count) refl (is_even (stands_at index)) refl
     where
@@ -226,16 +212,13 @@ module _ {T : Type 0} (code : Coding T) (c : ℕ) (words : List ℕ) where
         → behind code.size c (code.size - 1 + 3) index + steps ≤ look_left code.size c words stage + 1
         → FallsIn (M code c words) words new steps (flights.Container (look_at which c stage))
         (any_call code c words (look_came which shown (look_comes_to (record { capacity = c; stage = stage; of = record {} }) (index + 1))))
-    look_comes new steps index shown stage same enough = go (nat_lt (index + 1) c) refl
-      where
-        go : (u : Bool) → nat_lt (index + 1) c ≡ u
-            → FallsIn (M code c words) words new steps (flights.Container (look_at which c stage))
-            (any_call code c words (look_came which shown (look_comes_to (record { capacity = c; stage = stage; of = record {} }) (index + 1))))
-        go true u =
-            let less : index + 1 < c = grind (arith, nat_tests) in
-            let on = behind_next c (code.size - 1 + 3) index less in
-            rw u (inl (same, omega arith, omega arith))
-        go false u = rw u tt
+    look_comes new steps index shown stage same enough =
+        by_bool (nat_lt (index + 1) c)
+        (λ u.
+        let less : index + 1 < c = grind (arith, nat_tests) in
+        let on = behind_next c (code.size - 1 + 3) index less in
+        rw u (inl (same, omega arith, omega arith)))
+        (λ u. rw u tt)
 
     pub look_falls : (stage : LookStage) → LookStands c stage → Sees stage
     look_falls looks.LoadsChange at = go (get_or words (1 + c) 0 == state.seen.change) refl (nat_lt 0 c) refl
@@ -259,13 +242,12 @@ module _ {T : Type 0} (code : Coding T) (c : ℕ) (words : List ℕ) where
         go false t false u =
             let self = same_is (stands_at index) in
             rw (t, u) (inl (load_leaves words (count_word c index), rw (inside, self) (omega arith), omega arith))
-    look_falls (looks.LoadsWord index count at) stands = go (nat_lt (at + 1) code.size) refl
-      where
-        go : (t : Bool) → nat_lt (at + 1) code.size ≡ t → Sees (looks.LoadsWord index count at)
-        go true t =
-            let less : at + 1 < code.size = grind (arith, nat_tests) in
-            rw t (inl (load_leaves words _, omega arith, omega arith))
-        go false t = rw t (inl (load_leaves words _, omega arith, omega arith))
+    look_falls (looks.LoadsWord index count at) stands =
+        by_bool (nat_lt (at + 1) code.size)
+        (λ t.
+        let less : at + 1 < code.size = grind (arith, nat_tests) in
+        rw t (inl (load_leaves words _, omega arith, omega arith)))
+        (λ t. rw t (inl (load_leaves words _, omega arith, omega arith)))
     look_falls (looks.ChecksCount index count) at = go (stands_at index == count) refl (is_even (stands_at index)) refl
       where
         stage : LookStage
@@ -308,8 +290,7 @@ module _ {T : Type 0} (code : Coding T) (c : ℕ) (words : List ℕ) where
       go false u true v t e = rw (u, v) tt
       go false u false v true t = rw (u, v) (inl (load_leaves words (cell_word index), rw t (omega arith), omega arith))
       go false u false v false t = rw (u, v) (inl (load_leaves words (cell_word index), rw t (omega arith), omega arith))
-  count_falls which (counts.ExchangesCounter counter filled) = go (now == counter) refl
-    where
-      go : (t : Bool) → (now == counter) ≡ t → There (count_at which c (counts.ExchangesCounter counter filled))
-      go true t = rw t tt
-      go false t = rw t (inl (load_leaves words 0, rw t (omega arith), omega arith))
+  count_falls which (counts.ExchangesCounter counter filled) =
+      by_bool (now == counter)
+      (λ t. rw t tt)
+      (λ t. rw t (inl (load_leaves words 0, rw t (omega arith), omega arith)))

@@ -158,22 +158,22 @@ module _ (c size : ℕ) (some : 1 ≤ c) (wide : 1 ≤ size) (words : List ℕ) 
   remove_most now (removes.AddsChange end) = omega arith
 
   replace_most : (stage : replaces.ReplaceStage) → replace_left size c stage ≤ 2 * c + size + 6
-  replace_most x0 = grind arith
+  replace_most = grind arith
 
   two_of : (2 ≤ max 2 c) × (c ≤ max 2 c)
   two_of = (grind arith, grind arith)
 
   adds_pay : (stage : AddStage) → add_pays stage ≤ 2
-  adds_pay x0 = grind arith
+  adds_pay = grind arith
 
   removes_pay : (stage : RemoveStage) → remove_pays stage ≤ 2
-  removes_pay x0 = grind arith
+  removes_pay = grind arith
 
   replaces_pay : (stage : replaces.ReplaceStage) → replace_pays stage ≤ 2
-  replaces_pay x0 = grind arith
+  replaces_pay = grind arith
 
   recovers_pay : (stage : RecoverStage) → recover_pays c stage ≤ c
-  recovers_pay x0 = grind arith
+  recovers_pay = grind arith
 
   pub most : {T : Type 0} → (flight : Flight T) → (left size c words flight ≤ alone) × (pays c flight ≤ max 2 c)
   most (flights.Container (calls.Add run)) =

@@ -31,6 +31,7 @@ use Rattle.laws_container.proofs.Terms.{Keeps}
 module _ {T : Type 0} (scene : Scene T) where
   open scene use {coding as code, capacity as c, steps as steps, backs as backs, events as events}
 
+  -- each step of each call, and what a find and a recovery do with the answer to a question, shows what it has to
   pub record CallSteps : Type 0 where
     pub add : (value : T) (owner : ℕ) → owner < empty → ActsFor scene owner → (stage : AddStage)
         → IsHere scene (starts.Add value owner) (add_at c value owner stage)

@@ -94,7 +94,7 @@ module _ {T : Type 0} (terms : Terms) (code : Coding T) (c : ℕ) (coded : IsCod
   shows_is i = shows_same _ c i
 
   sight : (q : ℕ) → Sight code c m q (fresh code c) c c
-  sight x0 = grind (arith, length-replicate, number_is, shows_is, inl, no_count)
+  sight = grind (arith, length-replicate, number_is, shows_is, inl, no_count)
 
   rests : (q : ℕ) → Rests code c m q (fresh code c)
   rests q =

@@ -1,7 +1,7 @@
 -- How a recovery of a container ends: the second look at the counter, and the count of the change.
-use Rattle.laws_container.proofs.Names.{◌≡◌, ◌≢◌, ⊎_elim, ℕ, ◌+◌, ◌*◌, ◌<◌, ◌≤◌, ◌==◌, if◌then◌else◌, Bool, false}
+use Rattle.laws_container.proofs.Names.{◌≡◌, ◌≢◌, ⊎_elim, ℕ, ◌+◌, ◌*◌, ◌≤◌, ◌==◌, if◌then◌else◌, Bool, false}
 use Rattle.laws_container.proofs.Names.{true, Option, Some, None, List, [], ◌∷◌, refl, sym, subst, append-nil, arith}
-use Rattle.laws_container.proofs.Names.{cases_lt, nat_tests, Ask, RecoverStage, ReleaseMode, ReleaseState}
+use Rattle.laws_container.proofs.Names.{cases_lt, nat_tests, Ask, RecoverStage, ReleaseState}
 use Rattle.laws_container.proofs.Names.{change_word, recover_ends, empty, locked, greatest, Finished}
 use Rattle.laws_container.proofs.Names.{Container, UnlockedAtLast, is_locked, IsUnlocked, StillToFree, filled_of}
 use Rattle.laws_container.proofs.Names.{set_acts_of, words_after, held_now, is_gone, counter_of, some_none, is_shut}
@@ -20,11 +20,11 @@ use Rattle.laws_robust.proofs.Stages as set_stages
 use Rattle.laws_container.specs.Gone.{HasRecoveredBy, FilledSinceEachBy, AnswersBy}
 use Rattle.laws_container.proofs.Answers.{each_on}
 use Rattle.laws_container.proofs.HiddenKnows.{HasHidden}
-use Rattle.laws_container.proofs.Invariant.{Scene, Inv, after, of_set, inv_of_set}
+use Rattle.laws_container.proofs.Invariant.{after, of_set, inv_of_set}
 use Rattle.model.proofs.Locks.{locked_later}
 use Rattle.laws_container.proofs.KeptLocks.{NoIndex, FilledBut, filled_each}
 use Rattle.laws_container.proofs.Knows.{RecoverSays, RecoverKnows, IsLong, Knows}
-use Rattle.laws_container.proofs.RecoverParts.{none, hidden_still, first, then_at}
+use Rattle.laws_container.proofs.RecoverParts.{Recovery, none, hidden_still, first, then_at}
 use Rattle.laws_container.proofs.RecoverEnds.{empties_step, hides_step}
 use Rattle.laws_container.proofs.RecoverReads.{Here, Becomes, calm_on}
 use Rattle.laws_container.proofs.RecoverReads.{counter_step, cell_step, count_step}
@@ -37,9 +37,11 @@ use Rattle.laws_container.proofs.CallProgress.{recover_at, recover_number, for_b
 use Rattle.laws_container.proofs.Steps.{ends_counted}
 use Rattle.laws_container.proofs.Writing.{adds_one, adds_to_change}
 use Rattle.laws_container.proofs.Recovers.{locks_step, most_is, raises_step}
+use Rattle.laws_robust.proofs.Cases.{on_bool}
 
-module _ {T : Type 0} (scene : Scene T) (inv : Inv scene) (owner : ℕ) (mode : ReleaseMode) (fits : owner < empty) where
-  open scene use {coding as code, capacity as c, party as p, steps as steps, backs as backs, events as events}
+module _ {T : Type 0} (recovery : Recovery T) where
+  open recovery use {scene, inv, owner, mode}
+  open recovery.scene use {coding as code, capacity as c, party as p, steps, backs, events}
 
   abbrev ws : List ℕ
   ws = scene.words
@@ -49,8 +51,7 @@ module _ {T : Type 0} (scene : Scene T) (inv : Inv scene) (owner : ℕ) (mode : 
 
   -- ---- the second look at the counter
 
-  module _ (room : buffers.Buffer 128)
-      (here : Here scene inv owner mode fits room recovers.LoadsCounterAgain) (long : IsLong room)
+  module _ (room : buffers.Buffer 128) (here : Here recovery room recovers.LoadsCounterAgain) (long : IsLong room)
       (freed : RecoverAt c z (all scene) (done scene) owner mode recovers.LoadsCounterAgain)
       (k : RecoverKnows code c owner mode room recovers.LoadsCounterAgain (sees_now scene))
       (s : steps ≤ 1 + c * for_index c z mode + backs * for_back c z mode)
@@ -76,56 +77,51 @@ module _ {T : Type 0} (scene : Scene T) (inv : Inv scene) (owner : ℕ) (mode : 
     -- the load leaves the counter
     each_again : FilledSinceEachBy (IsWorn scene.terms.by ws) mode p owner events
         → FilledSinceEachBy (IsWorn scene.terms.by (words_after ws load_again)) mode p owner events
-    each_again x0 = grind (arith, each_on, loads_same)
+    each_again = grind (arith, each_on, loads_same)
 
     hidden_again : (state : ReleaseState)
-        → HasHidden code c p owner none
-        (after scene (words_after ws load_again)
-        (then_at scene inv owner mode fits room recovers.LoadsCounterAgain here room
+        → HasHidden code c p owner none (after scene (words_after ws load_again) (then_at recovery room recovers.LoadsCounterAgain here room
         (recovers.AddsChange state) load_again false)
         [])
     hidden_again state =
-        hidden_still scene inv owner mode fits room recovers.LoadsCounterAgain here load_again
-        (then_at scene inv owner mode fits room recovers.LoadsCounterAgain here room
+        hidden_still recovery room recovers.LoadsCounterAgain here load_again (then_at recovery room recovers.LoadsCounterAgain here room
         (recovers.AddsChange state) load_again false)
         k.1.hidden
 
     again_step : StepOf scene (Recover owner mode) (recover_at c owner mode room recovers.LoadsCounterAgain)
-    again_step = go (counter_of ws == locked) refl
-      where
-        go : (b : Bool) → (counter_of ws == locked) ≡ b
-            → Becomes scene inv owner mode fits (Some (set_stages.loads 0)) false [] room
-            (recover_ends (first scene inv owner mode fits) (if b then states.Locked else states.Unlocked))
-        go true t =
-            let shut : counter_of ws ≡ locked = grind (arith, nat_tests) in
-            calm_on scene inv owner mode fits room recovers.LoadsCounterAgain here long load_again
-            (loads_same ws 0) false paid_again room (recovers.AddsChange states.Locked)
-            (omega arith) tt
-            (long, (paid_again, locked_later events [] (is_shut (of_set scene) (inv_of_set scene inv) shut), hidden_again states.Locked), tt)
-        go false t =
-            let open_now : counter_of ws ≢ locked = grind (arith, nat_tests) in
-            let free : is_locked events ≡ false = unlocked (of_set scene) (inv_of_set scene inv) open_now in
-            let now : UnlockedAtLast p events = held_now p (λ part. IsUnlocked part × (set_acts_of p part ≡ set_acts_of p events)) events (free, refl) in
-            calm_on scene inv owner mode fits room recovers.LoadsCounterAgain here long load_again
-            (loads_same ws 0) false paid_again room (recovers.AddsChange states.Unlocked)
-            (omega arith) tt (
-              long,
-              (
-                paid_again,
-                subst (λ es. (is_gone scene.terms.by owner es ≡ true) × UnlockedAtLast p es
-                    × HasRecoveredBy scene.terms.by p owner es
-                    × FilledSinceEachBy (IsWorn scene.terms.by (words_after ws load_again)) mode p owner es)
-                    (sym (append-nil events))
-                    (k.1.dead, now, recovered, each_again (filled_each p owner (IsWorn scene.terms.by ws) mode events free f)),
-                hidden_again states.Unlocked,
-              ),
-              tt,
-            )
+    again_step =
+        on_bool (λ b. Becomes recovery (Some (set_stages.loads 0)) false [] room
+        (recover_ends (first recovery) (if b then states.Locked else states.Unlocked)))
+        (counter_of ws == locked)
+        (λ t.
+        let shut : counter_of ws ≡ locked = grind (arith, nat_tests) in
+        calm_on recovery room recovers.LoadsCounterAgain here long load_again
+        (loads_same ws 0) false paid_again room (recovers.AddsChange states.Locked)
+        (omega arith) tt
+        (long, (paid_again, locked_later events [] (is_shut (of_set scene) (inv_of_set scene inv) shut), hidden_again states.Locked), tt))
+        (λ t.
+        let open_now : counter_of ws ≢ locked = grind (arith, nat_tests) in
+        let free : is_locked events ≡ false = unlocked (of_set scene) (inv_of_set scene inv) open_now in
+        let now : UnlockedAtLast p events = held_now p (λ part. IsUnlocked part × (set_acts_of p part ≡ set_acts_of p events)) events (free, refl) in
+        calm_on recovery room recovers.LoadsCounterAgain here long load_again
+        (loads_same ws 0) false paid_again room (recovers.AddsChange states.Unlocked)
+        (omega arith) tt (
+          long,
+          (
+            paid_again,
+            subst (λ es. (is_gone scene.terms.by owner es ≡ true) × UnlockedAtLast p es
+                × HasRecoveredBy scene.terms.by p owner es
+                × FilledSinceEachBy (IsWorn scene.terms.by (words_after ws load_again)) mode p owner es)
+                (sym (append-nil events))
+                (k.1.dead, now, recovered, each_again (filled_each p owner (IsWorn scene.terms.by ws) mode events free f)),
+            hidden_again states.Unlocked,
+          ),
+          tt,
+        ))
 
   -- ---- the change is counted, and the call ends
 
-  module _ (room : buffers.Buffer 128) (state : ReleaseState)
-      (here : Here scene inv owner mode fits room (recovers.AddsChange state))
+  module _ (room : buffers.Buffer 128) (state : ReleaseState) (here : Here recovery room (recovers.AddsChange state))
       (k : RecoverKnows code c owner mode room (recovers.AddsChange state) (sees_now scene))
       (s : steps ≤ 2 + c * for_index c z mode + backs * for_back c z mode) where
     abbrev end_it : Option Ask
@@ -140,7 +136,7 @@ module _ {T : Type 0} (scene : Scene T) (inv : Inv scene) (owner : ℕ) (mode : 
     answers_right : (state : ReleaseState) → RecoverSays code c owner mode state (sees_now scene)
         → AnswersBy scene.terms.by (IsWorn scene.terms.by (words_after ws end_it)) c events
         (Finished p (Container (Recover owner mode)) (answers.State state))
-    answers_right x0 x1 = grind (arith, each_on, worn_on, counter_stays)
+    answers_right = grind (arith, each_on, worn_on, counter_stays)
 
     end_step : StepOf scene (Recover owner mode) (recover_at c owner mode room (recovers.AddsChange state))
     end_step =
@@ -166,45 +162,44 @@ module _ {T : Type 0} (scene : Scene T) (inv : Inv scene) (owner : ℕ) (mode : 
 
   abbrev Moves : buffers.Buffer 128 → RecoverStage → Type 0
   Moves room stage =
-      RecoverAt c z (all scene) (done scene) owner mode stage → Here scene inv owner mode fits room stage
+      RecoverAt c z (all scene) (done scene) owner mode stage → Here recovery room stage
       → Knows code c (recover_at c owner mode room stage) (sees_now scene)
       → steps ≤ recover_number c z mode stage backs
       → StepOf scene (Recover owner mode) (recover_at c owner mode room stage)
 
   pub recover_step : (room : buffers.Buffer 128) (stage : RecoverStage) → Moves room stage
-  recover_step room recovers.LoadsCounter at here k s = counter_step scene inv owner mode fits room here k.0 at k.1 s
-  recover_step room (recovers.LoadsCell index) at here k s = cell_step scene inv owner mode fits room index here k.0 at k.1 s k.2
-  recover_step room (recovers.LoadsCount index) at here k s = count_step scene inv owner mode fits room index here k.0 at k.1 s k.2
+  recover_step room recovers.LoadsCounter at here k s = counter_step recovery room here k.0 at k.1 s
+  recover_step room (recovers.LoadsCell index) at here k s = cell_step recovery room index here k.0 at k.1 s k.2
+  recover_step room (recovers.LoadsCount index) at here k s = count_step recovery room index here k.0 at k.1 s k.2
   recover_step room (recovers.LoadsWord index count word) at here k s =
-      word_step scene inv owner mode fits room index count word here k.0 at k.1 s k.2
-  recover_step room (recovers.ChecksCount index count) at here k s = check_step scene inv owner mode fits room index count here k.0 at k.1 s k.2
-  recover_step room (recovers.Asks index count) at here k s = decided scene inv owner mode fits room index count at here k.0 k.1 s k.2 0
-  recover_step room (recovers.EmptiesCell index count) at here k s = empties_step scene inv owner mode fits room index count here k.0 at k.1 s k.2
-  recover_step room (recovers.Hides index count) at here k s = hides_step scene inv owner mode fits room index count here k.0 at k.1 s k.2
+      word_step recovery room index count word here k.0 at k.1 s k.2
+  recover_step room (recovers.ChecksCount index count) at here k s = check_step recovery room index count here k.0 at k.1 s k.2
+  recover_step room (recovers.Asks index count) at here k s = decided recovery room index count at here k.0 k.1 s k.2 0
+  recover_step room (recovers.EmptiesCell index count) at here k s = empties_step recovery room index count here k.0 at k.1 s k.2
+  recover_step room (recovers.Hides index count) at here k s = hides_step recovery room index count here k.0 at k.1 s k.2
   recover_step room (recovers.Raises index raises.LoadsCounter) at here k s =
-      (raises_step scene inv owner mode fits) room index raises.LoadsCounter here k.0 at.0 at.1 k.1 s k.2
+      (raises_step recovery) room index raises.LoadsCounter here k.0 at.0 at.1 k.1 s k.2
   recover_step room (recovers.Raises index (raises.ExchangesCounter number)) at here k s =
-      (raises_step scene inv owner mode fits) room index (raises.ExchangesCounter number) here k.0 at.0 at.1 k.1 s k.2
+      (raises_step recovery) room index (raises.ExchangesCounter number) here k.0 at.0 at.1 k.1 s k.2
   recover_step room (recovers.Locks index (parts.Counts counts.LoadsCounter)) at here k s =
-      (locks_step scene inv owner mode fits) room index (parts.Counts counts.LoadsCounter) here k.0 at.0 at.1 at.2 at.3 k.1 s k.2
+      (locks_step recovery) room index (parts.Counts counts.LoadsCounter) here k.0 at.0 at.1 at.2 at.3 k.1 s k.2
   recover_step room (recovers.Locks index (parts.Counts (counts.LoadsCell number i filled)))
       at here k s =
-      (locks_step scene inv owner mode fits) room index
-      (parts.Counts (counts.LoadsCell number i filled)) here k.0 at.0 at.1 at.2 at.3 k.1 s
+      (locks_step recovery) room index (parts.Counts (counts.LoadsCell number i filled)) here k.0 at.0 at.1 at.2 at.3 k.1 s
       k.2
   recover_step room (recovers.Locks index (parts.Counts (counts.ExchangesCounter number filled)))
       at here k s =
-      (locks_step scene inv owner mode fits) room index (parts.Counts (counts.ExchangesCounter number filled)) here k.0 at.0
+      (locks_step recovery) room index (parts.Counts (counts.ExchangesCounter number filled)) here k.0 at.0
       at.1 at.2 at.3 k.1 s k.2
   recover_step room (recovers.Locks index (parts.ExchangesCounter number)) at here k s =
-      (locks_step scene inv owner mode fits) room index (parts.ExchangesCounter number) here k.0 at.0 at.1 at.2 at.3 k.1 s k.2
+      (locks_step recovery) room index (parts.ExchangesCounter number) here k.0 at.0 at.1 at.2 at.3 k.1 s k.2
   recover_step room recovers.LoadsCounterAgain at here k s = again_step room here k.0 at k.1 s k.2
   recover_step room (recovers.AddsChange state) at here k s = end_step room state here k.1 s
 
   pub recover_decided : (room : buffers.Buffer 128) (index count : ℕ)
       → RecoverAt c z (all scene) (done scene) owner mode (recovers.Asks index count)
-      → Here scene inv owner mode fits room (recovers.Asks index count)
+      → Here recovery room (recovers.Asks index count)
       → Knows code c (recover_at c owner mode room (recovers.Asks index count)) (sees_now scene)
       → steps ≤ recover_number c z mode (recovers.Asks index count) backs → (answer : ℕ)
       → AnswerOf scene (Recover owner mode) (recover_at c owner mode room (recovers.Asks index count)) None answer
-  recover_decided room index count at here k s answer = decided scene inv owner mode fits room index count at here k.0 k.1 s k.2 answer
+  recover_decided room index count at here k s answer = decided recovery room index count at here k.0 k.1 s k.2 answer

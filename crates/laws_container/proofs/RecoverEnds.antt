@@ -1,8 +1,8 @@
 -- The steps of a recovery behind its question: it empties the cell, and hides what stands there.
-use Rattle.laws_container.proofs.Names.{◌≡◌, ◌≢◌, ◌⊎◌, ⊎_elim, inl, inr, ℕ, ◌+◌, ◌*◌, ◌%◌, ◌<◌, ◌≤◌, ◌==◌}
+use Rattle.laws_container.proofs.Names.{◌≡◌, ◌≢◌, ◌⊎◌, ⊎_elim, inl, inr, ℕ, ◌+◌, ◌*◌, ◌%◌, ◌≤◌, ◌==◌}
 use Rattle.laws_container.proofs.Names.{if◌then◌else◌, Bool, false, true, Option, Some, None, List, [], ◌∷◌, ◌++◌}
 use Rattle.laws_container.proofs.Names.{set, refl, sym, ap, subst, ◌∙◌, append-nil, arith, nat_tests, fold-append}
-use Rattle.laws_container.proofs.Names.{Ask, GoOn, RecoverStage, ReleaseMode, count_word, is_even, recover_comes_to}
+use Rattle.laws_container.proofs.Names.{Ask, GoOn, RecoverStage, count_word, is_even, recover_comes_to}
 use Rattle.laws_container.proofs.Names.{recover_raises, cell_word, empty, one_more, Event, FreedOf, Hidden, Party}
 use Rattle.laws_container.proofs.Names.{WasShown, Sees, HidesOne, acts, cell_of, LivesToRelease, Frees, Yes}
 use Rattle.laws_container.proofs.Names.{filled_after, filled_of, IsOneOf, HasJustFreed, flight_of, words_after}
@@ -19,11 +19,11 @@ use Rattle.laws_container.specs.Gone.{FreedBy}
 use Rattle.laws_container.proofs.Core.{count_at}
 use Rattle.laws_container.proofs.HiddenKnows.{StillStands}
 use Rattle.laws_container.proofs.HiddenOn.{hidden_even, hidden_other, hidden_freed, hides_it}
-use Rattle.laws_container.proofs.Invariant.{Scene, Inv, Does, before, after, of_set, inv_of_set}
+use Rattle.laws_container.proofs.Invariant.{Does, before, after, of_set, inv_of_set}
 use Rattle.laws_container.proofs.KeptLocks.{NoIndex, FilledBut}
 use Rattle.laws_container.proofs.Knows.{Recovers, RecoverKnows, IsLong, Knows}
 use Rattle.laws_container.proofs.Left.{left_after, left_of}
-use Rattle.laws_container.proofs.RecoverParts.{fill_same, none, hidden_still, as_recover, first, Few, then_at}
+use Rattle.laws_container.proofs.RecoverParts.{Recovery, fill_same, none, hidden_still, as_recover, first, Few, then_at}
 use Rattle.laws_container.proofs.RecoverParts.{stays_does, go_on, recs, fills_on, asked_on, told_none, comes_to_next}
 use Rattle.laws_container.proofs.RecoverReads.{Here, Becomes, Goes, Course, course_calm, calm_recs, calm_on, index_at_least}
 use Rattle.laws_container.proofs.Recoveries.{rehidden, one_of_none, has_of_none, has_latest, was_act, course_then}
@@ -33,9 +33,11 @@ use Rattle.laws_container.proofs.CallProgress.{recover_at, recover_number, for_b
 use Rattle.laws_container.proofs.Steps.{hides}
 use Rattle.laws_container.proofs.Turns.{owes, count_in}
 use Rattle.laws_container.proofs.Writing.{even_is, odd_is, hides_count}
+use Rattle.laws_robust.proofs.Cases.{on_bool}
 
-module _ {T : Type 0} (scene : Scene T) (inv : Inv scene) (owner : ℕ) (mode : ReleaseMode) (fits : owner < empty) where
-  open scene use {coding as code, capacity as c, party as p, steps as steps, backs as backs, events as events, latest as latest}
+module _ {T : Type 0} (recovery : Recovery T) where
+  open recovery use {scene, inv, owner, mode, fits}
+  open recovery.scene use {coding as code, capacity as c, party as p, steps, backs, events, latest}
 
   abbrev ws : List ℕ
   ws = scene.words
@@ -45,49 +47,43 @@ module _ {T : Type 0} (scene : Scene T) (inv : Inv scene) (owner : ℕ) (mode : 
 
   -- ---- a step on the counter
 
-  module _ (room : buffers.Buffer 128) (stage : RecoverStage) (here : Here scene inv owner mode fits room stage)
-      (long : IsLong room) (ask : Option Ask) (back : Bool)
+  module _ (room : buffers.Buffer 128) (stage : RecoverStage) (here : Here recovery room stage) (long : IsLong room) (ask : Option Ask) (back : Bool)
       (stays : set_effects.Stays (of_set scene) (words_after ws ask))
       (paid : backs_then scene back + since_then scene ask ≤ changes_then scene ask) (index : ℕ)
       (rec : Recovers code c owner (index + 1) none none (sees_now scene)) where
     pub stays_recs : (y : Party T) → Recovers code c owner (index + 1) none none (then_sees scene ask back scene.states y [])
     stays_recs y =
         let goes = (set_effects.quietly (of_set scene) (inv_of_set scene inv) (words_after ws ask) [] stays.leaves set_effects.quiet_none tt tt tt).goes in
-        recs scene inv owner mode fits room stage here ask back y [] tt tt none_lengthens goes (index + 1)
-        (index + 1) none none none none none rec
-        (asked_on scene inv owner mode fits room stage here ask back y [] tt tt none_lengthens goes (index + 1) rec.asked)
-        (told_none scene inv owner mode fits room stage here) (λ i e. absurd e) (λ i e. absurd e)
-        (hidden_still scene inv owner mode fits room stage here ask y rec.hidden)
+        recs recovery room stage here ask back y [] tt tt none_lengthens goes (index + 1) (index + 1) none none none none none rec
+        (asked_on recovery room stage here ask back y [] tt tt none_lengthens goes (index + 1) rec.asked)
+        (told_none recovery room stage here) (λ i e. absurd e) (λ i e. absurd e) (hidden_still recovery room stage here ask y rec.hidden)
 
     pub stays_on : (next : RecoverStage)
         → steps + step_count ask ≤ recover_number c z mode next (backs_then scene back)
         → RecoverAt c z (all scene ++ []) (done scene ++ []) owner mode next
         → Knows code c (recover_at c owner mode room next)
-        (then_sees scene ask back scene.states (then_at scene inv owner mode fits room stage here room next ask back) [])
-        → Goes scene inv owner mode fits ask back [] room next
+        (then_sees scene ask back scene.states (then_at recovery room stage here room next ask back) [])
+        → Goes recovery ask back [] room next
     stays_on next few at known =
-        go_on scene inv owner mode fits room stage here room next ask back [] none_lengthens
-        (stays_does scene inv owner mode fits room stage here (words_after ws ask) stays
-        (then_at scene inv owner mode fits room stage here room next ask back) refl)
+        go_on recovery room stage here room next ask back [] none_lengthens (stays_does recovery room stage here (words_after ws ask) stays
+        (then_at recovery room stage here room next ask back) refl)
         tt few at known
 
-    pub stays_next : Few scene inv owner mode fits ask back 1 (index + 1)
-        → Course scene inv owner mode fits index (index + 1)
+    pub stays_next : Few recovery ask back 1 (index + 1)
+        → Course recovery index (index + 1)
         → FilledBut (IsWorn scene.terms.by (words_after ws ask)) mode p owner NoIndex (events ++ [])
-        → Becomes scene inv owner mode fits ask back [] room (recover_comes_to (first scene inv owner mode fits) (index + 1))
+        → Becomes recovery ask back [] room (recover_comes_to (first recovery) (index + 1))
     stays_next few course fill =
-        comes_to_next scene inv owner mode fits room stage here long ask back [] none_lengthens tt
-        (λ y owe. stays_does scene inv owner mode fits room stage here (words_after ws ask) stays y owe) index few
-        course.within
-        (λ i low. course_calm scene inv owner mode fits index (index + 1) i (index + 1) course low (omega arith)) paid stays_recs fill
+        comes_to_next recovery room stage here long ask back [] none_lengthens tt
+        (λ y owe. stays_does recovery room stage here (words_after ws ask) stays y owe) index few
+        course.within (λ i low. course_calm recovery index (index + 1) i (index + 1) course low (omega arith)) paid stays_recs fill
 
   pub just_on : HasJustFreed (all scene) → HasJustFreed (all scene ++ [])
   just_on h = subst HasJustFreed (sym (append-nil (all scene))) h
 
   -- ---- the exchange of a cell
 
-  module _ (room : buffers.Buffer 128) (index count : ℕ)
-      (here : Here scene inv owner mode fits room (recovers.EmptiesCell index count)) (long : IsLong room)
+  module _ (room : buffers.Buffer 128) (index count : ℕ) (here : Here recovery room (recovers.EmptiesCell index count)) (long : IsLong room)
       (stands : RecoverAt c z (all scene) (done scene) owner mode (recovers.EmptiesCell index count))
       (k : RecoverKnows code c owner mode room (recovers.EmptiesCell index count) (sees_now scene))
       (s : steps ≤ 4 + z + index * for_index c z mode + backs * for_back c z mode)
@@ -102,26 +98,23 @@ module _ {T : Type 0} (scene : Scene T) (inv : Inv scene) (owner : ℕ) (mode : 
     paid_now = let paid = k.0 in omega arith
 
     -- the cell has another owner by now, or none
-    misses : cell ws index ≢ owner → Becomes scene inv owner mode fits empty_it false [] room (recover_comes_to (first scene inv owner mode fits) (index + 1))
+    misses : cell ws index ≢ owner → Becomes recovery empty_it false [] room (recover_comes_to (first recovery) (index + 1))
     misses other =
         let same = fails_same ws (cell_word index) owner empty other in
         let wide = index_at_least c z mode in
         let stage = recovers.EmptiesCell index count in
         let stays = set_effects.stays_same (of_set scene) (inv_of_set scene inv) (words_after ws empty_it) same in
         let goes = (set_effects.quietly (of_set scene) (inv_of_set scene inv) (words_after ws empty_it) [] stays.leaves set_effects.quiet_none tt tt tt).goes in
-        comes_to_next scene inv owner mode fits room stage here long empty_it false [] none_lengthens tt
-        (λ y owe. stays_does scene inv owner mode fits room stage here (words_after ws empty_it) stays y owe) index
-        (omega arith) stands.0.within
-        (λ i low. course_calm scene inv owner mode fits index (index + 1) i (index + 1) stands.0 low (omega arith)) paid_now
-        (λ y. recs scene inv owner mode fits room stage here empty_it false y [] tt tt none_lengthens goes
+        comes_to_next recovery room stage here long empty_it false [] none_lengthens tt
+        (λ y owe. stays_does recovery room stage here (words_after ws empty_it) stays y owe) index (omega arith) stands.0.within
+        (λ i low. course_calm recovery index (index + 1) i (index + 1) stands.0 low (omega arith)) paid_now
+        (λ y. recs recovery room stage here empty_it false y [] tt tt none_lengthens goes
         (index + 1) (index + 1) (λ i. i ≡ index) none none none none k.1
-        (asked_on scene inv owner mode fits room stage here empty_it false y [] tt tt none_lengthens goes (index + 1) k.1.asked)
-        (told_none scene inv owner mode fits room stage here)
+        (asked_on recovery room stage here empty_it false y [] tt tt none_lengthens goes (index + 1) k.1.asked) (told_none recovery room stage here)
         (λ i e. inl (λ filled. other (inv.good.cells index stands.0.within
         ∙ ap cell_of
         (subst (λ n. filled_of n events ≡ Some owner) e (subst (λ es. filled_of i es ≡ Some owner) (append-nil events) filled)))))
-        (λ i e. absurd e) (hidden_still scene inv owner mode fits room stage here empty_it y k.1.hidden))
-        (fill_same scene inv owner mode fits empty_it same NoIndex f)
+        (λ i e. absurd e) (hidden_still recovery room stage here empty_it y k.1.hidden)) (fill_same recovery empty_it same NoIndex f)
 
     module _ (is : cell ws index ≡ owner) where
       new : words_after ws empty_it ≡ set ws (cell_word index) empty
@@ -131,8 +124,7 @@ module _ {T : Type 0} (scene : Scene T) (inv : Inv scene) (owner : ℕ) (mode : 
       stays_count =
           rest_set scene inv (Recover owner mode)
           (recover_at c owner mode room (recovers.EmptiesCell index count)) tt here
-          (then_at scene inv owner mode fits room (recovers.EmptiesCell index count) here room
-          (recovers.Hides index count) empty_it false)
+          (then_at recovery room (recovers.EmptiesCell index count) here room (recovers.Hides index count) empty_it false)
           (words_after ws empty_it) (cell_word index) empty (let below = stands.0.within in omega arith) new
           (count_word c index) (omega arith)
 
@@ -171,10 +163,10 @@ module _ {T : Type 0} (scene : Scene T) (inv : Inv scene) (owner : ℕ) (mode : 
           (StillStands code c index count (after scene (words_after ws empty_it) y freeing))
           (then_sees scene empty_it false scene.states y freeing)
       recs_freed y =
-          recs scene inv owner mode fits room (recovers.EmptiesCell index count) here empty_it false y
+          recs recovery room (recovers.EmptiesCell index count) here empty_it false y
           freeing (refl, tt) tt (λ start w. refl) set_does.goes (index + 1) (index + 1) (λ i. i ≡ index) none none
           none (StillStands code c index count (after scene (words_after ws empty_it) y freeing)) k.1
-          (asked_on scene inv owner mode fits room (recovers.EmptiesCell index count) here empty_it
+          (asked_on recovery room (recovers.EmptiesCell index count) here empty_it
           false y freeing (refl, tt) tt (λ start w. refl) set_does.goes (index + 1) k.1.asked)
           (λ i said. inl
           (⊎_elim (λ yes. ⊎_elim (λ had. inl had) (λ e. absurd (cc)) (was_one (Yes i owner) (Frees index owner) (all scene) yes))
@@ -197,7 +189,7 @@ module _ {T : Type 0} (scene : Scene T) (inv : Inv scene) (owner : ℕ) (mode : 
 
       fills_freed : (y : Party T) → FilledBut (IsWorn scene.terms.by (words_after ws empty_it)) mode p owner (λ i. i ≡ index) (events ++ freeing)
       fills_freed y =
-          fills_on scene inv owner mode fits room (recovers.EmptiesCell index count) here empty_it false
+          fills_on recovery room (recovers.EmptiesCell index count) here empty_it false
           y freeing (refl, tt) tt (λ start w. refl) set_does.goes NoIndex (λ i. i ≡ index)
           (λ i was. ⊎_elim (λ had. inl had) (λ e. let same : index ≡ i = cc in inr (sym same))
           (was_one (Frees i owner) (Frees index owner) (all scene) was))
@@ -214,25 +206,18 @@ module _ {T : Type 0} (scene : Scene T) (inv : Inv scene) (owner : ℕ) (mode : 
           (was_one (Frees j owner) (Frees index owner) (all scene) was))
 
       empties : (b : Bool) → is_even count ≡ b
-          → Leads scene (Recover owner mode) empty_it false scene.states freeing
-          (as_recover scene inv owner mode fits room
-          (if b then recover_raises (first scene inv owner mode fits) index else GoOn
-          (record (first scene inv owner mode fits) { stage = recovers.Hides index count })))
+          → Leads scene (Recover owner mode) empty_it false scene.states freeing (as_recover recovery room
+          (if b then recover_raises (first recovery) index else GoOn (record (first recovery) { stage = recovers.Hides index count })))
       empties true t =
-          let y =
-          then_at scene inv owner mode fits room (recovers.EmptiesCell index count) here room
-          (recovers.Raises index raises.LoadsCounter) empty_it false in
-          go_on scene inv owner mode fits room (recovers.EmptiesCell index count) here room
-          (recovers.Raises index raises.LoadsCounter) empty_it false freeing
+          let y = then_at recovery room (recovers.EmptiesCell index count) here room (recovers.Raises index raises.LoadsCounter) empty_it false in
+          go_on recovery room (recovers.EmptiesCell index count) here room (recovers.Raises index raises.LoadsCounter) empty_it false freeing
           (λ start w. refl) (does y refl)
           ((refl, ⊎_elim (λ yes. inl yes.0) (λ shown. inr shown) stands.1), tt) (omega arith)
           (course_freed, record { index = index; owner = owner; latest = record { before = all scene; is = refl } })
           (long, (paid_now, recs_empty t y refl), fills_freed y)
       empties false t =
-          let y =
-          then_at scene inv owner mode fits room (recovers.EmptiesCell index count) here room
-          (recovers.Hides index count) empty_it false in
-          go_on scene inv owner mode fits room (recovers.EmptiesCell index count) here room
+          let y = then_at recovery room (recovers.EmptiesCell index count) here room (recovers.Hides index count) empty_it false in
+          go_on recovery room (recovers.EmptiesCell index count) here room
           (recovers.Hides index count) empty_it false freeing (λ start w. refl) (does y refl)
           ((refl, ⊎_elim (λ yes. inl yes.0) (λ shown. inr shown) stands.1), tt) (omega arith)
           (course_freed, odd_is count t, record { before = all scene; is = refl }) (
@@ -250,22 +235,20 @@ module _ {T : Type 0} (scene : Scene T) (inv : Inv scene) (owner : ℕ) (mode : 
           )
 
     pub empties_step : StepOf scene (Recover owner mode) (recover_at c owner mode room (recovers.EmptiesCell index count))
-    empties_step = go (cell ws index == owner) refl
-      where
-        go : (b : Bool) → (cell ws index == owner) ≡ b
-            → Leads scene (Recover owner mode) (Some (exchanges (cell_word index) owner empty)) false scene.states
-            ((if b then FreedOf p index owner ∷ [] else []) ++ [])
-            (as_recover scene inv owner mode fits room
-            (if b then (if is_even count then recover_raises (first scene inv owner mode fits) index else GoOn
-            (record (first scene inv owner mode fits) { stage = recovers.Hides index count }))
-            else recover_comes_to (first scene inv owner mode fits) (index + 1)))
-        go true t = let is : cell ws index ≡ owner = grind (arith, nat_tests) in empties is (is_even count) refl
-        go false t = let other : cell ws index ≢ owner = grind (arith, nat_tests) in misses other
+    empties_step =
+        on_bool (λ b. Leads scene (Recover owner mode) (Some (exchanges (cell_word index) owner empty)) false scene.states
+        ((if b then FreedOf p index owner ∷ [] else []) ++ [])
+        (as_recover recovery room
+        (if b then (if is_even count then recover_raises (first recovery) index else GoOn
+        (record (first recovery) { stage = recovers.Hides index count }))
+        else recover_comes_to (first recovery) (index + 1))))
+        (cell ws index == owner)
+        (λ t. let is : cell ws index ≡ owner = grind (arith, nat_tests) in empties is (is_even count) refl)
+        (λ t. let other : cell ws index ≢ owner = grind (arith, nat_tests) in misses other)
 
   -- ---- what stands there is hidden
 
-  module _ (room : buffers.Buffer 128) (index count : ℕ)
-      (here : Here scene inv owner mode fits room (recovers.Hides index count)) (long : IsLong room)
+  module _ (room : buffers.Buffer 128) (index count : ℕ) (here : Here recovery room (recovers.Hides index count)) (long : IsLong room)
       (stands : RecoverAt c z (all scene) (done scene) owner mode (recovers.Hides index count))
       (k : RecoverKnows code c owner mode room (recovers.Hides index count) (sees_now scene))
       (s : steps ≤ 5 + z + index * for_index c z mode + backs * for_back c z mode)
@@ -289,62 +272,58 @@ module _ {T : Type 0} (scene : Scene T) (inv : Inv scene) (owner : ℕ) (mode : 
     just = record { index = index; owner = owner; latest = stands.2 }
 
     pub hides_step : StepOf scene (Recover owner mode) (recover_at c owner mode room (recovers.Hides index count))
-    hides_step = go (count_now == count) refl
-      where
-        go : (b : Bool) → (count_now == count) ≡ b
-            → Leads scene (Recover owner mode) (Some (exchanges (count_word c index) count (one_more count))) false
-            scene.states ((if b then Hidden p index ∷ [] else []) ++ [])
-            (as_recover scene inv owner mode fits room (recover_raises (first scene inv owner mode fits) index))
-        go true t =
-            let is : count_now ≡ count = grind (arith, nat_tests) in
-            let y = then_at scene inv owner mode fits room (recovers.Hides index count) here room next hide_it false in
-            let odd : count_now % 2 ≡ 1 = ap (λ n. n % 2) is ∙ stands.1 in
-            let does =
-            hides scene inv (Recover owner mode)
-            (recover_at c owner mode room (recovers.Hides index count)) tt here y
-            (words_after ws hide_it) index stands.0.within (hides_count scene inv index count stands.0.within is)
-            refl odd
-            (λ holds q ne o theirs fresh. both_ways (left_of index events) fresh (k.2.left holds is))
-            (was_well_formed scene (Recover owner mode) tt here.span (words_after ws hide_it) y hiding (refl, tt)) in
-            go_on scene inv owner mode fits room (recovers.Hides index count) here room next hide_it
-            false hiding (λ start w. refl) does (stands.2, tt) (omega arith) (
-              course_then c z (all scene) [] (done scene) (acts hiding) owner index (index + 1) index (index + 1)
-                  stands.0 stands.0.within (omega arith) tt tt
-                  (λ j was. inl (one_of_none (Frees j owner) (all scene) was)),
-              just_on just,
-            ) (
-              long,
-              (
-                paid_hide,
-                recs scene inv owner mode fits room (recovers.Hides index count) here hide_it false y
-                    hiding (refl, tt) tt (λ start w. refl) does.set.goes (index + 1) (index + 1) none none none
-                    (StillStands code c index count (before scene)) none k.1
-                    (asked_on scene inv owner mode fits room (recovers.Hides index count) here hide_it
-                    false y hiding (refl, tt) tt (λ start w. refl) does.set.goes (index + 1) k.1.asked)
-                    (λ i said. inl (⊎_elim (λ yes. inl (one_of_none (Yes i owner) (all scene) yes))
-                    (λ seen. ⊎_elim (λ had. inr had) (λ e. absurd (cc)) (was_act (Sees i) (HidesOne index) (done scene) seen))
-                    said))
-                    (λ i e. absurd e) (λ i e. absurd e)
-                    (hides_it scene (Recover owner mode) tt here.span owner (words_after ws hide_it) y index count k.1.hidden),
-              ),
-              fills_on scene inv owner mode fits room (recovers.Hides index count) here hide_it false y
-                  hiding (refl, tt) tt (λ start w. refl) does.set.goes (λ i. i ≡ index) (λ i. i ≡ index)
-                  (λ i was. inl (one_of_none (Frees i owner) (all scene) was)) (λ i e. e) f,
-            )
-        go false t =
-            let other : count_now ≢ count = grind (arith, nat_tests) in
-            let same = fails_same ws (count_word c index) count (one_more count) other in
-            calm_on scene inv owner mode fits room (recovers.Hides index count) here long hide_it same false paid_hide room next (omega arith)
-            (course_calm scene inv owner mode fits index (index + 1) index (index + 1) stands.0 stands.0.within (omega arith), just_on just) (
-              long,
-              (
-                paid_hide,
-                calm_recs scene inv owner mode fits room (recovers.Hides index count) here long hide_it same
-                    false paid_hide
-                    (then_at scene inv owner mode fits room (recovers.Hides index count) here room next hide_it false)
-                    (index + 1)
-                    (rehidden code c owner (index + 1) none (StillStands code c index count (before scene)) none
-                    (sees_now scene) k.1 (hidden_other code c p owner index count (before scene) other k.1.hidden)),
-              ),
-              fill_same scene inv owner mode fits hide_it same (λ i. i ≡ index) f,
-            )
+    hides_step =
+        on_bool (λ b. Leads scene (Recover owner mode) (Some (exchanges (count_word c index) count (one_more count))) false
+        scene.states ((if b then Hidden p index ∷ [] else []) ++ [])
+        (as_recover recovery room (recover_raises (first recovery) index)))
+        (count_now == count)
+        (λ t.
+        let is : count_now ≡ count = grind (arith, nat_tests) in
+        let y = then_at recovery room (recovers.Hides index count) here room next hide_it false in
+        let odd : count_now % 2 ≡ 1 = ap (λ n. n % 2) is ∙ stands.1 in
+        let does =
+        hides scene inv (Recover owner mode)
+        (recover_at c owner mode room (recovers.Hides index count)) tt here y
+        (words_after ws hide_it) index stands.0.within (hides_count scene inv index count stands.0.within is)
+        refl odd
+        (λ holds q ne o theirs fresh. both_ways (left_of index events) fresh (k.2.left holds is))
+        (was_well_formed scene (Recover owner mode) tt here.span (words_after ws hide_it) y hiding (refl, tt)) in
+        go_on recovery room (recovers.Hides index count) here room next hide_it
+        false hiding (λ start w. refl) does (stands.2, tt) (omega arith) (
+          course_then c z (all scene) [] (done scene) (acts hiding) owner index (index + 1) index (index + 1)
+              stands.0 stands.0.within (omega arith) tt tt
+              (λ j was. inl (one_of_none (Frees j owner) (all scene) was)),
+          just_on just,
+        ) (
+          long,
+          (
+            paid_hide,
+            recs recovery room (recovers.Hides index count) here hide_it false y
+                hiding (refl, tt) tt (λ start w. refl) does.set.goes (index + 1) (index + 1) none none none
+                (StillStands code c index count (before scene)) none k.1 (asked_on recovery room (recovers.Hides index count) here hide_it
+                false y hiding (refl, tt) tt (λ start w. refl) does.set.goes (index + 1) k.1.asked)
+                (λ i said. inl (⊎_elim (λ yes. inl (one_of_none (Yes i owner) (all scene) yes))
+                (λ seen. ⊎_elim (λ had. inr had) (λ e. absurd (cc)) (was_act (Sees i) (HidesOne index) (done scene) seen))
+                said))
+                (λ i e. absurd e) (λ i e. absurd e)
+                (hides_it scene (Recover owner mode) tt here.span owner (words_after ws hide_it) y index count k.1.hidden),
+          ),
+          fills_on recovery room (recovers.Hides index count) here hide_it false y
+              hiding (refl, tt) tt (λ start w. refl) does.set.goes (λ i. i ≡ index) (λ i. i ≡ index)
+              (λ i was. inl (one_of_none (Frees i owner) (all scene) was)) (λ i e. e) f,
+        ))
+        (λ t.
+        let other : count_now ≢ count = grind (arith, nat_tests) in
+        let same = fails_same ws (count_word c index) count (one_more count) other in
+        calm_on recovery room (recovers.Hides index count) here long hide_it same false paid_hide room next (omega arith)
+        (course_calm recovery index (index + 1) index (index + 1) stands.0 stands.0.within (omega arith), just_on just) (
+          long,
+          (
+            paid_hide,
+            calm_recs recovery room (recovers.Hides index count) here long hide_it same
+                false paid_hide (then_at recovery room (recovers.Hides index count) here room next hide_it false) (index + 1)
+                (rehidden code c owner (index + 1) none (StillStands code c index count (before scene)) none
+                (sees_now scene) k.1 (hidden_other code c p owner index count (before scene) other k.1.hidden)),
+          ),
+          fill_same recovery hide_it same (λ i. i ≡ index) f,
+        ))

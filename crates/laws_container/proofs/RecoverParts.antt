@@ -30,13 +30,23 @@ use Rattle.laws_container.proofs.Stages.{goes_on, was_well_formed, does_with}
 use Rattle.laws_container.proofs.CallProgress.{recover_at, recover_number, for_back, for_index, IsInCourse, RecoverAt}
 use Rattle.laws_container.proofs.Steps.{calm_none, right_none}
 use Rattle.laws_container.proofs.Turns.{owes}
+use Rattle.laws_robust.proofs.Cases.{on_bool}
 
 -- no index is exempt
 abbrev pub none : ℕ → Type 0
 none i = ⊥
 
-module _ {T : Type 0} (scene : Scene T) (inv : Inv scene) (owner : ℕ) (mode : ReleaseMode) (fits : owner < empty) where
-  open scene use {coding as code, capacity as c, party as p, steps as steps, events as events, latest as latest}
+-- a recovery by the party of the scene: whose elements it recovers, and in which mode
+pub record Recovery (T : Type 0) : Type 0 where
+  pub scene : Scene T
+  pub inv : Inv scene
+  pub owner : ℕ
+  pub mode : ReleaseMode
+  pub fits : owner < empty
+
+module _ {T : Type 0} (recovery : Recovery T) where
+  open recovery use {scene, inv, owner, mode, fits}
+  open recovery.scene use {coding as code, capacity as c, party as p, steps, events, latest}
 
   abbrev ws : List ℕ
   ws = scene.words
@@ -165,7 +175,7 @@ module _ {T : Type 0} (scene : Scene T) (inv : Inv scene) (owner : ℕ) (mode : 
     -- by events that tell and show nothing
     pub told_none : (i : ℕ) → IsOneOf (Yes i owner) (set_acts_of p events ++ []) ⊎ IsOneOf (Sees i) (acts_of p events ++ [])
         → (IsOneOf (Yes i owner) (set_acts_of p events) ⊎ WasShown p i events) ⊎ none i
-    told_none x0 x1 = grind (arith, inl, one_of_none, inr, has_of_none)
+    told_none = grind (arith, inl, one_of_none, inr, has_of_none)
 
     none_freed : (i : ℕ) → IsOneOf (Frees i owner) (set_acts_of p events ++ []) → IsOneOf (Frees i owner) (set_acts_of p events)
     none_freed i was = one_of_none (Frees i owner) (set_acts_of p events) was
@@ -186,25 +196,23 @@ module _ {T : Type 0} (scene : Scene T) (inv : Inv scene) (owner : ℕ) (mode : 
         (rec : (y : Party T) → Recovers code c owner (index + 1) none none (then_sees scene ask back scene.states y es))
         (fill : FilledBut (IsWorn scene.terms.by (words_after ws ask)) mode p owner NoIndex (events ++ es)) where
       pub comes_to_next : ShowsThen scene start ask back scene.states es (as_recover room (recover_comes_to first (index + 1)))
-      comes_to_next = go (nat_lt (index + 1) c) refl
-        where
-          go : (b : Bool) → nat_lt (index + 1) c ≡ b
-              → ShowsThen scene start ask back scene.states es
-              (as_recover room (GoOn
-              (record first { stage = if b then recovers.LoadsCell (index + 1) else recovers.LoadsCounterAgain })))
-          go true t =
-              let more : index + 1 < c = grind (arith, nat_tests) in
-              let y = then_at room (recovers.LoadsCell (index + 1)) ask back in
-              go_on room (recovers.LoadsCell (index + 1)) ask back es longer (does y refl) stands few
-              (course (index + 1) more) (long, (paid, rec y), fill)
-          go false t =
-              let last : c ≤ index + 1 = grind (arith, nat_tests) in
-              let is : index + 1 ≡ c = omega arith in
-              let times : (index + 1) * for_index c z mode ≡ c * for_index c z mode = ap (λ n. n * for_index c z mode) is in
-              let y = then_at room recovers.LoadsCounterAgain ask back in
-              go_on room recovers.LoadsCounterAgain ask back es longer (does y refl) stands
-              (omega arith) ((course index below).freed) (
-                long,
-                (paid, subst (λ n. Recovers code c owner n none none (then_sees scene ask back scene.states y es)) is (rec y)),
-                fill,
-              )
+      comes_to_next =
+          on_bool (λ b. ShowsThen scene start ask back scene.states es
+          (as_recover room (GoOn (record first { stage = if b then recovers.LoadsCell (index + 1) else recovers.LoadsCounterAgain }))))
+          (nat_lt (index + 1) c)
+          (λ t.
+          let more : index + 1 < c = grind (arith, nat_tests) in
+          let y = then_at room (recovers.LoadsCell (index + 1)) ask back in
+          go_on room (recovers.LoadsCell (index + 1)) ask back es longer (does y refl) stands few
+          (course (index + 1) more) (long, (paid, rec y), fill))
+          (λ t.
+          let last : c ≤ index + 1 = grind (arith, nat_tests) in
+          let is : index + 1 ≡ c = omega arith in
+          let times : (index + 1) * for_index c z mode ≡ c * for_index c z mode = ap (λ n. n * for_index c z mode) is in
+          let y = then_at room recovers.LoadsCounterAgain ask back in
+          go_on room recovers.LoadsCounterAgain ask back es longer (does y refl) stands
+          (omega arith) ((course index below).freed) (
+            long,
+            (paid, subst (λ n. Recovers code c owner n none none (then_sees scene ask back scene.states y es)) is (rec y)),
+            fill,
+          ))

@@ -3,7 +3,7 @@ use Rattle.laws_container.proofs.Names.{◌≡◌, ◌≢◌, ◌⊎◌, ⊎_eli
 use Rattle.laws_container.proofs.Names.{nat_lt, Bool, false, true, Option, Some, None, is_some, List, [], ◌∷◌, ◌++◌}
 use Rattle.laws_container.proofs.Names.{refl, sym, ap, subst, ◌∙◌, append-nil, arith, nat_tests, Ask, After, GoOn}
 use Rattle.laws_container.proofs.Names.{ReleaseState, RecoverStage, ReleaseMode, LockIfLastIndex, Default, count_word}
-use Rattle.laws_container.proofs.Names.{is_even, recover_comes_to, recover_ends, recover_sees, cell_word, empty}
+use Rattle.laws_container.proofs.Names.{is_even, recover_comes_to, recover_ends, recover_sees, cell_word}
 use Rattle.laws_container.proofs.Names.{locked, Event, Shown, Party, WasShown, Act, Sees, acts_of, seen_in}
 use Rattle.laws_container.proofs.Names.{contents_of, IsFilledWith, IsUnlocked, HeldThroughout, StillToFree}
 use Rattle.laws_container.proofs.Names.{SetAct, Frees, Asks, Yes, set_acts_of, IsOneOf, asked_in, words_after}
@@ -20,11 +20,11 @@ use Rattle.laws_container.proofs.Core.{count_at}
 use Rattle.laws_container.proofs.Finds.{has_last, nothing_stands}
 use Rattle.laws_container.proofs.HiddenKnows.{HasHidden}
 use Rattle.laws_container.proofs.HiddenOn.{hidden_on}
-use Rattle.laws_container.proofs.Invariant.{Scene, Inv, AreAllRight, before, of_set, inv_of_set}
+use Rattle.laws_container.proofs.Invariant.{AreAllRight, before, of_set, inv_of_set}
 use Rattle.model.proofs.Locks.{locked_later}
 use Rattle.laws_container.proofs.KeptLocks.{NoIndex, FilledBut, filled_none}
 use Rattle.laws_container.proofs.Knows.{WasFilled, Recovers, RecoverKnows, IsLong, Knows}
-use Rattle.laws_container.proofs.RecoverParts.{fill_same, none, hidden_still, as_recover, first, then_at, reads_does}
+use Rattle.laws_container.proofs.RecoverParts.{Recovery, fill_same, none, hidden_still, as_recover, first, then_at, reads_does}
 use Rattle.laws_container.proofs.RecoverParts.{go_on, recs, fills_on, asked_on, asked_more, told_none, comes_to_next}
 use Rattle.laws_container.proofs.Recoveries.{one_of_none, was_act, course_then}
 use Rattle.laws_container.proofs.Silent.{silent_set}
@@ -34,6 +34,7 @@ use Rattle.laws_container.proofs.Stages.{was_well_formed}
 use Rattle.laws_container.proofs.CallProgress.{recover_at, recover_number, for_back, for_index, AreBelow, IsInCourse, RecoverAt}
 use Rattle.laws_container.proofs.Turns.{count_in}
 use Rattle.laws_container.proofs.Writing.{even_is, odd_is}
+use Rattle.laws_robust.proofs.Cases.{on_bool}
 
 pub none_is : {T : Type 0} (o : Option T) → is_some o ≡ false → o ≡ None
 none_is None e = refl
@@ -47,8 +48,9 @@ pub index_at_least : (c z : ℕ) (mode : ReleaseMode) → z + 7 ≤ for_index c 
 index_at_least c z Default = omega arith
 index_at_least c z LockIfLastIndex = omega arith
 
-module _ {T : Type 0} (scene : Scene T) (inv : Inv scene) (owner : ℕ) (mode : ReleaseMode) (fits : owner < empty) where
-  open scene use {coding as code, capacity as c, party as p, steps as steps, backs as backs, events as events}
+module _ {T : Type 0} (recovery : Recovery T) where
+  open recovery use {scene, inv, owner, mode, fits}
+  open recovery.scene use {coding as code, capacity as c, party as p, steps, backs, events}
 
   abbrev ws : List ℕ
   ws = scene.words
@@ -65,13 +67,13 @@ module _ {T : Type 0} (scene : Scene T) (inv : Inv scene) (owner : ℕ) (mode : 
 
   abbrev pub Becomes : Option Ask → Bool → List (Event T) → buffers.Buffer 128 → After (recover_calls.Recover T (buffers.Buffer 128)) ReleaseState → Type 0
   Becomes ask back es room a =
-      ShowsThen scene (Recover owner mode) ask back scene.states es (as_recover scene inv owner mode fits room a)
+      ShowsThen scene (Recover owner mode) ask back scene.states es (as_recover recovery room a)
 
   abbrev pub Course : ℕ → ℕ → Type 0
   Course index bound = IsInCourse c z (all scene) (done scene) owner index bound
 
   right_none : (words' : List ℕ) (y : Party T) → AreAllRight scene words' y []
-  right_none x0 x1 = grind arith
+  right_none = grind arith
 
   -- its course, over a step that writes nothing
   pub course_calm : (index bound index' bound' : ℕ) → Course index bound → index' < c → bound ≤ bound'
@@ -90,11 +92,9 @@ module _ {T : Type 0} (scene : Scene T) (inv : Inv scene) (owner : ℕ) (mode : 
         → Recovers code c owner k none none (then_sees scene ask back scene.states y [])
     calm_recs y k h =
         let goes = (silent_set scene inv (words_after ws ask) same y [] tt tt).goes in
-        recs scene inv owner mode fits room stage here ask back y [] tt tt none_lengthens goes k k none none none
-        none none h
-        (asked_on scene inv owner mode fits room stage here ask back y [] tt tt none_lengthens goes k h.asked)
-        (told_none scene inv owner mode fits room stage here) (λ i e. absurd e) (λ i e. absurd e)
-        (hidden_still scene inv owner mode fits room stage here ask y h.hidden)
+        recs recovery room stage here ask back y [] tt tt none_lengthens goes k k none none none
+        none none h (asked_on recovery room stage here ask back y [] tt tt none_lengthens goes k h.asked)
+        (told_none recovery room stage here) (λ i e. absurd e) (λ i e. absurd e) (hidden_still recovery room stage here ask y h.hidden)
 
     calm_recs_more : (y : Party T) (k : ℕ) → Recovers code c owner k none none (sees_now scene)
         → (HeldThroughout p (StillToFree p owner k) (events ++ [])
@@ -102,22 +102,19 @@ module _ {T : Type 0} (scene : Scene T) (inv : Inv scene) (owner : ℕ) (mode : 
         → Recovers code c owner (k + 1) none none (then_sees scene ask back scene.states y [])
     calm_recs_more y k h now =
         let goes = (silent_set scene inv (words_after ws ask) same y [] tt tt).goes in
-        recs scene inv owner mode fits room stage here ask back y [] tt tt none_lengthens goes k (k + 1) none none
-        none none none h
-        (asked_more scene inv owner mode fits room stage here ask back y [] tt tt none_lengthens goes k h.asked now)
-        (told_none scene inv owner mode fits room stage here) (λ i e. absurd e) (λ i e. absurd e)
-        (hidden_still scene inv owner mode fits room stage here ask y h.hidden)
+        recs recovery room stage here ask back y [] tt tt none_lengthens goes k (k + 1) none none
+        none none none h (asked_more recovery room stage here ask back y [] tt tt none_lengthens goes k h.asked now)
+        (told_none recovery room stage here) (λ i e. absurd e) (λ i e. absurd e) (hidden_still recovery room stage here ask y h.hidden)
 
     pub calm_on : (room' : buffers.Buffer 128) (next : RecoverStage)
         → steps + step_count ask ≤ recover_number c z mode next (backs_then scene back)
         → RecoverAt c z (all scene ++ []) (done scene ++ []) owner mode next
         → Knows code c (recover_at c owner mode room' next)
-        (then_sees scene ask back scene.states (then_at scene inv owner mode fits room stage here room' next ask back) [])
+        (then_sees scene ask back scene.states (then_at recovery room stage here room' next ask back) [])
         → Goes ask back [] room' next
     calm_on room' next few at known =
-        let y = then_at scene inv owner mode fits room stage here room' next ask back in
-        go_on scene inv owner mode fits room stage here room' next ask back [] none_lengthens
-        (reads_does scene inv owner mode fits room stage here (words_after ws ask) same y [] tt tt
+        let y = then_at recovery room stage here room' next ask back in
+        go_on recovery room stage here room' next ask back [] none_lengthens (reads_does recovery room stage here (words_after ws ask) same y [] tt tt
         (right_none (words_after ws ask) y) refl)
         tt few at known
 
@@ -126,14 +123,14 @@ module _ {T : Type 0} (scene : Scene T) (inv : Inv scene) (owner : ℕ) (mode : 
         → Course index index ⊎ Course index (index + 1)
         → ((y : Party T) → Recovers code c owner (index + 1) none none (then_sees scene ask back scene.states y []))
         → FilledBut (IsWorn scene.terms.by ws) mode p owner NoIndex events
-        → Becomes ask back [] room (recover_comes_to (first scene inv owner mode fits) (index + 1))
+        → Becomes ask back [] room (recover_comes_to (first recovery) (index + 1))
     calm_next index few course rec f =
-        comes_to_next scene inv owner mode fits room stage here long ask back [] none_lengthens tt
-        (λ y owe. reads_does scene inv owner mode fits room stage here (words_after ws ask) same y [] tt tt (right_none (words_after ws ask) y) owe)
+        comes_to_next recovery room stage here long ask back [] none_lengthens tt
+        (λ y owe. reads_does recovery room stage here (words_after ws ask) same y [] tt tt (right_none (words_after ws ask) y) owe)
         index few (⊎_elim (λ h. h.within) (λ h. h.within) course)
         (λ i low. ⊎_elim (λ h. course_calm index index i (index + 1) h low (omega arith))
         (λ h. course_calm index (index + 1) i (index + 1) h low (omega arith)) course)
-        paid rec (fill_same scene inv owner mode fits ask same NoIndex f)
+        paid rec (fill_same recovery ask same NoIndex f)
 
   -- ---- the counter
 
@@ -148,18 +145,38 @@ module _ {T : Type 0} (scene : Scene T) (inv : Inv scene) (owner : ℕ) (mode : 
     nothing_freed holds i was = absurd (no_more was.before (Frees i owner) was.after (sym at.0 ∙ was.is))
 
     pub counter_step : StepOf scene (Recover owner mode) (recover_at c owner mode room recovers.LoadsCounter)
-    counter_step = go (counter_of ws == locked) refl
+    counter_step =
+        on_bool (λ b. Leads scene (Recover owner mode) (Some (set_stages.loads 0)) false scene.states []
+        (as_recover recovery room (if b then recover_ends (first recovery) states.Locked else recover_comes_to (first recovery) 0)))
+        (counter_of ws == locked)
+        (λ t.
+        let shut : counter_of ws ≡ locked = grind (arith, nat_tests) in
+        calm_on room recovers.LoadsCounter here long load_counter (loads_same ws 0) false paid_on
+        room (recovers.AddsChange states.Locked) (omega arith) tt (
+          long,
+          (
+            paid_on,
+            locked_later events [] (is_shut (of_set scene) (inv_of_set scene inv) shut),
+            hidden_still recovery room recovers.LoadsCounter here load_counter (then_at recovery room recovers.LoadsCounter here room
+                (recovers.AddsChange states.Locked) load_counter false)
+                nothing_freed,
+          ),
+          tt,
+        ))
+        (λ t.
+        let open_now : counter_of ws ≢ locked = grind (arith, nat_tests) in
+        next open_now (nat_lt 0 c) refl)
       where
         paid_on : backs_then scene false + since_then scene (Some (set_stages.loads 0)) ≤ changes_then scene (Some (set_stages.loads 0))
         paid_on = let paid = k.0 in omega arith
 
         next : counter_of ws ≢ locked → (b : Bool) → nat_lt 0 c ≡ b
-            → Becomes (Some (set_stages.loads 0)) false [] room (GoOn (record (first scene inv owner mode fits) {
+            → Becomes (Some (set_stages.loads 0)) false [] room (GoOn (record (first recovery) {
               stage = if b then recovers.LoadsCell 0 else recovers.LoadsCounterAgain;
             }))
         next open_now true t =
             let some = inv.good.some in
-            let y = then_at scene inv owner mode fits room recovers.LoadsCounter here room (recovers.LoadsCell 0) load_counter false in
+            let y = then_at recovery room recovers.LoadsCounter here room (recovers.LoadsCell 0) load_counter false in
             let now : Recovers code c owner 0 none none (sees_now scene) =
             record {
               dead = k.1;
@@ -178,34 +195,9 @@ module _ {T : Type 0} (scene : Scene T) (inv : Inv scene) (owner : ℕ) (mode : 
             }) (
               long,
               (paid_on, calm_recs room recovers.LoadsCounter here long load_counter (loads_same ws 0) false paid_on y 0 now),
-              fill_same scene inv owner mode fits load_counter (loads_same ws 0) NoIndex
-                  (filled_none p owner (IsWorn scene.terms.by ws) mode NoIndex events at.0),
+              fill_same recovery load_counter (loads_same ws 0) NoIndex (filled_none p owner (IsWorn scene.terms.by ws) mode NoIndex events at.0),
             )
         next open_now false t = let some = inv.good.some in let nothing : c ≤ 0 = grind (arith, nat_tests) in absurd (omega arith)
-
-        go : (b : Bool) → (counter_of ws == locked) ≡ b
-            → Leads scene (Recover owner mode) (Some (set_stages.loads 0)) false scene.states []
-            (as_recover scene inv owner mode fits room
-            (if b then recover_ends (first scene inv owner mode fits) states.Locked else recover_comes_to
-            (first scene inv owner mode fits) 0))
-        go true t =
-            let shut : counter_of ws ≡ locked = grind (arith, nat_tests) in
-            calm_on room recovers.LoadsCounter here long load_counter (loads_same ws 0) false paid_on
-            room (recovers.AddsChange states.Locked) (omega arith) tt (
-              long,
-              (
-                paid_on,
-                locked_later events [] (is_shut (of_set scene) (inv_of_set scene inv) shut),
-                hidden_still scene inv owner mode fits room recovers.LoadsCounter here load_counter
-                    (then_at scene inv owner mode fits room recovers.LoadsCounter here room
-                    (recovers.AddsChange states.Locked) load_counter false)
-                    nothing_freed,
-              ),
-              tt,
-            )
-        go false t =
-            let open_now : counter_of ws ≢ locked = grind (arith, nat_tests) in
-            next open_now (nat_lt 0 c) refl
 
   -- ---- a cell
 
@@ -222,41 +214,39 @@ module _ {T : Type 0} (scene : Scene T) (inv : Inv scene) (owner : ℕ) (mode : 
     -- an index of another owner is none to free
     not_to_free : cell ws index ≢ owner → HeldThroughout p (StillToFree p owner index) (events ++ [])
         → IsOneOf (Asks index owner) (set_acts_of p (events ++ [])) ⊎ WasShown p index (events ++ [])
-    not_to_free x0 x1 = grind (arith, append-nil, through_now)
+    not_to_free = grind (arith, append-nil, through_now)
 
     pub cell_step : StepOf scene (Recover owner mode) (recover_at c owner mode room (recovers.LoadsCell index))
-    cell_step = go (cell ws index == owner) refl
-      where
-        go : (b : Bool) → (cell ws index == owner) ≡ b → Leads scene (Recover owner mode) (Some (set_stages.loads (cell_word index))) false scene.states []
-            (as_recover scene inv owner mode fits room
-            (if b then GoOn (record (first scene inv owner mode fits) { stage = recovers.LoadsCount index })
-            else recover_comes_to (first scene inv owner mode fits) (index + 1)))
-        go true t =
-            let is : cell ws index ≡ owner = grind (arith, nat_tests) in
-            let y =
-            then_at scene inv owner mode fits room (recovers.LoadsCell index) here room
-            (recovers.LoadsCount index) load_cell false in
-            calm_on room (recovers.LoadsCell index) here long load_cell
-            (loads_same ws (cell_word index)) false paid_cell room (recovers.LoadsCount index)
-            (omega arith) (course_calm index index index index course course.within (omega arith)) (
-              long,
-              (
-                paid_cell,
-                calm_recs room (recovers.LoadsCell index) here long load_cell (loads_same ws (cell_word index)) false paid_cell y index k.1,
-                held_later p (IsFilledWith owner index) events [] tt
-                    (held_now p (IsFilledWith owner index) events
-                    (filled_by (of_set scene) (inv_of_set scene inv) index course.within owner fits is)),
-              ),
-              fill_same scene inv owner mode fits load_cell (loads_same ws (cell_word index)) NoIndex f,
-            )
-        go false t =
-            let other : cell ws index ≢ owner = grind (arith, nat_tests) in
-            let wide = index_at_least c z mode in
-            calm_next room (recovers.LoadsCell index) here long load_cell
-            (loads_same ws (cell_word index)) false paid_cell index (omega arith) (inl course)
-            (λ y. calm_recs_more room (recovers.LoadsCell index) here long load_cell
-            (loads_same ws (cell_word index)) false paid_cell y index k.1 (not_to_free other))
-            f
+    cell_step =
+        on_bool (λ b. Leads scene (Recover owner mode) (Some (set_stages.loads (cell_word index))) false scene.states []
+        (as_recover recovery room
+        (if b then GoOn (record (first recovery) { stage = recovers.LoadsCount index }) else recover_comes_to
+        (first recovery) (index + 1))))
+        (cell ws index == owner)
+        (λ t.
+        let is : cell ws index ≡ owner = grind (arith, nat_tests) in
+        let y = then_at recovery room (recovers.LoadsCell index) here room (recovers.LoadsCount index) load_cell false in
+        calm_on room (recovers.LoadsCell index) here long load_cell
+        (loads_same ws (cell_word index)) false paid_cell room (recovers.LoadsCount index)
+        (omega arith) (course_calm index index index index course course.within (omega arith)) (
+          long,
+          (
+            paid_cell,
+            calm_recs room (recovers.LoadsCell index) here long load_cell (loads_same ws (cell_word index)) false paid_cell y index k.1,
+            held_later p (IsFilledWith owner index) events [] tt
+                (held_now p (IsFilledWith owner index) events
+                (filled_by (of_set scene) (inv_of_set scene inv) index course.within owner fits is)),
+          ),
+          fill_same recovery load_cell (loads_same ws (cell_word index)) NoIndex f,
+        ))
+        (λ t.
+        let other : cell ws index ≢ owner = grind (arith, nat_tests) in
+        let wide = index_at_least c z mode in
+        calm_next room (recovers.LoadsCell index) here long load_cell
+        (loads_same ws (cell_word index)) false paid_cell index (omega arith) (inl course)
+        (λ y. calm_recs_more room (recovers.LoadsCell index) here long load_cell
+        (loads_same ws (cell_word index)) false paid_cell y index k.1 (not_to_free other))
+        f)
 
   -- ---- the number of an element, loaded or found at a check
 
@@ -279,13 +269,12 @@ module _ {T : Type 0} (scene : Scene T) (inv : Inv scene) (owner : ℕ) (mode : 
     -- nothing stands there
     is_shown : is_even number ≡ true → Goes ask back showing room (recovers.EmptiesCell index number)
     is_shown even =
-        let y = then_at scene inv owner mode fits room stage here room (recovers.EmptiesCell index number) ask back in
+        let y = then_at recovery room stage here room (recovers.EmptiesCell index number) ask back in
         let goes = (silent_set scene inv (words_after ws ask) same y showing (tt, tt) (refl, tt)).goes in
         let acts_then : acts_of p (events ++ showing) ≡ done scene ++ Sees index ∷ [] =
         acts_more scene (Recover owner mode) here.span showing (refl, tt) (λ start w. refl) in
-        go_on scene inv owner mode fits room stage here room (recovers.EmptiesCell index number) ask back showing (λ start w. refl)
-        (reads_does scene inv owner mode fits room stage here (words_after ws ask) same y showing (tt, tt) (refl, tt)
-        (record {
+        go_on recovery room stage here room (recovers.EmptiesCell index number) ask back showing (λ start w. refl)
+        (reads_does recovery room stage here (words_after ws ask) same y showing (tt, tt) (refl, tt) (record {
           asks = (tt, tt);
           recovers = (tt, tt);
           answers = (tt, tt);
@@ -308,10 +297,9 @@ module _ {T : Type 0} (scene : Scene T) (inv : Inv scene) (owner : ℕ) (mode : 
           long,
           (
             paid,
-            recs scene inv owner mode fits room stage here ask back y showing (refl, tt) tt (λ start w. refl) goes
+            recs recovery room stage here ask back y showing (refl, tt) tt (λ start w. refl) goes
                 index (index + 1) none (λ i. i ≡ index) (λ i. i ≡ index) none none rec
-                (asked_more scene inv owner mode fits room stage here ask back y showing (refl, tt) tt
-                (λ start w. refl) goes index rec.asked
+                (asked_more recovery room stage here ask back y showing (refl, tt) tt (λ start w. refl) goes index rec.asked
                 (λ through. inr (subst (IsOneOf (Sees index)) (sym acts_then) (has_last (Sees index) (done scene)))))
                 (λ i said. ⊎_elim (λ yes. inl (inl (one_of_none (Yes i owner) (all scene) yes)))
                 (λ seen. ⊎_elim (λ had. inl (inr had)) (λ e. let is : index ≡ i = cc in inr (sym is))
@@ -324,7 +312,7 @@ module _ {T : Type 0} (scene : Scene T) (inv : Inv scene) (owner : ℕ) (mode : 
             λ kept. let eq = same_number in omega arith,
             λ holds filled. inl same_number,
           ),
-          fills_on scene inv owner mode fits room stage here ask back y showing (refl, tt) tt (λ start w. refl) goes
+          fills_on recovery room stage here ask back y showing (refl, tt) tt (λ start w. refl) goes
               NoIndex NoIndex (λ i was. inl (one_of_none (Frees i owner) (all scene) was)) (λ i e. e) f,
         )
 
@@ -332,7 +320,7 @@ module _ {T : Type 0} (scene : Scene T) (inv : Inv scene) (owner : ℕ) (mode : 
     is_copied : is_even number ≡ false → Goes ask back [] room (recovers.LoadsWord index number 0)
     is_copied odd =
         let some = inv.elements.coded.some in
-        let y = then_at scene inv owner mode fits room stage here room (recovers.LoadsWord index number 0) ask back in
+        let y = then_at recovery room stage here room (recovers.LoadsWord index number 0) ask back in
         calm_on room stage here long ask same back paid room (recovers.LoadsWord index number 0)
         (omega arith)
         (course_calm index index index index course course.within (omega arith), odd_is number odd, omega arith) (
@@ -345,13 +333,12 @@ module _ {T : Type 0} (scene : Scene T) (inv : Inv scene) (owner : ℕ) (mode : 
                 long (odd_is number odd) (λ kept. let eq = same_number in omega arith),
             λ holds filled. inl same_number,
           ),
-          fill_same scene inv owner mode fits ask same NoIndex f,
+          fill_same recovery ask same NoIndex f,
         )
 
     -- its step, by the number
     pub sees_number : Leads scene (Recover owner mode) ask back scene.states
-        ((if is_even number then Shown p index ∷ [] else []) ++ [])
-        (as_recover scene inv owner mode fits room (recover_sees (first scene inv owner mode fits) index number))
+        ((if is_even number then Shown p index ∷ [] else []) ++ []) (as_recover recovery room (recover_sees (first recovery) index number))
     sees_number = grind (arith, is_shown, is_copied)
 
   pub count_step : (room : buffers.Buffer 128) (index : ℕ)

@@ -3,8 +3,8 @@ use Rattle.laws_container.proofs.Names.{◌≡◌, ◌≢◌, ⊎_elim, inl, inr
 use Rattle.laws_container.proofs.Names.{nat_lt, Bool, false, true, not, Option, Some, None, List, [], ◌∷◌, ◌++◌, set}
 use Rattle.laws_container.proofs.Names.{fold, refl, sym, ap, subst, ◌∙◌, append-nil, append_assoc, arith, nat_tests}
 use Rattle.laws_container.proofs.Names.{set-get_or, length-set, flat_map-append, fold-append, Ask, After, GoOn}
-use Rattle.laws_container.proofs.Names.{ReleaseState, RecoverStage, ReleaseMode, count_word, element_word, is_even}
-use Rattle.laws_container.proofs.Names.{recover_comes_to, recover_sees, empty, Event, Asked, Told, Copied, Shown}
+use Rattle.laws_container.proofs.Names.{ReleaseState, RecoverStage, count_word, element_word, is_even}
+use Rattle.laws_container.proofs.Names.{recover_comes_to, recover_sees, Event, Asked, Told, Copied, Shown}
 use Rattle.laws_container.proofs.Names.{Container, ContainerStart, Copies, Sees, act, acts, acts_of, IsFilledWith}
 use Rattle.laws_container.proofs.Names.{IsUnlocked, Frees, Asks, Yes, set_act, set_acts, set_acts_of, filled_after}
 use Rattle.laws_container.proofs.Names.{IsOneOf, asked_in, read_in, kept_at, Open, own_after, words_after, held_later}
@@ -19,10 +19,10 @@ use Rattle.laws_container.proofs.Copies.{copying_more, copied_value}
 use Rattle.laws_container.proofs.Core.{count_at}
 use Rattle.laws_container.proofs.HiddenKnows.{RecoverCovers}
 use Rattle.laws_container.proofs.HiddenOn.{hidden_on, covers_on}
-use Rattle.laws_container.proofs.Invariant.{Scene, Inv, before, after, wrote_of}
+use Rattle.laws_container.proofs.Invariant.{before, after, wrote_of}
 use Rattle.laws_container.proofs.KeptLocks.{NoIndex, FilledBut}
 use Rattle.laws_container.proofs.Knows.{WasFilled, Copying, CheckPaid, Recovers, RecoverKnows, IsLong}
-use Rattle.laws_container.proofs.RecoverParts.{fill_same, none, as_recover, first, then_at, reads_does}
+use Rattle.laws_container.proofs.RecoverParts.{Recovery, fill_same, none, as_recover, first, then_at, reads_does}
 use Rattle.laws_container.proofs.RecoverParts.{go_on, recs, fills_on, asked_on, asked_more}
 use Rattle.laws_container.proofs.Recoveries.{one_more_of, has_of_none, was_act, course_then}
 use Rattle.laws_container.proofs.Silent.{silent_set}
@@ -32,9 +32,11 @@ use Rattle.laws_container.proofs.Stages.{was_well_formed}
 use Rattle.laws_container.proofs.CallProgress.{recover_at, for_back, for_index, AreBelow, RecoverAt}
 use Rattle.laws_container.proofs.Turns.{count_in, datum_in}
 use Rattle.laws_container.proofs.RecoverReads.{back_at_least, calm_next, calm_on, calm_recs, course_calm, index_at_least, sees_number}
+use Rattle.laws_robust.proofs.Cases.{on_bool}
 
-module _ {T : Type 0} (scene : Scene T) (inv : Inv scene) (owner : ℕ) (mode : ReleaseMode) (fits : owner < empty) where
-  open scene use {coding as code, capacity as c, party as p, steps as steps, backs as backs, events as events, latest as latest}
+module _ {T : Type 0} (recovery : Recovery T) where
+  open recovery use {scene, inv, owner, mode}
+  open recovery.scene use {coding as code, capacity as c, party as p, steps, backs, events, latest}
 
   abbrev ws : List ℕ
   ws = scene.words
@@ -51,7 +53,7 @@ module _ {T : Type 0} (scene : Scene T) (inv : Inv scene) (owner : ℕ) (mode : 
 
   abbrev pub Becomes : Option Ask → Bool → List (Event T) → buffers.Buffer 128 → After (recover_calls.Recover T (buffers.Buffer 128)) ReleaseState → Type 0
   Becomes ask back es room a =
-      ShowsThen scene (Recover owner mode) ask back scene.states es (as_recover scene inv owner mode fits room a)
+      ShowsThen scene (Recover owner mode) ask back scene.states es (as_recover recovery room a)
 
   -- ---- a word of the element
 
@@ -79,32 +81,24 @@ module _ {T : Type 0} (scene : Scene T) (inv : Inv scene) (owner : ℕ) (mode : 
     long_word : IsLong room'
     long_word = length-set room.words at word ∙ long
 
-    -- what it knows of the copy and of the (number scene inv owner mode fits)
+    -- what it knows of the copy and of the (number recovery)
     knows_word : (next : RecoverStage) (n : ℕ) → n ≡ at + 1
         → CheckPaid code c index count
-        (then_sees scene load_word false scene.states
-        (then_at scene inv owner mode fits room (recovers.LoadsWord index count at) here room' next load_word false)
-        [])
+        (then_sees scene load_word false scene.states (then_at recovery room (recovers.LoadsWord index count at) here room' next load_word false) [])
         × Recovers code c owner index none none
-        (then_sees scene load_word false scene.states
-        (then_at scene inv owner mode fits room (recovers.LoadsWord index count at) here room' next load_word false)
-        [])
+        (then_sees scene load_word false scene.states (then_at recovery room (recovers.LoadsWord index count at) here room' next load_word false) [])
         × WasFilled owner index (then_sees scene load_word false scene.states
-        (then_at scene inv owner mode fits room (recovers.LoadsWord index count at) here room' next load_word false)
+        (then_at recovery room (recovers.LoadsWord index count at) here room' next load_word false)
         [])
         × Copying code c index count room'.words n
-        (then_sees scene load_word false scene.states
-        (then_at scene inv owner mode fits room (recovers.LoadsWord index count at) here room' next load_word false)
-        [])
+        (then_sees scene load_word false scene.states (then_at recovery room (recovers.LoadsWord index count at) here room' next load_word false) [])
         × RecoverCovers code c owner index count
-        (after scene (words_after ws load_word)
-        (then_at scene inv owner mode fits room (recovers.LoadsWord index count at) here room' next load_word false)
-        [])
+        (after scene (words_after ws load_word) (then_at recovery room (recovers.LoadsWord index count at) here room' next load_word false) [])
     knows_word next n is =
-        let y = then_at scene inv owner mode fits room (recovers.LoadsWord index count at) here room' next load_word false in
+        let y = then_at recovery room (recovers.LoadsWord index count at) here room' next load_word false in
         let v' = then_sees scene load_word false scene.states y [] in (
           ⊎_elim (λ h. let paid = h.1 in inl (ap (λ w. count_at c w index) same_words ∙ h.0, omega arith)) (λ h. inr (omega arith)) k.0,
-          (calm_recs scene inv owner mode fits) room (recovers.LoadsWord index count at) here long load_word same_words false paid_word y index k.1,
+          (calm_recs recovery) room (recovers.LoadsWord index count at) here long load_word same_words false paid_word y index k.1,
           held_later p (IsFilledWith owner index) events [] tt k.2,
           subst (λ m. Copying code c index count room'.words m v') (sym is)
               (copying_more code c (sees_now scene) v' index count room.words at stands.2 inv.elements.coded.few
@@ -115,34 +109,34 @@ module _ {T : Type 0} (scene : Scene T) (inv : Inv scene) (owner : ℕ) (mode : 
         )
 
     pub word_step : StepOf scene (Recover owner mode) (recover_at c owner mode room (recovers.LoadsWord index count at))
-    word_step = go (nat_lt (at + 1) z) refl
-      where
-        go : (b : Bool) → nat_lt (at + 1) z ≡ b → Leads scene (Recover owner mode) (Some (set_stages.loads (element_word c z index at))) false scene.states []
-            (as_recover scene inv owner mode fits room'
-            (if b then GoOn (record (first scene inv owner mode fits) { stage = recovers.LoadsWord index count (at + 1) })
-            else GoOn
-            (record (first scene inv owner mode fits) { stage = recovers.ChecksCount index count })))
-        go true t =
-            let more : at + 1 < z = grind (arith, nat_tests) in
-            (calm_on scene inv owner mode fits) room (recovers.LoadsWord index count at) here long load_word same_words false
-            paid_word room' (recovers.LoadsWord index count (at + 1)) (omega arith)
-            ((course_calm scene inv owner mode fits) index index index index stands.0 stands.0.within (omega arith), stands.1, more) (
-              long_word,
-              knows_word (recovers.LoadsWord index count (at + 1)) (at + 1) refl,
-              fill_same scene inv owner mode fits load_word same_words NoIndex f,
-            )
-        go false t =
-            let last : z ≤ at + 1 = grind (arith, nat_tests) in
-            let ats = stands.2 in
-            (calm_on scene inv owner mode fits) room (recovers.LoadsWord index count at) here long load_word same_words false
-            paid_word room' (recovers.ChecksCount index count) (omega arith)
-            ((course_calm scene inv owner mode fits) index index index index stands.0 stands.0.within (omega arith), stands.1) (
-              long_word,
-              knows_word (recovers.ChecksCount index count) z (omega arith),
-              fill_same scene inv owner mode fits load_word same_words NoIndex f,
-            )
+    word_step =
+        on_bool (λ b. Leads scene (Recover owner mode) (Some (set_stages.loads (element_word c z index at))) false
+        scene.states []
+        (as_recover recovery room'
+        (if b then GoOn (record (first recovery) { stage = recovers.LoadsWord index count (at + 1) }) else GoOn
+        (record (first recovery) { stage = recovers.ChecksCount index count }))))
+        (nat_lt (at + 1) z)
+        (λ t.
+        let more : at + 1 < z = grind (arith, nat_tests) in
+        (calm_on recovery) room (recovers.LoadsWord index count at) here long load_word same_words false
+        paid_word room' (recovers.LoadsWord index count (at + 1)) (omega arith)
+        ((course_calm recovery) index index index index stands.0 stands.0.within (omega arith), stands.1, more) (
+          long_word,
+          knows_word (recovers.LoadsWord index count (at + 1)) (at + 1) refl,
+          fill_same recovery load_word same_words NoIndex f,
+        ))
+        (λ t.
+        let last : z ≤ at + 1 = grind (arith, nat_tests) in
+        let ats = stands.2 in
+        (calm_on recovery) room (recovers.LoadsWord index count at) here long load_word same_words false
+        paid_word room' (recovers.ChecksCount index count) (omega arith)
+        ((course_calm recovery) index index index index stands.0 stands.0.within (omega arith), stands.1) (
+          long_word,
+          knows_word (recovers.ChecksCount index count) z (omega arith),
+          fill_same recovery load_word same_words NoIndex f,
+        ))
 
-  -- ---- its (number scene inv owner mode fits) is checked
+  -- ---- its (number recovery) is checked
 
   module _ (room : buffers.Buffer 128) (index count : ℕ)
       (here : Here room (recovers.ChecksCount index count)) (long : IsLong room)
@@ -165,7 +159,7 @@ module _ {T : Type 0} (scene : Scene T) (inv : Inv scene) (owner : ℕ) (mode : 
     asking_longer : (start : ContainerStart T) (w : List (Event T))
         → fold own_after (Open (Container start) w) (Copied p index value ∷ Asked p index owner ∷ [])
         ≡ Open (Container start) (w ++ Copied p index value ∷ Asked p index owner ∷ [])
-    asking_longer x0 x1 = grind (arith, append_assoc)
+    asking_longer = grind (arith, append_assoc)
 
     -- the copy is whole, and it asks
     asks : count_now ≡ count → Goes check_it false asking room (recovers.Asks index count)
@@ -173,9 +167,7 @@ module _ {T : Type 0} (scene : Scene T) (inv : Inv scene) (owner : ℕ) (mode : 
         let same : words_after ws check_it ≡ ws =
         exchange_sets ws (count_word c index) count count is
         ∙ (ap (set ws (count_word c index)) (sym is) ∙ set-get_or ws (count_word c index) 0) in
-        let y =
-        then_at scene inv owner mode fits room (recovers.ChecksCount index count) here room
-        (recovers.Asks index count) check_it false in
+        let y = then_at recovery room (recovers.ChecksCount index count) here room (recovers.Asks index count) check_it false in
         let goes = (silent_set scene inv (words_after ws check_it) same y asking (tt, (tt, tt)) (refl, (refl, tt))).goes in
         let set_acts_then : set_acts_of p (events ++ asking) ≡ all scene ++ Asks index owner ∷ [] =
         set_acts_more scene (Recover owner mode) here.span asking (refl, (refl, tt)) asking_longer in
@@ -185,10 +177,8 @@ module _ {T : Type 0} (scene : Scene T) (inv : Inv scene) (owner : ℕ) (mode : 
         flat_map-append act (wrote_of p events) (Copied p index value ∷ []) in
         let copy_set_acts : set_acts (wrote_of p events ++ Copied p index value ∷ []) ≡ all scene =
         flat_map-append set_act (wrote_of p events) (Copied p index value ∷ []) ∙ append-nil (all scene) in
-        go_on scene inv owner mode fits room (recovers.ChecksCount index count) here room
-        (recovers.Asks index count) check_it false asking asking_longer
-        (reads_does scene inv owner mode fits room (recovers.ChecksCount index count) here
-        (words_after ws check_it) same y asking (tt, (tt, tt)) (refl, (refl, tt))
+        go_on recovery room (recovers.ChecksCount index count) here room (recovers.Asks index count) check_it false asking asking_longer
+        (reads_does recovery room (recovers.ChecksCount index count) here (words_after ws check_it) same y asking (tt, (tt, tt)) (refl, (refl, tt))
         (record {
           asks = (
             tt,
@@ -231,9 +221,9 @@ module _ {T : Type 0} (scene : Scene T) (inv : Inv scene) (owner : ℕ) (mode : 
           long,
           (
             ⊎_elim (λ h. let paid = h.1 in omega arith) (λ h. omega arith) k.0,
-            recs scene inv owner mode fits room (recovers.ChecksCount index count) here check_it false y
+            recs recovery room (recovers.ChecksCount index count) here check_it false y
                 asking (refl, (refl, tt)) tt asking_longer goes index (index + 1) none none none none none k.1
-                (asked_more scene inv owner mode fits room (recovers.ChecksCount index count) here
+                (asked_more recovery room (recovers.ChecksCount index count) here
                 check_it false y asking (refl, (refl, tt)) tt asking_longer goes index k.1.asked
                 (λ through. inl (subst (IsOneOf (Asks index owner)) (sym set_acts_then) (last_one (Asks index owner) (all scene)))))
                 (λ i said. inl
@@ -252,28 +242,29 @@ module _ {T : Type 0} (scene : Scene T) (inv : Inv scene) (owner : ℕ) (mode : 
                 (refl, (refl, tt)) index count (ap (λ w. count_at c w index) same)
                 (fold-append (filled_after index) None events asking) k.4,
           ),
-          fills_on scene inv owner mode fits room (recovers.ChecksCount index count) here check_it false
+          fills_on recovery room (recovers.ChecksCount index count) here check_it false
               y asking (refl, (refl, tt)) tt asking_longer goes NoIndex NoIndex
               (λ i was. ⊎_elim (λ had. inl had) (λ e. absurd (cc)) (was_one (Frees i owner) (Asks index owner) (all scene) was))
               (λ i e. e) f,
         )
 
     pub check_step : StepOf scene (Recover owner mode) (recover_at c owner mode room (recovers.ChecksCount index count))
-    check_step = go (count_now == count) refl
-      where
-        go : (b : Bool) → (count_now == count) ≡ b → Leads scene (Recover owner mode) (Some (exchanges (count_word c index) count count)) (not b) scene.states
-            ((if b then Copied p index (read_in code room) ∷ [] else (if is_even count_now then Shown p index ∷ [] else []))
-            ++ (if b then Asked p index owner ∷ [] else []))
-            (as_recover scene inv owner mode fits room
-            (if b then GoOn (record (first scene inv owner mode fits) { stage = recovers.Asks index count })
-            else recover_sees (first scene inv owner mode fits) index count_now))
-        go true t = let is : count_now ≡ count = grind (arith, nat_tests) in asks is
-        go false t =
-            let other : count_now ≢ count = grind (arith, nat_tests) in
-            let wide = back_at_least c z mode in
-            (sees_number scene inv owner mode fits) room (recovers.ChecksCount index count) index here long stands.0 k.1 k.2
-            check_it (fails_same ws (count_word c index) count count other) true
-            (⊎_elim (λ h. absurd (other h.0)) (λ h. omega arith) k.0) (omega arith) f
+    check_step =
+        on_bool (λ b. Leads scene (Recover owner mode) (Some (exchanges (count_word c index) count count)) (not b)
+        scene.states
+        ((if b then Copied p index (read_in code room) ∷ [] else (if is_even count_now then Shown p index ∷ [] else []))
+        ++ (if b then Asked p index owner ∷ [] else []))
+        (as_recover recovery room
+        (if b then GoOn (record (first recovery) { stage = recovers.Asks index count }) else recover_sees
+        (first recovery) index count_now)))
+        (count_now == count)
+        (λ t. let is : count_now ≡ count = grind (arith, nat_tests) in asks is)
+        (λ t.
+        let other : count_now ≢ count = grind (arith, nat_tests) in
+        let wide = back_at_least c z mode in
+        (sees_number recovery) room (recovers.ChecksCount index count) index here long stands.0 k.1 k.2
+        check_it (fails_same ws (count_word c index) count count other) true
+        (⊎_elim (λ h. absurd (other h.0)) (λ h. omega arith) k.0) (omega arith) f)
 
   -- ---- it is told whether to free it
 
@@ -291,13 +282,10 @@ module _ {T : Type 0} (scene : Scene T) (inv : Inv scene) (owner : ℕ) (mode : 
 
     says_yes : Goes None false telling room (recovers.EmptiesCell index count)
     says_yes =
-        let y =
-        then_at scene inv owner mode fits room (recovers.Asks index count) here room
-        (recovers.EmptiesCell index count) None false in
+        let y = then_at recovery room (recovers.Asks index count) here room (recovers.EmptiesCell index count) None false in
         let goes = (silent_set scene inv ws refl y telling (tt, tt) (refl, tt)).goes in
-        go_on scene inv owner mode fits room (recovers.Asks index count) here room
-        (recovers.EmptiesCell index count) None false telling (λ start w. refl)
-        (reads_does scene inv owner mode fits room (recovers.Asks index count) here ws refl y telling (tt, tt) (refl, tt)
+        go_on recovery room (recovers.Asks index count) here room (recovers.EmptiesCell index count) None false telling (λ start w. refl)
+        (reads_does recovery room (recovers.Asks index count) here ws refl y telling (tt, tt) (refl, tt)
         (record { asks = (k.1.dead, tt); recovers = (tt, tt); answers = (tt, tt); contains = λ holds. (tt, tt); places = λ holds. (tt, tt) }) refl)
         ((refl, stands.2), tt) (omega arith) (
           course_then c z (all scene) (Yes index owner ∷ []) (done scene) [] owner index (index + 1) index
@@ -312,10 +300,9 @@ module _ {T : Type 0} (scene : Scene T) (inv : Inv scene) (owner : ℕ) (mode : 
           long,
           (
             paid_now,
-            recs scene inv owner mode fits room (recovers.Asks index count) here None false y telling
+            recs recovery room (recovers.Asks index count) here None false y telling
                 (refl, tt) tt (λ start w. refl) goes (index + 1) (index + 1) none (λ i. i ≡ index) (λ i. i ≡ index) none
-                none k.1
-                (asked_on scene inv owner mode fits room (recovers.Asks index count) here None false y
+                none k.1 (asked_on recovery room (recovers.Asks index count) here None false y
                 telling (refl, tt) tt (λ start w. refl) goes (index + 1) k.1.asked)
                 (λ i said. ⊎_elim (λ yes. ⊎_elim (λ had. inl (inl had)) (λ e. let is : index ≡ i = cc in inr (sym is))
                 (was_one (Yes i owner) (Yes index owner) (all scene) yes))
@@ -330,17 +317,16 @@ module _ {T : Type 0} (scene : Scene T) (inv : Inv scene) (owner : ℕ) (mode : 
             covers_on scene (Recover owner mode) tt here.span owner ws y telling (refl, tt) index count refl
                 (fold-append (filled_after index) None events telling) k.5,
           ),
-          fills_on scene inv owner mode fits room (recovers.Asks index count) here None false y telling
-              (refl, tt) tt (λ start w. refl) goes NoIndex NoIndex
+          fills_on recovery room (recovers.Asks index count) here None false y telling (refl, tt) tt (λ start w. refl) goes NoIndex NoIndex
               (λ i was. ⊎_elim (λ had. inl had) (λ e. absurd (cc)) (was_one (Frees i owner) (Yes index owner) (all scene) was))
               (λ i e. e) f,
         )
 
-    says_no : Becomes None false [] room (recover_comes_to (first scene inv owner mode fits) (index + 1))
+    says_no : Becomes None false [] room (recover_comes_to (first recovery) (index + 1))
     says_no =
         let wide = index_at_least c z mode in
-        (calm_next scene inv owner mode fits) room (recovers.Asks index count) here long None refl false paid_now index (omega arith) (inr stands.0)
-        (λ y. (calm_recs scene inv owner mode fits) room (recovers.Asks index count) here long None refl false paid_now y (index + 1) k.1) f
+        (calm_next recovery) room (recovers.Asks index count) here long None refl false paid_now index (omega arith) (inr stands.0)
+        (λ y. (calm_recs recovery) room (recovers.Asks index count) here long None refl false paid_now y (index + 1) k.1) f
 
     pub decided : (answer : ℕ) → AnswerOf scene (Recover owner mode) (recover_at c owner mode room (recovers.Asks index count)) None answer
-    decided x0 = grind (arith, says_yes, says_no)
+    decided = grind (arith, says_yes, says_no)

@@ -14,7 +14,7 @@ use Rattle.laws_container.proofs.CallProgress.{AreBelow, AskedOrShown, IsInCours
 -- ---- what it has done
 
 pub one_more_of : (one : SetAct) (all more : List SetAct) → IsOneOf one all → IsOneOf one (all ++ more)
-one_more_of x0 x1 x2 x3 = grind (arith, append_assoc)
+one_more_of = grind (arith, append_assoc)
 
 -- nothing was done besides
 pub one_of_none : (one : SetAct) (all : List SetAct) → IsOneOf one (all ++ []) → IsOneOf one all
@@ -100,12 +100,12 @@ module _ {T : Type 0} (code : Coding T) (c owner : ℕ) (v : View T) (words' : L
       → (HeldThroughout v.party (StillToFree v.party owner k) (v.events ++ es)
       → IsOneOf (Asks k owner) (set_acts_of v.party (v.events ++ es)) ⊎ WasShown v.party k (v.events ++ es))
       → AskedBelow code c owner (k + 1) then_view
-  asked_next x0 x1 x2 x3 x4 x5 = grind (arith, asked_then, cases_eq)
+  asked_next = grind (arith, asked_then, cases_eq)
 
   pub gone_then : (Was Now New : ℕ → Type 0) → IsGone owner v → GoneBut code c owner Was v → SplitsTold New
       → ((i : ℕ) → Was i → (filled_of i (v.events ++ es) ≢ Some owner) ⊎ Now i)
       → ((i : ℕ) → New i → (filled_of i (v.events ++ es) ≢ Some owner) ⊎ Now i) → GoneBut code c owner Now then_view
-  gone_then x0 x1 x2 x3 x4 x5 x6 x7 x8 x9 x10 = grind (arith, inl, stays_lost, honest_less, inr)
+  gone_then = grind (arith, inl, stays_lost, honest_less, inr)
 
   pub recovers_then : (k k' : ℕ) (Was Now New But But' : ℕ → Type 0) → Recovers code c owner k Was But v
       → AskedBelow code c owner k' then_view → SplitsTold New
@@ -125,4 +125,4 @@ module _ {T : Type 0} (code : Coding T) (c owner : ℕ) (v : View T) (words' : L
 pub rehidden : {T : Type 0} (code : Coding T) (c owner k : ℕ) (Now But But' : ℕ → Type 0) (v : View T)
     → Recovers code c owner k Now But v → HasHidden code c v.party owner But' (now v)
     → Recovers code c owner k Now But' v
-rehidden x0 x1 x2 x3 x4 x5 x6 x7 x8 x9 = grind arith
+rehidden = grind arith

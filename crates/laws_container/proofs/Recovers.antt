@@ -2,7 +2,7 @@
 use Rattle.laws_container.proofs.Names.{◌≡◌, ⊎_elim, inl, inr, ℕ, ◌+◌, ◌*◌, ◌<◌, ◌≤◌, Bool, false, Option, Some, None}
 use Rattle.laws_container.proofs.Names.{is_some, List, [], ◌∷◌, ◌++◌, set, refl, sym, ap, subst, append-nil, arith}
 use Rattle.laws_container.proofs.Names.{fold-append, Ask, After, RecoverStage, ReleaseMode, LockIfLastIndex, Default}
-use Rattle.laws_container.proofs.Names.{ReleaseState, Lock, Raise, recover_raised, recover_locked, empty, locked}
+use Rattle.laws_container.proofs.Names.{ReleaseState, Lock, Raise, recover_raised, recover_locked, locked}
 use Rattle.laws_container.proofs.Names.{greatest, first_lock, raise_after, raise_goes_back, lock_after}
 use Rattle.laws_container.proofs.Names.{lock_goes_back, Event, Locked, Container, most_steps, promise, Sees}
 use Rattle.laws_container.proofs.Names.{locked_after, IsFilled, Frees, Yes, Locks, holder_of, set_acts_of}
@@ -21,11 +21,12 @@ use Rattle.laws_robust.proofs.Knows as set_knows
 use Rattle.laws_robust.proofs.Locks as set_locks
 use Rattle.laws_robust.proofs.Stages as set_stages
 use Rattle.laws_container.proofs.HiddenOn.{hidden_on}
-use Rattle.laws_container.proofs.Invariant.{Scene, Inv, of_set, inv_of_set, wrote_of}
+use Rattle.laws_container.proofs.Invariant.{of_set, inv_of_set, wrote_of}
 use Rattle.model.proofs.Locks.{locked_later}
 use Rattle.laws_container.proofs.KeptLocks.{NoIndex, FilledBut, FoundFilled, filled_locked, filled_worn, filled_last}
 use Rattle.laws_container.proofs.Knows.{RecoverKnows, IsLong}
-use Rattle.laws_container.proofs.RecoverParts.{fill_same, fill_stays, none, hidden_still, as_recover, first, Few, then_at, recs, asked_on, comes_to_next}
+use Rattle.laws_container.proofs.RecoverParts.{Recovery, fill_same, fill_stays, none, hidden_still, as_recover, first}
+use Rattle.laws_container.proofs.RecoverParts.{Few, then_at, recs, asked_on, comes_to_next}
 use Rattle.laws_container.proofs.RecoverEnds.{stays_recs, stays_on, stays_next, just_on}
 use Rattle.laws_container.proofs.RecoverReads.{Here, Course, course_calm, back_at_least}
 use Rattle.laws_container.proofs.RecoverReads.{index_at_least}
@@ -37,10 +38,11 @@ use Rattle.laws_container.proofs.CallProgress.{recover_at, for_back, for_index}
 
 pub most_is : (c z : ℕ) (owner backs : ℕ) (T : Type 0) (mode : ReleaseMode)
     → 3 + c * for_index c z mode + backs * for_back c z mode ≡ most_steps {T = T} c z (Recover owner mode) backs
-most_is x0 x1 x2 x3 x4 x5 = grind arith
+most_is = grind arith
 
-module _ {T : Type 0} (scene : Scene T) (inv : Inv scene) (owner : ℕ) (mode : ReleaseMode) (fits : owner < empty) where
-  open scene use {coding as code, capacity as c, party as p, steps as steps, backs as backs, events as events}
+module _ {T : Type 0} (recovery : Recovery T) where
+  open recovery use {scene, inv, owner, mode}
+  open recovery.scene use {coding as code, capacity as c, party as p, steps, backs, events}
 
   abbrev ws : List ℕ
   ws = scene.words
@@ -50,16 +52,14 @@ module _ {T : Type 0} (scene : Scene T) (inv : Inv scene) (owner : ℕ) (mode : 
 
   -- ---- the raise of the counter
 
-  module _ (room : buffers.Buffer 128) (index : ℕ) (raise : Raise)
-      (here : Here scene inv owner mode fits room (recovers.Raises index raise)) (long : IsLong room)
-      (course : Course scene inv owner mode fits index (index + 1)) (just : HasJustFreed (all scene))
+  module _ (room : buffers.Buffer 128) (index : ℕ) (raise : Raise) (here : Here recovery room (recovers.Raises index raise)) (long : IsLong room)
+      (course : Course recovery index (index + 1)) (just : HasJustFreed (all scene))
       (k : RecoverKnows code c owner mode room (recovers.Raises index raise) (sees_now scene))
       (s : steps ≤ 6 + z + raise_number raise + index * for_index c z mode + backs * for_back c z mode)
       (f : FilledBut (IsWorn scene.terms.by ws) mode p owner (λ i. i ≡ index) events) where
     abbrev raises_to : Option Ask → Bool → After Raise ReleaseState → Type 0
     raises_to ask back r =
-        Leads scene (Recover owner mode) ask back scene.states []
-        (as_recover scene inv owner mode fits room (recover_raised (first scene inv owner mode fits) index mode r))
+        Leads scene (Recover owner mode) ask back scene.states [] (as_recover recovery room (recover_raised (first recovery) index mode r))
 
     abbrev this : RecoverStage
     this = recovers.Raises index raise
@@ -68,25 +68,24 @@ module _ {T : Type 0} (scene : Scene T) (inv : Inv scene) (owner : ℕ) (mode : 
     by_mode : (m : ReleaseMode) → mode ≡ m → (ask : Option Ask) (back : Bool)
         → set_effects.Stays (of_set scene) (words_after ws ask)
         → backs_then scene back + since_then scene ask ≤ changes_then scene ask
-        → Few scene inv owner mode fits ask back (8 + z) index
-        → Leads scene (Recover owner mode) ask back scene.states []
-        (as_recover scene inv owner mode fits room
-        (recover_raised (first scene inv owner mode fits) index m (Done states.Unlocked)))
+        → Few recovery ask back (8 + z) index
+        → Leads scene (Recover owner mode) ask back scene.states [] (as_recover recovery room
+        (recover_raised (first recovery) index m (Done states.Unlocked)))
     by_mode Default is ask back stays paid few =
         let wide = index_at_least c z mode in
-        stays_next scene inv owner mode fits room this here long ask back stays paid index k.1 (omega arith) course
+        stays_next recovery room this here long ask back stays paid index k.1 (omega arith) course
         (subst (λ m. FilledBut (IsWorn scene.terms.by (words_after ws ask)) m p owner NoIndex (events ++ [])) (sym is) tt)
     by_mode LockIfLastIndex is ask back stays paid few =
-        let y = then_at scene inv owner mode fits room this here room (recovers.Locks index first_lock) ask back in
-        stays_on scene inv owner mode fits room this here long ask back stays paid index k.1 (recovers.Locks index first_lock) (omega arith) (
-          course_calm scene inv owner mode fits index (index + 1) index (index + 1) course course.within (omega arith),
-          just_on scene inv owner mode fits just,
+        let y = then_at recovery room this here room (recovers.Locks index first_lock) ask back in
+        stays_on recovery room this here long ask back stays paid index k.1 (recovers.Locks index first_lock) (omega arith) (
+          course_calm recovery index (index + 1) index (index + 1) course course.within (omega arith),
+          just_on recovery just,
           is,
           tt,
         ) (
           long,
-          (paid, stays_recs scene inv owner mode fits room this here long ask back stays paid index k.1 y, tt),
-          (fill_stays scene inv owner mode fits ask stays (λ i. i ≡ index) f, tt),
+          (paid, stays_recs recovery room this here long ask back stays paid index k.1 y, tt),
+          (fill_stays recovery ask stays (λ i. i ≡ index) f, tt),
         )
 
     pub raises_step : raises_to (Some (raise_ask raise)) (raise_goes_back raise (counter_of ws)) (raise_after raise (counter_of ws))
@@ -97,32 +96,27 @@ module _ {T : Type 0} (scene : Scene T) (inv : Inv scene) (owner : ℕ) (mode : 
         let low = few (6 + z + index * for_index c z mode) (for_back c z mode) (omega arith) (omega arith) in
         let stays = set_effects.stays_same (of_set scene) (inv_of_set scene inv) (words_after ws ask) same in
         let paid = held_is ask back number held in
-        let y =
-        then_at scene inv owner mode fits room this here room
-        (recovers.Raises index (raises.ExchangesCounter number)) ask back in
-        stays_on scene inv owner mode fits room this here long ask back stays paid index k.1
-        (recovers.Raises index (raises.ExchangesCounter number)) (omega arith)
-        (course_calm scene inv owner mode fits index (index + 1) index (index + 1) course course.within (omega arith), just_on scene inv owner mode fits just) (
+        let y = then_at recovery room this here room (recovers.Raises index (raises.ExchangesCounter number)) ask back in
+        stays_on recovery room this here long ask back stays paid index k.1 (recovers.Raises index (raises.ExchangesCounter number)) (omega arith)
+        (course_calm recovery index (index + 1) index (index + 1) course course.within (omega arith), just_on recovery just) (
           long,
           (
             subst (λ es. set_knows.Holding number (set_stages.seen (of_set scene) ask back es)) (sym (append-nil events)) held,
-            stays_recs scene inv owner mode fits room this here long ask back stays paid index k.1 y,
+            stays_recs recovery room this here long ask back stays paid index k.1 y,
           ),
-          fill_stays scene inv owner mode fits ask stays (λ i. i ≡ index) f,
+          fill_stays recovery ask stays (λ i. i ≡ index) f,
         ))
         (λ ask back same shut paid few.
         let low = few (6 + z + index * for_index c z mode) (for_back c z mode) (omega arith) (omega arith) in
         let wide = index_at_least c z mode in
         let times = times_below c index (for_index c z mode) course.within in
         let stays = set_effects.stays_same (of_set scene) (inv_of_set scene inv) (words_after ws ask) same in
-        stays_on scene inv owner mode fits room this here long ask back stays paid index k.1
-        (recovers.AddsChange states.Locked) (omega arith) tt (
+        stays_on recovery room this here long ask back stays paid index k.1 (recovers.AddsChange states.Locked) (omega arith) tt (
           long,
           (
             paid,
             locked_later events [] (is_shut (of_set scene) (inv_of_set scene inv) shut),
-            hidden_still scene inv owner mode fits room this here ask
-                (then_at scene inv owner mode fits room this here room (recovers.AddsChange states.Locked) ask back)
+            hidden_still recovery room this here ask (then_at recovery room this here room (recovers.AddsChange states.Locked) ask back)
                 k.1.hidden,
           ),
           tt,
@@ -137,22 +131,19 @@ module _ {T : Type 0} (scene : Scene T) (inv : Inv scene) (owner : ℕ) (mode : 
         held_is : (ask : Option Ask) (back : Bool) (number : ℕ)
             → set_knows.Holding number (set_stages.sees (of_set scene) ask back)
             → backs_then scene back + since_then scene ask ≤ changes_then scene ask
-        held_is x0 x1 x2 x3 = grind arith
+        held_is = grind arith
 
   -- ---- the lock
 
-  module _ (room : buffers.Buffer 128) (index : ℕ) (lock : Lock)
-      (here : Here scene inv owner mode fits room (recovers.Locks index lock)) (long : IsLong room)
-      (course : Course scene inv owner mode fits index (index + 1)) (just : HasJustFreed (all scene))
-      (may_lock : mode ≡ LockIfLastIndex) (at : LockAt c lock)
+  module _ (room : buffers.Buffer 128) (index : ℕ) (lock : Lock) (here : Here recovery room (recovers.Locks index lock)) (long : IsLong room)
+      (course : Course recovery index (index + 1)) (just : HasJustFreed (all scene)) (may_lock : mode ≡ LockIfLastIndex) (at : LockAt c lock)
       (k : RecoverKnows code c owner mode room (recovers.Locks index lock) (sees_now scene))
       (s : steps ≤ 8 + z + lock_number c lock + index * for_index c z mode + backs * for_back c z mode)
       (f : FilledBut (IsWorn scene.terms.by ws) mode p owner (λ i. i ≡ index) events
       × set_knows.LockSays c (FoundFilled p events) lock) where
     abbrev locks_to : Option Ask → Bool → List (Event T) → After Lock ReleaseState → Type 0
     locks_to ask back did r =
-        Leads scene (Recover owner mode) ask back scene.states (did ++ [])
-        (as_recover scene inv owner mode fits room (recover_locked (first scene inv owner mode fits) index r))
+        Leads scene (Recover owner mode) ask back scene.states (did ++ []) (as_recover recovery room (recover_locked (first recovery) index r))
 
     abbrev locks_at : RecoverStage
     locks_at = recovers.Locks index lock
@@ -184,11 +175,11 @@ module _ {T : Type 0} (scene : Scene T) (inv : Inv scene) (owner : ℕ) (mode : 
     locks_set : (ask : Option Ask) → (IsCalm scene.terms.by events → (i : ℕ) → holder_of i events ≡ None)
         → counter_of ws < greatest → words_after ws ask ≡ set ws 0 locked
         → backs_then scene false + since_then scene ask ≤ changes_then scene ask
-        → Few scene inv owner mode fits ask false 1 (index + 1)
+        → Few recovery ask false 1 (index + 1)
         → locks_to ask false locking (Done states.Locked)
     locks_set ask nobody less new paid few =
         let set_does = set_locks.locks (of_set scene) (inv_of_set scene inv) (words_after ws ask) [] set_effects.quiet_none tt tt tt nobody less new in
-        comes_to_next scene inv owner mode fits room locks_at here long ask false locking (λ start w. refl)
+        comes_to_next recovery room locks_at here long ask false locking (λ start w. refl)
         (subst (λ m. AllFollow (Stands promise c) (Open (Container (Recover owner m)) (wrote_of p events)) locking) (sym may_lock) (just, tt))
         (λ y owe.
         locks scene inv (Recover owner mode) (recover_at c owner mode room locks_at) tt here y (words_after ws ask)
@@ -201,10 +192,9 @@ module _ {T : Type 0} (scene : Scene T) (inv : Inv scene) (owner : ℕ) (mode : 
         (λ i low. course_then c z (all scene) (Locks ∷ []) (done scene) [] owner index (index + 1) i (index + 1)
         course low (omega arith) tt tt
         (λ j was. ⊎_elim (λ had. inl had) (λ e. absurd (cc)) (was_one (Frees j owner) Locks (all scene) was)))
-        paid
-        (λ y. recs scene inv owner mode fits room locks_at here ask false y locking (refl, tt) tt (λ start w. refl)
+        paid (λ y. recs recovery room locks_at here ask false y locking (refl, tt) tt (λ start w. refl)
         set_does.goes (index + 1) (index + 1) none none none none none k.1
-        (asked_on scene inv owner mode fits room locks_at here ask false y locking (refl, tt) tt (λ start w. refl) set_does.goes (index + 1) k.1.asked)
+        (asked_on recovery room locks_at here ask false y locking (refl, tt) tt (λ start w. refl) set_does.goes (index + 1) k.1.asked)
         (λ i said. inl (⊎_elim (λ yes. ⊎_elim (λ had. inl had) (λ e. absurd (cc)) (was_one (Yes i owner) Locks (all scene) yes))
         (λ seen. inr (has_of_none (Sees i) (done scene) seen)) said))
         (λ i e. absurd e) (λ i e. absurd e)
@@ -223,40 +213,37 @@ module _ {T : Type 0} (scene : Scene T) (inv : Inv scene) (owner : ℕ) (mode : 
         (λ next ask back stays next_at held scanned says few.
         let low = few (8 + z + index * for_index c z mode) (for_back c z mode) (omega arith) (omega arith) in
         let paid = lock_paid next ask back held in
-        let y = then_at scene inv owner mode fits room locks_at here room (recovers.Locks index next) ask back in
-        stays_on scene inv owner mode fits room locks_at here long ask back stays paid index k.1 (recovers.Locks index next) (omega arith) (
-          course_calm scene inv owner mode fits index (index + 1) index (index + 1) course course.within (omega arith),
-          just_on scene inv owner mode fits just,
+        let y = then_at recovery room locks_at here room (recovers.Locks index next) ask back in
+        stays_on recovery room locks_at here long ask back stays paid index k.1 (recovers.Locks index next) (omega arith) (
+          course_calm recovery index (index + 1) index (index + 1) course course.within (omega arith),
+          just_on recovery just,
           may_lock,
           next_at,
         ) (
           long,
           (
             paid_calm next ask back held,
-            stays_recs scene inv owner mode fits room locks_at here long ask back stays paid index k.1 y,
+            stays_recs recovery room locks_at here long ask back stays paid index k.1 y,
             scanned_calm next ask back scanned,
           ),
           (
-            fill_stays scene inv owner mode fits ask stays (λ i. i ≡ index) f.0,
+            fill_stays recovery ask stays (λ i. i ≡ index) f.0,
             subst (λ es. set_knows.LockSays c (FoundFilled p es) next) (sym (append-nil events)) says,
           ),
         ))
         (λ ask same shut paid few.
         let low = few (8 + z + index * for_index c z mode) (for_back c z mode) (omega arith) (omega arith) in
-        stays_next scene inv owner mode fits room locks_at here long ask false
+        stays_next recovery room locks_at here long ask false
         (set_effects.stays_same (of_set scene) (inv_of_set scene inv) (words_after ws ask) same) paid index k.1
-        (omega arith) course
-        (fill_same scene inv owner mode fits ask same NoIndex
+        (omega arith) course (fill_same recovery ask same NoIndex
         (filled_locked p owner (IsWorn scene.terms.by ws) mode NoIndex events (is_shut (of_set scene) (inv_of_set scene inv) shut))))
         (λ filled ask stays open_now more says paid few.
         let low = few (8 + z + index * for_index c z mode) (for_back c z mode) (omega arith) (omega arith) in
-        stays_next scene inv owner mode fits room locks_at here long ask false stays paid index k.1 (omega arith)
-        course
-        (fill_stays scene inv owner mode fits ask stays NoIndex
-        (filled_last p owner (IsWorn scene.terms.by ws) mode NoIndex events (says more))))
+        stays_next recovery room locks_at here long ask false stays paid index k.1 (omega arith)
+        course (fill_stays recovery ask stays NoIndex (filled_last p owner (IsWorn scene.terms.by ws) mode NoIndex events (says more))))
         (λ ask stays open_now worn paid few.
         let low = few (8 + z + index * for_index c z mode) (for_back c z mode) (omega arith) (omega arith) in
-        stays_next scene inv owner mode fits room locks_at here long ask false stays paid index k.1 (omega arith) course
+        stays_next recovery room locks_at here long ask false stays paid index k.1 (omega arith) course
         (filled_worn p owner (IsWorn scene.terms.by (words_after ws ask)) mode NoIndex (events ++ []) worn))
         (λ ask nobody less new paid few.
         let low = few (8 + z + index * for_index c z mode) (for_back c z mode) (omega arith) (omega arith) in
@@ -265,7 +252,7 @@ module _ {T : Type 0} (scene : Scene T) (inv : Inv scene) (owner : ℕ) (mode : 
         held_paid : (held : Option ℕ) (ask : Option Ask) (back : Bool)
             → set_knows.Paid held (set_stages.sees (of_set scene) ask back)
             → backs_then scene back + since_then scene ask ≤ changes_then scene ask
-        held_paid x0 x1 x2 x3 = grind arith
+        held_paid = grind arith
 
         lock_paid : (next : Lock) (ask : Option Ask) (back : Bool)
             → set_knows.Paid (set_knows.lock_holds next) (set_stages.sees (of_set scene) ask back)
@@ -276,9 +263,9 @@ module _ {T : Type 0} (scene : Scene T) (inv : Inv scene) (owner : ℕ) (mode : 
         paid_calm : (next : Lock) (ask : Option Ask) (back : Bool)
             → set_knows.Paid (set_knows.lock_holds next) (set_stages.sees (of_set scene) ask back)
             → set_knows.Paid (set_knows.lock_holds next) (set_stages.seen (of_set scene) ask back (events ++ []))
-        paid_calm x0 x1 x2 x3 = grind (arith, append-nil)
+        paid_calm = grind (arith, append-nil)
 
         scanned_calm : (next : Lock) (ask : Option Ask) (back : Bool)
             → set_knows.Scanned (set_knows.lock_scan c next) (set_stages.sees (of_set scene) ask back)
             → set_knows.Scanned (set_knows.lock_scan c next) (set_stages.seen (of_set scene) ask back (events ++ []))
-        scanned_calm x0 x1 x2 x3 = grind (arith, append-nil)
+        scanned_calm = grind (arith, append-nil)

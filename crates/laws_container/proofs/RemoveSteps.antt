@@ -14,7 +14,7 @@ use Rattle.laws_robust.proofs.Invariant as set_invariant
 use Rattle.laws_robust.proofs.Knows as set_knows
 use Rattle.laws_robust.proofs.Stages as set_stages
 use Rattle.laws_container.proofs.Core.{count_at}
-use Rattle.laws_container.proofs.HiddenRemoves.{total_is, hides_step, end_step}
+use Rattle.laws_container.proofs.HiddenRemoves.{Removing, total_is, hides_step, end_step}
 use Rattle.laws_container.proofs.Invariant.{Scene, Inv, ActsFor, before, of_set, inv_of_set}
 use Rattle.laws_container.proofs.Knows.{RemoveKnows}
 use Rattle.laws_container.proofs.Silent.{silently}
@@ -25,9 +25,9 @@ use Rattle.laws_container.proofs.CallProgress.{remove_at, remove_number, RemoveA
 use Rattle.laws_container.proofs.Turns.{count_in}
 use Rattle.laws_container.proofs.Removes.{refused_done, refused_right, release_step, stays_on}
 
-module _ {T : Type 0} (scene : Scene T) (inv : Inv scene) (index owner : ℕ) (mode : ReleaseMode)
-    (fits : owner < empty) (acts : ActsFor scene owner) (below : index < scene.capacity) where
-  open scene use {coding as code, capacity as c, steps as steps}
+module _ {T : Type 0} (removing : Removing T) where
+  open removing use {scene, inv, index, owner, mode, below}
+  open removing.scene use {coding as code, capacity as c, steps}
 
   abbrev ws : List ℕ
   ws = scene.words
@@ -56,7 +56,7 @@ module _ {T : Type 0} (scene : Scene T) (inv : Inv scene) (index owner : ℕ) (m
     loads_step =
         let next = removes.Releases number releases.EmptiesCell in
         let same = loads_same ws (count_word c index) in
-        (stays_on scene inv index owner mode fits acts below) removes.LoadsCount next here refl load_it false
+        stays_on removing removes.LoadsCount next here refl load_it false
         (set_effects.stays_same (of_set scene) (inv_of_set scene inv) (words_after ws load_it) same) (omega arith)
         (below, none, nothing) (
           record { paid = let paid = k.paid in omega arith; scanned = tt; owns = k.owns; says = tt; gone = tt },
@@ -97,17 +97,27 @@ module _ {T : Type 0} (scene : Scene T) (inv : Inv scene) (index owner : ℕ) (m
       ((refl, refused_done T index owner mode (all scene) (done scene) none), tt)
       (let most = total_is c code.size index owner mode (backs + 0) T in omega arith) (omega arith)
 
+  abbrev now : index < c → Removing T
+  now below =
+      record {
+        scene = scene;
+        inv = inv;
+        index = index;
+        owner = owner;
+        mode = mode;
+        fits = fits;
+        acts = acts;
+        below = below;
+      }
+
   pub remove_step : (stage : RemoveStage) → RemoveAt c code.size (all scene) (done scene) index owner mode stage → Moves stage (place_of c index)
   remove_step removes.Refuses at = past (place_of c index) at.0 at.1
   remove_step removes.LoadsCount at =
-      subst (Moves removes.LoadsCount) (sym (place_is c index at.0))
-      (λ here k s. loads_step scene inv index owner mode fits acts at.0 here at.1 at.2 k s)
+      subst (Moves removes.LoadsCount) (sym (place_is c index at.0)) (λ here k s. loads_step (now at.0) here at.1 at.2 k s)
   remove_step (removes.Releases count stage) at =
       subst (Moves (removes.Releases count stage)) (sym (place_is c index at.0))
-      (λ here k s. release_step scene inv index owner mode fits acts at.0 count stage here at.1 at.2 k.1 k.2 k.0 s)
+      (λ here k s. release_step (now at.0) count stage here at.1 at.2 k.1 k.2 k.0 s)
   remove_step (removes.Hides count state) at =
-      subst (Moves (removes.Hides count state)) (sym (place_is c index at.0))
-      (λ here k s. hides_step scene inv index owner mode fits acts at.0 count state here at k s)
+      subst (Moves (removes.Hides count state)) (sym (place_is c index at.0)) (λ here k s. hides_step (now at.0) count state here at k s)
   remove_step (removes.AddsChange state) at =
-      subst (Moves (removes.AddsChange state)) (sym (place_is c index at.0))
-      (λ here k s. end_step scene inv index owner mode fits acts at.0 state here at.1 k s)
+      subst (Moves (removes.AddsChange state)) (sym (place_is c index at.0)) (λ here k s. end_step (now at.0) state here at.1 k s)

@@ -35,9 +35,9 @@ use Rattle.laws_container.specs.Gone.{FreedBy, AnswersBy}
 use Rattle.laws_container.proofs.Core.{count_at}
 use Rattle.laws_container.proofs.Effects.{calmly}
 use Rattle.laws_container.proofs.HiddenKnows.{RemoveCovers, StillStands, HasHidden, no_index}
-use Rattle.laws_container.proofs.HiddenRemoves.{total_is}
+use Rattle.laws_container.proofs.HiddenRemoves.{Removing, total_is}
 use Rattle.laws_container.proofs.HiddenOn.{hidden_even, hidden_calm, stands_calm, hidden_on, stands_on, hidden_freed}
-use Rattle.laws_container.proofs.Invariant.{Scene, Inv, ActsFor, Does, before, after, of_set, inv_of_set, wrote_of, view}
+use Rattle.laws_container.proofs.Invariant.{Does, before, after, of_set, inv_of_set, wrote_of, view}
 use Rattle.laws_container.proofs.Knows.{View, HasLeft, ReleaseHides, ReleaseLeft, RemoveSays, IsPaid, Knows}
 use Rattle.laws_container.proofs.Left.{left_after, left_of}
 use Rattle.laws_container.proofs.SetSteps.{rest_set, wide_set, frees, locks}
@@ -50,22 +50,23 @@ use Rattle.laws_container.proofs.Steps.{calm_none, right_none}
 use Rattle.laws_container.proofs.Terms.{Keeps}
 use Rattle.laws_container.proofs.Turns.{remove_owes, count_in}
 use Rattle.laws_container.proofs.Writing.{even_is, odd_is}
+use Rattle.laws_robust.proofs.Cases.{on_bool}
 
 -- ---- what its answers say, by the mode
 
 pub refused_done : (T : Type 0) (index owner : ℕ) (mode : ReleaseMode) (set_acts : List SetAct) (acts : List (Act T))
     → set_acts ≡ []
     → HasDone {T = T} (Remove index owner mode) (answers.NotRemoved ContainerHandleNotOwnedByContainer) set_acts acts
-refused_done x0 x1 x2 x3 x4 x5 x6 = grind arith
+refused_done = grind arith
 
 pub refused_right : {T : Type 0} (by : GoneBy) (worn : Type 0) (c p index owner : ℕ) (mode : ReleaseMode) (events : List (Event T))
     → (c ≤ index) ⊎ (filled_of index events ≢ Some owner)
     → AnswersBy by worn c events (Finished p (Container (Remove index owner mode)) (answers.NotRemoved ContainerHandleNotOwnedByContainer))
-refused_right x0 x1 x2 x3 x4 x5 x6 x7 x8 = grind arith
+refused_right = grind arith
 
-module _ {T : Type 0} (scene : Scene T) (inv : Inv scene) (index owner : ℕ) (mode : ReleaseMode)
-    (fits : owner < empty) (acts : ActsFor scene owner) (below : index < scene.capacity) where
-  open scene use {coding as code, capacity as c, party as p, steps as steps, backs as backs, events as events, latest as latest}
+module _ {T : Type 0} (removing : Removing T) where
+  open removing use {scene, inv, index, owner, mode, fits, acts, below}
+  open removing.scene use {coding as code, capacity as c, party as p, steps, backs, events, latest}
 
   abbrev ws : List ℕ
   ws = scene.words
@@ -163,7 +164,7 @@ module _ {T : Type 0} (scene : Scene T) (inv : Inv scene) (index owner : ℕ) (m
 
     began : IsCalm scene.terms.by (events ++ FreedOf p index owner ∷ [])
         → (is_gone scene.terms.by owner events ≡ false) × SinceBegin p (λ part since. settled_of index part ≡ Some owner) events
-    began x0 = grind (arith, lives_freed, gives_back)
+    began = grind (arith, lives_freed, gives_back)
 
     abbrev Lead : Option Ask → Bool → List (Event T) → After set_calls.Release Released → Type 0
     Lead ask back did a =
@@ -235,13 +236,13 @@ module _ {T : Type 0} (scene : Scene T) (inv : Inv scene) (index owner : ℕ) (m
 
     -- nothing stands there under an even number
     none_stands : all scene ≡ Frees index owner ∷ [] → is_even count ≡ true → HasHidden code c p owner no_index (before scene)
-    none_stands x0 x1 = grind (arith, hidden_even, before, even_is, stands_still)
+    none_stands = grind (arith, hidden_even, before, even_is, stands_still)
 
     -- what the end of the release says
     says_now : (next : RemoveStage) (ask : Option Ask) (back : Bool) (m : ReleaseMode) (state : ReleaseState)
         → Ends (of_set scene) (inv_of_set scene inv) index owner mode fits below lives began 1 (words_after ws ask) m state
         → RemoveSays code c index owner m state (SeesCalmly next ask back)
-    says_now x0 x1 x2 x3 x4 x5 = grind (arith, held_now)
+    says_now = grind (arith, held_now)
 
     done_now : (words' : List ℕ) (m : ReleaseMode) (state : ReleaseState)
         → Ends (of_set scene) (inv_of_set scene inv) index owner mode fits below lives began 1 words' m state
@@ -257,35 +258,34 @@ module _ {T : Type 0} (scene : Scene T) (inv : Inv scene) (index owner : ℕ) (m
         → backs_then scene back + since_then scene ask ≤ changes_then scene ask
         → steps + step_count ask ≤ 1 + release_total c index owner mode (backs_then scene back)
         → Lead ask back [] (Done (Ok state))
-    released state ask back stays why freed paid few = go (is_even count) refl
-      where
-        go : (b : Bool) → is_even count ≡ b
-            → Leads scene start ask back scene.states []
-            (as_remove (if b then GoOn (at_remove first (removes.AddsChange state)) else GoOn
-            (at_remove first (removes.Hides count state))))
-        go true t =
-            stays_on this (removes.AddsChange state) here refl ask back stays (omega arith)
-            (below, done_now (words_after ws ask) mode state why freed) (
-              paid,
-              says_now (removes.AddsChange state) ask back mode state why,
-              hidden_calm scene start tt here.span owner (words_after ws ask)
-                  (then_at (removes.AddsChange state) ask back) (none_stands freed t),
-            )
-        go false t =
-            stays_on this (removes.Hides count state) here refl ask back stays (omega arith) (
-              below,
-              done_now (words_after ws ask) mode state why freed,
-              subst (IsOneOf (Frees index owner)) (sym freed) (record { before = []; after = []; is = refl }),
-              nothing,
-              odd_is count t,
-            ) (
-              paid,
-              says_now (removes.Hides count state) ask back mode state why,
-              left_calm (removes.Hides count state) ask back stays (has_left freed),
-              stands_calm scene start tt here.span owner (words_after ws ask)
-                  (then_at (removes.Hides count state) ask back) index count
-                  (stays.others (count_word c index) (omega arith)) (stands_still freed),
-            )
+    released state ask back stays why freed paid few =
+        on_bool (λ b. Leads scene start ask back scene.states []
+        (as_remove
+        (if b then GoOn (at_remove first (removes.AddsChange state)) else GoOn (at_remove first (removes.Hides count state)))))
+        (is_even count)
+        (λ t.
+        stays_on this (removes.AddsChange state) here refl ask back stays (omega arith)
+        (below, done_now (words_after ws ask) mode state why freed) (
+          paid,
+          says_now (removes.AddsChange state) ask back mode state why,
+          hidden_calm scene start tt here.span owner (words_after ws ask)
+              (then_at (removes.AddsChange state) ask back) (none_stands freed t),
+        ))
+        (λ t.
+        stays_on this (removes.Hides count state) here refl ask back stays (omega arith) (
+          below,
+          done_now (words_after ws ask) mode state why freed,
+          subst (IsOneOf (Frees index owner)) (sym freed) (record { before = []; after = []; is = refl }),
+          nothing,
+          odd_is count t,
+        ) (
+          paid,
+          says_now (removes.Hides count state) ask back mode state why,
+          left_calm (removes.Hides count state) ask back stays (has_left freed),
+          stands_calm scene start tt here.span owner (words_after ws ask)
+              (then_at (removes.Hides count state) ask back) index count
+              (stays.others (count_word c index) (omega arith)) (stands_still freed),
+        ))
 
     -- and with the lock
     locked_by : (ask : Option Ask) → mode ≡ LockIfLastIndex
@@ -294,7 +294,45 @@ module _ {T : Type 0} (scene : Scene T) (inv : Inv scene) (index owner : ℕ) (m
         → backs_then scene false + since_then scene ask ≤ changes_then scene ask
         → steps + step_count ask ≤ 1 + release_total c index owner mode (backs_then scene false)
         → Lead ask false (Locked p ∷ []) (Done (Ok states.Locked))
-    locked_by ask may_lock nobody less new freed paid few = go (is_even count) refl
+    locked_by ask may_lock nobody less new freed paid few =
+        on_bool (λ b. Leads scene start ask false scene.states (Locked p ∷ [])
+        (as_remove (if b then GoOn (at_remove first (removes.AddsChange states.Locked)) else GoOn
+        (at_remove first (removes.Hides count states.Locked)))))
+        (is_even count)
+        (λ t.
+        goes_on scene start (at_stage (removes.AddsChange states.Locked)) ask false
+        scene.states (Locked p ∷ []) here.span (λ start w. refl)
+        (does (then_at (removes.AddsChange states.Locked) ask false)) stands
+        (omega arith)
+        (refl, given_is, fits, (below, done_then)) (
+          paid,
+          says,
+          hidden_on scene start tt here.span owner (words_after ws ask)
+              (then_at (removes.AddsChange states.Locked) ask false) (Locked p ∷ [])
+              (refl, tt) tt (λ start w. refl) frees_none (none_stands freed t),
+        ))
+        (λ t.
+        goes_on scene start (at_stage (removes.Hides count states.Locked)) ask false
+        scene.states (Locked p ∷ []) here.span (λ start w. refl)
+        (does (then_at (removes.Hides count states.Locked) ask false)) stands
+        (omega arith) (
+          refl,
+          given_is,
+          fits,
+          (
+            below,
+            done_then,
+            subst (λ d. IsOneOf (Frees index owner) (d ++ Locks ∷ [])) (sym freed)
+                (record { before = []; after = Locks ∷ []; is = refl }),
+            ap (λ (d : List (Act T)). d ++ []) nothing,
+            odd_is count t,
+          ),
+        ) (
+          paid,
+          says,
+          left_then (then_at (removes.Hides count states.Locked) ask false),
+          stands_then (then_at (removes.Hides count states.Locked) ask false),
+        ))
       where
         set_does : set_invariant.Does (of_set scene) (words_after ws ask) (Locked p ∷ [])
         set_does = set_locks.locks (of_set scene) (inv_of_set scene inv) (words_after ws ask) [] set_effects.quiet_none tt tt tt nobody less new
@@ -343,45 +381,6 @@ module _ {T : Type 0} (scene : Scene T) (inv : Inv scene) (index owner : ℕ) (m
             (rest_set scene inv start (at_stage this) tt here y (words_after ws ask) 0 locked (omega arith) new (count_word c index) (omega arith))
             (fold-append (contents_after index) None events (Locked p ∷ [])) (stands_still freed)
 
-        go : (b : Bool) → is_even count ≡ b
-            → Leads scene start ask false scene.states (Locked p ∷ [])
-            (as_remove (if b then GoOn (at_remove first (removes.AddsChange states.Locked)) else GoOn
-            (at_remove first (removes.Hides count states.Locked))))
-        go true t =
-            goes_on scene start (at_stage (removes.AddsChange states.Locked)) ask false
-            scene.states (Locked p ∷ []) here.span (λ start w. refl)
-            (does (then_at (removes.AddsChange states.Locked) ask false)) stands
-            (omega arith)
-            (refl, given_is, fits, (below, done_then)) (
-              paid,
-              says,
-              hidden_on scene start tt here.span owner (words_after ws ask)
-                  (then_at (removes.AddsChange states.Locked) ask false) (Locked p ∷ [])
-                  (refl, tt) tt (λ start w. refl) frees_none (none_stands freed t),
-            )
-        go false t =
-            goes_on scene start (at_stage (removes.Hides count states.Locked)) ask false
-            scene.states (Locked p ∷ []) here.span (λ start w. refl)
-            (does (then_at (removes.Hides count states.Locked) ask false)) stands
-            (omega arith) (
-              refl,
-              given_is,
-              fits,
-              (
-                below,
-                done_then,
-                subst (λ d. IsOneOf (Frees index owner) (d ++ Locks ∷ [])) (sym freed)
-                    (record { before = []; after = Locks ∷ []; is = refl }),
-                ap (λ (d : List (Act T)). d ++ []) nothing,
-                odd_is count t,
-              ),
-            ) (
-              paid,
-              says,
-              left_then (then_at (removes.Hides count states.Locked) ask false),
-              stands_then (then_at (removes.Hides count states.Locked) ask false),
-            )
-
     caller : Caller (of_set scene) (inv_of_set scene inv) index owner mode fits below lives began 1 Lead
     caller =
         record {
@@ -422,7 +421,7 @@ module _ {T : Type 0} (scene : Scene T) (inv : Inv scene) (index owner : ℕ) (m
         low {n} same kept = go stage now_at left
           where
             go : (s : ReleaseStage) → ReleaseAt c index owner mode (all scene) s → ReleaseLeft code c index count s (sees_now scene) → count ≤ n
-            go x0 x1 x2 = grind arith
+            go = grind arith
 
     pub release_step : set_knows.Knows c (release_at c index owner mode stage) (set_stages.now (of_set scene))
         → steps ≤ 1 + release_number c mode stage backs

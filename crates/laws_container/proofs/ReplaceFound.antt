@@ -37,11 +37,12 @@ use Rattle.laws_container.proofs.Steps.{stores_word, hides, places as places_it,
 use Rattle.laws_container.proofs.Turns.{WellFormed, replace_owes, count_in}
 use Rattle.laws_container.proofs.Writers.{IsWriter, one_writer}
 use Rattle.laws_container.proofs.Writing.{even_is, odd_is, adds_one, stores_to, adds_to_count, adds_to_change, hides_count}
-use Rattle.laws_container.proofs.ReplaceSteps.{calm_step, cell_step, found_calm, found_then, given_is, stands_if, was_calm, was_going}
+use Rattle.laws_container.proofs.ReplaceSteps.{Replacing, calm_step, cell_step, found_calm, found_then, given_is, stands_if, was_calm, was_going}
+use Rattle.laws_robust.proofs.Cases.{on_bool}
 
-module _ {T : Type 0} (scene : Scene T) (inv : Inv scene) (index : ℕ) (value : T) (owner : ℕ) (fits : owner < empty)
-    (acts : ActsFor scene owner) (below : index < scene.capacity) (none_done : all scene ≡ []) where
-  open scene use {coding as code, capacity as c, party as p, steps as steps, backs as backs, events as events, latest as latest}
+module _ {T : Type 0} (replacing : Replacing T) where
+  open replacing use {scene, inv, index, value, owner, fits, acts, below, none_done}
+  open replacing.scene use {coding as code, capacity as c, party as p, steps, backs, events, latest}
 
   abbrev ws : List ℕ
   ws = scene.words
@@ -78,10 +79,10 @@ module _ {T : Type 0} (scene : Scene T) (inv : Inv scene) (index : ℕ) (value :
 
   module _ (k : ReplaceKnows c index owner value (sees_now scene)) where
     mine : WellFormed (before scene) → IsWriter p i owner events
-    mine x0 = grind (arith, inr, replacing)
+    mine = grind (arith, inr, replacing)
 
     nobody_else : {A : Type 0} → WellFormed (before scene) → (q : ℕ) → q ≢ p → (o : ℕ) → IsWriter q i o events → A
-    nobody_else x0 x1 x2 x3 x4 = grind (arith, one_writer, mine)
+    nobody_else = grind (arith, one_writer, mine)
 
     knows_calm : (stage next : ReplaceStage) → Here stage → (ask : Ask) → ReplaceKnows c index owner value (SeesCalmly next ask)
     knows_calm stage next here ask =
@@ -90,7 +91,7 @@ module _ {T : Type 0} (scene : Scene T) (inv : Inv scene) (index : ℕ) (value :
               omega arith;
           within = below;
           owns = k.owns;
-          found = (found_calm scene inv index value owner fits acts below none_done) stage next here ask;
+          found = found_calm replacing stage next here ask;
           filled = k.filled;
         }
 
@@ -116,7 +117,7 @@ module _ {T : Type 0} (scene : Scene T) (inv : Inv scene) (index : ℕ) (value :
                 omega arith;
             within = below;
             owns = owns_then;
-            found = (found_then scene inv index value owner fits acts below none_done) stage next here ask es own longer;
+            found = found_then replacing stage next here ask es own longer;
             filled = held_later p (IsFilledWith owner index) events es none k.filled;
           }
 
@@ -130,8 +131,7 @@ module _ {T : Type 0} (scene : Scene T) (inv : Inv scene) (index : ℕ) (value :
               λ holds lives. record {
                 even =
                     ap (λ w. count_at c w i % 2) same
-                    ∙ even ((was_calm scene inv index value owner fits acts below none_done) stage here k.filled
-                    (then_at next (Some ask)) (omega arith) holds);
+                    ∙ even (was_calm replacing stage here k.filled (then_at next (Some ask)) (omega arith) holds);
                 written = λ j js. absurd (omega arith);
               };
         }
@@ -146,26 +146,25 @@ module _ {T : Type 0} (scene : Scene T) (inv : Inv scene) (index : ℕ) (value :
       number = count_in code c (before scene) i
 
       count_step : StepOf scene start (at_stage replaces.LoadsCount)
-      count_step = go (is_even number) refl
-        where
-          go : (b : Bool) → is_even number ≡ b → Leads scene start (Some (set_stages.loads (count_word c i))) false scene.states []
-              (as_replace (if b then GoOn (at_replace first (replaces.Stores 0)) else GoOn (at_replace first (replaces.Hides number))))
-          go true t =
-              let some = inv.elements.coded.some in
-              (calm_step scene inv index value owner fits acts below none_done) replaces.LoadsCount (replaces.Stores 0) load_it
-              (loads_same ws (count_word c i)) here k.filled refl (omega arith)
-              (below, none_done, inl nothing, omega arith) (
-                knows_calm replaces.LoadsCount (replaces.Stores 0) here load_it,
-                first_word replaces.LoadsCount (replaces.Stores 0) here load_it
-                    (loads_same ws (count_word c i)) (λ holds. even_is number t),
-              )
-          go false t =
-              (calm_step scene inv index value owner fits acts below none_done) replaces.LoadsCount (replaces.Hides number) load_it
-              (loads_same ws (count_word c i)) here k.filled refl (omega arith)
-              (below, none_done, nothing, odd_is number t) (
-                knows_calm replaces.LoadsCount (replaces.Hides number) here load_it,
-                (λ holds lives. inl (ap (λ w. count_at c w i) (loads_same ws (count_word c i)))),
-              )
+      count_step =
+          on_bool (λ b. Leads scene start (Some (set_stages.loads (count_word c i))) false scene.states []
+          (as_replace (if b then GoOn (at_replace first (replaces.Stores 0)) else GoOn (at_replace first (replaces.Hides number)))))
+          (is_even number)
+          (λ t.
+          let some = inv.elements.coded.some in
+          calm_step replacing replaces.LoadsCount (replaces.Stores 0) load_it (loads_same ws (count_word c i)) here k.filled refl (omega arith)
+          (below, none_done, inl nothing, omega arith) (
+            knows_calm replaces.LoadsCount (replaces.Stores 0) here load_it,
+            first_word replaces.LoadsCount (replaces.Stores 0) here load_it
+                (loads_same ws (count_word c i)) (λ holds. even_is number t),
+          ))
+          (λ t.
+          calm_step replacing replaces.LoadsCount (replaces.Hides number) load_it
+          (loads_same ws (count_word c i)) here k.filled refl (omega arith)
+          (below, none_done, nothing, odd_is number t) (
+            knows_calm replaces.LoadsCount (replaces.Hides number) here load_it,
+            (λ holds lives. inl (ap (λ w. count_at c w i) (loads_same ws (count_word c i)))),
+          ))
 
     -- ---- what stands there is hidden
 
@@ -178,53 +177,50 @@ module _ {T : Type 0} (scene : Scene T) (inv : Inv scene) (index : ℕ) (value :
       now_at = count_in code c (before scene) i
 
       hide_step : StepOf scene start (at_stage (replaces.Hides count))
-      hide_step = go (now_at == count) refl
-        where
-          go : (b : Bool) → (now_at == count) ≡ b
-              → Leads scene start (Some (exchanges (count_word c i) count (one_more count))) false scene.states
-              ((if b then Hidden p i ∷ [] else []) ++ []) (GoOn (at_stage (replaces.Stores 0)))
-          go true t =
-              let is : now_at ≡ count = grind (arith, nat_tests) in
-              let some = inv.elements.coded.some in
-              let wide = inv.elements.wide in
-              let y = then_at (replaces.Stores 0) (Some hide_it) in
-              let es = Hidden p i ∷ [] in
-              let new = hides_count scene inv i count below is in
-              let now_odd : now_at % 2 ≡ 1 = ap (λ n. n % 2) is ∙ odd in
-              let well_formed =
-              (was_going scene inv index value owner fits acts below none_done) (replaces.Hides count)
-              here k.filled (words_after ws (Some hide_it)) y es
-              (refl, tt) tt (λ start w. refl) (omega arith) in
-              let after : count_at c (words_after ws (Some hide_it)) i ≡ one_more now_at =
-              ap (λ w. count_at c w i) new ∙ count_set c code.size ws i (one_more now_at) (omega arith) in
-              goes_on scene start (at_stage (replaces.Stores 0)) (Some hide_it) false scene.states es here.span (λ start w. refl)
-              (hides scene inv start (at_stage (replaces.Hides count)) tt here y
-              (words_after ws (Some hide_it)) i below new refl now_odd
-              (λ holds q ne o theirs fresh. nobody_else holds q ne o theirs) well_formed)
-              ((refl, nothing), tt) (omega arith) (
-                refl,
-                (given_is scene inv index value owner fits acts below none_done),
-                fits,
-                (below, ap (λ (d : List SetAct). d ++ []) none_done, inr (ap (λ d. d ++ Hides i ∷ []) nothing), omega arith),
-              ) (
-                knows_then es (refl, tt) tt (λ start w. refl) (λ o. refl) (λ o. refl)
-                    (replaces.Hides count) (replaces.Stores 0) here hide_it,
-                record {
-                  few = omega arith;
-                  has = λ holds lives. record { even = ap (λ n. n % 2) after ∙ omega arith; written = λ j js. absurd (omega arith) };
-                },
-              )
-          go false t =
-              let other : now_at ≢ count = grind (arith, nat_tests) in
-              let some = inv.elements.coded.some in
-              let same = fails_same ws (count_word c i) count (one_more count) other in
-              (calm_step scene inv index value owner fits acts below none_done) (replaces.Hides count)
-              (replaces.Stores 0) hide_it same here
-              k.filled refl (omega arith) (below, none_done, inl nothing, omega arith) (
-                knows_calm (replaces.Hides count) (replaces.Stores 0) here hide_it,
-                first_word (replaces.Hides count) (replaces.Stores 0) here hide_it same
-                    (λ holds. ⊎_elim (λ e. absurd (other e)) (λ even. even) (covers holds (acts.stays holds.kept))),
-              )
+      hide_step =
+          on_bool (λ b. Leads scene start (Some (exchanges (count_word c i) count (one_more count))) false scene.states
+          ((if b then Hidden p i ∷ [] else []) ++ []) (GoOn (at_stage (replaces.Stores 0))))
+          (now_at == count)
+          (λ t.
+          let is : now_at ≡ count = grind (arith, nat_tests) in
+          let some = inv.elements.coded.some in
+          let wide = inv.elements.wide in
+          let y = then_at (replaces.Stores 0) (Some hide_it) in
+          let es = Hidden p i ∷ [] in
+          let new = hides_count scene inv i count below is in
+          let now_odd : now_at % 2 ≡ 1 = ap (λ n. n % 2) is ∙ odd in
+          let well_formed =
+          was_going replacing (replaces.Hides count) here k.filled (words_after ws (Some hide_it)) y es
+          (refl, tt) tt (λ start w. refl) (omega arith) in
+          let after : count_at c (words_after ws (Some hide_it)) i ≡ one_more now_at =
+          ap (λ w. count_at c w i) new ∙ count_set c code.size ws i (one_more now_at) (omega arith) in
+          goes_on scene start (at_stage (replaces.Stores 0)) (Some hide_it) false scene.states es here.span (λ start w. refl)
+          (hides scene inv start (at_stage (replaces.Hides count)) tt here y
+          (words_after ws (Some hide_it)) i below new refl now_odd
+          (λ holds q ne o theirs fresh. nobody_else holds q ne o theirs) well_formed)
+          ((refl, nothing), tt) (omega arith) (
+            refl,
+            given_is replacing,
+            fits,
+            (below, ap (λ (d : List SetAct). d ++ []) none_done, inr (ap (λ d. d ++ Hides i ∷ []) nothing), omega arith),
+          ) (
+            knows_then es (refl, tt) tt (λ start w. refl) (λ o. refl) (λ o. refl)
+                (replaces.Hides count) (replaces.Stores 0) here hide_it,
+            record {
+              few = omega arith;
+              has = λ holds lives. record { even = ap (λ n. n % 2) after ∙ omega arith; written = λ j js. absurd (omega arith) };
+            },
+          ))
+          (λ t.
+          let other : now_at ≢ count = grind (arith, nat_tests) in
+          let some = inv.elements.coded.some in
+          let same = fails_same ws (count_word c i) count (one_more count) other in
+          calm_step replacing (replaces.Hides count) (replaces.Stores 0) hide_it same here
+          k.filled refl (omega arith) (below, none_done, inl nothing, omega arith) (
+            knows_calm (replaces.Hides count) (replaces.Stores 0) here hide_it,
+            first_word (replaces.Hides count) (replaces.Stores 0) here hide_it same
+                (λ holds. ⊎_elim (λ e. absurd (other e)) (λ even. even) (covers holds (acts.stays holds.kept))),
+          ))
 
     -- ---- a word is stored
 
@@ -242,46 +238,41 @@ module _ {T : Type 0} (scene : Scene T) (inv : Inv scene) (index : ℕ) (value :
           goes_calmly scene start (at_stage next) (Some store_it) false scene.states here.span
           (stores_word scene inv start (at_stage (replaces.Stores at)) tt here
           (then_at next (Some store_it)) (words_after ws (Some store_it)) i below at ats value owner mine
-          (λ holds. w.has holds (acts.stays holds.kept)) refl
-          ((was_going scene inv index value owner fits acts below none_done) (replaces.Stores at) here k.filled (words_after ws (Some store_it))
+          (λ holds. w.has holds (acts.stays holds.kept)) refl (was_going replacing (replaces.Stores at) here k.filled (words_after ws (Some store_it))
           (then_at next (Some store_it)) [] tt tt none_lengthens (omega arith))
           (λ was. owe))
-          few (refl, (given_is scene inv index value owner fits acts below none_done), fits, stands) known
+          few (refl, given_is replacing, fits, stands) known
 
       one_more_word : (next : ReplaceStage) → Writes code c owner i value (at + 1) (SeesCalmly next store_it)
       one_more_word next =
           record {
             few = omega arith;
             has = λ holds lives.
-                let before_it =
-                (was_calm scene inv index value owner fits acts below none_done) (replaces.Stores at)
-                here k.filled (then_at next (Some store_it)) (omega arith) holds in
+                let before_it = was_calm replacing (replaces.Stores at) here k.filled (then_at next (Some store_it)) (omega arith) holds in
                 store_writes code c ws events (inv.elements.whole before_it) inv.elements.wide i below value at ats
                 (w.has before_it (acts.stays before_it.kept));
           }
 
       store_step : StepOf scene start (at_stage (replaces.Stores at))
-      store_step = go (nat_lt (at + 1) code.size) refl
-        where
-          go : (b : Bool) → nat_lt (at + 1) code.size ≡ b
-              → Leads scene start (Some (stores_to (element_word c code.size i at) (get_or (code.words_of value) at 0)))
-              false scene.states []
-              (as_replace (if b then GoOn (at_replace first (replaces.Stores (at + 1))) else GoOn
-              (at_replace first replaces.AddsCount)))
-          go true t =
-              let more : at + 1 < code.size = grind (arith, nat_tests) in
-              store_to (replaces.Stores (at + 1)) refl (omega arith) (below, none_done, hidden, more) (
-                knows_calm (replaces.Stores at) (replaces.Stores (at + 1)) here store_it,
-                one_more_word (replaces.Stores (at + 1)),
-              )
-          go false t =
-              let last : code.size ≤ at + 1 = grind (arith, nat_tests) in
-              let is : at + 1 ≡ code.size = omega arith in
-              store_to replaces.AddsCount refl (omega arith) (below, none_done, hidden) (
-                knows_calm (replaces.Stores at) replaces.AddsCount here store_it,
-                subst (λ n. Writes code c owner i value n (SeesCalmly replaces.AddsCount store_it)) is
-                    (one_more_word replaces.AddsCount),
-              )
+      store_step =
+          on_bool (λ b. Leads scene start (Some (stores_to (element_word c code.size i at) (get_or (code.words_of value) at 0)))
+          false scene.states []
+          (as_replace (if b then GoOn (at_replace first (replaces.Stores (at + 1))) else GoOn (at_replace first replaces.AddsCount))))
+          (nat_lt (at + 1) code.size)
+          (λ t.
+          let more : at + 1 < code.size = grind (arith, nat_tests) in
+          store_to (replaces.Stores (at + 1)) refl (omega arith) (below, none_done, hidden, more) (
+            knows_calm (replaces.Stores at) (replaces.Stores (at + 1)) here store_it,
+            one_more_word (replaces.Stores (at + 1)),
+          ))
+          (λ t.
+          let last : code.size ≤ at + 1 = grind (arith, nat_tests) in
+          let is : at + 1 ≡ code.size = omega arith in
+          store_to replaces.AddsCount refl (omega arith) (below, none_done, hidden) (
+            knows_calm (replaces.Stores at) replaces.AddsCount here store_it,
+            subst (λ n. Writes code c owner i value n (SeesCalmly replaces.AddsCount store_it)) is
+                (one_more_word replaces.AddsCount),
+          ))
 
     -- ---- the value is placed
 
@@ -301,50 +292,46 @@ module _ {T : Type 0} (scene : Scene T) (inv : Inv scene) (index : ℕ) (value :
       new = adds_to_count scene inv i below
 
       place_step : StepOf scene start (at_stage replaces.AddsCount)
-      place_step = go (is_even count_now) refl
-        where
-          go : (b : Bool) → is_even count_now ≡ b
-              → Leads scene start (Some (adds_one (count_word c i))) false scene.states
-              ((if b then Placed p i value ∷ [] else []) ++ []) (GoOn (at_stage replaces.AddsChange))
-          go true t =
-              let es = Placed p i value ∷ [] in
-              let well_formed =
-              (was_going scene inv index value owner fits acts below none_done) replaces.AddsCount here
-              k.filled (words_after ws (Some add_it)) y es (refl, tt)
-              tt (λ start w. refl) (omega arith) in
-              goes_on scene start (at_stage replaces.AddsChange) (Some add_it) false scene.states es here.span (λ start w. refl)
-              (places_it scene inv start (at_stage replaces.AddsCount) tt here y
-              (words_after ws (Some add_it)) i below new refl value owner acts mine
-              (λ holds. w.has holds (acts.stays holds.kept)) well_formed)
-              ((refl, refl, hidden), tt) (omega arith)
-              (refl, (given_is scene inv index value owner fits acts below none_done), fits, (below, ap (λ (d : List SetAct). d ++ []) none_done)) (
-                knows_then es (refl, tt) tt (λ start w. refl) (λ o. refl) (λ o. refl) replaces.AddsCount
-                    replaces.AddsChange here add_it,
-                (λ holds. ap (λ a. places a) (acts_more scene start here.span es (refl, tt) (λ start w. refl)) ∙ placed_once (done scene) i value hidden),
-                (λ holds lives. (
-                  fold-append (left_after i) true events es ∙ at_same i i false (left_of i events) refl,
-                  ap is_some (fold-append (contents_after i) None events es ∙ at_same i i (Some value) (contents_of i events) refl),
-                )),
-              )
-          go false t =
-              let well_formed =
-              (was_going scene inv index value owner fits acts below none_done) replaces.AddsCount here
-              k.filled (words_after ws (Some add_it)) y [] tt tt none_lengthens (omega arith) in
-              let ill_formed =
-              λ (holds : WellFormed (after scene (words_after ws (Some add_it)) y [])).
-              let even = (w.has (well_formed holds) (acts.stays holds.kept)).even in
-              let odd = odd_is count_now t in
-              absurd {A = ⊥} (omega arith) in
-              goes_calmly scene start (at_stage replaces.AddsChange) (Some add_it) false scene.states here.span
-              (misplaces scene inv start (at_stage replaces.AddsCount) tt here y
-              (words_after ws (Some add_it)) i below new refl well_formed ill_formed)
-              (omega arith) (refl, (given_is scene inv index value owner fits acts below none_done), fits, (below, none_done)) (
-                knows_calm replaces.AddsCount replaces.AddsChange here add_it,
-                (λ holds. absurd
-                    (ill_formed (subst (λ es. IsWellFormedSoFar scene.terms (put p y latest) es) (sym (append-nil events)) holds))),
-                (λ holds lives. absurd
-                    (ill_formed (subst (λ es. IsWellFormedSoFar scene.terms (put p y latest) es) (sym (append-nil events)) holds))),
-              )
+      place_step =
+          on_bool (λ b. Leads scene start (Some (adds_one (count_word c i))) false scene.states
+          ((if b then Placed p i value ∷ [] else []) ++ []) (GoOn (at_stage replaces.AddsChange)))
+          (is_even count_now)
+          (λ t.
+          let es = Placed p i value ∷ [] in
+          let well_formed =
+          was_going replacing replaces.AddsCount here k.filled (words_after ws (Some add_it)) y es (refl, tt)
+          tt (λ start w. refl) (omega arith) in
+          goes_on scene start (at_stage replaces.AddsChange) (Some add_it) false scene.states es here.span (λ start w. refl)
+          (places_it scene inv start (at_stage replaces.AddsCount) tt here y
+          (words_after ws (Some add_it)) i below new refl value owner acts mine
+          (λ holds. w.has holds (acts.stays holds.kept)) well_formed)
+          ((refl, refl, hidden), tt) (omega arith) (refl, given_is replacing, fits, (below, ap (λ (d : List SetAct). d ++ []) none_done)) (
+            knows_then es (refl, tt) tt (λ start w. refl) (λ o. refl) (λ o. refl) replaces.AddsCount
+                replaces.AddsChange here add_it,
+            (λ holds. ap (λ a. places a) (acts_more scene start here.span es (refl, tt) (λ start w. refl)) ∙ placed_once (done scene) i value hidden),
+            (λ holds lives. (
+              fold-append (left_after i) true events es ∙ at_same i i false (left_of i events) refl,
+              ap is_some (fold-append (contents_after i) None events es ∙ at_same i i (Some value) (contents_of i events) refl),
+            )),
+          ))
+          (λ t.
+          let well_formed =
+          was_going replacing replaces.AddsCount here k.filled (words_after ws (Some add_it)) y [] tt tt none_lengthens (omega arith) in
+          let ill_formed =
+          λ (holds : WellFormed (after scene (words_after ws (Some add_it)) y [])).
+          let even = (w.has (well_formed holds) (acts.stays holds.kept)).even in
+          let odd = odd_is count_now t in
+          absurd {A = ⊥} (omega arith) in
+          goes_calmly scene start (at_stage replaces.AddsChange) (Some add_it) false scene.states here.span
+          (misplaces scene inv start (at_stage replaces.AddsCount) tt here y
+          (words_after ws (Some add_it)) i below new refl well_formed ill_formed)
+          (omega arith) (refl, given_is replacing, fits, (below, none_done)) (
+            knows_calm replaces.AddsCount replaces.AddsChange here add_it,
+            (λ holds. absurd
+                (ill_formed (subst (λ es. IsWellFormedSoFar scene.terms (put p y latest) es) (sym (append-nil events)) holds))),
+            (λ holds lives. absurd
+                (ill_formed (subst (λ es. IsWellFormedSoFar scene.terms (put p y latest) es) (sym (append-nil events)) holds))),
+          ))
 
     -- ---- the change is counted, and the call ends
 
@@ -358,8 +345,7 @@ module _ {T : Type 0} (scene : Scene T) (inv : Inv scene) (index : ℕ) (value :
           let y = party_then scene start (Some end_it) false (Done answers.Done) in
           let es = Finished p (Container start) answers.Done ∷ [] in
           let well_formed =
-          well_formed_before scene.terms p y latest events es (refl, tt)
-          (λ h. (stands_if scene inv index value owner fits acts below none_done) replaces.AddsChange here
+          well_formed_before scene.terms p y latest events es (refl, tt) (λ h. stands_if replacing replaces.AddsChange here
           (λ few. h.replaced events [] (Finished p (Container start) answers.Done) refl)) in
           let new = adds_to_change scene inv in
           ends scene start answers.Done (Some end_it) false scene.states [] here.span none_lengthens
@@ -374,7 +360,7 @@ module _ {T : Type 0} (scene : Scene T) (inv : Inv scene) (index : ℕ) (value :
           says : WellFormed (before scene) → (a : ℕ)
               → announced_after a (announced_of a events) (Finished p (Container (Replace index value owner)) answers.Done) ≡ true
               → is_some (contents_of a events) ≡ true
-          says x0 x1 x2 = grind (arith, is_some, at_other, cases_eq)
+          says = grind (arith, is_some, at_other, cases_eq)
 
 -- ---- any step of a replace
 
@@ -408,23 +394,31 @@ module _ {T : Type 0} (scene : Scene T) (inv : Inv scene) (index : ℕ) (value :
       (inl past) well_formed (λ holds. tt) refl (λ i b. refl) (owes_none scene start (replace_at c at value owner replaces.Refuses) y here refl))
       ((refl, (none_done, nothing)), tt) (omega arith) (omega arith)
 
+  abbrev now : index < c → all scene ≡ [] → Replacing T
+  now below none_done =
+      record {
+        scene = scene;
+        inv = inv;
+        index = index;
+        value = value;
+        owner = owner;
+        fits = fits;
+        acts = acts;
+        below = below;
+        none_done = none_done;
+      }
+
   pub replace_step : (stage : ReplaceStage) → ReplaceAt c code.size (all scene) (done scene) index stage → Moves stage (place_of c index)
   replace_step replaces.Refuses at = refuses (place_of c index) at.0 at.1 at.2
   replace_step replaces.LoadsCell at =
-      subst (Moves replaces.LoadsCell) (sym (place_is c index at.0))
-      (λ here k s. cell_step scene inv index value owner fits acts at.0 at.1 here at.2 k.0 k.1 s)
+      subst (Moves replaces.LoadsCell) (sym (place_is c index at.0)) (λ here k s. cell_step (now at.0 at.1) here at.2 k.0 k.1 s)
   replace_step replaces.LoadsCount at =
-      subst (Moves replaces.LoadsCount) (sym (place_is c index at.0))
-      (λ here k s. count_step scene inv index value owner fits acts at.0 at.1 k here at.2 s)
+      subst (Moves replaces.LoadsCount) (sym (place_is c index at.0)) (λ here k s. count_step (now at.0 at.1) k here at.2 s)
   replace_step (replaces.Hides count) at =
-      subst (Moves (replaces.Hides count)) (sym (place_is c index at.0))
-      (λ here k s. hide_step scene inv index value owner fits acts at.0 at.1 k.0 count here at.2 at.3 k.1 s)
+      subst (Moves (replaces.Hides count)) (sym (place_is c index at.0)) (λ here k s. hide_step (now at.0 at.1) k.0 count here at.2 at.3 k.1 s)
   replace_step (replaces.Stores word) at =
-      subst (Moves (replaces.Stores word)) (sym (place_is c index at.0))
-      (λ here k s. store_step scene inv index value owner fits acts at.0 at.1 k.0 word here at.2 at.3 k.1 s)
+      subst (Moves (replaces.Stores word)) (sym (place_is c index at.0)) (λ here k s. store_step (now at.0 at.1) k.0 word here at.2 at.3 k.1 s)
   replace_step replaces.AddsCount at =
-      subst (Moves replaces.AddsCount) (sym (place_is c index at.0))
-      (λ here k s. place_step scene inv index value owner fits acts at.0 at.1 k.0 here at.2 k.1 s)
+      subst (Moves replaces.AddsCount) (sym (place_is c index at.0)) (λ here k s. place_step (now at.0 at.1) k.0 here at.2 k.1 s)
   replace_step replaces.AddsChange at =
-      subst (Moves replaces.AddsChange) (sym (place_is c index at.0))
-      (λ here k s. end_step scene inv index value owner fits acts at.0 at.1 k.0 here k.1 k.2 s)
+      subst (Moves replaces.AddsChange) (sym (place_is c index at.0)) (λ here k s. end_step (now at.0 at.1) k.0 here k.1 k.2 s)

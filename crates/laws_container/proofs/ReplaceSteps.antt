@@ -27,10 +27,23 @@ use Rattle.laws_container.proofs.Stages.{goes_calmly, ends, owes_none}
 use Rattle.laws_container.proofs.CallProgress.{replace_at, replace_number, ReplaceAt, place_is}
 use Rattle.laws_container.proofs.Steps.{loads, ends_calmly}
 use Rattle.laws_container.proofs.Turns.{WellFormed, replace_owes}
+use Rattle.laws_robust.proofs.Cases.{on_bool}
 
-module _ {T : Type 0} (scene : Scene T) (inv : Inv scene) (index : ℕ) (value : T) (owner : ℕ) (fits : owner < empty)
-    (acts : ActsFor scene owner) (below : index < scene.capacity) (none_done : all scene ≡ []) where
-  open scene use {coding as code, capacity as c, party as p, steps as steps, events as events, latest as latest}
+-- a replace by the party of the scene, for an owner that is not gone, which has done nothing yet
+pub record Replacing (T : Type 0) : Type 0 where
+  pub scene : Scene T
+  pub inv : Inv scene
+  pub index : ℕ
+  pub value : T
+  pub owner : ℕ
+  pub fits : owner < empty
+  pub acts : ActsFor scene owner
+  pub below : index < scene.capacity
+  pub none_done : all scene ≡ []
+
+module _ {T : Type 0} (replacing : Replacing T) where
+  open replacing use {scene, inv, index, value, owner, fits, below, none_done}
+  open replacing.scene use {coding as code, capacity as c, party as p, steps, events, latest}
 
   abbrev ws : List ℕ
   ws = scene.words
@@ -164,7 +177,7 @@ module _ {T : Type 0} (scene : Scene T) (inv : Inv scene) (index : ℕ) (value :
         ((refl, (none_done, nothing)), tt) (omega arith) (omega arith)
 
     found_now : cell ws index ≡ owner → HeldSometime p (IsFilledWith owner index) events
-    found_now x0 = grind (arith, held_now, filled_by, inv_of_set)
+    found_now = grind (arith, held_now, filled_by, inv_of_set)
 
     finds : cell ws index ≡ owner → Leads scene start (Some load_cell) false scene.states [] (GoOn (at_stage replaces.LoadsCount))
     finds is =
@@ -179,9 +192,9 @@ module _ {T : Type 0} (scene : Scene T) (inv : Inv scene) (index : ℕ) (value :
         })
 
     pub cell_step : StepOf scene start (at_stage replaces.LoadsCell)
-    cell_step = go (cell ws index == owner) refl
-      where
-        go : (b : Bool) → (cell ws index == owner) ≡ b → Leads scene start (Some (set_stages.loads (cell_word index))) false scene.states []
-            (as_replace (if b then GoOn (at_replace first replaces.LoadsCount) else Done (Err ContainerHandleNotOwnedByContainer)))
-        go true t = let is : cell ws index ≡ owner = grind (arith, nat_tests) in finds is
-        go false t = let other : cell ws index ≢ owner = grind (arith, nat_tests) in fails other
+    cell_step =
+        on_bool (λ b. Leads scene start (Some (set_stages.loads (cell_word index))) false scene.states []
+        (as_replace (if b then GoOn (at_replace first replaces.LoadsCount) else Done (Err ContainerHandleNotOwnedByContainer))))
+        (cell ws index == owner)
+        (λ t. let is : cell ws index ≡ owner = grind (arith, nat_tests) in finds is)
+        (λ t. let other : cell ws index ≢ owner = grind (arith, nat_tests) in fails other)

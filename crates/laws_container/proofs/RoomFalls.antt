@@ -46,6 +46,7 @@ use Rattle.laws_container.proofs.MeasuredCalls.{measure, behind, apart_leaves, c
 use Rattle.laws_container.proofs.MeasuredFalls.{behind_next, check_leaves}
 use Rattle.laws_container.proofs.RoomCalls.{each, recover_own, RemoveAt, RecoverAt, CallTo, load_none, raise_none, lock_none}
 use Rattle.laws_container.proofs.CallProgress.{remove_at, recover_at}
+use Rattle.laws_robust.proofs.Cases.{by_bool}
 
 -- the steps of a turn of a recovery: a question takes none
 abbrev pub recover_steps : RecoverStage → ℕ
@@ -167,14 +168,13 @@ module _ {T : Type 0} (code : Coding T) (c : ℕ) (words : List ℕ) where
     sees : (new : List ℕ) (index : ℕ) (kept : buffers.Buffer 128) (stage : RecoverStage) → index < c → get_or new 0 0 ≡ n
         → behind code.size c (each code.size c) index + (code.size - 1 + 7 + (c - 1 + 3)) + 1 ≤ recover_own code.size c words stage
         → To new 1 stage (becomes kept (recover_sees (at_stage stage) index (stands_at index)))
-    sees new index kept stage inside same enough = go (is_even (stands_at index)) refl
+    sees new index kept stage inside same enough =
+        by_bool (is_even (stands_at index))
+        (λ u. rw u (inl (same, omega arith), omega arith))
+        (λ u. let self = same_is (stands_at index) in rw u (inl (same, rw (within, self) (omega arith)), omega arith))
       where
         within : nat_lt index c ≡ true
         within = grind (arith, nat_tests)
-
-        go : (u : Bool) → is_even (stands_at index) ≡ u → To new 1 stage (becomes kept (recover_sees (at_stage stage) index (stands_at index)))
-        go true u = rw u (inl (same, omega arith), omega arith)
-        go false u = let self = same_is (stands_at index) in rw u (inl (same, rw (within, self) (omega arith)), omega arith)
 
     raised : (n' index : ℕ) (raise : raises.Raise) (a : After raises.Raise ReleaseState) → RaiseTo c n n' raise a → (new : List ℕ) → get_or new 0 0 ≡ n'
         → To new 1 (recovers.Raises index raise) (becomes room (recover_raised (at_stage (recovers.Raises index raise)) index mode a))
@@ -212,20 +212,18 @@ module _ {T : Type 0} (code : Coding T) (c : ℕ) (words : List ℕ) where
           go false t false u = rw (t, u) (inl (same, omega arith), omega arith)
 
       cell_goes : (index : ℕ) → Steps new (recovers.LoadsCell index)
-      cell_goes index = go (get_or words (cell_word index) 0 == owner) refl
-        where
-          go : (t : Bool) → (get_or words (cell_word index) 0 == owner) ≡ t → Steps new (recovers.LoadsCell index)
-          go true t = rw t (inl (same, omega arith), omega arith)
-          go false t = rw t (comes new 1 index room (recovers.LoadsCell index) (inl same) (omega arith))
+      cell_goes index =
+          by_bool (get_or words (cell_word index) 0 == owner)
+          (λ t. rw t (inl (same, omega arith), omega arith))
+          (λ t. rw t (comes new 1 index room (recovers.LoadsCell index) (inl same) (omega arith)))
 
       word_goes : (index count at : ℕ) → Steps new (recovers.LoadsWord index count at)
-      word_goes index count at = go (nat_lt (at + 1) code.size) refl
-        where
-          go : (t : Bool) → nat_lt (at + 1) code.size ≡ t → Steps new (recovers.LoadsWord index count at)
-          go true t =
-              let less : at + 1 < code.size = grind (arith, nat_tests) in
-              rw t (inl (same, omega arith), omega arith)
-          go false t = rw t (inl (same, omega arith), omega arith)
+      word_goes index count at =
+          by_bool (nat_lt (at + 1) code.size)
+          (λ t.
+          let less : at + 1 < code.size = grind (arith, nat_tests) in
+          rw t (inl (same, omega arith), omega arith))
+          (λ t. rw t (inl (same, omega arith), omega arith))
 
       check_goes : (index count : ℕ) → index < c → Steps new (recovers.ChecksCount index count)
       check_goes index count inside = go (stands_at index == count) refl (is_even (stands_at index)) refl

@@ -144,7 +144,7 @@ module _ (c size : ℕ) (some : 1 ≤ c) (wide : 1 ≤ size) (words : List ℕ) 
   own_most flight = omega arith
 
   two_places : {T : Type 0} (flight : Flight T) → places c flight ≤ 2
-  two_places x0 = grind arith
+  two_places = grind arith
 
 -- ---- a call that may not lock, by its own measure
 
@@ -160,7 +160,7 @@ module _ {T : Type 0} where
 
   after_plain : (code : Coding T) (state : Option (ContainerState T)) (flight : ContainerFlight T) (old : ℕ) → is_plain flight ≡ true
       → PlainAfter (after code state flight old)
-  after_plain x0 x1 x2 x3 x4 = grind arith
+  after_plain = grind arith
 
   module _ (size c : ℕ) where
     plain_is : (words : List ℕ) (flight : ContainerFlight T) → is_plain flight ≡ true
@@ -276,11 +276,11 @@ module _ {T : Type 0} (code : Coding T) (c : ℕ) (some : 1 ≤ c) (wide : 1 ≤
       (after code (state_of p states) (flight c) (old_of words ask)) (asks_few run.call.stage) (few_steps run.call.stage) owes.1 owes.0)
     where
       few_steps : (stage : RecoverStage) → recover_steps stage ≤ 1
-      few_steps x0 = grind arith
+      few_steps = grind arith
 
       asks_few : (stage : RecoverStage)
           → step_count (ask_of (want code (recover_at {T = T} c run.given.owner run.given.mode run.room stage))) ≤ recover_steps stage
-      asks_few x0 = grind arith
+      asks_few = grind arith
   step_falls words there p dead states (calls.Add run) at known = plain_shown words there p dead states (calls.Add run) at refl known
   step_falls words there p dead states (calls.Replace run) at known =
       plain_shown words there p dead states (calls.Replace run) at refl known
@@ -307,10 +307,10 @@ module _ {T : Type 0} (code : Coding T) (c : ℕ) (some : 1 ≤ c) (wide : 1 ≤
       (after_plain code state flight (number_of said) plain) (inl refl) (call_decides code c words state flight (stands flight at plain) said due)
 
   no_raise : (raise : raises.Raise) → is_question (raise_want raise) ≡ false
-  no_raise x0 = grind arith
+  no_raise = grind arith
 
   no_lock : (lock : locks.Lock) → is_question (lock_want lock) ≡ false
-  no_lock x0 = grind arith
+  no_lock = grind arith
 
   recover_decides : (words : List ℕ) (mode : ReleaseMode) (owner : ℕ) (room : buffers.Buffer 128) (stage : RecoverStage)
       → Decided words None (recover_at c owner mode room stage)
@@ -365,7 +365,7 @@ module _ {T : Type 0} (code : Coding T) (c : ℕ) (some : 1 ≤ c) (wide : 1 ≤
 
   told : (words : List ℕ) (beside : Option (ℕ × ℕ)) (p : ℕ) (start : Start T) (flight : Flight T) (old : ℕ) (kept : Registry T)
       → AtAny code c start flight → Kept kept → (step_of code words beside p start flight old kept).after ≡ goes_of code p flight old kept
-  told x0 x1 x2 x3 x4 x5 x6 x7 x8 = grind arith
+  told = grind arith
 
   stays : (words : List ℕ) (beside : Option (ℕ × ℕ)) (p : ℕ) (start : Start T) (flight : Flight T) (old : ℕ) (kept : Registry T)
       → AtAny code c start flight → Kept kept
@@ -393,7 +393,7 @@ module _ {T : Type 0} (code : Coding T) (c : ℕ) (some : 1 ≤ c) (wide : 1 ≤
   begins : (start : Start T) (kept : Registry T) (flight : Flight T) → Unit {0} → Kept kept
       → first_of kinds.Container c start kept ≡ Some flight
       → AtAny code c start flight × ((p : ℕ) → Kept (kept_after_begin code c start p kept))
-  begins x0 x1 x2 x3 x4 x5 = grind (arith, first_at)
+  begins = grind (arith, first_at)
 
   most : (words : List ℕ) (start : Start T) (flight : Flight T) → AtAny code c start flight
       → (room_left code.size c words flight ≤ (2 ^ 64 + 1) * (owns code.size c + 1)) × (places c flight ≤ 2)

@@ -63,7 +63,7 @@ module _ {T : Type 0} (code : Coding T) (c : ℕ) where
   AddAfter (Done answer) = Unit {0}
 
   acquired_at : (call : adding.Add T) (a : After acquiring.Acquire Acquired) → AcquireThen c a → AddAfter (add_acquired call a)
-  acquired_at x0 x1 x2 = grind arith
+  acquired_at = grind arith
 
   add_at_after : (size : ℕ) (call : adding.Add T) (stage : AddStage) (old : ℕ) → call.capacity ≡ c → AddAt stage → AddAfter (add_takes size call stage old)
   add_at_after size call (adds.Acquires stage) old cap at =
@@ -88,7 +88,7 @@ module _ {T : Type 0} (code : Coding T) (c : ℕ) where
 
   released_at : (call : removing.Remove) (count : ℕ) (a : After releasing.Release Released) → call.capacity ≡ c → ReleaseThen c a
       → RemoveAfter (remove_released call count a)
-  released_at x0 x1 x2 x3 x4 = grind arith
+  released_at = grind arith
 
   remove_at_after : (call : removing.Remove) (stage : RemoveStage) (given : GiveBack) (old : ℕ) → call.capacity ≡ c → RemoveAt stage
       → RemoveAfter (remove_takes call stage given old)
@@ -112,16 +112,16 @@ module _ {T : Type 0} (code : Coding T) (c : ℕ) where
   RecoverAfter (Done answer) = Unit {0}
 
   comes_at : (call : recovering.Recover T (buffers.Buffer 128)) (index : ℕ) → call.capacity ≡ c → RecoverAfter (recover_comes_to call index)
-  comes_at x0 x1 x2 = grind (arith, nat_tests)
+  comes_at = grind (arith, nat_tests)
 
   raised_at : (call : recovering.Recover T (buffers.Buffer 128)) (index : ℕ) (mode : ReleaseMode) (a : After raises.Raise ReleaseState)
       → call.capacity ≡ c → RaiseThen a
       → RecoverAfter (recover_raised call index mode a)
-  raised_at x0 x1 x2 x3 x4 x5 = grind (arith, comes_at)
+  raised_at = grind (arith, comes_at)
 
   locked_at : (call : recovering.Recover T (buffers.Buffer 128)) (index : ℕ) (a : After locks.Lock ReleaseState) → call.capacity ≡ c → LockThen a
       → RecoverAfter (recover_locked call index a)
-  locked_at x0 x1 x2 x3 x4 = grind (arith, comes_at)
+  locked_at = grind (arith, comes_at)
 
   recover_at_after : (size : ℕ) (call : recovering.Recover T (buffers.Buffer 128)) (stage : RecoverStage) (given : DeadOwner) (old : ℕ)
       → call.capacity ≡ c → RecoverAt c stage → RecoverAfter (recover_takes size call stage given old)
@@ -171,7 +171,7 @@ module _ {T : Type 0} (code : Coding T) (c : ℕ) where
   call_at_after state (calls.IsLocked run) old at = tt
 
   place_within : (index : ℕ) → place_of c index ≤ c
-  place_within x0 = grind (arith, nat_tests)
+  place_within = grind (arith, nat_tests)
 
   pub first_at : (start : ContainerStart T) → CallAt c (first c start)
   first_at (container_starts.Add value owner) = ((refl, tt), tt)

@@ -30,7 +30,7 @@ module _ {T : Type 0} (scene : Scene T) (inv : Inv scene) (start : ContainerStar
   LeavesRest words' = (n : ℕ) → 1 + c ≤ n → get_or words' n 0 ≡ get_or ws n 0
 
   pub rest_set : (words' : List ℕ) (m x : ℕ) → m < 1 + c → words' ≡ set ws m x → LeavesRest words'
-  rest_set x0 x1 x2 x3 x4 x5 x6 = grind (arith, get_or-set_other)
+  rest_set = grind (arith, get_or-set_other)
 
   pub wide_set : (words' : List ℕ) (m x : ℕ) → words' ≡ set ws m x → length words' ≡ length ws
   wide_set words' m x new = ap length new ∙ length-set ws m x

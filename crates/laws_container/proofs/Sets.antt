@@ -20,7 +20,7 @@ module _ {T : Type 0} (scene : Scene T) (inv : Inv scene) where
   -- ---- a word behind the cells changes
 
   pub leaves_behind : (words' : List ℕ) (n x : ℕ) → 1 + c ≤ n → words' ≡ set ws n x → Leaves scene words'
-  leaves_behind x0 x1 x2 x3 x4 = grind (arith, get_or-set_other, length, length-set, cell, locked)
+  leaves_behind = grind (arith, get_or-set_other, length, length-set, cell, locked)
 
   -- ---- events that change nothing of the set
 

@@ -77,7 +77,7 @@ module _ {T : Type 0} where
   all_right P right earlier (e ∷ es) h = (right earlier e h.0, all_right P right (earlier ++ e ∷ []) es h.1)
 
   pub silent_quiet : (es : List (Event T)) → AllByRecursion Silent es → Quiet es
-  silent_quiet x0 x1 = grind (arith, fold_stays, filled_stays, holder_stays, settled_stays, right_stays, locked_stays, dead_stays, all_right, holds_right)
+  silent_quiet = grind (arith, fold_stays, filled_stays, holder_stays, settled_stays, right_stays, locked_stays, dead_stays, all_right, holds_right)
 
 module _ {T : Type 0} (scene : Scene T) (inv : Inv scene) (words' : List ℕ) (same : words' ≡ scene.words)
     (y : Party T) (es : List (Event T)) (silent : AllByRecursion Silent es) (own : AreOwn scene.party es) where

@@ -97,7 +97,7 @@ module _ {T : Type 0} where
 
   pub begins_own : (c : ℕ) (kept : Registry T) (start : Start T) (flight : Flight T)
       → first_of kinds.Container c start kept ≡ Some flight → IsOwn c start flight
-  begins_own x0 x1 x2 x3 x4 = grind (arith, named_own)
+  begins_own = grind (arith, named_own)
 
 -- ---- the laws of the family
 
@@ -171,7 +171,7 @@ module _ {T : Type 0} (shown : Shown T) (terms : Terms) (code : Coding T) (c : �
     pub passes : (flight : ContainerFlight T) (said : Option Bool)
         → first_row (going_rows code kept_now (Some (flights.Container flight)) said) ≡ None
         → acts_for_dead s.state.dead flight ≡ false
-    passes x0 x1 x2 = grind (arith, first_row, row_passed)
+    passes = grind (arith, first_row, row_passed)
 
     -- ---- a step
 
@@ -275,7 +275,7 @@ module _ {T : Type 0} (shown : Shown T) (terms : Terms) (code : Coding T) (c : �
         → first_of kinds.Container c start kept_now ≡ Some flight
         → frame.Comes (family_by terms code c) t p (kept_after_begin code c start p kept_now) s.state.words
         (party_at_begin start flight t.world.changes) (Begun p start ∷ []) t.world.changes
-    begin_comes x0 x1 x2 x3 x4 = grind (arith, first_of, begins_own, begins_now)
+    begin_comes = grind (arith, first_of, begins_own, begins_now)
 
   -- ---- an owner dies
 
@@ -321,7 +321,7 @@ module _ {T : Type 0} (shown : Shown T) where
   dying_rightly : (code : Coding T) (c : ℕ) (t : Trace T) (s : frame.Sound (family code c) t) (p : ℕ) (x : Party T)
       (since : ℕ) (found : party_of p t.world.latest ≡ Some x) (flight : Flight T)
       → first_row (going_rows code (kept_now shown dying code c t s) (Some flight) None) ≡ None → IsRightly shown dying code c t s p x since found flight
-  dying_rightly x0 x1 x2 x3 x4 x5 x6 x7 x8 x9 = grind (arith, lives_by_rows, passes)
+  dying_rightly = grind (arith, lives_by_rows, passes)
 
   abbrev pub May : Trace T → Turn T → Type 0
   May t turn = MayGoOn dying t

@@ -207,13 +207,13 @@ module _ {T : Type 0} (scene : Scene T) where
       (view scene.terms (words_after ws ask) states' (put p (party_then start ask back (GoOn flight)) latest) events
       p (since_then ask) (changes_then ask) (backs_then back))
       → ShowsThen start ask back states' [] (GoOn flight)
-  goes_calmly x0 x1 x2 x3 x4 x5 x6 x7 x8 x9 = grind (arith, goes_on, none_lengthens, append-nil, view, put)
+  goes_calmly = grind (arith, goes_on, none_lengthens, append-nil, view, put)
 
   -- ---- what it owes the changes
 
   pub owes_is : (start : ContainerStart T) (flight : ContainerFlight T) → IsHere start flight
       → owes (flight_of (doing_of (party_of p latest))) ≡ flight_owes flight
-  owes_is x0 x1 x2 = grind (arith, owes)
+  owes_is = grind (arith, owes)
 
   -- a call that owes nothing leaves nothing owing
   pub owes_none : (start : ContainerStart T) (flight : ContainerFlight T) (y : Party T) → IsHere start flight

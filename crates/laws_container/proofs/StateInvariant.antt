@@ -19,7 +19,7 @@ module _ {T : Type 0} where
   number_at s i = number_in (slice_get s.shown.elements i)
 
   pub copied_later : (p i : ℕ) (value : T) (events es : List (Event T)) → WasCopied p i value events → WasCopied p i value (events ++ es)
-  copied_later x0 x1 x2 x3 x4 x5 = grind (arith, append_assoc)
+  copied_later = grind (arith, append_assoc)
 
   -- something stood at the index through the party's call
   abbrev pub StoodThere : ℕ → ℕ → List (Event T) → Type 0
@@ -67,14 +67,14 @@ module _ {T : Type 0} (code : Coding T) (c : ℕ) where
     still : Keeps m'.terms → (i : ℕ) → i < c → number_at s i ≤ count_in code c m i
         → number_at s i ≡ count_in code c m' i
         → (number_at s i ≡ count_in code c m i) × (count_in code c m' i ≡ count_in code c m i)
-    still x0 x1 x2 x3 x4 = grind arith
+    still = grind arith
 
     change_still : Keeps m'.terms → s.shown.change ≤ change_in code c m → s.shown.change ≡ change_in code c m'
         → (s.shown.change ≡ change_in code c m) × (change_in code c m' ≡ change_in code c m)
     change_still kept low e = let grows = passes.change kept in (omega arith, omega arith)
 
     pub sight_later : (k x : ℕ) → Sight m q s k x → Sight m' q s k x
-    sight_later x0 x1 x2 = grind (arith, copied_later, still, change_still, inl, inr)
+    sight_later = grind (arith, copied_later, still, change_still, inl, inr)
 
     pub rests_later : Rests m q s → Rests m' q s
     rests_later h = record { sight = sight_later c c h.sight; known = h.known; seen = h.seen; counts = h.counts; room = h.room }

@@ -36,7 +36,7 @@ module _ {T : Type 0} (scene : Scene T) (inv : Inv scene) (start : ContainerStar
       record { asks = tt; recovers = tt; answers = tt; contains = λ well_formed. tt; places = λ well_formed. tt }
 
   pub calm_none : (words' : List ℕ) (well_formed : WellFormedBefore words' []) → IsCalm scene inv words' y [] well_formed
-  calm_none x0 x1 = grind (arith, reads_same)
+  calm_none = grind (arith, reads_same)
 
   -- ---- it changes nothing, and writes nothing
 
@@ -108,7 +108,7 @@ module _ {T : Type 0} (scene : Scene T) (inv : Inv scene) (start : ContainerStar
           }
         where
           gone : {A : Type 0} → (a : ℕ) → a ≡ i → announced_of a (events ++ Hidden p i ∷ []) ≡ true → A
-          gone x0 x1 x2 = grind (arith, both_ways, fold-append, false, at_same)
+          gone = grind (arith, both_ways, fold-append, false, at_same)
 
       pub hides : Does scene words' scene.states y (Hidden p i ∷ [])
       hides =
@@ -133,7 +133,7 @@ module _ {T : Type 0} (scene : Scene T) (inv : Inv scene) (start : ContainerStar
       nothing holds = place_none code c ws events (e.whole holds) e.wide i below value (writing holds)
 
       no_other : {A : Type 0} → WellFormed (before scene) → (q : ℕ) → q ≢ p → (o : ℕ) → IsWriter q i o events → A
-      no_other x0 x1 x2 x3 x4 = grind (arith, one_writer)
+      no_other = grind (arith, one_writer)
 
       -- its owner, who is not gone, fills the index
       fills_it : {A : Type 0} → WellFormed (before scene) → (o : ℕ) → is_gone scene.terms.by o events ≡ true → filled_of i events ≡ Some o → A
@@ -160,7 +160,7 @@ module _ {T : Type 0} (scene : Scene T) (inv : Inv scene) (start : ContainerStar
           }
         where
           unannounced : WellFormed (before scene) → (a : ℕ) → a ≡ i → announced_of a events ≡ true → ⊥
-          unannounced x0 x1 x2 x3 = grind (arith, both_ways, is_some, nothing)
+          unannounced = grind (arith, both_ways, is_some, nothing)
 
       pub places : Does scene words' scene.states y (Placed p i value ∷ [])
       places =

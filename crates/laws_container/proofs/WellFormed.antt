@@ -17,7 +17,7 @@ module _ {T : Type 0} where
 
   pub well_formed_on : (terms : Terms) (t : Trace T) → Keeps terms → IsHonestBy terms.by t.events
       → IsWellFormedRun t → IsWellFormedSoFar terms t.world.latest t.events
-  well_formed_on x0 x1 x2 x3 x4 = grind arith
+  well_formed_on = grind arith
 
   -- where owners die
   pub well_formed_so_far : (t : Trace T) → IsWellFormedRun t → IsWellFormedSoFar dying t.world.latest t.events
@@ -37,7 +37,7 @@ module _ {T : Type 0} where
     IsWellFormedThen = IsWellFormedSoFar terms (put p y latest) (events ++ es)
 
     others_less : IsWellFormedThen → (q : ℕ) → q ≢ p → StandsWellFormed q (party_of q latest) events
-    others_less x0 x1 x2 = grind (arith, stands_less, others_begin_none, span_of-other, party_put_other)
+    others_less = grind (arith, stands_less, others_begin_none, span_of-other, party_put_other)
 
     -- a turn of a party of which this is so
     pub well_formed_before : (IsWellFormedThen → StandsWellFormed p (party_of p latest) events) → IsWellFormedThen → IsWellFormedSoFar terms latest events

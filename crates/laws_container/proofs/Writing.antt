@@ -37,4 +37,4 @@ module _ {T : Type 0} (scene : Scene T) (inv : Inv scene) where
   pub hides_count : (i count : ℕ) → i < c → count_in code c (before scene) i ≡ count
       → words_after ws (Some (exchanges (count_word c i) count (one_more count)))
       ≡ set ws (count_word c i) (one_more (count_in code c (before scene) i))
-  hides_count x0 x1 x2 x3 = grind (arith, exchange_sets, one_more, set)
+  hides_count = grind (arith, exchange_sets, one_more, set)

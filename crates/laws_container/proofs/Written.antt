@@ -24,7 +24,7 @@ module _ {T : Type 0} (turn : Turn T) (p : ℕ) (mine : IsParty turn p) where
   all_done code state flight old = grind arith
 
   all_asked : (given : DeadOwner) (stage : RecoverStage) (old : ℕ) → All (question_of p given stage old)
-  all_asked x0 x1 x2 = grind (arith, either)
+  all_asked = grind (arith, either)
 
   all_questions : (flight : ContainerFlight T) (old : ℕ) → All (questions p flight old)
   all_questions (Recover run) old = all_asked run.given run.call.stage old
@@ -32,4 +32,4 @@ module _ {T : Type 0} (turn : Turn T) (p : ℕ) (mine : IsParty turn p) where
 
   pub all_effects : (code : Coding T) (state : Option (ContainerState T)) (flight : ContainerFlight T) (old : ℕ)
       → All (effects code p state flight old ++ questions p flight old)
-  all_effects x0 x1 x2 x3 = grind (arith, joined, effects, questions, all_done, all_questions)
+  all_effects = grind (arith, joined, effects, questions, all_done, all_questions)

@@ -5,10 +5,10 @@ use Rattle.laws_loan.proofs.Names.{Option, Some, List, [], ◌∷◌, ◌++◌, 
 use Rattle.laws_loan.proofs.Names.{nil_from_length, AllByRecursion, Ask, Load, OneWord, ReleaseStage, ReclaimStage}
 use Rattle.laws_loan.proofs.Names.{TakeBackStage, submission_word, shifted, move, load, distance, Answer, Event}
 use Rattle.laws_loan.proofs.Names.{Published, HandedOut, Freed, Returned, TakenBack, Index, LoanFlight, Effect, Turn}
-use Rattle.laws_loan.proofs.Names.{Next, Coding, ask_of, want, read_word, AddsOne, promise, read_in, sent_at, beside}
+use Rattle.laws_loan.proofs.Names.{Next, ask_of, want, read_word, AddsOne, promise, read_in, sent_at, beside}
 use Rattle.laws_loan.proofs.Names.{release_effect, take_back_effect, give_back_effect, reclaim_effect, effect_of}
 use Rattle.laws_loan.proofs.Names.{room_made, effects_of, waiting, ask_in, IsParty, IsEffectOf, IsAct, ActsRight}
-use Rattle.laws_loan.proofs.Names.{old_of, Trace, KnowsOverflowPush, KnowsBacks}
+use Rattle.laws_loan.proofs.Names.{old_of, KnowsOverflowPush, KnowsBacks}
 use Rattle.std.proofs.Common.{arith}
 use Rattle.steps.specs.declared.queues.overflow.PopStage.{PopStage}
 use Rattle.steps.specs.declared.queues.overflow.PopStage.TheVariants as overflow_pops
@@ -21,16 +21,15 @@ use Rattle.model.specs.declared.event.Answer.TheVariants as answers
 use Rattle.model.specs.declared.families.loan.LoanStart.TheVariants as calls
 use Rattle.model.specs.declared.families.loan.effects.Effect.TheVariants as effects
 use Rattle.model.specs.Families.Loan.Steps.{acts, claimed}
-use Rattle.model.proofs.Frame as frame
 use Rattle.laws_loan.proofs.Channel.{Channel, words_in}
 use Rattle.laws_loan.proofs.Invariant.{sends_at, counted_for}
 use Rattle.laws_loan.proofs.Kept.{waiting_is}
 use Rattle.laws_loan.proofs.Parts.{submission_old}
 use Rattle.laws_loan.proofs.Positions.{adds_write, adds_read, finds_read}
 use Rattle.laws_loan.proofs.Receives.{receive_at}
+use Rattle.laws_loan.proofs.Scene.{Underway}
 use Rattle.laws_loan.proofs.Sends.{pushes_at}
-use Rattle.laws_loan.proofs.StepLaw.{channel}
-use Rattle.laws_loan.proofs.Told.{items}
+use Rattle.laws_loan.proofs.QueueEvents.{items}
 
 -- ---- the order
 
@@ -100,8 +99,9 @@ reclaim_silent = grind arith
 
 -- ---- what an act tells
 
-module _ {T : Type 0} (code : Coding T) (slots queue : ℕ) (t : Trace T)
-    (s : frame.Sound (channel code slots queue) t) (small : t.world.turns < 2 ^ 64 - 2) (p : ℕ) where
+module _ {T : Type 0} (m : Underway T) (p : ℕ) where
+  open m use {slots, queue, trace as t, sound as s}
+
   abbrev pub k : Channel T
   k = s.state
 
@@ -206,11 +206,11 @@ module _ {T : Type 0} (code : Coding T) (slots queue : ℕ) (t : Trace T)
       at_first = grind (arith, word_at)
 
       go : (b : Bool) → (old == read) ≡ b → Right (acts_of p (if b then effects.FindsNone else effects.Quiet))
-      go x0 x1 = grind (arith, found, at_first, none_waits, nat_tests)
+      go = grind (arith, found, at_first, none_waits, nat_tests)
   receive_right other since changes backs (overflow_pops.LoadsCell read) room known asks = tt
   receive_right other since changes backs (overflow_pops.MovesRead read) room known asks = go (moved read == read) refl
     where
       go : (b : Bool) → (moved read == read) ≡ b
           → Right
           (acts_of p (if b then effects.Receives (sent_at (submission_word slots) queue (words_in k) read) waits else effects.Quiet))
-      go x0 x1 = grind (arith, moves_on, made_right)
+      go = grind (arith, moves_on, made_right)

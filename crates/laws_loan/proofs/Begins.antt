@@ -16,7 +16,7 @@ use Rattle.laws_loan.proofs.Keeping.{at_stays}
 use Rattle.laws_loan.proofs.Knows.{counts, wrote_in, At, FlightKnows}
 use Rattle.laws_loan.proofs.Placed.{Placed}
 use Rattle.laws_loan.proofs.Sender.{owes_by}
-use Rattle.laws_loan.proofs.Told.{items, is_reclaiming}
+use Rattle.laws_loan.proofs.QueueEvents.{items, is_reclaiming}
 use Rattle.laws_loan.proofs.Turns.{Shows, now_more}
 
 -- a call that is over has nothing in passing

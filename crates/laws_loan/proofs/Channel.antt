@@ -22,7 +22,7 @@ pub record Channel (T : Type 0) : Type 0 where
   pub claims : List (Option ℕ)  -- who has claimed each: the sender, or nobody
   pub submission : Core ℕ
   pub completion : Core ℕ
-  pub book : Book
+  pub book : Book  -- what is kept beside the words
   pub events : List (Event T)
 
 -- nobody takes a role of its queues

@@ -15,7 +15,7 @@ use Rattle.laws_loan.proofs.Knows.{wrote_in, At}
 use Rattle.laws_loan.proofs.Lists.{lists_stay}
 use Rattle.laws_loan.proofs.Placed.{Placed, placed_on}
 use Rattle.laws_loan.proofs.Spots.{is_waiting, is_returning, spot_stays}
-use Rattle.laws_loan.proofs.Told.{items, Told, told_more}
+use Rattle.laws_loan.proofs.QueueEvents.{items, Told, told_more}
 
 -- ---- who has died
 

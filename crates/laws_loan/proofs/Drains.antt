@@ -1,11 +1,11 @@
 -- The steps of a reclaim that pops the submission queue, until that is empty.
 use Rattle.laws_loan.proofs.Names.{◌≡◌, ◌≢◌, ℕ, suc, ◌+◌, ◌%◌, ◌^◌, ◌*◌, ◌-◌, ◌<◌, ◌≤◌, ◌==◌, inl, Bool, true, false}
-use Rattle.laws_loan.proofs.Names.{not, Option, Some, List, [], ◌∷◌, ◌++◌, length, get_or, refl, sym, ap, subst, ◌∙◌}
+use Rattle.laws_loan.proofs.Names.{not, Option, List, [], ◌∷◌, ◌++◌, length, get_or, refl, sym, ap, subst, ◌∙◌}
 use Rattle.laws_loan.proofs.Names.{append-nil, length-append, nat_tests, nil_from_length, set-get_or, flat_map-append}
 use Rattle.laws_loan.proofs.Names.{fold-append, Ask, After, GoOn, ReclaimStage, submission_word, reclaim_goes_back}
-use Rattle.laws_loan.proofs.Names.{load, Answer, Event, HandedOut, Index, LoanFlight, Effect, Party, Coding, ask_of}
+use Rattle.laws_loan.proofs.Names.{load, Answer, Event, HandedOut, Index, LoanFlight, Effect, ask_of}
 use Rattle.laws_loan.proofs.Names.{Waiting, spot_of, receiver_after, takes_back, taken_back, freed, sent_at}
-use Rattle.laws_loan.proofs.Names.{words_of_index, hands_out, handed_out, Open, span_of, old_of, words_after}
+use Rattle.laws_loan.proofs.Names.{words_of_index, hands_out, handed_out, old_of, words_after}
 use Rattle.laws_loan.proofs.Names.{change_of, step_count, oldest, pop_front, Core, taken, layout}
 use Rattle.std.proofs.Common.{arith}
 use Rattle.steps.specs.declared.loan.reclaim.ReclaimStage.TheVariants as reclaims
@@ -13,51 +13,49 @@ use Rattle.steps.specs.declared.queues.overflow.PopStage.{PopStage}
 use Rattle.steps.specs.declared.queues.overflow.PopStage.TheVariants as pops
 use Rattle.steps.specs.declared.queues.ring.PopStage.TheVariants as ring_pops
 use Rattle.steps.specs.Queues.Overflow.{cell_word, pop_asks}
-use Rattle.model.specs.declared.families.Flight.TheVariants as flights
 use Rattle.model.specs.declared.families.loan.effects.Effect.TheVariants as effects
 use Rattle.model.specs.Families.Loan.Reading.{frees}
 use Rattle.laws_loan.proofs.Channel.{Channel, no_roles, words_in}
 use Rattle.laws_loan.proofs.Cuts.{IsOn}
-use Rattle.laws_loan.proofs.Invariant.{sends_at, counted_for, HoldsNow}
-use Rattle.laws_loan.proofs.Knows.{reclaim_counts, reclaim_number, StageAt, ReclaimAt}
+use Rattle.laws_loan.proofs.Invariant.{sends_at, counted_for}
+use Rattle.laws_loan.proofs.Knows.{reclaim_counts, reclaim_number, StageAt}
 use Rattle.laws_loan.proofs.Lists.{first_there}
 use Rattle.laws_loan.proofs.Parts.{submission_old, submission_words, submission_change}
 use Rattle.laws_loan.proofs.ReclaimGoes as steps
-use Rattle.laws_loan.proofs.ReclaimGoes.{start, asked, old, Does}
-use Rattle.laws_loan.proofs.Reclaiming.{reclaim_at, none_more, passing_before, passing_sent}
+use Rattle.laws_loan.proofs.ReclaimGoes.{asked, old, Does}
+use Rattle.laws_loan.proofs.Reclaiming.{reclaim_at, none_more, passing_before, passing_sent, Reclaims}
 use Rattle.laws_loan.proofs.Rooms.{sent_below}
+use Rattle.laws_loan.proofs.Scene.{Scene}
 use Rattle.laws_loan.proofs.Spots.{waits_there}
 use Rattle.laws_loan.proofs.Submission as submission
 use Rattle.laws_loan.proofs.Table.{waiting_away, hands_it_out}
-use Rattle.laws_loan.proofs.Told.{items, Tells}
+use Rattle.laws_loan.proofs.QueueEvents.{items, Tells}
 
 abbrev drains : PopStage → ReclaimStage
 drains stage = reclaims.Drains stage
 
-module _ {T : Type 0} (code : Coding T) (slots queue : ℕ) (s : Channel T) (latest : List (ℕ × Party T))
-    (turns changes since : ℕ) (x : Party T) (wrote : List (Event T)) (h : HoldsNow slots queue s latest s.events turns)
-    (small : turns < 2 ^ 64 - 2) (under : ReclaimStage)
-    (here : sends_at latest ≡ Some (flights.Loan (reclaim_at slots queue under)))
-    (idle : reclaim_counts under ≡ 0)
-    (from : span_of 0 s.events ≡ Open (start code slots queue s latest turns changes since x wrote) wrote)
-    (known : ReclaimAt slots queue s wrote under) (straight : x.backs ≡ 0) where
+module _ {T : Type 0} (scene : Scene T) (wrote : List (Event T)) (small : scene.turns < 2 ^ 64 - 2) (under : ReclaimStage)
+    (r : Reclaims scene wrote under) (idle : reclaim_counts under ≡ 0) where
+  open scene use {slots, queue, state as s, latest, caller as x}
+  open r use {holds as h, known}
+
   abbrev Does_at : PopStage → Type 0
-  Does_at stage = Does code slots queue s latest turns changes since x wrote (drains stage)
+  Does_at stage = Does scene wrote (drains stage)
 
   abbrev asks : PopStage → Option Ask
-  asks stage = asked code slots queue s latest turns changes since x wrote (drains stage)
+  asks stage = asked scene wrote (drains stage)
 
   abbrev value : PopStage → ℕ
-  value stage = old code slots queue s latest turns changes since x wrote (drains stage)
+  value stage = old scene wrote (drains stage)
 
   abbrev then_of : PopStage → ℕ → After LoanFlight (Answer T)
-  then_of stage v = steps.goes code slots queue s latest turns changes since x wrote (drains stage) v
+  then_of stage v = steps.goes scene wrote (drains stage) v
 
   abbrev effect_of : PopStage → ℕ → Effect
-  effect_of stage v = steps.effect_at code slots queue s latest turns changes since x wrote (drains stage) v
+  effect_of stage v = steps.effect_at scene wrote (drains stage) v
 
   abbrev To : Channel T → PopStage → After LoanFlight (Answer T) → Effect → Type 0
-  To s' stage after effect = steps.StepTo code slots queue s latest turns changes since x wrote s' (drains stage) after effect
+  To s' stage after effect = steps.StepTo scene wrote s' (drains stage) after effect
 
   -- ---- what is so of the queue
 
@@ -88,8 +86,7 @@ module _ {T : Type 0} (code : Coding T) (slots queue : ℕ) (s : Channel T) (lat
       → reclaim_goes_back (drains now) (value now) ≡ false → then_of now (value now) ≡ GoOn (reclaim_at slots queue after_it)
       → effect_of now (value now) ≡ effects.Quiet → Does_at now
   loads now after_it on words counted stands few =
-      steps.loads code slots queue s latest turns changes since x wrote h under here idle from known straight (drains now)
-      after_it (words_are now s.submission on words) counted stands few
+      steps.loads scene wrote under r idle (drains now) after_it (words_are now s.submission on words) counted stands few
 
   abbrev load_of_write : PopStage
   load_of_write = pops.LoadsWrite s.submission.read
@@ -159,8 +156,7 @@ module _ {T : Type 0} (code : Coding T) (slots queue : ℕ) (s : Channel T) (lat
       tells_out = grind (arith, pop_front, append-nil, items)
 
       leads : x.steps ≤ 4 * length (handed_out wrote) + 3
-          → steps.Leads code slots queue s latest turns changes since x wrote h under here idle from known straight
-          (drains moves) k s.completion (hands ∷ []) (drains pops.LoadsRead)
+          → steps.Leads scene wrote under r idle (drains moves) k s.completion (hands ∷ []) (drains pops.LoadsRead)
       leads few =
           let change : change_of (words_in s) (asks moves) ≡ 1 =
           submission_change slots queue s (counted_for (sends_at latest)) h.parts (pop_asks queue moves) on_moves
@@ -202,8 +198,7 @@ module _ {T : Type 0} (code : Coding T) (slots queue : ℕ) (s : Channel T) (lat
         ap (then_of moves) found ∙ (rw t refl) in
         let is_effect : effect_of moves (value moves) ≡ effects.HandsOut u = ap (effect_of moves) found ∙ (rw (t, place) refl) in
         let s_out : Channel T =
-        steps.s_on code slots queue s latest turns changes since x wrote h under here idle from known straight
-        (drains moves) (k u front.0 front.1) s.completion (hands u front.0 front.1 ∷ [])
+        steps.s_on scene wrote under r idle (drains moves) (k u front.0 front.1) s.completion (hands u front.0 front.1 ∷ [])
         (drains pops.LoadsRead) in
         record {
           channel_then = s_out;
@@ -211,8 +206,7 @@ module _ {T : Type 0} (code : Coding T) (slots queue : ℕ) (s : Channel T) (lat
           step =
               subst (λ a. To s_out moves a (effect_of moves (value moves))) (sym is_after)
               (subst (λ e. To s_out moves (GoOn (reclaim_at slots queue (drains pops.LoadsRead))) e) (sym is_effect) (
-                steps.leads_on code slots queue s latest turns changes since x wrote h under here idle from known
-                    straight (drains moves) (k u front.0 front.1) s.completion (hands u front.0 front.1 ∷ [])
+                steps.leads_on scene wrote under r idle (drains moves) (k u front.0 front.1) s.completion (hands u front.0 front.1 ∷ [])
                     (drains pops.LoadsRead) (leads u front.0 front.1 few),
                 refl,
               ));

@@ -4,9 +4,9 @@ use Rattle.laws_loan.proofs.Names.{Option, Some, None, List, [], ◌∷◌, ◌+
 use Rattle.laws_loan.proofs.Names.{append-nil, length-append, AllByRecursion, nat_tests, set-get_or, flat_map-append}
 use Rattle.laws_loan.proofs.Names.{fold-append, Ask, After, GoOn, ReclaimStage, completion_word, next_sent}
 use Rattle.laws_loan.proofs.Names.{reclaim_goes_back, reclaim_releases, load, Answer, Number, Event, TakenBack}
-use Rattle.laws_loan.proofs.Names.{LoanFlight, Reclaim, Effect, Party, Coding, one_word, ask_of, Returning, spot_of}
+use Rattle.laws_loan.proofs.Names.{LoanFlight, Reclaim, Effect, one_word, ask_of, Returning, spot_of}
 use Rattle.laws_loan.proofs.Names.{receiver_after, takes_back, taken_back, freed, given_back_at, words_of_index, Open}
-use Rattle.laws_loan.proofs.Names.{span_of, as_call, old_of, words_after, step_count, Core, taken, layout}
+use Rattle.laws_loan.proofs.Names.{as_call, old_of, words_after, step_count, Core, taken, layout}
 use Rattle.std.proofs.Common.{arith}
 use Rattle.steps.specs.declared.ask.After.TheVariants.{Done}
 use Rattle.steps.specs.declared.indices.unique.ReleaseStage.TheVariants as releases
@@ -14,7 +14,6 @@ use Rattle.steps.specs.declared.loan.reclaim.ReclaimStage.TheVariants as reclaim
 use Rattle.steps.specs.declared.queues.ring.PopStage.{PopStage}
 use Rattle.steps.specs.declared.queues.ring.PopStage.TheVariants as pops
 use Rattle.steps.specs.Queues.Ring.{cell_word, word_at, pop_asks}
-use Rattle.model.specs.declared.families.Flight.TheVariants as flights
 use Rattle.model.specs.declared.families.loan.LoanStart.TheVariants as calls
 use Rattle.model.specs.declared.families.loan.effects.Effect.TheVariants as effects
 use Rattle.model.specs.Families.Loan.Reading.{frees}
@@ -22,53 +21,52 @@ use Rattle.laws_queues.proofs.Ring.Keeping.{take_keeps}
 use Rattle.laws_loan.proofs.Channel.{Channel, no_roles, words_in}
 use Rattle.laws_loan.proofs.Completion as completion
 use Rattle.laws_loan.proofs.Cuts.{IsOn}
-use Rattle.laws_loan.proofs.Invariant.{sends_at, counted_for, hung, HoldsNow}
-use Rattle.laws_loan.proofs.Knows.{reclaim_counts, reclaim_number, StageAt, ReclaimAt}
+use Rattle.laws_loan.proofs.Invariant.{sends_at, counted_for, hung}
+use Rattle.laws_loan.proofs.Knows.{reclaim_counts, reclaim_number, StageAt}
 use Rattle.laws_loan.proofs.Lists.{first_there}
 use Rattle.laws_loan.proofs.Parts.{completion_long, completion_old, completion_words}
 use Rattle.laws_loan.proofs.ReclaimEnds.{s_end, reclaim_ends}
 use Rattle.laws_loan.proofs.ReclaimGoes as steps
 use Rattle.laws_loan.proofs.ReclaimGoes.{start, asked, old, Does}
-use Rattle.laws_loan.proofs.Reclaiming.{reclaim_at, none_more, passing_before, passing_sent, end_of}
+use Rattle.laws_loan.proofs.Reclaiming.{reclaim_at, none_more, passing_before, passing_sent, end_of, Reclaims}
 use Rattle.laws_loan.proofs.Rests.{keeps_all}
 use Rattle.laws_loan.proofs.Rooms.{back_below}
+use Rattle.laws_loan.proofs.Scene.{Scene}
 use Rattle.laws_loan.proofs.Sender.{Steps}
-use Rattle.laws_loan.proofs.Sents.{ComesTo, comes_to}
+use Rattle.laws_loan.proofs.SentIndices.{ComesTo, comes_to}
 use Rattle.laws_loan.proofs.Spots.{returns_there}
 use Rattle.laws_loan.proofs.Table.{returning_away, takes_it_back}
-use Rattle.laws_loan.proofs.Told.{silent_tells}
+use Rattle.laws_loan.proofs.QueueEvents.{silent_tells}
 use Rattle.laws_loan.proofs.Waits.{cell_place}
 
 abbrev empties : PopStage → ReclaimStage
 empties stage = reclaims.Empties stage
 
-module _ {T : Type 0} (code : Coding T) (slots queue : ℕ) (s : Channel T) (latest : List (ℕ × Party T))
-    (turns changes since : ℕ) (x : Party T) (wrote : List (Event T)) (h : HoldsNow slots queue s latest s.events turns)
-    (small : turns < 2 ^ 64 - 2) (under : ReclaimStage)
-    (here : sends_at latest ≡ Some (flights.Loan (reclaim_at slots queue under)))
-    (idle : reclaim_counts under ≡ 0)
-    (from : span_of 0 s.events ≡ Open (start code slots queue s latest turns changes since x wrote) wrote)
-    (known : ReclaimAt slots queue s wrote under) (straight : x.backs ≡ 0) where
+module _ {T : Type 0} (scene : Scene T) (wrote : List (Event T)) (small : scene.turns < 2 ^ 64 - 2) (under : ReclaimStage)
+    (r : Reclaims scene wrote under) (idle : reclaim_counts under ≡ 0) where
+  open scene use {slots, queue, state as s, latest, turns, caller as x}
+  open r use {holds as h, here, known}
+
   abbrev Does_at : PopStage → Type 0
-  Does_at stage = Does code slots queue s latest turns changes since x wrote (empties stage)
+  Does_at stage = Does scene wrote (empties stage)
 
   abbrev asks : PopStage → Option Ask
-  asks stage = asked code slots queue s latest turns changes since x wrote (empties stage)
+  asks stage = asked scene wrote (empties stage)
 
   abbrev value : PopStage → ℕ
-  value stage = old code slots queue s latest turns changes since x wrote (empties stage)
+  value stage = old scene wrote (empties stage)
 
   abbrev then_of : PopStage → ℕ → After LoanFlight (Answer T)
-  then_of stage v = steps.goes code slots queue s latest turns changes since x wrote (empties stage) v
+  then_of stage v = steps.goes scene wrote (empties stage) v
 
   abbrev effect_of : PopStage → Effect
-  effect_of stage = steps.effect_at code slots queue s latest turns changes since x wrote (empties stage) 0
+  effect_of stage = steps.effect_at scene wrote (empties stage) 0
 
   abbrev To : Channel T → PopStage → After LoanFlight (Answer T) → Effect → Type 0
-  To s' stage after effect = steps.StepTo code slots queue s latest turns changes since x wrote s' (empties stage) after effect
+  To s' stage after effect = steps.StepTo scene wrote s' (empties stage) after effect
 
   abbrev s_still : Channel T
-  s_still = steps.s_still code slots queue s latest turns changes since x wrote h under here idle from known straight
+  s_still = steps.s_still scene wrote under r idle
 
   -- ---- what is so of the queue
 
@@ -105,8 +103,7 @@ module _ {T : Type 0} (code : Coding T) (slots queue : ℕ) (s : Channel T) (lat
       → reclaim_goes_back (empties now) (value now) ≡ false → then_of now (value now) ≡ GoOn (reclaim_at slots queue after_it)
       → effect_of now ≡ effects.Quiet → Does_at now
   loads now after_it on words counted stands less =
-      steps.loads code slots queue s latest turns changes since x wrote h under here idle from known straight (empties now)
-      after_it (words_are now s.completion on words) counted stands less
+      steps.loads scene wrote under r idle (empties now) after_it (words_are now s.completion on words) counted stands less
 
   abbrev load_of_write : PopStage
   load_of_write = pops.LoadsWrite s.completion.read
@@ -147,16 +144,14 @@ module _ {T : Type 0} (code : Coding T) (slots queue : ℕ) (s : Channel T) (lat
       module _ (none : ComesTo s.book.places slots 0 None) where
         abbrev ended : Channel T
         ended =
-            s_end code slots queue s latest turns changes since x h wrote from straight under known (asks load_of_write) s.set 0
+            s_end scene wrote under r (asks load_of_write) s.set 0
 
-        ends_steps : Steps code slots queue s latest turns changes since x 0 ended
-            (Open (start code slots queue s latest turns changes since x wrote) wrote) calls.Reclaim
+        ends_steps : Steps scene 0 ended (Open (start scene wrote) wrote) calls.Reclaim
             (asks load_of_write) false (Done (Number 0)) (end_of (Number 0) ∷ [])
         ends_steps =
-            reclaim_ends code slots queue s latest turns changes since x h wrote from straight under known (asks load_of_write) s.set 0
+            reclaim_ends scene wrote under r (asks load_of_write) s.set 0
             (keeps_all slots queue s latest (asks load_of_write) turns h (words_are load_of_write s.completion on_write refl)
-            (steps.busy_none code slots queue s latest turns changes since x wrote h under here idle from known straight)
-            (ap (hung s.submission.read) here))
+            (steps.busy_none scene wrote under r idle) (ap (hung s.submission.read) here))
             drained emptied (λ j below. none j (omega arith) below) (ap length none_freed) (omega arith) small
 
       comes : (o : Option ℕ) → ComesTo s.book.places slots 0 o → Comes o
@@ -165,8 +160,7 @@ module _ {T : Type 0} (code : Coding T) (slots queue : ℕ) (s : Channel T) (lat
           record {
             channel_then = s_still;
             step = (
-              steps.goes_still code slots queue s latest turns changes since x wrote h under here idle from known straight
-                  (empties load_of_write) (reclaims.Releases 0 index releases.ClearsFlag)
+              steps.goes_still scene wrote under r idle (empties load_of_write) (reclaims.Releases 0 index releases.ClearsFlag)
                   (words_are load_of_write s.completion on_write refl) refl (
                     first.2,
                     first.1,
@@ -226,8 +220,7 @@ module _ {T : Type 0} (code : Coding T) (slots queue : ℕ) (s : Channel T) (lat
       was_returning = grind (arith, returns_there, first_there)
 
       leads : x.steps ≤ 4 * (slots + 1) + 4 * length (taken_back wrote) + 3
-          → steps.Leads code slots queue s latest turns changes since x wrote h under here idle from known straight
-          (empties store_of_read) s.submission m (takes ∷ []) (empties pops.LoadsRead)
+          → steps.Leads scene wrote under r idle (empties store_of_read) s.submission m (takes ∷ []) (empties pops.LoadsRead)
       leads less =
           let on : 1 < length queued = (let all = long in omega arith) in
           let shorter : length s.completion.waiting ≡ suc (length rest) = ap length first in
@@ -267,16 +260,14 @@ module _ {T : Type 0} (code : Coding T) (slots queue : ℕ) (s : Channel T) (lat
         let rest = front.1 in
         let is_effect : effect_of store_of_read ≡ effects.TakesBack v = ap (λ n. effects.TakesBack n) (first_is v rest front.2) in
         let s_out : Channel T =
-        steps.s_on code slots queue s latest turns changes since x wrote h under here idle from known straight
-        (empties store_of_read) s.submission (m v rest front.2) (takes v rest front.2 ∷ [])
+        steps.s_on scene wrote under r idle (empties store_of_read) s.submission (m v rest front.2) (takes v rest front.2 ∷ [])
         (empties pops.LoadsRead) in
         record {
           channel_then = s_out;
           stays = refl;
           step =
               subst (λ e. To s_out store_of_read (GoOn (reclaim_at slots queue (empties pops.LoadsRead))) e) (sym is_effect) (
-                steps.leads_on code slots queue s latest turns changes since x wrote h under here idle from known
-                    straight (empties store_of_read) s.submission (m v rest front.2) (takes v rest front.2 ∷ [])
+                steps.leads_on scene wrote under r idle (empties store_of_read) s.submission (m v rest front.2) (takes v rest front.2 ∷ [])
                     (empties pops.LoadsRead) (leads v rest front.2 less),
                 refl,
               );

@@ -25,7 +25,7 @@ use Rattle.laws_loan.proofs.Rooms.{waits_few}
 use Rattle.laws_loan.proofs.Spots.{spot_stays, with_passes, passing_same}
 use Rattle.laws_loan.proofs.Still.{placed_still}
 use Rattle.laws_loan.proofs.Table.{sender_begins, receiver_begins}
-use Rattle.laws_loan.proofs.Told.{is_reclaiming}
+use Rattle.laws_loan.proofs.QueueEvents.{is_reclaiming}
 
 -- ---- what rows tell that do not apply
 

@@ -1,9 +1,9 @@
 -- The steps of a reclaim that releases an index that was sent, while the receiver is dead and nothing waits in either queue.
-use Rattle.laws_loan.proofs.Names.{◌≡◌, ◌≢◌, ℕ, ◌+◌, ◌*◌, ◌-◌, ◌^◌, ◌<◌, ◌≤◌, ⊎_elim, false, Option, Some, None, List}
+use Rattle.laws_loan.proofs.Names.{◌≡◌, ◌≢◌, ℕ, ◌+◌, ◌*◌, ◌-◌, ◌^◌, ◌<◌, ◌≤◌, ⊎_elim, false, Option, None, List}
 use Rattle.laws_loan.proofs.Names.{[], ◌∷◌, ◌++◌, length, set, refl, sym, ap, subst, ◌∙◌, length-append}
 use Rattle.laws_loan.proofs.Names.{AllByRecursion, cases_eq, flat_map-append, Ask, GoOn, ReleaseStage, Place}
 use Rattle.laws_loan.proofs.Names.{Releases, back_asks, back_takes, place_at, Number, Event, Freed, Book, LoanFlight}
-use Rattle.laws_loan.proofs.Names.{Party, Coding, ask_of, IsReclaiming, Free, Passing, spot_of, freed, gives_back}
+use Rattle.laws_loan.proofs.Names.{Party, ask_of, IsReclaiming, Free, Passing, spot_of, freed, gives_back}
 use Rattle.laws_loan.proofs.Names.{book_after, Open, span_of, old_of, words_after, step_count, release_counts}
 use Rattle.laws_loan.proofs.Names.{release_number, ReleaseAt, append-nil}
 use Rattle.std.proofs.Common.{arith, get_or-set_same, get_or-set_other}
@@ -11,7 +11,6 @@ use Rattle.steps.specs.declared.ask.After.TheVariants.{Done}
 use Rattle.steps.specs.declared.indices.unique.ReleaseStage.TheVariants as releases
 use Rattle.steps.specs.declared.loan.places.Place.TheVariants as places
 use Rattle.model.specs.declared.event.Start.TheVariants as starts
-use Rattle.model.specs.declared.families.Flight.TheVariants as flights
 use Rattle.model.specs.declared.families.loan.LoanStart.TheVariants as calls
 use Rattle.model.specs.Families.Loan.Reading.{frees, claims}
 use Rattle.model.specs.Families.Queues.Reading.{publishes}
@@ -19,20 +18,21 @@ use Rattle.model.specs.Reading.{acts}
 use Rattle.laws_indices.proofs.Core as indices
 use Rattle.laws_loan.proofs.Channel.{Channel, words_in}
 use Rattle.laws_loan.proofs.Cuts.{IsOn}
-use Rattle.laws_loan.proofs.Invariant.{sends_at, counted_for, hung, HoldsNow}
+use Rattle.laws_loan.proofs.Invariant.{sends_at, counted_for, hung}
 use Rattle.laws_loan.proofs.Knows.{wrote_in, FreesAt, StageAt, ReclaimAt}
 use Rattle.laws_loan.proofs.OneMove.{OneMove, carried, passed_before, same_receiver, span_after}
 use Rattle.laws_loan.proofs.Parts.{set_words}
 use Rattle.laws_loan.proofs.ReclaimEnds.{s_end, reclaim_ends}
-use Rattle.laws_loan.proofs.Reclaiming.{reclaim_at, end_of, goes_known, none_more}
+use Rattle.laws_loan.proofs.Reclaiming.{reclaim_at, end_of, goes_known, none_more, Reclaims}
 use Rattle.laws_loan.proofs.Rests as rests
+use Rattle.laws_loan.proofs.Scene.{Scene}
 use Rattle.laws_loan.proofs.Sender.{party_then, Steps}
-use Rattle.laws_loan.proofs.Sents.{none_there, may_free}
+use Rattle.laws_loan.proofs.SentIndices.{none_there, may_free}
 use Rattle.laws_loan.proofs.SetSteps.{ReleaseLeads, ReleaseStep, claims_then, release_step}
 use Rattle.laws_loan.proofs.Spots.{is_waiting, is_returning, free_passes}
 use Rattle.laws_loan.proofs.Table.{frees_it}
 use Rattle.laws_loan.proofs.SenderInterference.{others_dead}
-use Rattle.laws_loan.proofs.Told.{items}
+use Rattle.laws_loan.proofs.QueueEvents.{items}
 use Rattle.laws_loan.proofs.Turns.{Shows, sends_now}
 
 abbrev pub frees_at : ℕ → ℕ → ℕ → ℕ → ReleaseStage → LoanFlight
@@ -55,39 +55,39 @@ all_push : (xs : List ℕ) (x n : ℕ) → x < n → AllByRecursion (λ i. i < n
 all_push [] x n less h = (less, tt)
 all_push (y ∷ ys) x n less h = (h.0, all_push ys x n less h.1)
 
-module _ {T : Type 0} (code : Coding T) (slots queue : ℕ) (s : Channel T) (latest : List (ℕ × Party T))
-    (turns changes since : ℕ) (x : Party T) (h : HoldsNow slots queue s latest s.events turns) (number index : ℕ)
-    (wrote : List (Event T))
-    (from : span_of 0 s.events ≡ Open (starts.Loan calls.Reclaim) wrote) (straight : x.backs ≡ 0) where
-  abbrev Here : ReleaseStage → Type 0
-  Here stage = sends_at latest ≡ Some (flights.Loan (frees_at slots queue number index stage))
+module _ {T : Type 0} (scene : Scene T) (number index : ℕ) (wrote : List (Event T)) where
+  open scene use {slots, queue, state as s, latest, turns, caller as x}
 
-  abbrev Known : ReleaseStage → Type 0
-  Known stage = ReclaimAt slots queue s wrote (Releases number index stage)
+  -- the reclaim stands at this stage of the release
+  abbrev pub At : ReleaseStage → Type 0
+  At stage = Reclaims scene wrote (Releases number index stage)
 
-  reclaims_now : IsReclaiming (span_of 0 s.events)
-  reclaims_now = subst IsReclaiming (sym from) (refl, tt)
+  reclaims_now : (stage : ReleaseStage) → At stage → IsReclaiming (span_of 0 s.events)
+  reclaims_now stage r = subst IsReclaiming (sym r.from) (refl, tt)
 
   -- what its step does to the words of the indices
-  release_for : (stage : ReleaseStage) → index < slots → FreesAt s.book.places index stage → ReleaseAt s.claims 0 index stage
+  release_for : (stage : ReleaseStage) → At stage → index < slots → FreesAt s.book.places index stage → ReleaseAt s.claims 0 index stage
   release_for = grind arith
 
-  steps_set : (stage : ReleaseStage) → Here stage → (at : Known stage) → ReleaseStep slots index at.stage_at.1 s.set s.claims stage
-  steps_set stage here at =
-      release_step slots index at.stage_at.1 s.set s.claims stage (release_for stage at.stage_at.1 at.stage_at.0)
-      (subst (λ n. indices.Good slots s.set s.claims n) (ap counted_for here) h.parts.set)
+  steps_set : (stage : ReleaseStage) (r : At stage) → ReleaseStep slots index r.known.stage_at.1 s.set s.claims stage
+  steps_set stage r =
+      release_step slots index r.known.stage_at.1 s.set s.claims stage (release_for stage r r.known.stage_at.1 r.known.stage_at.0)
+      (subst (λ n. indices.Good slots s.set s.claims n) (ap counted_for r.here) r.holds.parts.set)
 
-  pub on_words : (stage : ReleaseStage) → Here stage → Known stage → IsOn s.set (back_asks slots index stage)
-  on_words stage here at = (steps_set stage here at).on
+  pub on_words : (stage : ReleaseStage) → At stage → IsOn s.set (back_asks slots index stage)
+  on_words stage r = (steps_set stage r).on
 
-  whole_words : (stage : ReleaseStage) → Here stage → Known stage
+  whole_words : (stage : ReleaseStage) → At stage
       → words_after (words_in s) (ask_of (back_asks slots index stage))
       ≡ words_in (record s { set = words_after s.set (ask_of (back_asks slots index stage)) })
-  whole_words stage here at = set_words slots queue s (counted_for (sends_at latest)) h.parts (back_asks slots index stage) (steps_set stage here at).on
+  whole_words stage r =
+      set_words slots queue s (counted_for (sends_at latest)) r.holds.parts (back_asks slots index stage) (steps_set stage r).on
 
   -- ---- the clear of the flag
 
-  module _ (here : Here releases.ClearsFlag) (at : Known releases.ClearsFlag) (few : x.steps ≤ 8 * (slots + 1) + 5 * number) where
+  module _ (r : At releases.ClearsFlag) (few : x.steps ≤ 8 * (slots + 1) + 5 * number) where
+    open r use {holds as h, from, known as at}
+
     abbrev freed_es : List (Event T)
     freed_es = Freed 0 index ∷ []
 
@@ -98,7 +98,7 @@ module _ {T : Type 0} (code : Coding T) (slots queue : ℕ) (s : Channel T) (lat
     clears_ask = ask_of (back_asks slots index releases.ClearsFlag)
 
     abbrev y_freed : Party T
-    y_freed = party_then s x since changes calls.Reclaim clears_ask false (GoOn (frees_at slots queue number index releases.LoadsHead))
+    y_freed = party_then scene calls.Reclaim clears_ask false (GoOn (frees_at slots queue number index releases.LoadsHead))
 
     abbrev book_freed : Book
     book_freed = book_after {T = T} s.book (Freed 0 index)
@@ -139,7 +139,7 @@ module _ {T : Type 0} (code : Coding T) (slots queue : ℕ) (s : Channel T) (lat
 
     shows_freed : Shows slots queue s s_freed 0 y_freed latest turns freed_es
     shows_freed =
-        let step = steps_set releases.ClearsFlag here at in
+        let step = steps_set releases.ClearsFlag r in
         let placed = h.parts.placed in
         let placed_then =
         frees_it slots s.claims s.submission.waiting s.completion.waiting s.book s.events placed index at.stage_at.1 (spot_of index s.events) refl
@@ -147,7 +147,7 @@ module _ {T : Type 0} (code : Coding T) (slots queue : ℕ) (s : Channel T) (lat
         (none_there is_returning s.completion.waiting s.events at.stage_at.7 placed.returns index) in
         let may =
         may_free slots s.claims s.submission.waiting s.completion.waiting s.book s.events placed at.stage_at.6
-        at.stage_at.7 index at.stage_at.0 at.dead reclaims_now in
+        at.stage_at.7 index at.stage_at.0 at.dead (reclaims_now releases.ClearsFlag r) in
         let passing =
         carried 0 index s.events freed_es (spot_of index s.events) Free one_move (Open (starts.Loan calls.Reclaim) wrote) from
         h.passing (λ i ne carried. tt) (λ q e. absurd (free_passes q e)) in
@@ -172,12 +172,11 @@ module _ {T : Type 0} (code : Coding T) (slots queue : ℕ) (s : Channel T) (lat
         (all_less (freed wrote) (index + 0) (index + 1) (omega arith) at.stage_at.4)) in
         grind (arith, none_sent)
 
-    pub clears_steps : Steps code slots queue s latest turns changes since x 0 s_freed
-        (Open (starts.Loan calls.Reclaim) wrote) calls.Reclaim clears_ask false
+    pub clears_steps : Steps scene 0 s_freed (Open (starts.Loan calls.Reclaim) wrote) calls.Reclaim clears_ask false
         (GoOn (frees_at slots queue number index releases.LoadsHead)) freed_es
     clears_steps =
         let wrote_is : wrote_then ≡ wrote_in (span_of 0 (s.events ++ freed_es)) = sym (ap wrote_in open_then) in
-        let words = whole_words releases.ClearsFlag here at in
+        let words = whole_words releases.ClearsFlag r in
         let stands = all_less (freed wrote) (index + 0) index (omega arith) at.stage_at.4 in
         let others = others_dead slots queue s s_freed at.dead refl (λ i stage known. known) in
         grind (arith, shows_freed, known_then)
@@ -187,8 +186,10 @@ module _ {T : Type 0} (code : Coding T) (slots queue : ℕ) (s : Channel T) (lat
   claims_for : (stage : ReleaseStage) → release_counts stage ≡ 1 → claims_then index stage s.claims ≡ s.claims
   claims_for = grind arith
 
-  module _ (stage : ReleaseStage) (heavy : release_counts stage ≡ 1) (here : Here stage) (at : Known stage)
+  module _ (stage : ReleaseStage) (heavy : release_counts stage ≡ 1) (r : At stage)
       (few : x.steps ≤ 8 * (slots + 1) + 5 * number + release_number stage 0) where
+    open r use {holds as h, here, from, known as at, straight}
+
     abbrev ask : Option Ask
     ask = ask_of (back_asks slots index stage)
 
@@ -196,7 +197,7 @@ module _ {T : Type 0} (code : Coding T) (slots queue : ℕ) (s : Channel T) (lat
     words_then = words_after s.set ask
 
     step : ReleaseStep slots index at.stage_at.1 s.set s.claims stage
-    step = steps_set stage here at
+    step = steps_set stage r
 
     pub leads : ReleaseLeads slots stage words_then s.claims (back_takes slots stage (old_of s.set ask))
     leads = subst (λ hs. ReleaseLeads slots stage words_then hs (back_takes slots stage (old_of s.set ask))) (claims_for stage heavy) step.leads
@@ -213,13 +214,11 @@ module _ {T : Type 0} (code : Coding T) (slots queue : ℕ) (s : Channel T) (lat
       abbrev s_on : Channel T
       s_on = record s { set = words_then; claims = s.claims; book = s.book; events = s.events ++ [] }
 
-      pub goes_steps : Steps code slots queue s latest turns changes since x 0 s_on
-          (Open (starts.Loan calls.Reclaim) wrote) calls.Reclaim ask false (GoOn flight_on) []
+      pub goes_steps : Steps scene 0 s_on (Open (starts.Loan calls.Reclaim) wrote) calls.Reclaim ask false (GoOn flight_on) []
       goes_steps =
           let one = one_step slots index stage in
-          rests.goes_on code slots queue s latest turns changes since x h straight calls.Reclaim wrote from ask words_then
-          flight_on
-          (record { words = whole_words stage here at; good = good; unlocked = step.unlocked; calm = ap (hung s.submission.read) here })
+          rests.goes_on scene h straight calls.Reclaim wrote from ask words_then
+          flight_on (record { words = whole_words stage r; good = good; unlocked = step.unlocked; calm = ap (hung s.submission.read) here })
           refl (omega arith)
           (refl, refl, refl, goes_known slots queue s words_then wrote (Releases number index stage) (Releases number' index' stage') at known)
           (omega arith)
@@ -229,14 +228,12 @@ module _ {T : Type 0} (code : Coding T) (slots queue : ℕ) (s : Channel T) (lat
     module _ (good : indices.Good slots words_then s.claims 0)
         (none : (j : ℕ) → j < slots → place_at s.book.places j ≢ places.Sent)
         (more : x.steps + 1 ≤ 8 * (slots + 1) + 5 * (number + 1)) (small : turns < 2 ^ 64 - 2) where
-      pub ends_steps : Steps code slots queue s latest turns changes since x 0
-          (s_end code slots queue s latest turns changes since x h wrote from straight (Releases number index stage) at ask words_then (number + 1))
+      pub ends_steps : Steps scene 0 (s_end scene wrote (Releases number index stage) r ask words_then (number + 1))
           (Open (starts.Loan calls.Reclaim) wrote) calls.Reclaim ask false (Done (Number (number + 1))) (end_of (Number (number + 1)) ∷ [])
       ends_steps =
           let one = one_step slots index stage in
           let below = at.stage_at.1 in
           let less = at.stage_at.2 in
-          reclaim_ends code slots queue s latest turns changes since x h wrote from straight (Releases number index stage) at
-          ask words_then (number + 1)
-          (record { words = whole_words stage here at; good = good; unlocked = step.unlocked; calm = ap (hung s.submission.read) here })
+          reclaim_ends scene wrote (Releases number index stage) r ask words_then (number + 1)
+          (record { words = whole_words stage r; good = good; unlocked = step.unlocked; calm = ap (hung s.submission.read) here })
           at.stage_at.6 at.stage_at.7 none (at.stage_at.3 ∙ ap (λ n. number + n) heavy) (omega arith) small

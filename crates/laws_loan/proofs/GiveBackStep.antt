@@ -1,23 +1,20 @@
 -- A give-back's steps, at whatever stage it stands, as steps of the machine.
-use Rattle.laws_loan.proofs.Names.{◌≡◌, ℕ, ◌-◌, ◌^◌, ◌<◌, false, sym, ap, subst, ◌∙◌, Part, Push, Running}
-use Rattle.laws_loan.proofs.Names.{completion_word, Flight, GiveBack, Party, Coding, has_died, Trace}
+use Rattle.laws_loan.proofs.Names.{◌≡◌, ℕ, false, sym, ap, subst, ◌∙◌, Part, Push, Running}
+use Rattle.laws_loan.proofs.Names.{completion_word, Flight, GiveBack, has_died}
 use Rattle.model.specs.declared.event.Start.TheVariants as starts
 use Rattle.model.specs.declared.families.Flight.TheVariants as flights
 use Rattle.model.specs.declared.families.loan.LoanStart.TheVariants as calls
-use Rattle.model.proofs.Frame as frame
 use Rattle.laws_loan.proofs.GiveBacks.{give_at, push_on}
+use Rattle.laws_loan.proofs.Scene.{Underway}
 use Rattle.laws_loan.proofs.Senders.{Stands, Comes, give_back_pushes}
-use Rattle.laws_loan.proofs.StepLaw.{channel}
 
-module _ {T : Type 0} (code : Coding T) (slots queue : ℕ) (t : Trace T)
-    (sound : frame.Sound (channel code slots queue) t) (small : t.world.turns < 2 ^ 64 - 2) (x : Party T) (since : ℕ)
-    (p index : ℕ) (alive : has_died p sound.state.book.dead ≡ false) where
+module _ {T : Type 0} (m : Underway T) (p index : ℕ) (alive : has_died p m.sound.state.book.dead ≡ false) where
+  open m use {slots, queue}
+
   -- a give-back of a party that lives
   pub give_back_comes : (by : ℕ) (run : Running (Part (Push ℕ)) ℕ (Unit {0}))
-      → Stands code slots queue t sound small x since p (starts.Loan (calls.GiveBack index))
-      (flights.Loan (GiveBack by run))
-      → Comes code slots queue t sound small x since p (starts.Loan (calls.GiveBack index))
-      (flights.Loan (GiveBack by run))
+      → Stands m p (starts.Loan (calls.GiveBack index)) (flights.Loan (GiveBack by run))
+      → Comes m p (starts.Loan (calls.GiveBack index)) (flights.Loan (GiveBack by run))
   give_back_comes by run there =
       let at = there.at in
       let named : ℕ → ℕ → ℕ → ℕ → Flight T =
@@ -28,7 +25,5 @@ module _ {T : Type 0} (code : Coding T) (slots queue : ℕ) (t : Trace T)
       ∙ (ap (λ base. named p base run.call.call.capacity run.given) at.2
       ∙ (ap (λ c. named p (completion_word slots queue) c run.given) at.3 ∙ ap (λ i. named p (completion_word slots queue) slots i) at.4))
       in
-      subst (λ flight. Comes code slots queue t sound small x since p (starts.Loan (calls.GiveBack index)) flight) (sym same)
-      (give_back_pushes code slots queue t sound small x since p index run.call.call.stage alive
-      (subst (λ flight. Stands code slots queue t sound small x since p (starts.Loan (calls.GiveBack index)) flight)
-      same there))
+      subst (λ flight. Comes m p (starts.Loan (calls.GiveBack index)) flight) (sym same) (give_back_pushes m p index run.call.call.stage alive
+      (subst (λ flight. Stands m p (starts.Loan (calls.GiveBack index)) flight) same there))

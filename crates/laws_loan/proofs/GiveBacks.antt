@@ -1,9 +1,9 @@
 -- The steps of a give-back: the receiver pushes its index into the completion queue, where there is room for each one.
-use Rattle.laws_loan.proofs.Names.{◌≡◌, ◌≢◌, ℕ, ◌+◌, ◌-◌, ◌^◌, ◌<◌, ◌≤◌, Bool, true, false, Option, List, [], ◌∷◌}
+use Rattle.laws_loan.proofs.Names.{◌≡◌, ℕ, ◌+◌, ◌-◌, ◌^◌, ◌<◌, ◌≤◌, Bool, true, false, Option, List, [], ◌∷◌}
 use Rattle.laws_loan.proofs.Names.{◌++◌, length, refl, sym, ap, subst, ◌∙◌, append-nil, append_assoc, Ask, Want}
 use Rattle.laws_loan.proofs.Names.{After, GoOn, Push, completion_word, shifted, part_after, went_on, Answer, Event}
-use Rattle.laws_loan.proofs.Names.{Returned, Finished, Start, LoanFlight, GiveBack, Effect, Party, Coding, one_word}
-use Rattle.laws_loan.proofs.Names.{ask_of, has_died, Passing, Returning, spot_of, give_back_effect, as_it_is}
+use Rattle.laws_loan.proofs.Names.{Returned, Finished, Start, LoanFlight, GiveBack, Effect, Party, one_word}
+use Rattle.laws_loan.proofs.Names.{ask_of, Passing, Returning, spot_of, give_back_effect, as_it_is}
 use Rattle.laws_loan.proofs.Names.{words_of_index, Span, Open, span_of, as_call, old_of, words_after, step_count}
 use Rattle.laws_loan.proofs.Names.{span_of-other, Core, filled, layout, KnowsPush, KnowsPop, push_number}
 use Rattle.std.proofs.Common.{arith}
@@ -18,23 +18,24 @@ use Rattle.model.specs.declared.families.loan.LoanStart.TheVariants as calls
 use Rattle.model.specs.declared.families.loan.effects.Effect.TheVariants as effects
 use Rattle.laws_queues.proofs.Queues.Core.{Good, published}
 use Rattle.laws_queues.proofs.Ring.Keeping.{fill_keeps, publish_keeps}
-use Rattle.laws_loan.proofs.Channel.{Channel, no_roles, words_in}
+use Rattle.laws_loan.proofs.Channel.{no_roles, words_in}
 use Rattle.laws_loan.proofs.Completion as completion
 use Rattle.laws_loan.proofs.Cuts.{IsOn}
 use Rattle.laws_loan.proofs.Giving.{GivesBy, gives_on}
-use Rattle.laws_loan.proofs.Invariant.{sends_at, counted_for, HoldsNow}
+use Rattle.laws_loan.proofs.Invariant.{sends_at, counted_for}
 use Rattle.laws_loan.proofs.Knows.{Passes}
 use Rattle.laws_loan.proofs.GiveBackInterference.{at_given, given_then}
 use Rattle.laws_loan.proofs.OneMove.{OneMove, carried, passes_on, same_receiver}
 use Rattle.laws_loan.proofs.Parts.{completion_long, completion_old, completion_words}
 use Rattle.laws_loan.proofs.Placed.{Placed}
 use Rattle.laws_loan.proofs.Rooms.{returns_room}
+use Rattle.laws_loan.proofs.Scene.{Scene, ReceiverCalls}
 use Rattle.laws_loan.proofs.Sender.{party_then}
 use Rattle.laws_loan.proofs.Spots.{passing_same, returning_passes}
 use Rattle.laws_loan.proofs.Still.{placed_still}
 use Rattle.laws_loan.proofs.Table.{returns_it}
-use Rattle.laws_loan.proofs.Told.{silent_tells}
-use Rattle.laws_loan.proofs.Told.{is_reclaiming}
+use Rattle.laws_loan.proofs.QueueEvents.{silent_tells}
+use Rattle.laws_loan.proofs.QueueEvents.{is_reclaiming}
 use Rattle.laws_loan.proofs.Turns.{Shows, sends_still}
 
 abbrev pub push_on : ℕ → PushStage → Push ℕ
@@ -49,11 +50,9 @@ abbrev pub given_after : (T : Type 0) → ℕ → ℕ → ℕ → ℕ → After 
 given_after T slots queue p index push =
     as_call (λ r. GiveBack p r) answers.Truth (went_on as_it_is index tt (part_after (completion_word slots queue) push))
 
-module _ {T : Type 0} (code : Coding T) (slots queue : ℕ) (s : Channel T) (latest : List (ℕ × Party T))
-    (turns changes since : ℕ) (x : Party T) (p index : ℕ) (h : HoldsNow slots queue s latest s.events turns)
-    (small : turns < 2 ^ 64 - 2) (other : p ≢ 0) (alive : has_died p s.book.dead ≡ false)
-    (receives : p ≡ s.book.receiver) (passes : Passes slots queue s p index)
-    (from : span_of p s.events ≡ Open (starts.Loan (calls.GiveBack index)) []) (straight : x.backs ≡ 0) where
+module _ {T : Type 0} (scene : Scene T) (p index : ℕ) where
+  open scene use {slots, queue, state as s, latest, turns, caller as x}
+
   abbrev start : Start T
   start = starts.Loan (calls.GiveBack index)
 
@@ -77,196 +76,194 @@ module _ {T : Type 0} (code : Coding T) (slots queue : ℕ) (s : Channel T) (lat
 
   abbrev StepTo : Core ℕ → PushStage → After LoanFlight (Answer T) → Effect → Type 0
   StepTo k stage after effect =
-      GivesBy code slots queue s latest turns changes since x p k spanned (calls.GiveBack index) (asked stage) false after effect
+      GivesBy scene p k spanned (calls.GiveBack index) (asked stage) false after effect
 
   -- what a step of a give-back that stands here comes to
   pub record Does (stage : PushStage) : Type 0 where
     pub queue_then : Core ℕ
     pub step : StepTo queue_then stage (after_of stage) (give_back_effect index stage)
 
-  -- ---- what is so of the queue
+  module _ (r : ReceiverCalls scene p (calls.GiveBack index)) (passes : Passes slots queue s p index) (straight : x.backs ≡ 0) where
+    open r use {holds as h, other, alive, receives, from}
 
-  some : 1 ≤ slots
-  some = let below = passes.0 in omega arith
+    -- ---- what is so of the queue
 
-  few : slots < 2 ^ 24
-  few = let low = h.parts.set.few in omega arith
+    some : 1 ≤ slots
+    some = let below = passes.0 in omega arith
 
-  reached : s.completion.write < 2 ^ 64 - 2
-  reached = let given = h.given in omega arith
+    few : slots < 2 ^ 24
+    few = let low = h.parts.set.few in omega arith
 
-  room : length s.completion.waiting < slots
-  room = returns_room slots s.claims s.submission.waiting s.completion.waiting s.book s.events h.parts.placed index p passes.0 passes.1
+    reached : s.completion.write < 2 ^ 64 - 2
+    reached = let given = h.given in omega arith
 
-  long : length queued ≡ 4 + slots
-  long = completion_long slots queue s (counted_for (sends_at latest)) h.parts
+    room : length s.completion.waiting < slots
+    room = returns_room slots s.claims s.submission.waiting s.completion.waiting s.book s.events h.parts.placed index p passes.0 passes.1
 
-  old_is : (stage : PushStage) → IsOn queued (want stage) → old stage ≡ old_of queued (ask_of (want stage))
-  old_is stage on = completion_old slots queue s (counted_for (sends_at latest)) h.parts (want stage) on
+    long : length queued ≡ 4 + slots
+    long = completion_long slots queue s (counted_for (sends_at latest)) h.parts
 
-  words_are : (stage : PushStage) (k : Core ℕ) → IsOn queued (want stage)
-      → words_after queued (ask_of (want stage)) ≡ layout no_roles k
-      → words_after (words_in s) (asked stage) ≡ s.set ++ (layout no_roles s.submission ++ layout no_roles k)
-  words_are stage k on is =
-      completion_words slots queue s (counted_for (sends_at latest)) h.parts (want stage) on
-      ∙ ap (λ ws. s.set ++ (layout no_roles s.submission ++ ws)) is
+    old_is : (stage : PushStage) → IsOn queued (want stage) → old stage ≡ old_of queued (ask_of (want stage))
+    old_is stage on = completion_old slots queue s (counted_for (sends_at latest)) h.parts (want stage) on
 
-  one_step : (stage : PushStage) → step_count (asked stage) ≡ 1
-  one_step = grind arith
+    words_are : (stage : PushStage) (k : Core ℕ) → IsOn queued (want stage)
+        → words_after queued (ask_of (want stage)) ≡ layout no_roles k
+        → words_after (words_in s) (asked stage) ≡ s.set ++ (layout no_roles s.submission ++ layout no_roles k)
+    words_are stage k on is =
+        completion_words slots queue s (counted_for (sends_at latest)) h.parts (want stage) on
+        ∙ ap (λ ws. s.set ++ (layout no_roles s.submission ++ ws)) is
 
-  -- ---- it goes on
+    one_step : (stage : PushStage) → step_count (asked stage) ≡ 1
+    one_step = grind arith
 
-  module _ (stage stage' : PushStage) (k : Core ℕ) (waits : k.waiting ≡ s.completion.waiting)
-      (write : k.write ≡ s.completion.write) (good : Good 1 words_of_index slots k) (on : IsOn queued (want stage))
-      (words : words_after queued (ask_of (want stage)) ≡ layout no_roles k)
-      (known : KnowsPush one_word slots k index stage') (steps : x.steps + 1 ≤ push_number 1 stage')
-      (low : push_number 1 stage' ≤ 3)
-      (pops : (room : List ℕ) (stage : PopStage) → KnowsPop one_word slots s.completion room stage
-      → KnowsPop one_word slots k room stage) where
-    goes_on : StepTo k stage (GoOn (give_at slots queue p index stage')) effects.Quiet
-    goes_on =
-        let one = one_step stage in (
-          gives_on code slots queue s latest turns changes since x p h other alive receives (calls.GiveBack index) [] from
-              (asked stage) false k waits write good pops (give_at slots queue p index stage') (words_are stage k on words)
-              (omega arith)
-              (other, refl, refl, refl, refl, refl, low, λ lives. (receives, (passes.0, ap (spot_of index) (append-nil s.events) ∙ passes.1), known))
-              (omega arith),
-          refl,
-        )
+    -- ---- it goes on
 
-  -- ---- it ends: the index waits in the completion queue
+    module _ (stage stage' : PushStage) (k : Core ℕ) (waits : k.waiting ≡ s.completion.waiting)
+        (write : k.write ≡ s.completion.write) (good : Good 1 words_of_index slots k) (on : IsOn queued (want stage))
+        (words : words_after queued (ask_of (want stage)) ≡ layout no_roles k)
+        (known : KnowsPush one_word slots k index stage') (steps : x.steps + 1 ≤ push_number 1 stage') (low : push_number 1 stage' ≤ 3)
+        (pops : (room : List ℕ) (stage : PopStage) → KnowsPop one_word slots s.completion room stage
+        → KnowsPop one_word slots k room stage) where
+      goes_on : StepTo k stage (GoOn (give_at slots queue p index stage')) effects.Quiet
+      goes_on =
+          let one = one_step stage in (
+            gives_on scene p (calls.GiveBack index) r (asked stage) false k waits write good pops
+                (give_at slots queue p index stage') (words_are stage k on words)
+                (omega arith)
+                (other, refl, refl, refl, refl, refl, low, λ lives. (receives, (passes.0, ap (spot_of index) (append-nil s.events) ∙ passes.1), known))
+                (omega arith),
+            refl,
+          )
 
-  abbrev returned : Event T
-  returned = Returned p index
+    -- ---- it ends: the index waits in the completion queue
 
-  abbrev ends : Event T
-  ends = Finished p start (answers.Truth true)
+    abbrev returned : Event T
+    returned = Returned p index
 
-  abbrev told : List (Event T)
-  told = returned ∷ ends ∷ []
+    abbrev ends : Event T
+    ends = Finished p start (answers.Truth true)
 
-  abbrev last : PushStage
-  last = pushes.StoresWrite s.completion.write
+    abbrev told : List (Event T)
+    told = returned ∷ ends ∷ []
 
-  abbrev y_end : Party T
-  y_end = party_then s x since changes (calls.GiveBack index) (asked last) false (Done (answers.Truth true))
+    abbrev last : PushStage
+    last = pushes.StoresWrite s.completion.write
 
-  abbrev full : Core ℕ
-  full = published 1 words_of_index slots s.completion index
+    abbrev y_end : Party T
+    y_end = party_then scene (calls.GiveBack index) (asked last) false (Done (answers.Truth true))
 
-  whole : (s.events ++ returned ∷ []) ++ ends ∷ [] ≡ s.events ++ told
-  whole = append_assoc s.events (returned ∷ []) (ends ∷ [])
+    abbrev full : Core ℕ
+    full = published 1 words_of_index slots s.completion index
 
-  one_move : OneMove p index s.events told (Passing p) Returning
-  one_move = let was = passes.1 in grind arith
+    whole : (s.events ++ returned ∷ []) ++ ends ∷ [] ≡ s.events ++ told
+    whole = append_assoc s.events (returned ∷ []) (ends ∷ [])
 
-  senders_span : span_of 0 (s.events ++ told) ≡ span_of 0 s.events
-  senders_span = span_of-other p 0 s.events told (λ e. other (sym e)) (refl, (refl, tt))
+    one_move : OneMove p index s.events told (Passing p) Returning
+    one_move = let was = passes.1 in grind arith
 
-  placed_end : Placed slots s.claims s.submission.waiting full.waiting s.book (s.events ++ told)
-  placed_end =
-      let placed =
-      returns_it slots s.claims s.submission.waiting s.completion.waiting s.book s.events h.parts.placed index
-      passes.0 p other (receives ∙ h.parts.placed.keeps.receiver) passes.1 in
-      subst (Placed slots s.claims s.submission.waiting full.waiting s.book) whole
-      (placed_still slots s.claims s.submission.waiting full.waiting s.book (s.events ++ returned ∷ []) (ends ∷ [])
-      (record { moves = refl; receiver = λ r. refl; dead = λ q b. refl }, tt) placed)
+    senders_span : span_of 0 (s.events ++ told) ≡ span_of 0 s.events
+    senders_span = span_of-other p 0 s.events told (λ e. other (sym e)) (refl, (refl, tt))
 
-  module _ (good : Good 1 words_of_index slots full) where
-    shows_end : Shows slots queue s (given_then slots queue s full (s.events ++ told) p) p y_end latest turns told
-    shows_end =
-        let below = passes.0 in
-        let was = passes.1 in
-        let tells =
-        silent_tells queue (is_reclaiming s.events) s.submission.waiting s.completion.waiting full.waiting told refl refl refl refl in
-        let still = sends_still latest y_end p other in
-        let passing =
-        carried p index s.events told (Passing p) Returning one_move spanned from h.passing
-        (λ i ne held. absurd (ne (sym held.0))) (λ q e. absurd (returning_passes q e)) in
-        grind (arith, same_receiver, one_move, placed_end, senders_span)
+    placed_end : Placed slots s.claims s.submission.waiting full.waiting s.book (s.events ++ told)
+    placed_end =
+        let placed =
+        returns_it slots s.claims s.submission.waiting s.completion.waiting s.book s.events h.parts.placed index
+        passes.0 p other (receives ∙ h.parts.placed.keeps.receiver) passes.1 in
+        subst (Placed slots s.claims s.submission.waiting full.waiting s.book) whole
+        (placed_still slots s.claims s.submission.waiting full.waiting s.book (s.events ++ returned ∷ []) (ends ∷ [])
+        (record { moves = refl; receiver = λ r. refl; dead = λ q b. refl }, tt) placed)
 
-    ends_with : x.steps ≤ 3 → StepTo full last (Done (answers.Truth true)) (effects.Returns index)
-    ends_with steps =
-        let words =
-        words_are last full (let wide = long in omega arith)
-        (completion.publish_words slots some few s.completion h.parts.completion reached index room) in
-        let others =
-        at_given slots queue s full (s.events ++ told) p
-        (record {
-          receiver = receives;
-          alive = alive;
-          pop = publish_keeps one_word slots s.completion index;
-          passes = λ q i ne. passes_on p index s.events told (Passing p) Returning one_move q (λ same. ne (sym (passing_same p q same))) i;
-        }) in
-        grind (arith, shows_end)
+    module _ (good : Good 1 words_of_index slots full) where
+      shows_end : Shows slots queue s (given_then slots queue s full (s.events ++ told) p) p y_end latest turns told
+      shows_end =
+          let below = passes.0 in
+          let was = passes.1 in
+          let tells = silent_tells queue (is_reclaiming s.events) s.submission.waiting s.completion.waiting full.waiting told refl refl refl refl in
+          let still = sends_still latest y_end p other in
+          let passing =
+          carried p index s.events told (Passing p) Returning one_move spanned from h.passing
+          (λ i ne held. absurd (ne (sym held.0))) (λ q e. absurd (returning_passes q e)) in
+          grind (arith, same_receiver, one_move, placed_end, senders_span)
 
-  -- ---- each of its stages
+      ends_with : x.steps ≤ 3 → StepTo full last (Done (answers.Truth true)) (effects.Returns index)
+      ends_with steps =
+          let words =
+          words_are last full (let wide = long in omega arith)
+          (completion.publish_words slots some few s.completion h.parts.completion reached index room) in
+          let others =
+          at_given slots queue s full (s.events ++ told) p (record {
+            receiver = receives;
+            alive = alive;
+            pop = publish_keeps one_word slots s.completion index;
+            passes = λ q i ne. passes_on p index s.events told (Passing p) Returning one_move q (λ same. ne (sym (passing_same p q same))) i;
+          }) in
+          grind (arith, shows_end)
 
-  abbrev load_of_write : PushStage
-  load_of_write = pushes.LoadsWrite
+    -- ---- each of its stages
 
-  abbrev load_of_read : PushStage
-  load_of_read = pushes.LoadsRead s.completion.write
+    abbrev load_of_write : PushStage
+    load_of_write = pushes.LoadsWrite
 
-  abbrev store_of_cell : PushStage
-  store_of_cell = pushes.StoresCell s.completion.write (cell_word slots 1 s.completion.write) 0
+    abbrev load_of_read : PushStage
+    load_of_read = pushes.LoadsRead s.completion.write
 
-  loads_write : x.steps ≤ 0 → Does load_of_write
-  loads_write steps =
-      let on : 0 < length queued = (let wide = long in omega arith) in
-      let goes : after_of load_of_write ≡ GoOn (give_at slots queue p index load_of_read) =
-      ap (λ n. given_after T slots queue p index (push_takes 1 (push_on slots load_of_write) load_of_write n)) (old_is load_of_write on)
-      ∙ ap (given_after T slots queue p index) (completion.loads_write slots some few s.completion h.parts.completion reached)
-      in
-      record {
-        queue_then = s.completion;
-        step =
-            subst (λ a. StepTo s.completion load_of_write a effects.Quiet) (sym goes)
-            (goes_on load_of_write load_of_read s.completion refl refl h.parts.completion on refl
-            (refl, (let low = reached in omega arith)) (omega arith) (omega arith) (λ room stage known. known));
-      }
+    abbrev store_of_cell : PushStage
+    store_of_cell = pushes.StoresCell s.completion.write (cell_word slots 1 s.completion.write) 0
 
-  loads_read : x.steps ≤ 1 → Does load_of_read
-  loads_read steps =
-      let on : 1 < length queued = (let wide = long in omega arith) in
-      let goes : after_of load_of_read ≡ GoOn (give_at slots queue p index store_of_cell) =
-      ap (λ n. given_after T slots queue p index (push_takes 1 (push_on slots load_of_read) load_of_read n)) (old_is load_of_read on)
-      ∙ ap (given_after T slots queue p index) (completion.loads_read slots some few s.completion h.parts.completion reached room)
-      in
-      record {
-        queue_then = s.completion;
-        step =
-            subst (λ a. StepTo s.completion load_of_read a effects.Quiet) (sym goes)
-            (goes_on load_of_read store_of_cell s.completion refl refl h.parts.completion on refl
-            (refl, room, refl, omega arith, (λ i below. absurd (omega arith)), (let low = reached in omega arith))
-            (omega arith) (omega arith) (λ room stage known. known));
-      }
+    loads_write : x.steps ≤ 0 → Does load_of_write
+    loads_write steps =
+        let on : 0 < length queued = (let wide = long in omega arith) in
+        let goes : after_of load_of_write ≡ GoOn (give_at slots queue p index load_of_read) =
+        ap (λ n. given_after T slots queue p index (push_takes 1 (push_on slots load_of_write) load_of_write n)) (old_is load_of_write on)
+        ∙ ap (given_after T slots queue p index) (completion.loads_write slots some few s.completion h.parts.completion reached)
+        in
+        record {
+          queue_then = s.completion;
+          step =
+              subst (λ a. StepTo s.completion load_of_write a effects.Quiet) (sym goes)
+              (goes_on load_of_write load_of_read s.completion refl refl h.parts.completion on refl
+              (refl, (let low = reached in omega arith)) (omega arith) (omega arith) (λ room stage known. known));
+        }
 
-  stores_cell : x.steps ≤ 2 → Does store_of_cell
-  stores_cell steps =
-      record {
-        queue_then = filled 1 words_of_index slots s.completion 0 index;
-        step =
-            goes_on store_of_cell last (filled 1 words_of_index slots s.completion 0 index) refl refl
-            (completion.fill_good slots some few s.completion h.parts.completion reached index room)
-            (completion.cell_on slots some few s.completion h.parts.completion reached s.completion.write)
-            (completion.fill_words slots some few s.completion h.parts.completion reached index room)
-            (refl, room, completion.fill_whole slots some few s.completion h.parts.completion reached index room, (let low = reached in omega arith))
-            (omega arith) (omega arith) (fill_keeps one_word slots s.completion 0 index);
-      }
+    loads_read : x.steps ≤ 1 → Does load_of_read
+    loads_read steps =
+        let on : 1 < length queued = (let wide = long in omega arith) in
+        let goes : after_of load_of_read ≡ GoOn (give_at slots queue p index store_of_cell) =
+        ap (λ n. given_after T slots queue p index (push_takes 1 (push_on slots load_of_read) load_of_read n)) (old_is load_of_read on)
+        ∙ ap (given_after T slots queue p index) (completion.loads_read slots some few s.completion h.parts.completion reached room)
+        in
+        record {
+          queue_then = s.completion;
+          step =
+              subst (λ a. StepTo s.completion load_of_read a effects.Quiet) (sym goes)
+              (goes_on load_of_read store_of_cell s.completion refl refl h.parts.completion on refl
+              (refl, room, refl, omega arith, (λ i below. absurd (omega arith)), (let low = reached in omega arith))
+              (omega arith) (omega arith) (λ room stage known. known));
+        }
 
-  -- what a give-back knows leads on
-  pub does : (stage : PushStage) → KnowsPush one_word slots s.completion index stage → x.steps ≤ push_number 1 stage → Does stage
-  does pushes.LoadsWrite known steps = loads_write steps
-  does (pushes.LoadsRead write) known steps = subst (λ n. Does (pushes.LoadsRead n)) (sym known.0) (loads_read steps)
-  does (pushes.StoresCell write cell at) known steps =
-      let first : at ≡ 0 = (let below = known.3 in omega arith) in
-      subst (λ n. Does (pushes.StoresCell write cell n)) (sym first)
-      (subst (λ n. Does (pushes.StoresCell write n 0)) (sym known.2)
-      (subst (λ n. Does (pushes.StoresCell n (cell_word slots 1 s.completion.write) 0)) (sym known.0) (stores_cell (omega arith))))
-  does (pushes.StoresWrite write) known steps =
-      subst (λ n. Does (pushes.StoresWrite n)) (sym known.0)
-      (record {
-        queue_then = full;
-        step = ends_with (completion.publish_good slots some few s.completion h.parts.completion reached index room known.2) steps;
-      })
+    stores_cell : x.steps ≤ 2 → Does store_of_cell
+    stores_cell steps =
+        record {
+          queue_then = filled 1 words_of_index slots s.completion 0 index;
+          step =
+              goes_on store_of_cell last (filled 1 words_of_index slots s.completion 0 index) refl refl
+              (completion.fill_good slots some few s.completion h.parts.completion reached index room)
+              (completion.cell_on slots some few s.completion h.parts.completion reached s.completion.write)
+              (completion.fill_words slots some few s.completion h.parts.completion reached index room)
+              (refl, room, completion.fill_whole slots some few s.completion h.parts.completion reached index room, (let low = reached in omega arith))
+              (omega arith) (omega arith) (fill_keeps one_word slots s.completion 0 index);
+        }
+
+    -- what a give-back knows leads on
+    pub does : (stage : PushStage) → KnowsPush one_word slots s.completion index stage → x.steps ≤ push_number 1 stage → Does stage
+    does pushes.LoadsWrite known steps = loads_write steps
+    does (pushes.LoadsRead write) known steps = subst (λ n. Does (pushes.LoadsRead n)) (sym known.0) (loads_read steps)
+    does (pushes.StoresCell write cell at) known steps =
+        let first : at ≡ 0 = (let below = known.3 in omega arith) in
+        subst (λ n. Does (pushes.StoresCell write cell n)) (sym first) (subst (λ n. Does (pushes.StoresCell write n 0)) (sym known.2)
+        (subst (λ n. Does (pushes.StoresCell n (cell_word slots 1 s.completion.write) 0)) (sym known.0) (stores_cell (omega arith))))
+    does (pushes.StoresWrite write) known steps =
+        subst (λ n. Does (pushes.StoresWrite n)) (sym known.0) (record {
+          queue_then = full;
+          step = ends_with (completion.publish_good slots some few s.completion h.parts.completion reached index room known.2) steps;
+        })

@@ -1,20 +1,18 @@
 -- A give-up, as steps of the machine: it is a release of the set.
-use Rattle.laws_loan.proofs.Names.{◌≡◌, ℕ, ◌-◌, ◌^◌, ◌<◌, sym, ap, subst, ◌∙◌, After, ReleaseState, DefaultMode}
+use Rattle.laws_loan.proofs.Names.{◌≡◌, ℕ, sym, ap, subst, ◌∙◌, After, ReleaseState, DefaultMode}
 use Rattle.laws_loan.proofs.Names.{Release, ReleaseStage, back_asks, back_takes, went_on, Answer, LoanFlight, GiveUp}
-use Rattle.laws_loan.proofs.Names.{Party, Coding, ask_of, release_effect, as_it_is, Open, span_of, as_call, old_of}
-use Rattle.laws_loan.proofs.Names.{Trace}
+use Rattle.laws_loan.proofs.Names.{ask_of, release_effect, as_it_is, Open, span_of, as_call, old_of}
 use Rattle.std.proofs.Common.{arith}
 use Rattle.model.specs.declared.event.Answer.TheVariants as answers
 use Rattle.model.specs.declared.event.Start.TheVariants as starts
 use Rattle.model.specs.declared.families.Flight.TheVariants as flights
 use Rattle.model.specs.declared.families.loan.LoanStart.TheVariants as calls
-use Rattle.model.proofs.Frame as frame
 use Rattle.laws_loan.proofs.Channel.{words_in}
 use Rattle.laws_loan.proofs.Releases.{give_up_at, gives_up}
 use Rattle.laws_loan.proofs.ReleaseSteps.{With, releases_on}
 use Rattle.laws_loan.proofs.Releasing.{embedded}
+use Rattle.laws_loan.proofs.Scene.{Underway}
 use Rattle.laws_loan.proofs.Senders.{Stands, Comes}
-use Rattle.laws_loan.proofs.StepLaw.{channel}
 
 module _ (T : Type 0) (slots queue index : ℕ) where
   -- how a give-up goes on whose release goes on so
@@ -25,20 +23,16 @@ module _ (T : Type 0) (slots queue index : ℕ) where
       → given_up_after (back_takes slots stage value) ≡ embedded (give_up_at slots queue index) answers.Done (back_takes slots stage value)
   goes_so = grind arith
 
-module _ {T : Type 0} (code : Coding T) (slots queue : ℕ) (t : Trace T)
-    (sound : frame.Sound (channel code slots queue) t) (small : t.world.turns < 2 ^ 64 - 2) (x : Party T)
-    (since : ℕ) where
+module _ {T : Type 0} (m : Underway T) where
+  open m use {slots, queue, sound}
+
   pub give_up_releases : (index : ℕ) (stage : ReleaseStage)
-      → Stands code slots queue t sound small x since 0 (starts.Loan (calls.GiveUp index))
-      (flights.Loan (give_up_at slots queue index stage))
-      → Comes code slots queue t sound small x since 0 (starts.Loan (calls.GiveUp index))
-      (flights.Loan (give_up_at slots queue index stage))
+      → Stands m 0 (starts.Loan (calls.GiveUp index)) (flights.Loan (give_up_at slots queue index stage))
+      → Comes m 0 (starts.Loan (calls.GiveUp index)) (flights.Loan (give_up_at slots queue index stage))
   give_up_releases index stage there =
       let at = there.at in
       let from = ap (span_of 0) sound.holds.same ∙ (there.span ∙ ap (λ es. Open (starts.Loan (calls.GiveUp index)) es) at.3) in
       let value = old_of (words_in sound.state) (ask_of (back_asks slots index stage)) in
-      subst
-      (With code slots queue t sound small x since index (gives_up T slots queue index) there.knows stage (release_effect index stage))
-      (sym (goes_so T slots queue index stage value))
-      (releases_on code slots queue t sound small x since index (gives_up T slots queue index) there.knows stage
+      subst (With m index (gives_up T slots queue index) there.knows stage (release_effect index stage))
+      (sym (goes_so T slots queue index stage value)) (releases_on m index (gives_up T slots queue index) there.knows stage
       (record { found = there.found; gives = at.4; from = from; few = (let steps = there.steps in omega arith) }))

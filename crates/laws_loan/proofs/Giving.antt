@@ -1,45 +1,46 @@
 -- A step of the receiver's call that changes the completion queue alone, or nothing: what it shows, and that it so comes to what
 -- the frame asks.
-use Rattle.laws_loan.proofs.Names.{◌≡◌, ◌≢◌, ℕ, ◌+◌, ◌≤◌, Bool, false, Option, List, [], ◌++◌, sym, ap, refl, ◌∙◌}
-use Rattle.laws_loan.proofs.Names.{append-nil, Ask, After, GoOn, Answer, Event, LoanStart, LoanFlight, Effect, Party}
-use Rattle.laws_loan.proofs.Names.{Coding, one_word, has_died, spot_of, words_of_index, Span, Open, span_of}
+use Rattle.laws_loan.proofs.Names.{◌≡◌, ℕ, ◌+◌, ◌≤◌, Bool, Option, List, [], ◌++◌, sym, ap, refl, ◌∙◌}
+use Rattle.laws_loan.proofs.Names.{append-nil, Ask, After, GoOn, Answer, LoanStart, LoanFlight, Effect, Party}
+use Rattle.laws_loan.proofs.Names.{one_word, spot_of, words_of_index, Span, Open, span_of}
 use Rattle.laws_loan.proofs.Names.{words_after, change_of, step_count, one_if, Core, KnowsPop}
 use Rattle.std.proofs.Common.{arith}
 use Rattle.steps.specs.declared.queues.ring.PopStage.{PopStage}
 use Rattle.model.specs.declared.event.Start.TheVariants as starts
 use Rattle.laws_queues.proofs.Queues.Core.{Good}
 use Rattle.laws_loan.proofs.Channel.{Channel, words_in}
-use Rattle.laws_loan.proofs.Invariant.{HoldsNow}
 use Rattle.laws_loan.proofs.Knows.{number_of, wrote_in, At, FlightKnows}
 use Rattle.laws_loan.proofs.GiveBackInterference.{given_then, at_given}
+use Rattle.laws_loan.proofs.Scene.{Scene, ReceiverCalls}
 use Rattle.laws_loan.proofs.Sender.{party_then, told_by, Steps, StepBy}
-use Rattle.laws_loan.proofs.Told.{silent_tells}
-use Rattle.laws_loan.proofs.Told.{is_reclaiming}
+use Rattle.laws_loan.proofs.QueueEvents.{silent_tells}
+use Rattle.laws_loan.proofs.QueueEvents.{is_reclaiming}
 use Rattle.laws_loan.proofs.Turns.{Shows}
 use Rattle.laws_loan.proofs.Turns.{sends_still}
 
-module _ {T : Type 0} (code : Coding T) (slots queue : ℕ) (s : Channel T) (latest : List (ℕ × Party T))
-    (turns changes since : ℕ) (x : Party T) (p : ℕ) where
+module _ {T : Type 0} (scene : Scene T) (p : ℕ) where
+  open scene use {slots, queue, state as s}
+
   abbrev pub s_given : Core ℕ → LoanStart → After LoanFlight (Answer T) → Effect → Channel T
   s_given k start after effect =
-      given_then slots queue s k (s.events ++ told_by code slots queue s latest turns changes since x p start after effect) p
+      given_then slots queue s k (s.events ++ told_by scene p start after effect) p
 
   -- a step with this effect that leaves the completion queue so, and the book
   abbrev pub GivesBy : Core ℕ → Span T → LoanStart → Option Ask → Bool → After LoanFlight (Answer T) → Effect → Type 0
   GivesBy k from start ask back after effect =
-      StepBy code slots queue s latest turns changes since x p (s_given k start after effect) from start ask back after effect
+      StepBy scene p (s_given k start after effect) from start ask back after effect
 
 -- ---- a step that writes nothing, and leaves what waits in the completion queue: its call goes on
 
-module _ {T : Type 0} (code : Coding T) (slots queue : ℕ) (s : Channel T) (latest : List (ℕ × Party T))
-    (turns changes since : ℕ) (x : Party T) (p : ℕ) (h : HoldsNow slots queue s latest s.events turns) (other : p ≢ 0)
-    (alive : has_died p s.book.dead ≡ false) (receives : p ≡ s.book.receiver) (start : LoanStart) (wrote : List (Event T))
-    (from : span_of p s.events ≡ Open (starts.Loan start) wrote) (ask : Option Ask) (back : Bool) (k : Core ℕ)
-    (waits : k.waiting ≡ s.completion.waiting) (write : k.write ≡ s.completion.write) (good : Good 1 words_of_index slots k)
-    (pops : (room : List ℕ) (stage : PopStage) → KnowsPop one_word slots s.completion room stage → KnowsPop one_word slots k room stage)
+module _ {T : Type 0} (scene : Scene T) (p : ℕ) (start : LoanStart) (r : ReceiverCalls scene p start) (ask : Option Ask) (back : Bool) (k : Core ℕ)
+    (waits : k.waiting ≡ scene.state.completion.waiting) (write : k.write ≡ scene.state.completion.write) (good : Good 1 words_of_index scene.slots k)
+    (pops : (room : List ℕ) (stage : PopStage) → KnowsPop one_word scene.slots scene.state.completion room stage → KnowsPop one_word scene.slots k room stage)
     (flight : LoanFlight) where
+  open scene use {slots, queue, state as s, latest, turns, changes, since, caller as x}
+  open r use {other, alive, receives, from}
+
   abbrev y_on : Party T
-  y_on = party_then s x since changes start ask back (GoOn flight)
+  y_on = party_then scene start ask back (GoOn flight)
 
   abbrev s_on : Channel T
   s_on = given_then slots queue s k (s.events ++ []) p
@@ -53,11 +54,11 @@ module _ {T : Type 0} (code : Coding T) (slots queue : ℕ) (s : Channel T) (lat
       grind (arith, append-nil)
 
   pub gives_on : words_after (words_in s) ask ≡ words_in s_on
-      → x.steps + step_count ask ≤ number_of slots wrote flight (x.backs + one_if back) → At slots queue s_on p wrote start flight
+      → x.steps + step_count ask ≤ number_of {T = T} slots [] flight (x.backs + one_if back) → At slots queue s_on p [] start flight
       → FlightKnows slots queue s_on (since + change_of (words_in s) ask) (changes + change_of (words_in s) ask) (x.backs + one_if back) flight
-      → Steps code slots queue s latest turns changes since x p s_on (Open (starts.Loan start) wrote) start ask back (GoOn flight) []
+      → Steps scene p s_on (Open (starts.Loan start) []) start ask back (GoOn flight) []
   gives_on words steps at knows =
-      let was : wrote ≡ wrote_in (span_of p (s.events ++ [])) = sym (ap wrote_in (ap (span_of p) (append-nil s.events) ∙ from)) in
+      let was : [] ≡ wrote_in (span_of p (s.events ++ [])) = sym (ap wrote_in (ap (span_of p) (append-nil s.events) ∙ from)) in
       let others =
       at_given slots queue s k (s.events ++ []) p
       (record { receiver = receives; alive = alive; pop = pops; passes = λ q i ne e. ap (spot_of i) (append-nil s.events) ∙ e }) in

@@ -15,7 +15,7 @@ use Rattle.model.specs.Shape.{IsOpen}
 use Rattle.model.proofs.Frame.{Family}
 use Rattle.laws_loan.proofs.Channel.{Channel, Represents, Holds}
 use Rattle.laws_loan.proofs.Knows.{counts, number_of, wrote_in, At, FlightKnows}
-use Rattle.laws_loan.proofs.Told.{is_reclaiming, Told}
+use Rattle.laws_loan.proofs.QueueEvents.{is_reclaiming, Told}
 
 -- more indices than its capacity wait in the submission queue only while the newest one's send has published and not acted
 abbrev pub Hangs : ℕ → Core ℕ → Option ℕ → Type 0

@@ -1,10 +1,10 @@
 -- What is proved of every run of a loan channel: its turns write down in order, act where the promise says, and go on by the table.
-use Rattle.laws_loan.proofs.Names.{◌≡◌, ◌≢◌, ℕ, ◌-◌, ◌^◌, ◌<◌, Option, Some, List, ◌++◌, refl, sym, ap, subst, After}
+use Rattle.laws_loan.proofs.Names.{◌≡◌, ◌≢◌, ℕ, Option, Some, List, ◌++◌, refl, sym, ap, subst, After}
 use Rattle.laws_loan.proofs.Names.{OneWord, SendStage, Answer, Event, Start, Flight, Registry}
 use Rattle.laws_loan.proofs.Names.{LoanStart, LoanFlight, Going}
-use Rattle.laws_loan.proofs.Names.{Party, Next, Coding, ask_of, beside_of, step_of, goes_of, want, after, promise}
+use Rattle.laws_loan.proofs.Names.{Next, Coding, ask_of, beside_of, step_of, goes_of, want, after, promise}
 use Rattle.laws_loan.proofs.Names.{effect_of, IsTurnBy, IsKeptBy, ask_in, answer_in, old_of, ending_of, after_turn}
-use Rattle.laws_loan.proofs.Names.{Trace, StandsThere, stands_there, InOrder, in_order_from}
+use Rattle.laws_loan.proofs.Names.{StandsThere, stands_there, InOrder, in_order_from}
 use native.Mathlib.Omega.{arith}
 use Rattle.steps.specs.declared.loan.send.SendStage.TheVariants as sends
 use Rattle.steps.specs.declared.queues.overflow.PopStage.{PopStage}
@@ -15,7 +15,6 @@ use Rattle.model.specs.declared.families.loan.LoanStart.TheVariants as calls
 use Rattle.model.specs.declared.turn.Kind.TheVariants as kinds
 use Rattle.model.specs.Parties.{party_of}
 use Rattle.model.specs.Promises.Families.{promise_of}
-use Rattle.model.proofs.Frame as frame
 use Rattle.model.proofs.Orders.{Orders, Keeps, ends_end, turn_is}
 use Rattle.laws_loan.proofs.Acts.{did, acts_of, effects_are, did_effects, all_act, frees_silent, take_back_silent}
 use Rattle.laws_loan.proofs.Acts.{give_back_silent, reclaim_silent, waits, Acting, silent_right, send_right}
@@ -25,26 +24,27 @@ use Rattle.laws_loan.proofs.Invariant.{family}
 use Rattle.laws_loan.proofs.Kept.{kept_by}
 use Rattle.laws_loan.proofs.Laws.{asks_nothing, reached}
 use Rattle.laws_loan.proofs.Receives.{receive_at}
+use Rattle.laws_loan.proofs.Scene.{Underway}
 use Rattle.laws_loan.proofs.Sender.{any_call}
 use Rattle.laws_loan.proofs.SendStep.{send_at}
 use Rattle.laws_loan.proofs.StepLaw.{channel}
 
-module _ {T : Type 0} (code : Coding T) (slots queue : ℕ) (t : Trace T)
-    (s : frame.Sound (channel code slots queue) t) (small : t.world.turns < 2 ^ 64 - 2) (p : ℕ) (x : Party T)
-    (since : ℕ) where
+module _ {T : Type 0} (m : Underway T) (p : ℕ) where
+  open m use {coding as code, slots, queue, trace as t, caller as x, since, sound as s}
+
   abbrev Acts : LoanFlight → Type 0
-  Acts flight = Acting code slots queue t s small p flight
+  Acts flight = Acting m p flight
 
   abbrev There : LoanStart → LoanFlight → Type 0
   There start flight = StandsThere (channel code slots queue) t s p x since (starts.Loan start) (flights.Loan flight)
 
   send_acts : (index : ℕ) (stage : SendStage) → There (calls.Send index) (send_at slots queue index stage) → Acts (send_at slots queue index stage)
-  send_acts index (sends.Pushes stage) there asks = let at = there.at in send_right code slots queue t s small p index stage at.5.0 asks
-  send_acts index (sends.Releases oldest stage) there asks = silent_right code slots queue t s small p _ (frees_silent oldest stage)
+  send_acts index (sends.Pushes stage) there asks = let at = there.at in send_right m p index stage at.5.0 asks
+  send_acts index (sends.Releases oldest stage) there asks = silent_right m p _ (frees_silent oldest stage)
 
   receive_acts : p ≢ 0 → (stage : PopStage) (room : OneWord)
       → There calls.Receive (receive_at slots queue p stage room) → Acts (receive_at slots queue p stage room)
-  receive_acts other stage room there asks = receive_right code slots queue t s small p other since t.world.changes x.backs stage room there.knows asks
+  receive_acts other stage room there asks = receive_right m p other since t.world.changes x.backs stage room there.knows asks
 
   call_acts : (start : LoanStart) (flight : LoanFlight) → There start flight → Acts flight
   call_acts = grind (arith, send_at, send_acts, silent_right, frees_silent, take_back_silent, receive_acts, give_back_silent, reclaim_silent)
@@ -57,7 +57,7 @@ module _ {T : Type 0} (code : Coding T) (slots queue : ℕ) (t : Trace T)
   in_order (starts.Loan start) (flights.Loan flight) there =
       let words = words_in s.state in
       let old = old_of words (ask_of (want flight)) in
-      let effect = effect_of words (waits code slots queue t s small p) flight old in
+      let effect = effect_of words (waits m p) flight old in
       let then_so : After LoanFlight (Answer T) = after s.state.book.places flight old in
       let outcome : Option (Answer T) = answer_in then_so in
       let ends : List (Event T) = ending_of p (starts.Loan start) (answer_in (any_call then_so)) in
@@ -91,7 +91,10 @@ told = grind arith
 orders : {T : Type 0} (code : Coding T) (slots queue : ℕ) → Orders (channel code slots queue)
 orders code slots queue =
     record {
-      step = λ t p x flight since s small found doing. step_in_order code slots queue t s small p x since flight found doing;
+      step =
+          λ t p x flight since s small found doing.
+          step_in_order (record { coding = code; slots = slots; queue = queue; trace = t; sound = s; small = small; caller = x; since = since }) p flight
+          found doing;
       decision = λ t p x flight since said s small found doing asks. asks_nothing code slots queue t p x flight since s found doing asks;
       after = λ t p x flight since answer s found doing.
           told code t.world.coding slots queue t.world.words (beside_of t.world.words t.world.kept t.world.latest p)

@@ -16,7 +16,7 @@ use Rattle.laws_loan.proofs.Invariant.{sends_at, counted_for, carried_open, fami
 use Rattle.laws_loan.proofs.Placed.{claim_of, IsBy}
 use Rattle.laws_loan.proofs.Spots.{is_waiting, is_returning, waits_there, returns_there}
 use Rattle.laws_loan.proofs.Tabled.{IsTabled, place_in}
-use Rattle.laws_loan.proofs.Told.{items}
+use Rattle.laws_loan.proofs.QueueEvents.{items}
 use Rattle.laws_loan.proofs.Waits.{sent_is, back_is, are_those}
 
 -- the sender has claimed an index just where it is not free

@@ -197,6 +197,7 @@ module _ {T : Type 0} (slots queue : ℕ) (s : Channel T) where
       KnowsPop one_word slots s.completion (in_one found) stage
   TakeBackAt (take_backs.Releases index stage) = GivesAt index stage
 
+  -- a reclaim that stands at a stage and has written this: the receiver is dead, and the sender's table has each index in passing
   pub record ReclaimAt (wrote : List (Event T)) (stage : ReclaimStage) : Type 0 where
     pub dead : has_died s.book.receiver s.book.dead ≡ true
     pub sent : (index : ℕ) → spot_of index s.events ≡ Passing 0 → place_at s.book.places index ≡ places.Sent

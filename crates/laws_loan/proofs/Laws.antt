@@ -31,58 +31,56 @@ use Rattle.laws_loan.proofs.Opens.{slots_are, queue_is, opening_sound}
 use Rattle.laws_loan.proofs.ReceiveSteps.{receive_comes}
 use Rattle.laws_loan.proofs.ReclaimStep.{reclaim_steps_from}
 use Rattle.laws_loan.proofs.Releases.{give_up_at}
+use Rattle.laws_loan.proofs.Scene.{Underway}
 use Rattle.laws_loan.proofs.Senders.{Stands, Comes}
 use Rattle.laws_loan.proofs.SendStep.{send_at, send_steps}
 use Rattle.laws_loan.proofs.StepLaw.{channel}
 use Rattle.laws_loan.proofs.Tabled.{IsTabled, turn_tabled}
 use Rattle.laws_loan.proofs.TakeBackStep.{take_back_at, take_back_steps}
 
-module _ {T : Type 0} (code : Coding T) (slots queue : ℕ) (t : Trace T)
-    (sound : frame.Sound (channel code slots queue) t) (small : t.world.turns < 2 ^ 64 - 2) (x : Party T)
-    (since : ℕ) where
+module _ {T : Type 0} (m : Underway T) where
+  open m use {coding as code, slots, queue, trace as t, sound, caller as x, since}
+
   -- where it stands there it comes so on
   abbrev Goes : ℕ → LoanStart → LoanFlight → Type 0
   Goes p start flight =
-      Stands code slots queue t sound small x since p (starts.Loan start) (flights.Loan flight)
-      → Comes code slots queue t sound small x since p (starts.Loan start) (flights.Loan flight)
+      Stands m p (starts.Loan start) (flights.Loan flight)
+      → Comes m p (starts.Loan start) (flights.Loan flight)
 
   call_comes : (p : ℕ) (start : LoanStart) (flight : LoanFlight) → has_died (rows.party_of flight) sound.state.book.dead ≡ false → Goes p start flight
   call_comes p calls.Loan (Loan run) alive there =
       let at = there.at in
       subst (λ q. Goes q calls.Loan (Loan run)) (sym at.0)
-      (subst (λ n. Goes 0 calls.Loan (loan_at n run.call.stage)) (sym at.1)
-      (λ there. loan_acquires code slots queue t sound small x since run.call.stage there))
+      (subst (λ n. Goes 0 calls.Loan (loan_at n run.call.stage)) (sym at.1) (λ there. loan_acquires m run.call.stage there))
       there
   call_comes p (calls.Send index) (Send run) alive there =
       let at = there.at in
       subst (λ q. Goes q (calls.Send index) (Send run)) (sym at.0)
       (subst (λ n. Goes 0 (calls.Send index) (send_at n run.call.queue run.given run.call.stage)) (sym at.1)
       (subst (λ n. Goes 0 (calls.Send index) (send_at slots n run.given run.call.stage)) (sym at.2)
-      (subst (λ n. Goes 0 (calls.Send index) (send_at slots queue n run.call.stage)) (sym at.3)
-      (λ there. send_steps code slots queue t sound small x since index run.call.stage there))))
+      (subst (λ n. Goes 0 (calls.Send index) (send_at slots queue n run.call.stage)) (sym at.3) (λ there. send_steps m index run.call.stage there))))
       there
   call_comes p (calls.GiveUp index) (GiveUp run) alive there =
       let at = there.at in
       subst (λ q. Goes q (calls.GiveUp index) (GiveUp run)) (sym at.0)
       (subst (λ n. Goes 0 (calls.GiveUp index) (give_up_at n queue run.given run.call.stage)) (sym at.1)
       (subst (λ n. Goes 0 (calls.GiveUp index) (give_up_at slots queue n run.call.stage)) (sym at.2)
-      (λ there. give_up_releases code slots queue t sound small x since index run.call.stage there)))
+      (λ there. give_up_releases m index run.call.stage there)))
       there
   call_comes p calls.TakeBack (TakeBack run) alive there =
       let at = there.at in
       subst (λ q. Goes q calls.TakeBack (TakeBack run)) (sym at.0)
       (subst (λ n. Goes 0 calls.TakeBack (take_back_at n run.call.queue run.call.stage)) (sym at.1)
-      (subst (λ n. Goes 0 calls.TakeBack (take_back_at slots n run.call.stage)) (sym at.2)
-      (λ there. take_back_steps code slots queue t sound small x since run.call.stage there)))
+      (subst (λ n. Goes 0 calls.TakeBack (take_back_at slots n run.call.stage)) (sym at.2) (λ there. take_back_steps m run.call.stage there)))
       there
   call_comes p calls.Receive (Receive by run) alive there =
       let lives : has_died p sound.state.book.dead ≡ false = subst (λ q. has_died q sound.state.book.dead ≡ false) there.at.1 alive in
-      receive_comes code slots queue t sound small x since p lives by run there
+      receive_comes m p lives by run there
   call_comes p (calls.GiveBack index) (GiveBack by run) alive there =
       let lives : has_died p sound.state.book.dead ≡ false = subst (λ q. has_died q sound.state.book.dead ≡ false) there.at.1 alive in
-      give_back_comes code slots queue t sound small x since p index lives by run there
+      give_back_comes m p index lives by run there
   call_comes p calls.Reclaim (Reclaim call) alive there =
-      subst (λ q. Goes q calls.Reclaim (Reclaim call)) (sym there.at.0) (λ there. reclaim_steps_from code slots queue t sound small x since call there) there
+      subst (λ q. Goes q calls.Reclaim (Reclaim call)) (sym there.at.0) (λ there. reclaim_steps_from m call there) there
   call_comes p start flight alive there = absurd there.at
 
   comes : (p : ℕ) (start : Start T) (flight : Flight T)
@@ -111,7 +109,10 @@ module _ {T : Type 0} (code : Coding T) (slots queue : ℕ) where
   pub laws : frame.Laws (channel code slots queue)
   laws =
       record {
-        step = λ t p x flight since s small passed found doing. step_comes code slots queue t s small x since p flight passed found doing;
+        step =
+            λ t p x flight since s small passed found doing.
+            step_comes (record { coding = code; slots = slots; queue = queue; trace = t; sound = s; small = small; caller = x; since = since }) p flight
+            passed found doing;
         decision = λ t p x flight since said s small passed found doing asks. asks_nothing t p x flight since s found doing asks;
         begin = λ t p start flight s small may e. begin_comes code slots queue t p start flight s may e;
         death = λ t owner s may. death_comes code slots queue t owner s may;

@@ -39,6 +39,7 @@ pub mod Parts
 pub mod Placed
 pub mod Positions
 pub mod Publishes
+pub mod QueueEvents
 pub mod ReceiveSteps
 pub mod ReceiveTakes
 pub mod Received
@@ -52,13 +53,14 @@ pub mod Releases
 pub mod Releasing
 pub mod Rests
 pub mod Rooms
+pub mod Scene
 pub mod SendMoves
 pub mod SendStep
 pub mod Sender
 pub mod SenderInterference
 pub mod Senders
 pub mod Sends
-pub mod Sents
+pub mod SentIndices
 pub mod SetSteps
 pub mod Spots
 pub mod StepLaw
@@ -69,7 +71,6 @@ pub mod Tabled
 pub mod TakeBackStep
 pub mod TakeBacks
 pub mod Takes
-pub mod Told
 pub mod Turns
 pub mod WaitingSends
 pub mod Waits

@@ -1,8 +1,8 @@
 -- A loan's acquire, as steps of the machine.
-use Rattle.laws_loan.proofs.Names.{Ok, Err, ◌≡◌, ℕ, ◌-◌, ◌^◌, ◌<◌, false, Bool, Option, List, [], refl, sym, subst}
+use Rattle.laws_loan.proofs.Names.{Ok, Err, ◌≡◌, ℕ, false, Bool, Option, List, [], refl, sym, subst}
 use Rattle.laws_loan.proofs.Names.{Ask, After, GoOn, AcquireStage, Acquired, acquire_asks, acquire_takes}
-use Rattle.laws_loan.proofs.Names.{acquire_goes_back, went_on, Answer, LoanFlight, Party, Coding, ask_of, as_it_is}
-use Rattle.laws_loan.proofs.Names.{Open, span_of, as_call, old_of, words_after, Trace}
+use Rattle.laws_loan.proofs.Names.{acquire_goes_back, went_on, Answer, LoanFlight, ask_of, as_it_is}
+use Rattle.laws_loan.proofs.Names.{Open, span_of, as_call, old_of, words_after}
 use Rattle.std.proofs.Common.{arith}
 use Rattle.steps.specs.declared.ask.After.TheVariants.{Done}
 use Rattle.steps.specs.declared.indices.enums.UniqueIndexSetAcquireFailure.TheVariants as failures
@@ -14,24 +14,22 @@ use Rattle.model.specs.declared.families.loan.LoanStart.TheVariants as calls
 use Rattle.model.specs.declared.families.loan.calls.LoanFlight.TheVariants.{Loan}
 use Rattle.model.specs.declared.families.loan.effects.Effect.TheVariants as effects
 use Rattle.model.specs.Families.Indices.Calls.{acquire_answer}
-use Rattle.model.proofs.Frame as frame
 use Rattle.laws_loan.proofs.Channel.{words_in}
 use Rattle.laws_loan.proofs.Invariant.{sends_at, counted_for}
-use Rattle.laws_loan.proofs.Loans.{loan_at, step, goes_steps, fails_steps, claims_steps}
+use Rattle.laws_loan.proofs.Loans.{loan_at, Loans, step, goes_steps, fails_steps, claims_steps}
 use Rattle.laws_loan.proofs.Parts.{set_old}
+use Rattle.laws_loan.proofs.Scene.{Scene, Underway, scene_of}
 use Rattle.laws_loan.proofs.Senders.{Stands, Comes, from_step}
 use Rattle.laws_loan.proofs.SetSteps.{AcquireLeads}
-use Rattle.laws_loan.proofs.StepLaw.{channel, holds_now, ComesBy}
+use Rattle.laws_loan.proofs.StepLaw.{holds_now, ComesBy}
 
 -- how a loan goes on whose acquire goes on so
 abbrev loaned_after : (T : Type 0) → After acquire_calls.Acquire Acquired → After LoanFlight (Answer T)
 loaned_after T acquire = as_call Loan acquire_answer (went_on as_it_is tt tt acquire)
 
-module _ {T : Type 0} (code : Coding T) (slots queue : ℕ) (t : Trace T)
-    (sound : frame.Sound (channel code slots queue) t) (small : t.world.turns < 2 ^ 64 - 2) (x : Party T) (since : ℕ)
-    (stage : AcquireStage)
-    (there : Stands code slots queue t sound small x since 0 (starts.Loan calls.Loan)
-    (flights.Loan (loan_at slots stage))) where
+module _ {T : Type 0} (m : Underway T) (stage : AcquireStage) (there : Stands m 0 (starts.Loan calls.Loan) (flights.Loan (loan_at m.slots stage))) where
+  open m use {slots, queue, trace as t, sound}
+
   abbrev ask : Option Ask
   ask = ask_of (acquire_asks slots stage)
 
@@ -44,45 +42,52 @@ module _ {T : Type 0} (code : Coding T) (slots queue : ℕ) (t : Trace T)
   from : span_of 0 sound.state.events ≡ Open (starts.Loan calls.Loan) []
   from = grind arith
 
+  abbrev scene : Scene T
+  scene = scene_of m
+
+  stands : Loans scene stage
+  stands =
+      record {
+        holds = holds_now m;
+        here = there.found;
+        takes = there.at.3;
+        from = from;
+        few = there.steps;
+        straight = there.knows;
+      }
+
   abbrev With : Bool → After LoanFlight (Answer T) → Type 0
   With back after =
-      ComesBy code slots queue t sound x since 0 calls.Loan ask back after effects.Claims
+      ComesBy m 0 calls.Loan ask back after effects.Claims
 
   leads_on : (acquire : After acquire_calls.Acquire Acquired)
       → AcquireLeads slots stage sound.state.set words_then sound.state.claims acquire
       → With false (loaned_after T acquire)
   leads_on (GoOn acquire) l =
       subst (λ c. With false (GoOn (Loan (record { call = record { capacity = c; stage = acquire.stage }; given = tt; room = tt })))) (sym l.1)
-      (from_step code slots queue t sound small x since calls.Loan ask (GoOn (loan_at slots acquire.stage))
-      effects.Claims _ [] from (
-        goes_steps code slots queue sound.state t.world.latest t.world.turns t.world.changes since x
-            (holds_now code slots queue t sound x since) stage there.found there.at.3 from there.steps there.knows
+      (from_step m calls.Loan ask (GoOn (loan_at slots acquire.stage)) effects.Claims _ [] from (
+        goes_steps scene stage stands
             acquire.stage l.0 l.2 l.3,
         refl,
       ))
   leads_on (Done (Ok i)) l =
-      from_step code slots queue t sound small x since calls.Loan ask (Done (answers.Index i)) effects.Claims
+      from_step m calls.Loan ask (Done (answers.Index i)) effects.Claims
       _ [] from (
-        claims_steps code slots queue sound.state t.world.latest t.world.turns t.world.changes since x
-            (holds_now code slots queue t sound x since) stage there.found there.at.3 from there.steps there.knows i l.1
+        claims_steps scene stage stands i l.1
             l.0 l.2 l.3,
         refl,
       )
   leads_on (Done (Err failures.OutOfIndices)) l =
-      from_step code slots queue t sound small x since calls.Loan ask
-      (Done (answers.NoIndex failures.OutOfIndices)) effects.Claims _ [] from (
-        fails_steps code slots queue sound.state t.world.latest t.world.turns t.world.changes since x
-            (holds_now code slots queue t sound x since) stage there.found there.at.3 from there.steps there.knows l.0 l.1
+      from_step m calls.Loan ask (Done (answers.NoIndex failures.OutOfIndices)) effects.Claims _ [] from (
+        fails_steps scene stage stands l.0 l.1
             l.2,
         refl,
       )
   leads_on (Done (Err failures.IsLocked)) l = absurd l
 
-  pub loan_acquires : Comes code slots queue t sound small x since 0 (starts.Loan calls.Loan) (flights.Loan (loan_at slots stage))
+  pub loan_acquires : Comes m 0 (starts.Loan calls.Loan) (flights.Loan (loan_at slots stage))
   loan_acquires =
-      let does =
-      step code slots queue sound.state t.world.latest t.world.turns t.world.changes since x
-      (holds_now code slots queue t sound x since) stage there.found there.at.3 from there.steps there.knows in
+      let does = step scene stage stands in
       let value : old_of (words_in sound.state) ask ≡ old_of sound.state.set ask =
       set_old slots queue sound.state (counted_for (sends_at t.world.latest)) sound.holds.parts (acquire_asks slots stage) does.on in
       subst (λ v. With (acquire_goes_back slots stage v) (loaned_after T (acquire_takes call stage v))) (sym value)

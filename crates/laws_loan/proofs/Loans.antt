@@ -1,7 +1,7 @@
 -- The steps of a loan: the sender acquires an index of the set.
 use Rattle.laws_loan.proofs.Names.{◌≡◌, ◌≢◌, ℕ, ◌+◌, ◌<◌, ◌≤◌, false, Option, Some, None, List, [], ◌∷◌, ◌++◌, set}
 use Rattle.laws_loan.proofs.Names.{refl, sym, ap, subst, ◌∙◌, append_assoc, Ask, GoOn, AcquireStage, acquire_asks}
-use Rattle.laws_loan.proofs.Names.{Answer, Event, Claimed, Finished, Book, LoanFlight, Party, Coding, ask_of, Spot}
+use Rattle.laws_loan.proofs.Names.{Answer, Event, Claimed, Finished, Book, LoanFlight, Party, ask_of, Spot}
 use Rattle.laws_loan.proofs.Names.{Free, Passing, With, spot_of, book_after, Open, Ended, span_of, words_after}
 use Rattle.laws_loan.proofs.Names.{step_count, holder, acquire_counts, acquire_number, append-nil}
 use Rattle.std.proofs.Common.{get_or-set_same, arith}
@@ -15,17 +15,18 @@ use Rattle.model.specs.declared.families.loan.LoanStart.TheVariants as calls
 use Rattle.model.specs.declared.families.loan.calls.LoanFlight.TheVariants.{Loan}
 use Rattle.laws_indices.proofs.Core as indices
 use Rattle.laws_loan.proofs.Channel.{Channel, words_in}
-use Rattle.laws_loan.proofs.Invariant.{sends_at, counted_for, hung, reclaims_in, HoldsNow}
+use Rattle.laws_loan.proofs.Invariant.{sends_at, counted_for, hung, reclaims_in}
 use Rattle.laws_loan.proofs.OneMove.{OneMove, carried, passes_on, same_receiver, span_after}
 use Rattle.laws_loan.proofs.Parts.{set_words}
 use Rattle.laws_loan.proofs.Placed.{claim_of, Placed}
 use Rattle.laws_loan.proofs.Rests as rests
+use Rattle.laws_loan.proofs.Scene.{Scene, HoldsIn}
 use Rattle.laws_loan.proofs.Sender.{party_then, Steps}
 use Rattle.laws_loan.proofs.SetSteps.{TakesAt, AcquireStep, acquire_step}
 use Rattle.laws_loan.proofs.Spots.{free_passes, with_passes, spot_moved}
 use Rattle.laws_loan.proofs.Table.{claims_it, loan_ends}
 use Rattle.laws_loan.proofs.SenderInterference.{others_beside}
-use Rattle.laws_loan.proofs.Told.{items, is_reclaiming}
+use Rattle.laws_loan.proofs.QueueEvents.{items, is_reclaiming}
 use Rattle.laws_loan.proofs.Turns.{Shows, sends_now}
 
 abbrev pub loan_at : ℕ → AcquireStage → LoanFlight
@@ -39,10 +40,19 @@ none_free = grind arith
 one_step : (slots : ℕ) (stage : AcquireStage) → step_count (ask_of (acquire_asks slots stage)) ≡ 1
 one_step = grind arith
 
-module _ {T : Type 0} (code : Coding T) (slots queue : ℕ) (s : Channel T) (latest : List (ℕ × Party T))
-    (turns changes since : ℕ) (x : Party T) (h : HoldsNow slots queue s latest s.events turns) (stage : AcquireStage)
-    (here : sends_at latest ≡ Some (flights.Loan (loan_at slots stage))) (takes : TakesAt slots s.set stage)
-    (from : span_of 0 s.events ≡ Open (starts.Loan calls.Loan) []) (few : x.steps ≤ acquire_number slots stage 0) (straight : x.backs ≡ 0) where
+-- a loan that stands there
+pub record Loans {T : Type 0} (scene : Scene T) (stage : AcquireStage) : Type 0 where
+  pub holds : HoldsIn scene
+  pub here : sends_at scene.latest ≡ Some (flights.Loan (loan_at scene.slots stage))
+  pub takes : TakesAt scene.slots scene.state.set stage
+  pub from : span_of 0 scene.state.events ≡ Open (starts.Loan calls.Loan) []
+  pub few : scene.caller.steps ≤ acquire_number scene.slots stage 0
+  pub straight : scene.caller.backs ≡ 0
+
+module _ {T : Type 0} (scene : Scene T) (stage : AcquireStage) (l : Loans scene stage) where
+  open scene use {slots, queue, state as s, latest, turns}
+  open l use {holds as h, here, takes, from, straight}
+
   abbrev ask : Option Ask
   ask = ask_of (acquire_asks slots stage)
 
@@ -72,11 +82,11 @@ module _ {T : Type 0} (code : Coding T) (slots queue : ℕ) (s : Channel T) (lat
     abbrev s_on : Channel T
     s_on = record s { set = words_then; claims = s.claims; book = s.book; events = s.events ++ [] }
 
-    pub goes_steps : Steps code slots queue s latest turns changes since x 0 s_on (Open (starts.Loan calls.Loan) [])
+    pub goes_steps : Steps scene 0 s_on (Open (starts.Loan calls.Loan) [])
         calls.Loan ask false (GoOn (loan_at slots stage')) []
     goes_steps =
         let one = one_step slots stage in
-        rests.goes_on code slots queue s latest turns changes since x h straight calls.Loan [] from ask words_then
+        rests.goes_on scene h straight calls.Loan [] from ask words_then
         (loan_at slots stage') (record { words = whole_words; good = good; unlocked = step.unlocked; calm = calm_before })
         refl (omega arith) (refl, refl, refl, takes') (omega arith)
 
@@ -90,11 +100,11 @@ module _ {T : Type 0} (code : Coding T) (slots queue : ℕ) (s : Channel T) (lat
     abbrev s_fails : Channel T
     s_fails = record s { set = words_then; claims = s.claims; book = s.book; events = s.events ++ Finished 0 (starts.Loan calls.Loan) none_left ∷ [] }
 
-    pub fails_steps : Steps code slots queue s latest turns changes since x 0 s_fails
+    pub fails_steps : Steps scene 0 s_fails
         (Open (starts.Loan calls.Loan) []) calls.Loan ask false (Done none_left) (Finished 0 (starts.Loan calls.Loan) none_left ∷ [])
     fails_steps =
         let one = one_step slots stage in
-        rests.ends code slots queue s latest turns changes since x h straight calls.Loan [] from ask words_then none_left
+        rests.ends scene h straight calls.Loan [] from ask words_then none_left
         (record { words = whole_words; good = good; unlocked = step.unlocked; calm = calm_before })
         (record { moves = refl; receiver = λ r. refl; dead = λ q b. refl }) refl
         (λ i below free. all i below (h.parts.placed.claimed i below ∙ ap claim_of free)) (λ i carried. carried)
@@ -121,7 +131,7 @@ module _ {T : Type 0} (code : Coding T) (slots queue : ℕ) (s : Channel T) (lat
     book_got = record book_claimed { holders = set s.book.holders i (Some 0) }
 
     abbrev y_got : Party T
-    y_got = party_then s x since changes calls.Loan ask false (Done got)
+    y_got = party_then scene calls.Loan ask false (Done got)
 
     abbrev told : List (Event T)
     told = claims_i ∷ ends ∷ []
@@ -161,7 +171,7 @@ module _ {T : Type 0} (code : Coding T) (slots queue : ℕ) (s : Channel T) (lat
         let unlocked = step.unlocked in
         grind (arith, ended_got, sends_now, append-nil, items, same_receiver, one_move, placed_got, now_passing, free_before, calm_before, quiet)
 
-    pub claims_steps : Steps code slots queue s latest turns changes since x 0 s_got (Open (starts.Loan calls.Loan) []) calls.Loan ask false (Done got) told
+    pub claims_steps : Steps scene 0 s_got (Open (starts.Loan calls.Loan) []) calls.Loan ask false (Done got) told
     claims_steps =
         let one = one_step slots stage in
         let words = whole_words in

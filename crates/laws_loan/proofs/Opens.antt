@@ -7,7 +7,7 @@ use Rattle.model.proofs.Frame as frame
 use Rattle.laws_loan.proofs.Channel as channels
 use Rattle.laws_loan.proofs.Channel.{opening_fits, opening_holds}
 use Rattle.laws_loan.proofs.Invariant.{HoldsNow, family}
-use Rattle.laws_loan.proofs.Told.{Told}
+use Rattle.laws_loan.proofs.QueueEvents.{Told}
 
 -- ---- numbers that are admitted
 

@@ -3,7 +3,7 @@ use Rattle.laws_loan.proofs.Names.{◌≡◌, ℕ, ◌+◌, ◌-◌, ◌^◌, �
 use Rattle.laws_loan.proofs.Names.{◌∷◌, ◌++◌, length, fold, refl, sym, ap, subst, ◌∙◌, append-nil, append_assoc}
 use Rattle.laws_loan.proofs.Names.{length-append, nat_tests, map-append, Ask, After, GoOn, submission_word, distance}
 use Rattle.laws_loan.proofs.Names.{Answer, Event, Published, Acted, Finished, Index, Start, Book, LoanFlight, Effect}
-use Rattle.laws_loan.proofs.Names.{Party, Coding, MovesRight, BeginsRight, AnswersRight, promise, Passing, Waiting}
+use Rattle.laws_loan.proofs.Names.{Party, MovesRight, BeginsRight, AnswersRight, promise, Passing, Waiting}
 use Rattle.laws_loan.proofs.Names.{reclaims_after, read_in, book_after, words_of_index, flight_of, Stands, Open}
 use Rattle.laws_loan.proofs.Names.{own_after, span_of, change_of, AreOwn, AllFollow, AreRight, push_room, push_waits}
 use Rattle.laws_loan.proofs.Names.{publish_keeps_pop, Core, Holds}
@@ -19,10 +19,11 @@ use Rattle.model.specs.declared.families.loan.effects.Effect.TheVariants as effe
 use Rattle.model.proofs.Frame as frame
 use Rattle.laws_queues.proofs.Queues.Core.{published}
 use Rattle.laws_loan.proofs.Channel.{Channel, words_in}
-use Rattle.laws_loan.proofs.Invariant.{Hangs, sends_at, counted_for, hung, reclaims_in, HoldsNow, family}
+use Rattle.laws_loan.proofs.Invariant.{Hangs, sends_at, counted_for, hung, reclaims_in, family}
 use Rattle.laws_loan.proofs.Knows.{Passes, push_wrote}
 use Rattle.laws_loan.proofs.OneMove.{OneMove, calm_still, carried, last_still, of_still, passes_on, same_receiver, span_after}
 use Rattle.laws_loan.proofs.Placed.{Placed}
+use Rattle.laws_loan.proofs.Scene.{Scene, HoldsIn}
 use Rattle.laws_loan.proofs.Sender.{party_then, Steps}
 use Rattle.laws_loan.proofs.Sends.{pushes_at, asked, queued, StepTo, Does, does_by, reached, long, words_are, change_is, read_is, none_carried}
 use Rattle.laws_loan.proofs.Spots.{passing_same, waiting_passes}
@@ -31,16 +32,15 @@ use Rattle.laws_loan.proofs.Submission as submission
 use Rattle.laws_loan.proofs.Submission.{Room, HasRoom, IsFull, HasMoved}
 use Rattle.laws_loan.proofs.Table.{publishes_it}
 use Rattle.laws_loan.proofs.SenderInterference.{others_beside}
-use Rattle.laws_loan.proofs.Told.{items, is_reclaiming, Tells}
+use Rattle.laws_loan.proofs.QueueEvents.{items, is_reclaiming, Tells}
 use Rattle.laws_loan.proofs.Turns.{Shows, sends_now}
 
-module _ {T : Type 0} (code : Coding T) (slots queue : ℕ) (s : Channel T) (latest : List (ℕ × Party T))
-    (turns changes since : ℕ) (x : Party T) (h : HoldsNow slots queue s latest s.events turns)
-    (small : turns < 2 ^ 64 - 2) (index : ℕ) (straight : x.backs ≡ 0) (read : ℕ)
-    (here : sends_at latest
-    ≡ Some (flights.Loan (pushes_at slots queue (pushes.StoresWrite s.submission.write read) index)))
-    (passes : Passes slots queue s 0 index)
-    (from : span_of 0 s.events ≡ Open (starts.Loan (calls.Send index)) []) where
+module _ {T : Type 0} (scene : Scene T) (index : ℕ) (h : HoldsIn scene) (small : scene.turns < 2 ^ 64 - 2) (straight : scene.caller.backs ≡ 0)
+    (read : ℕ)
+    (here : sends_at scene.latest ≡ Some (flights.Loan (pushes_at scene.slots scene.queue (pushes.StoresWrite scene.state.submission.write read) index)))
+    (passes : Passes scene.slots scene.queue scene.state 0 index) (from : span_of 0 scene.state.events ≡ Open (starts.Loan (calls.Send index)) []) where
+  open scene use {coding as code, slots, queue, state as s, latest, turns, changes, caller as x}
+
   abbrev channel : frame.Family T
   channel = family code slots queue
 
@@ -66,10 +66,10 @@ module _ {T : Type 0} (code : Coding T) (slots queue : ℕ) (s : Channel T) (lat
   ends = Finished 0 call answers.PoppedNone
 
   abbrev asked_now : Option Ask
-  asked_now = asked code slots queue s latest turns changes since x h small index straight stage
+  asked_now = asked scene index stage
 
   abbrev party : After LoanFlight (Answer T) → Party T
-  party after = party_then s x since changes (calls.Send index) asked_now false after
+  party after = party_then scene (calls.Send index) asked_now false after
 
   abbrev s_then : List (Event T) → Channel T
   s_then tail = record s { submission = k; completion = s.completion; book = book; events = s.events ++ publishes ∷ tail }
@@ -86,7 +86,7 @@ module _ {T : Type 0} (code : Coding T) (slots queue : ℕ) (s : Channel T) (lat
     pub stands : AllFollow (Stands promise slots) (Open call (publishes ∷ [])) tail
 
   abbrev To : Channel T → After LoanFlight (Answer T) → Effect → Type 0
-  To s' after effect = StepTo code slots queue s latest turns changes since x h small index straight s' [] stage after effect
+  To s' after effect = StepTo scene index s' [] stage after effect
 
   few_wait : length s.submission.waiting ≤ queue
   few_wait = grind arith
@@ -95,14 +95,14 @@ module _ {T : Type 0} (code : Coding T) (slots queue : ℕ) (s : Channel T) (lat
   below = let few = few_wait in omega arith
 
   low_write : s.submission.write < 2 ^ 64 - 2
-  low_write = reached code slots queue s latest turns changes since x h small index straight
+  low_write = reached scene index h small straight
 
-  on : 0 < length (queued code slots queue s latest turns changes since x h small index straight)
-  on = grind (arith, long)
+  on : 0 < length (queued scene index)
+  on = grind (arith, long scene index h small straight)
 
   one : change_of (words_in s) asked_now ≡ 1
   one =
-      change_is code slots queue s latest turns changes since x h small index straight stage on
+      change_is scene index h small straight stage on
       ∙ submission.publish_changes queue h.parts.some h.parts.few s.submission h.parts.submission low_write index
 
   -- ---- whatever comes after the publishing
@@ -150,19 +150,18 @@ module _ {T : Type 0} (code : Coding T) (slots queue : ℕ) (s : Channel T) (lat
           let idle : counted_for (sends_at latest) ≡ 0 = ap counted_for here in
           let passing =
           carried 0 index s.events es (Passing 0) Waiting one_move (Open call []) from h.passing
-          (λ i ne. none_carried code slots queue s latest turns changes since x h small index straight i ne)
-          (λ q e. absurd (waiting_passes q e)) in
+          (λ i ne. none_carried scene index h small straight i ne) (λ q e. absurd (waiting_passes q e)) in
           grind (arith, span_then, sends_now, same_receiver, one_move, placed_then)
 
       publishing : frame.Fits channel (s_then tail) 0 (Some (party after)) (fold own_after (Open call (publishes ∷ [])) tail)
           → frame.KnowsDoing channel (s_then tail) 0 (s.events ++ es) (changes + change_of (words_in s) asked_now) (party after).backs (party after).doing
-          → Steps code slots queue s latest turns changes since x 0 (s_then tail) (Open call []) (calls.Send index) asked_now false after es
+          → Steps scene 0 (s_then tail) (Open call []) (calls.Send index) asked_now false after es
       publishing fits knows =
           let change = one in
           let own = is.own in
           let stands = is.stands in
           let words =
-          words_are code slots queue s latest turns changes since x h small index straight stage k on
+          words_are scene index h small straight stage k on
           (submission.publish_words queue h.parts.some h.parts.few s.submission h.parts.submission low_write index) in
           let others =
           others_beside slots queue s (s_then tail) refl refl (publish_keeps_pop queue s.submission index) (λ i stage known. known)
@@ -255,28 +254,27 @@ module _ {T : Type 0} (code : Coding T) (slots queue : ℕ) (s : Channel T) (lat
         )
 
     read_now : (b : Bool) → (s.submission.read == read) ≡ b → (read_in (submission_word slots) (words_in s) == read) ≡ b
-    read_now b e = ap (λ r. r == read) (read_is code slots queue s latest turns changes since x h small index straight) ∙ e
+    read_now b e = ap (λ r. r == read) (read_is scene index h small straight) ∙ e
 
     pub stores_write : read ≤ s.submission.read → s.submission.write ≤ read + queue
-        → Does code slots queue s latest turns changes since x h small index straight stage
+        → Does scene index stage
     stores_write low far = go (submission.finds queue h.parts.some h.parts.few s.submission h.parts.submission low_write read low far)
       where
         go : Room queue h.parts.some h.parts.few s.submission h.parts.submission low_write read
-            → Does code slots queue s latest turns changes since x h small index straight stage
+            → Does scene index stage
         go (HasRoom t less) =
-            does_by code slots queue s latest turns changes since x h small index straight (s_then (acts ∷ ends ∷ [])) stage []
+            does_by scene index (s_then (acts ∷ ends ∷ [])) stage []
             (Done answers.PoppedNone) (effects.PublishesAndActs index) refl (rw t refl) (rw t refl) (publishes_done less)
         go (IsFull t e full) =
             let write = h.parts.submission.write in
             let same : s.submission.read ≡ read = grind (arith, nat_tests) in
             let z = read_now true e in
-            does_by code slots queue s latest turns changes since x h small index straight (s_then []) stage [] (GoOn waits_at)
+            does_by scene index (s_then []) stage [] (GoOn waits_at)
             (effects.Publishes index) refl (rw t refl) (rw (t, z) refl) (publishes_over full (sym same) (omega arith))
         go (HasMoved t e moved less) =
             let write = h.parts.submission.write in
             let z = read_now false e in
             let apart : distance s.submission.write read ≡ queue = grind (arith, nat_tests) in
             let reach = low_write in
-            does_by code slots queue s latest turns changes since x h small index straight (s_then (acts ∷ [])) stage []
-            (GoOn waits_at) (effects.PublishesAndActs index) refl (rw t refl) (rw (t, z) refl)
+            does_by scene index (s_then (acts ∷ [])) stage [] (GoOn waits_at) (effects.PublishesAndActs index) refl (rw t refl) (rw (t, z) refl)
             (publishes_late less moved (omega arith))

@@ -3,8 +3,8 @@ use Rattle.laws_loan.proofs.Names.{◌≡◌, ℕ, ◌+◌, ◌-◌, ◌%◌, �
 use Rattle.laws_loan.proofs.Names.{length, get_or, set, fold, refl, sym, ap, subst, ◌∙◌, eq-eqb, nat_tests, Ask}
 use Rattle.laws_loan.proofs.Names.{After, OneWord, Part, Pop, Running, index_in, submission_word, shifted, pop_takes}
 use Rattle.laws_loan.proofs.Names.{pop_keeps, goes_back, load, Answer, Flight, Book, LoanFlight, Receive, Effect}
-use Rattle.laws_loan.proofs.Names.{Party, Coding, ask_of, has_died, beside, ended_book, book_after, receive_effect}
-use Rattle.laws_loan.proofs.Names.{effects_of, sent_at, Open, span_of, old_of, Trace, oldest}
+use Rattle.laws_loan.proofs.Names.{ask_of, has_died, beside, ended_book, book_after, receive_effect}
+use Rattle.laws_loan.proofs.Names.{effects_of, sent_at, Open, span_of, old_of, oldest}
 use Rattle.std.proofs.Common.{arith}
 use Rattle.steps.specs.declared.ask.After.TheVariants.{Done}
 use Rattle.steps.specs.declared.queues.overflow.PopStage.{PopStage}
@@ -15,8 +15,8 @@ use Rattle.model.specs.declared.event.Start.TheVariants as starts
 use Rattle.model.specs.declared.families.Flight.TheVariants as flights
 use Rattle.model.specs.declared.families.loan.LoanStart.TheVariants as calls
 use Rattle.model.specs.declared.families.loan.effects.Effect.TheVariants as effects
-use Rattle.model.proofs.Frame as frame
 use Rattle.laws_loan.proofs.Channel.{Channel, words_in}
+use Rattle.laws_loan.proofs.Scene.{Scene, ReceiverCalls, Underway, scene_of}
 use Rattle.laws_loan.proofs.WaitingSends.{by_sender, beside_is}
 use Rattle.laws_loan.proofs.Invariant.{sends_at, counted_for, hung}
 use Rattle.laws_loan.proofs.Parts.{submission_long, submission_old}
@@ -25,12 +25,15 @@ use Rattle.laws_loan.proofs.Receives.{receive_at, received_after, pop_on}
 use Rattle.laws_loan.proofs.ReceiveTakes.{es, s_then, take_words, take_shows, take_owes}
 use Rattle.laws_loan.proofs.Rooms.{sent_below, index_is}
 use Rattle.laws_loan.proofs.Senders.{Stands, Comes, receive_looks}
-use Rattle.laws_loan.proofs.StepLaw.{channel, holds_now, inv_now, comes, ComesBy}
+use Rattle.laws_loan.proofs.StepLaw.{holds_now, inv_now, comes, ComesBy}
 use Rattle.laws_loan.proofs.Submission as submission
 
-module _ {T : Type 0} (code : Coding T) (slots queue : ℕ) (t : Trace T)
-    (sound : frame.Sound (channel code slots queue) t) (small : t.world.turns < 2 ^ 64 - 2) (x : Party T)
-    (since : ℕ) where
+module _ {T : Type 0} (m : Underway T) where
+  open m use {coding as code, slots, queue, trace as t, sound, small}
+
+  abbrev scene : Scene T
+  scene = scene_of m
+
   abbrev s : Channel T
   s = sound.state
 
@@ -39,8 +42,7 @@ module _ {T : Type 0} (code : Coding T) (slots queue : ℕ) (t : Trace T)
 
   -- ---- it takes an index out
 
-  module _ (p : ℕ) (room : OneWord) (alive : has_died p s.book.dead ≡ false)
-      (there : Stands code slots queue t sound small x since p (starts.Loan calls.Receive)
+  module _ (p : ℕ) (room : OneWord) (alive : has_died p s.book.dead ≡ false) (there : Stands m p (starts.Loan calls.Receive)
       (flights.Loan (receive_at slots queue p (pops.MovesRead s.submission.read) room))) where
     abbrev stage : PopStage
     stage = pops.MovesRead s.submission.read
@@ -62,15 +64,15 @@ module _ {T : Type 0} (code : Coding T) (slots queue : ℕ) (t : Trace T)
 
     abbrev With : Bool → After LoanFlight (Answer T) → Effect → Type 0
     With back after effect =
-        ComesBy code slots queue t sound x since p calls.Receive asks back after effect
+        ComesBy m p calls.Receive asks back after effect
 
     from : span_of p s.events ≡ Open (starts.Loan calls.Receive) []
     from = grind arith
 
     takes : With false (Done (answers.PoppedIndex room.0)) (effects.Receives room.0 (by_sender waits))
     takes =
-        let h = holds_now code slots queue t sound x since in
-        let inv = inv_now code slots queue t sound x since in
+        let h = holds_now m in
+        let inv = inv_now m in
         let known = there.at.5 alive in
         let front = known.1.3 refl in
         let few = h.parts.set.few in
@@ -84,28 +86,21 @@ module _ {T : Type 0} (code : Coding T) (slots queue : ℕ) (t : Trace T)
         ap (λ (b : Book). record b { holders = set b.holders (index_in room.0) (Some p) }) (book_told p room.0 s.events waits s.book)
         ∙ ap (λ i. record s.book { holders = set s.book.holders i (Some p) }) (index_is room.0 slots below low)
         in
-        comes code slots queue t sound x since p calls.Receive asks false (Done (answers.PoppedIndex room.0))
-        (es code slots queue s t.world.latest t.world.turns t.world.changes since x p h small there.at.0 alive
-        known.0 from inv room.0 front.0 front.1 there.steps (omega arith))
+        let r : ReceiverCalls scene p calls.Receive =
+        record { holds = h; small = small; other = there.at.0; alive = alive; receives = known.0; from = from } in
+        comes m p calls.Receive asks false (Done (answers.PoppedIndex room.0)) (es scene p room.0 front.0)
         (ended_book {T = T} p calls.Receive (Some (answers.PoppedIndex room.0))
         (fold (book_after {T = T}) s.book
-        (effects_of p (effects.Receives room.0 (by_sender waits)) (Some (answers.PoppedIndex room.0)))))
-        (s_then code slots queue s t.world.latest t.world.turns t.world.changes since x p h small there.at.0 alive
-        known.0 from inv room.0 front.0 front.1 there.steps (omega arith))
-        kept
-        (take_words code slots queue s t.world.latest t.world.turns t.world.changes since x p h small there.at.0
-        alive known.0 from inv room.0 front.0 front.1 there.steps (omega arith))
-        (take_shows code slots queue s t.world.latest t.world.turns t.world.changes since x p h small there.at.0
-        alive known.0 from inv room.0 front.0 front.1 there.steps (omega arith))
-        (take_owes code slots queue s t.world.latest t.world.turns t.world.changes since x p h small there.at.0
-        alive known.0 from inv room.0 front.0 front.1 there.steps (omega arith))
+        (effects_of p (effects.Receives room.0 (by_sender waits)) (Some (answers.PoppedIndex room.0))))) (s_then scene p room.0 front.0) kept
+        (take_words scene p room.0 front.0 r inv front.1 there.steps (omega arith))
+        (take_shows scene p room.0 front.0 r inv front.1 there.steps (omega arith))
+        (take_owes scene p room.0 front.0 r inv front.1 there.steps (omega arith))
 
     -- as the call computes it
-    takes_out : Comes code slots queue t sound small x since p (starts.Loan calls.Receive)
-        (flights.Loan (receive_at slots queue p stage room))
+    takes_out : Comes m p (starts.Loan calls.Receive) (flights.Loan (receive_at slots queue p stage room))
     takes_out =
-        let h = holds_now code slots queue t sound x since in
-        let inv = inv_now code slots queue t sound x since in
+        let h = holds_now m in
+        let inv = inv_now m in
         let known = there.at.5 alive in
         let front = known.1.3 refl in
         let sent = h.sent in
@@ -134,13 +129,11 @@ module _ {T : Type 0} (code : Coding T) (slots queue : ℕ) (t : Trace T)
   module _ (p : ℕ) (alive : has_died p s.book.dead ≡ false) where
     abbrev StandsAt : PopStage → OneWord → Type 0
     StandsAt stage room =
-        Stands code slots queue t sound small x since p (starts.Loan calls.Receive)
-        (flights.Loan (receive_at slots queue p stage room))
+        Stands m p (starts.Loan calls.Receive) (flights.Loan (receive_at slots queue p stage room))
 
     abbrev ComesAt : PopStage → OneWord → Type 0
     ComesAt stage room =
-        Comes code slots queue t sound small x since p (starts.Loan calls.Receive)
-        (flights.Loan (receive_at slots queue p stage room))
+        Comes m p (starts.Loan calls.Receive) (flights.Loan (receive_at slots queue p stage room))
 
     moves_read : (read : ℕ) (room : OneWord) → StandsAt (pops.MovesRead read) room → ComesAt (pops.MovesRead read) room
     moves_read read room there = go (s.submission.read == read) refl
@@ -150,22 +143,21 @@ module _ {T : Type 0} (code : Coding T) (slots queue : ℕ) (t : Trace T)
             let same : read ≡ s.submission.read = grind (arith, nat_tests) in
             subst (λ n. ComesAt (pops.MovesRead n) room) (sym same)
             (takes_out p room alive (subst (λ n. StandsAt (pops.MovesRead n) room) same there))
-        go false e = receive_looks code slots queue t sound small x since p (pops.MovesRead read) room alive e there
+        go false e = receive_looks m p (pops.MovesRead read) room alive e there
 
     at_stage : (stage : PopStage) (room : OneWord) → StandsAt stage room → ComesAt stage room
     at_stage (pops.MovesRead read) room there = moves_read read room there
-    at_stage pops.FindsNone room there = receive_looks code slots queue t sound small x since p pops.FindsNone room alive tt there
-    at_stage pops.LoadsRead room there = receive_looks code slots queue t sound small x since p pops.LoadsRead room alive tt there
+    at_stage pops.FindsNone room there = receive_looks m p pops.FindsNone room alive tt there
+    at_stage pops.LoadsRead room there = receive_looks m p pops.LoadsRead room alive tt there
     at_stage (pops.LoadsWrite read) room there =
-        receive_looks code slots queue t sound small x since p (pops.LoadsWrite read) room alive tt there
+        receive_looks m p (pops.LoadsWrite read) room alive tt there
     at_stage (pops.LoadsCell read) room there =
-        receive_looks code slots queue t sound small x since p (pops.LoadsCell read) room alive tt there
+        receive_looks m p (pops.LoadsCell read) room alive tt there
 
     -- a receive of a party that lives
     pub receive_comes : (by : ℕ) (run : Running (Part Pop) (Unit {0}) OneWord)
-        → Stands code slots queue t sound small x since p (starts.Loan calls.Receive)
-        (flights.Loan (Receive by run))
-        → Comes code slots queue t sound small x since p (starts.Loan calls.Receive) (flights.Loan (Receive by run))
+        → Stands m p (starts.Loan calls.Receive) (flights.Loan (Receive by run))
+        → Comes m p (starts.Loan calls.Receive) (flights.Loan (Receive by run))
     receive_comes by run there =
         let at = there.at in
         let named : ℕ → ℕ → ℕ → Flight T =
@@ -178,6 +170,5 @@ module _ {T : Type 0} (code : Coding T) (slots queue : ℕ) (t : Trace T)
         ap (λ n. named n run.call.base run.call.call.capacity) at.1
         ∙ (ap (λ base. named p base run.call.call.capacity) at.2 ∙ ap (λ c. named p (submission_word slots) c) at.3)
         in
-        subst (λ flight. Comes code slots queue t sound small x since p (starts.Loan calls.Receive) flight) (sym same)
-        (at_stage run.call.call.stage run.room
-        (subst (λ flight. Stands code slots queue t sound small x since p (starts.Loan calls.Receive) flight) same there))
+        subst (λ flight. Comes m p (starts.Loan calls.Receive) flight) (sym same) (at_stage run.call.call.stage run.room
+        (subst (λ flight. Stands m p (starts.Loan calls.Receive) flight) same there))

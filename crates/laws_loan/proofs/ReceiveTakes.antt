@@ -1,21 +1,21 @@
 -- The step of a receive that takes an index out: what it shows, and what it owes to the sender, whose send may have waited for it.
 use Rattle.laws_loan.proofs.Names.{◌≡◌, ◌≢◌, ℕ, suc, ◌+◌, ◌-◌, ◌*◌, ◌^◌, ◌<◌, ◌≤◌, ⊎_elim, inr, false, Option, Some}
 use Rattle.laws_loan.proofs.Names.{List, [], ◌∷◌, ◌++◌, length, set, refl, sym, ap, subst, ◌∙◌, cases_eq, Ask}
-use Rattle.laws_loan.proofs.Names.{submission_word, shifted, Event, Start, Flight, Book, Party, Coding, ask_of}
-use Rattle.laws_loan.proofs.Names.{has_died, Passing, Waiting, spot_of, put, doing_of, flight_of, Open, span_of}
+use Rattle.laws_loan.proofs.Names.{submission_word, shifted, Event, Start, Flight, Book, Party, ask_of}
+use Rattle.laws_loan.proofs.Names.{Passing, Waiting, spot_of, put, doing_of, flight_of, span_of}
 use Rattle.laws_loan.proofs.Names.{words_after, change_of, party_put_other, Core, GoesUp, layout}
 use Rattle.std.proofs.Common.{arith}
 use Rattle.steps.specs.declared.ask.After.TheVariants.{Done}
 use Rattle.steps.specs.declared.queues.overflow.PopStage.TheVariants as pops
 use Rattle.steps.specs.Queues.Overflow.{pop_asks}
-use Rattle.model.specs.declared.event.Start.TheVariants as starts
 use Rattle.model.specs.declared.families.loan.LoanStart.TheVariants as calls
 use Rattle.model.specs.Parties.{party_of}
 use Rattle.model.proofs.Frame as frame
 use Rattle.laws_loan.proofs.Channel.{Channel, Holds, no_roles, words_in}
+use Rattle.laws_loan.proofs.Scene.{Scene, ReceiverCalls}
 use Rattle.laws_loan.proofs.WaitingSends.{made, reclaims_made, carries_made, past_none, hung_span}
 use Rattle.laws_loan.proofs.HelpedSends.{Takes, taken_out, taken_then, sender_fits, none_reclaims}
-use Rattle.laws_loan.proofs.Invariant.{Hangs, sends_at, counted_for, hung, Carries, HoldsNow, family}
+use Rattle.laws_loan.proofs.Invariant.{Hangs, sends_at, counted_for, hung, Carries, family}
 use Rattle.laws_loan.proofs.Lists.{first_there}
 use Rattle.laws_loan.proofs.Parts.{submission_long, submission_words, submission_change}
 use Rattle.laws_loan.proofs.Placed.{Placed}
@@ -29,17 +29,12 @@ use Rattle.laws_loan.proofs.Still.{placed_still}
 use Rattle.laws_loan.proofs.Submission as submission
 use Rattle.laws_loan.proofs.Table.{hands_it_out, receive_ends}
 use Rattle.laws_loan.proofs.SenderInterference.{Stays, theirs_stay, knows_keeps}
-use Rattle.laws_loan.proofs.Told.{is_reclaiming, Tells}
+use Rattle.laws_loan.proofs.QueueEvents.{is_reclaiming, Tells}
 use Rattle.laws_loan.proofs.Turns.{Shows}
 
-module _ {T : Type 0} (code : Coding T) (slots queue : ℕ) (s : Channel T) (latest : List (ℕ × Party T))
-    (turns changes since : ℕ) (x : Party T) (p : ℕ) (h : HoldsNow slots queue s latest s.events turns)
-    (small : turns < 2 ^ 64 - 2) (other : p ≢ 0) (alive : has_died p s.book.dead ≡ false)
-    (receives : p ≡ s.book.receiver)
-    (from : span_of p s.events ≡ Open (starts.Loan calls.Receive) [])
-    (inv : frame.Inv (family code slots queue) s latest s.events changes) (value : ℕ) (rest : List ℕ)
-    (first : s.submission.waiting ≡ value ∷ rest) (steps : x.steps ≤ 2 * x.backs + 3)
-    (paid : x.backs + since ≤ changes) where
+module _ {T : Type 0} (scene : Scene T) (p value : ℕ) (rest : List ℕ) where
+  open scene use {coding as code, slots, queue, state as s, latest, turns, changes, since, caller as x}
+
   abbrev channel : frame.Family T
   channel = family code slots queue
 
@@ -63,154 +58,148 @@ module _ {T : Type 0} (code : Coding T) (slots queue : ℕ) (s : Channel T) (lat
   k = taken_out slots queue s rest book_then (s.events ++ es) p
 
   abbrev pub y_then : Party T
-  y_then = party_then s x since changes calls.Receive asks false (Done (answer p value))
+  y_then = party_then scene calls.Receive asks false (Done (answer p value))
 
-  -- ---- the words
+  module _ (r : ReceiverCalls scene p calls.Receive) (inv : frame.Inv channel s latest s.events changes)
+      (first : s.submission.waiting ≡ value ∷ rest) (steps : x.steps ≤ 2 * x.backs + 3) (paid : x.backs + since ≤ changes) where
+    open r use {holds as h, other, receives, from}
 
-  low_write : s.submission.write < 2 ^ 64 - 2
-  low_write = let sent = h.sent in omega arith
+    -- ---- the words
 
-  on : 1 < length (layout no_roles s.submission)
-  on = let wide = submission_long slots queue s (counted_for (sends_at latest)) h.parts in omega arith
+    low_write : s.submission.write < 2 ^ 64 - 2
+    low_write = let sent = h.sent in omega arith
 
-  pub take_words : words_after (words_in s) asks ≡ words_in s_then
-  take_words =
-      submission_words slots queue s (counted_for (sends_at latest)) h.parts (pop_asks queue (pops.MovesRead s.submission.read)) on
-      ∙ ap (λ ws. s.set ++ (ws ++ layout no_roles s.completion))
-      (submission.take_words queue h.parts.some h.parts.few s.submission h.parts.submission low_write value rest first)
+    on : 1 < length (layout no_roles s.submission)
+    on = let wide = submission_long slots queue s (counted_for (sends_at latest)) h.parts in omega arith
 
-  one : change_of (words_in s) asks ≡ 1
-  one =
-      submission_change slots queue s (counted_for (sends_at latest)) h.parts (pop_asks queue (pops.MovesRead s.submission.read)) on
-      ∙ submission.take_changes queue h.parts.some h.parts.few s.submission h.parts.submission low_write value rest first
+    pub take_words : words_after (words_in s) asks ≡ words_in s_then
+    take_words =
+        submission_words slots queue s (counted_for (sends_at latest)) h.parts (pop_asks queue (pops.MovesRead s.submission.read)) on
+        ∙ ap (λ ws. s.set ++ (ws ++ layout no_roles s.completion))
+        (submission.take_words queue h.parts.some h.parts.few s.submission h.parts.submission low_write value rest first)
 
-  -- ---- where the index is
+    one : change_of (words_in s) asks ≡ 1
+    one =
+        submission_change slots queue s (counted_for (sends_at latest)) h.parts (pop_asks queue (pops.MovesRead s.submission.read)) on
+        ∙ submission.take_changes queue h.parts.some h.parts.few s.submission h.parts.submission low_write value rest first
 
-  below : value < slots
-  below = sent_below slots s.claims s.submission.waiting s.completion.waiting s.book s.events h.parts.placed value rest first
+    -- ---- where the index is
 
-  was_waiting : spot_of value s.events ≡ Waiting
-  was_waiting = grind (arith, waits_there, first_there)
+    below : value < slots
+    below = sent_below slots s.claims s.submission.waiting s.completion.waiting s.book s.events h.parts.placed value rest first
 
-  placed_run : Placed slots s.claims rest s.completion.waiting s.book (run p value s.events waits)
-  placed_run =
-      placed_still slots s.claims rest s.completion.waiting s.book (s.events ++ hands p value ∷ []) (acts p value ∷ made waits) (still p value s.events waits)
-      (hands_it_out slots s.claims s.submission.waiting s.completion.waiting s.book s.events h.parts.placed value
-      below p rest first (inr (receives ∙ h.parts.placed.keeps.receiver)))
+    was_waiting : spot_of value s.events ≡ Waiting
+    was_waiting = grind (arith, waits_there, first_there)
 
-  placed_then : Placed slots s.claims rest s.completion.waiting book_then (s.events ++ es)
-  placed_then =
-      subst (Placed slots s.claims rest s.completion.waiting book_then) (whole p value s.events waits)
-      (receive_ends slots s.claims rest s.completion.waiting s.book (run p value s.events waits) placed_run value
-      below p other (receives ∙ placed_run.keeps.receiver) (passing_run p value s.events waits))
+    placed_run : Placed slots s.claims rest s.completion.waiting s.book (run p value s.events waits)
+    placed_run =
+        placed_still slots s.claims rest s.completion.waiting s.book (s.events ++ hands p value ∷ []) (acts p value ∷ made waits) (still p value s.events waits)
+        (hands_it_out slots s.claims s.submission.waiting s.completion.waiting s.book s.events h.parts.placed value
+        below p rest first (inr (receives ∙ h.parts.placed.keeps.receiver)))
 
-  takes : Takes slots queue s rest book_then (s.events ++ es) p
-  takes = grind (arith, passing_on, elsewhere, was_waiting, waiting_passes)
+    placed_then : Placed slots s.claims rest s.completion.waiting book_then (s.events ++ es)
+    placed_then =
+        subst (Placed slots s.claims rest s.completion.waiting book_then) (whole p value s.events waits)
+        (receive_ends slots s.claims rest s.completion.waiting s.book (run p value s.events waits) placed_run value
+        below p other (receives ∙ placed_run.keeps.receiver) (passing_run p value s.events waits))
 
-  passing_then : (i q : ℕ) → spot_of i (s.events ++ es) ≡ Passing q → Carries i (span_of q (s.events ++ es))
-  passing_then i q e = ⊎_elim mine others (cases_eq value i)
-    where
-      mine : value ≡ i → Carries i (span_of q (s.events ++ es))
-      mine same = absurd (with_passes p q (sym (has_it p value s.events waits) ∙ (ap (λ n. spot_of n (s.events ++ es)) same ∙ e)))
+    takes : Takes slots queue s rest book_then (s.events ++ es) p
+    takes = grind (arith, passing_on, elsewhere, was_waiting, waiting_passes)
 
-      others : value ≢ i → Carries i (span_of q (s.events ++ es))
-      others ne =
-          let carried = h.passing i q (sym (elsewhere p value s.events waits i ne) ∙ e) in
-          ⊎_elim
-          (λ (here : q ≡ p). absurd (subst (Carries i) from (subst (λ n. Carries i (span_of n s.events)) here carried)))
-          (λ (away : q ≢ p).
-          ⊎_elim
-          (λ (sender : q ≡ 0).
-          subst (λ n. Carries i (span_of n (s.events ++ es))) (sym sender)
-          (subst (Carries i) (sym (senders_then p value s.events other waits))
-          (carries_made waits i (span_of 0 s.events) (subst (λ n. Carries i (span_of n s.events)) sender carried))))
-          (λ (far : q ≢ 0). subst (Carries i) (sym (others_then p value s.events other waits q away far)) carried)
-          (cases_eq q 0))
-          (cases_eq q p)
+    passing_then : (i q : ℕ) → spot_of i (s.events ++ es) ≡ Passing q → Carries i (span_of q (s.events ++ es))
+    passing_then i q e = ⊎_elim mine others (cases_eq value i)
+      where
+        mine : value ≡ i → Carries i (span_of q (s.events ++ es))
+        mine same = absurd (with_passes p q (sym (has_it p value s.events waits) ∙ (ap (λ n. spot_of n (s.events ++ es)) same ∙ e)))
 
-  -- ---- the queues
+        others : value ≢ i → Carries i (span_of q (s.events ++ es))
+        others ne =
+            let carried = h.passing i q (sym (elsewhere p value s.events waits i ne) ∙ e) in
+            ⊎_elim (λ (here : q ≡ p). absurd (subst (Carries i) from (subst (λ n. Carries i (span_of n s.events)) here carried))) (λ (away : q ≢ p).
+            ⊎_elim (λ (sender : q ≡ 0). subst (λ n. Carries i (span_of n (s.events ++ es))) (sym sender)
+            (subst (Carries i) (sym (senders_then p value s.events other waits))
+            (carries_made waits i (span_of 0 s.events) (subst (λ n. Carries i (span_of n s.events)) sender carried))))
+            (λ (far : q ≢ 0). subst (Carries i) (sym (others_then p value s.events other waits q away far)) carried) (cases_eq q 0)) (cases_eq q p)
 
-  shorter : length s.submission.waiting ≡ suc (length rest)
-  shorter = ap length first
+    -- ---- the queues
 
-  few_rest : length rest ≤ queue
-  few_rest = let few = h.parts.submission.few in let long = shorter in omega arith
+    shorter : length s.submission.waiting ≡ suc (length rest)
+    shorter = ap length first
 
-  -- no reclaim is under way
-  quiet : is_reclaiming s.events ≡ false
-  quiet = grind (arith, none_reclaims, takes)
+    few_rest : length rest ≤ queue
+    few_rest = let few = h.parts.submission.few in let long = shorter in omega arith
 
-  sends_still : sends_at (put p y_then latest) ≡ sends_at latest
-  sends_still = ap (λ o. flight_of (doing_of o)) (party_put_other 0 p y_then latest (λ e. other (sym e)))
+    -- no reclaim is under way
+    quiet : is_reclaiming s.events ≡ false
+    quiet = grind (arith, none_reclaims, takes)
 
-  -- no send waits for the next read position
-  hangs_then : Hangs queue k (hung (s.submission.read + 1) (sends_at (put p y_then latest)))
-  hangs_then = grind (arith, sends_at, put, sends_still, past_none, few_rest)
+    sends_still : sends_at (put p y_then latest) ≡ sends_at latest
+    sends_still = ap (λ o. flight_of (doing_of o)) (party_put_other 0 p y_then latest (λ e. other (sym e)))
 
-  parts_then : Holds slots queue s_then (counted_for (sends_at (put p y_then latest)))
-  parts_then =
-      let good = submission.take_good queue h.parts.some h.parts.few s.submission h.parts.submission low_write value rest first in
-      grind (arith, sends_still, placed_then)
+    -- no send waits for the next read position
+    hangs_then : Hangs queue k (hung (s.submission.read + 1) (sends_at (put p y_then latest)))
+    hangs_then = grind (arith, sends_at, put, sends_still, past_none, few_rest)
 
-  pub take_shows : Shows slots queue s s_then p y_then latest turns es
-  take_shows =
-      let sent = h.sent in
-      let given = h.given in
-      let same = receiver_told p value s.events waits in
-      let tells =
-      subst (λ b. Tells queue b s.submission.waiting rest s.completion.waiting s.completion.waiting es) (sym quiet)
-      (tells_told p value queue s.submission.waiting rest s.completion.waiting waits h.parts.some first s.submission refl h.hangs) in
-      let reclaims = reclaims_told p value s.events waits (is_reclaiming s.events) in
-      let made = reclaims_made waits (span_of 0 s.events) in
-      let senders = senders_then p value s.events other waits in
-      let moves = moves_told p value s.events slots waits below was_waiting in
-      let begins = begins_told p value s.events waits in
-      let answers = answers_told p value s.events slots waits in
-      grind (arith, parts_then, quiet, hangs_then, passing_then)
+    parts_then : Holds slots queue s_then (counted_for (sends_at (put p y_then latest)))
+    parts_then =
+        let good = submission.take_good queue h.parts.some h.parts.few s.submission h.parts.submission low_write value rest first in
+        grind (arith, sends_still, placed_then)
 
-  -- ---- what it owes
+    pub take_shows : Shows slots queue s s_then p y_then latest turns es
+    take_shows =
+        let sent = h.sent in
+        let given = h.given in
+        let same = receiver_told p value s.events waits in
+        let tells =
+        subst (λ b. Tells queue b s.submission.waiting rest s.completion.waiting s.completion.waiting es) (sym quiet)
+        (tells_told p value queue s.submission.waiting rest s.completion.waiting waits h.parts.some first s.submission refl h.hangs) in
+        let reclaims = reclaims_told p value s.events waits (is_reclaiming s.events) in
+        let made = reclaims_made waits (span_of 0 s.events) in
+        let senders = senders_then p value s.events other waits in
+        let moves = moves_told p value s.events slots waits below was_waiting in
+        let begins = begins_told p value s.events waits in
+        let answers = answers_told p value s.events slots waits in
+        grind (arith, parts_then, quiet, hangs_then, passing_then)
 
-  stays : (q : ℕ) → q ≢ p → Stays slots queue s s_then q
-  stays = grind arith
+    -- ---- what it owes
 
-  still_at : (q : ℕ) → q ≢ p → q ≢ 0 → (start : Start T) (flight : Flight T) → channel.At s q start flight
-      → channel.At s_then q start flight × (channel.written s_then q flight ≡ channel.written s q flight)
-  still_at = grind (arith, others_then, theirs_stay, stays)
+    stays : (q : ℕ) → q ≢ p → Stays slots queue s s_then q
+    stays = grind arith
 
-  others_fit : (q : ℕ) → q ≢ p → frame.Fits channel s_then q (party_of q latest) (span_of q (s.events ++ es))
-  others_fit q ne =
-      ⊎_elim
-      (λ (sender : q ≡ 0).
-      subst (λ n. frame.Fits channel s_then n (party_of n latest) (span_of n (s.events ++ es))) (sym sender)
-      (sender_fits slots queue s rest book_then (s.events ++ es) p takes other code (party_of 0 latest)
-      (inv.calls 0) (senders_then p value s.events other waits)))
-      (λ (far : q ≢ 0).
-      subst (λ a. frame.Fits channel s_then q (party_of q latest) a) (sym (others_then p value s.events other waits q ne far))
-      (frame.still_fits channel s s_then q (still_at q ne far) (party_of q latest) (span_of q s.events) (inv.calls q)))
-      (cases_eq q 0)
+    still_at : (q : ℕ) → q ≢ p → q ≢ 0 → (start : Start T) (flight : Flight T) → channel.At s q start flight
+        → channel.At s_then q start flight × (channel.written s_then q flight ≡ channel.written s q flight)
+    still_at = grind (arith, others_then, theirs_stay, stays)
 
-  goes_up : GoesUp s.submission k changes (changes + change_of (words_in s) asks)
-  goes_up = grind (arith, one)
+    others_fit : (q : ℕ) → q ≢ p → frame.Fits channel s_then q (party_of q latest) (span_of q (s.events ++ es))
+    others_fit q ne =
+        ⊎_elim (λ (sender : q ≡ 0). subst (λ n. frame.Fits channel s_then n (party_of n latest) (span_of n (s.events ++ es))) (sym sender)
+        (sender_fits slots queue s rest book_then (s.events ++ es) p takes other code (party_of 0 latest)
+        (inv.calls 0) (senders_then p value s.events other waits))) (λ (far : q ≢ 0).
+        subst (λ a. frame.Fits channel s_then q (party_of q latest) a) (sym (others_then p value s.events other waits q ne far))
+        (frame.still_fits channel s s_then q (still_at q ne far) (party_of q latest) (span_of q s.events) (inv.calls q))) (cases_eq q 0)
 
-  know_still : (q sooner backs : ℕ) (flight : Flight T) → channel.Knows s q s.events sooner changes backs flight
-      → channel.Knows s_then q (s.events ++ es) sooner (changes + change_of (words_in s) asks) backs flight
-  know_still = grind (arith, knows_keeps, goes_up)
+    goes_up : GoesUp s.submission k changes (changes + change_of (words_in s) asks)
+    goes_up = grind (arith, one)
 
-  pub take_owes : frame.Owes channel s_then p y_then latest s.events es (changes + change_of (words_in s) asks)
-  take_owes =
-      let change = one in
-      record {
-        stands = stands_told p value s.events other slots waits from (λ index e. hung_span code slots queue s index (party_of 0 latest) (inv.calls 0) e);
-        here =
-            record {
-              answer = answer p value;
-              wrote = hands p value ∷ acts p value ∷ [];
-              span = mine_then p value s.events other waits from;
-              steps = omega arith;
-            };
-        knows = omega arith;
-        others = others_fit;
-        others_know =
-            λ q ne. frame.still_knows channel s s_then q s.events es changes (changes + change_of (words_in s) asks)
-            (know_still q) (party_of q latest) (inv.knows q);
-      }
+    know_still : (q sooner backs : ℕ) (flight : Flight T) → channel.Knows s q s.events sooner changes backs flight
+        → channel.Knows s_then q (s.events ++ es) sooner (changes + change_of (words_in s) asks) backs flight
+    know_still = grind (arith, knows_keeps, goes_up)
+
+    pub take_owes : frame.Owes channel s_then p y_then latest s.events es (changes + change_of (words_in s) asks)
+    take_owes =
+        let change = one in
+        record {
+          stands = stands_told p value s.events other slots waits from (λ index e. hung_span code slots queue s index (party_of 0 latest) (inv.calls 0) e);
+          here =
+              record {
+                answer = answer p value;
+                wrote = hands p value ∷ acts p value ∷ [];
+                span = mine_then p value s.events other waits from;
+                steps = omega arith;
+              };
+          knows = omega arith;
+          others = others_fit;
+          others_know =
+              λ q ne. frame.still_knows channel s s_then q s.events es changes (changes + change_of (words_in s) asks)
+              (know_still q) (party_of q latest) (inv.knows q);
+        }

@@ -15,7 +15,7 @@ use Rattle.laws_loan.proofs.Invariant.{Hangs}
 use Rattle.laws_loan.proofs.Knows.{send_of}
 use Rattle.laws_loan.proofs.Spots.{spot_stays, spot_other, spot_moved}
 use Rattle.laws_loan.proofs.Still.{AreStill, spots_still}
-use Rattle.laws_loan.proofs.Told.{items, Tells}
+use Rattle.laws_loan.proofs.QueueEvents.{items, Tells}
 
 -- ---- its events
 

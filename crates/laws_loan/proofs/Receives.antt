@@ -5,7 +5,7 @@ use Rattle.laws_loan.proofs.Names.{Option, List, [], ◌∷◌, ◌++◌, length
 use Rattle.laws_loan.proofs.Names.{append-nil, cases_lt, nat_tests, nil_from_length, set-get_or, Ask, After, GoOn}
 use Rattle.laws_loan.proofs.Names.{OneWord, Pop, submission_word, shifted, part_after, pop_takes, pop_keeps}
 use Rattle.laws_loan.proofs.Names.{pop_answer, goes_back, went_on, Answer, Event, Acted, Finished, Start, LoanFlight}
-use Rattle.laws_loan.proofs.Names.{Receive, Effect, Party, Coding, ask_of, has_died, Passing, spot_of, receive_effect}
+use Rattle.laws_loan.proofs.Names.{Receive, Effect, Party, ask_of, Passing, spot_of, receive_effect}
 use Rattle.laws_loan.proofs.Names.{popped, Span, Open, span_of, as_call, old_of, words_after, change_of, one_if}
 use Rattle.laws_loan.proofs.Names.{step_count, span_of-other, oldest, KnowsOverflowPop, KnowsBacks}
 use Rattle.laws_loan.proofs.Names.{overflow_pop_number, layout}
@@ -23,13 +23,14 @@ use Rattle.laws_loan.proofs.Carried.{carried_on}
 use Rattle.laws_loan.proofs.Channel.{Channel, no_roles, words_in}
 use Rattle.laws_loan.proofs.Cuts.{IsOn}
 use Rattle.laws_loan.proofs.Giving.{GivesBy, gives_on}
-use Rattle.laws_loan.proofs.Invariant.{sends_at, counted_for, Carries, HoldsNow}
+use Rattle.laws_loan.proofs.Invariant.{sends_at, counted_for, Carries}
 use Rattle.laws_loan.proofs.GiveBackInterference.{at_given, given_then}
 use Rattle.laws_loan.proofs.Parts.{submission_long, submission_old, submission_words}
+use Rattle.laws_loan.proofs.Scene.{Scene, ReceiverCalls}
 use Rattle.laws_loan.proofs.Sender.{party_then}
 use Rattle.laws_loan.proofs.Still.{AreStill, spots_still, receiver_still, placed_still}
 use Rattle.laws_loan.proofs.Submission as submission
-use Rattle.laws_loan.proofs.Told.{items, is_reclaiming, Tells}
+use Rattle.laws_loan.proofs.QueueEvents.{items, is_reclaiming, Tells}
 use Rattle.laws_loan.proofs.Turns.{Shows, sends_still}
 
 abbrev pub receive_at : ℕ → ℕ → ℕ → PopStage → OneWord → LoanFlight
@@ -52,11 +53,9 @@ abbrev pub IsLook : {T : Type 0} → Channel T → PopStage → Type 0
 IsLook s (pops.MovesRead read) = (s.submission.read == read) ≡ false
 IsLook s stage = Unit {0}
 
-module _ {T : Type 0} (code : Coding T) (slots queue : ℕ) (s : Channel T) (latest : List (ℕ × Party T))
-    (turns changes since : ℕ) (x : Party T) (p : ℕ) (h : HoldsNow slots queue s latest s.events turns)
-    (small : turns < 2 ^ 64 - 2) (other : p ≢ 0) (alive : has_died p s.book.dead ≡ false)
-    (receives : p ≡ s.book.receiver)
-    (from : span_of p s.events ≡ Open (starts.Loan calls.Receive) []) (beside : Option (ℕ × ℕ)) where
+module _ {T : Type 0} (scene : Scene T) (p : ℕ) (beside : Option (ℕ × ℕ)) where
+  open scene use {slots, queue, state as s, latest, turns, changes, since, caller as x}
+
   abbrev pub call : Start T
   call = starts.Loan calls.Receive
 
@@ -81,7 +80,7 @@ module _ {T : Type 0} (code : Coding T) (slots queue : ℕ) (s : Channel T) (lat
   -- a step that leaves every word
   abbrev pub Looks : PopStage → Bool → After LoanFlight (Answer T) → Effect → Type 0
   Looks stage back after effect =
-      GivesBy code slots queue s latest turns changes since x p s.completion spanned calls.Receive (asked stage) back after effect
+      GivesBy scene p s.completion spanned calls.Receive (asked stage) back after effect
 
   -- the step of a receive that stands here with this room
   abbrev pub LooksOf : PopStage → OneWord → Type 0
@@ -93,181 +92,178 @@ module _ {T : Type 0} (code : Coding T) (slots queue : ℕ) (s : Channel T) (lat
       → Looks stage back after effect → LooksOf stage room
   looks_by = grind arith
 
-  -- ---- what is so of the queue
+  module _ (r : ReceiverCalls scene p calls.Receive) where
+    open r use {holds as h, other, alive, receives, from}
 
-  pub reached : s.submission.write < 2 ^ 64 - 2
-  reached = let sent = h.sent in omega arith
+    -- ---- what is so of the queue
 
-  pub long : length queued ≡ 5 + queue
-  long = submission_long slots queue s (counted_for (sends_at latest)) h.parts
+    pub reached : s.submission.write < 2 ^ 64 - 2
+    reached = let sent = h.sent in omega arith
 
-  pub old_is : (stage : PopStage) → IsOn queued (pop_asks queue stage) → old stage ≡ old_of queued (ask_of (pop_asks queue stage))
-  old_is stage on = submission_old slots queue s (counted_for (sends_at latest)) h.parts (pop_asks queue stage) on
+    pub long : length queued ≡ 5 + queue
+    long = submission_long slots queue s (counted_for (sends_at latest)) h.parts
 
-  words_are : (stage : PopStage) → IsOn queued (pop_asks queue stage)
-      → words_after queued (ask_of (pop_asks queue stage)) ≡ queued
-      → words_after (words_in s) (asked stage) ≡ words_in s
-  words_are stage on is =
-      submission_words slots queue s (counted_for (sends_at latest)) h.parts (pop_asks queue stage) on
-      ∙ ap (λ ws. s.set ++ (ws ++ layout no_roles s.completion)) is
+    pub old_is : (stage : PopStage) → IsOn queued (pop_asks queue stage) → old stage ≡ old_of queued (ask_of (pop_asks queue stage))
+    old_is stage on = submission_old slots queue s (counted_for (sends_at latest)) h.parts (pop_asks queue stage) on
 
-  -- ---- it goes on
+    words_are : (stage : PopStage) → IsOn queued (pop_asks queue stage)
+        → words_after queued (ask_of (pop_asks queue stage)) ≡ queued
+        → words_after (words_in s) (asked stage) ≡ words_in s
+    words_are stage on is =
+        submission_words slots queue s (counted_for (sends_at latest)) h.parts (pop_asks queue stage) on
+        ∙ ap (λ ws. s.set ++ (ws ++ layout no_roles s.completion)) is
 
-  module _ (now after_it : PopStage) (room : OneWord) (back : Bool) (on : IsOn queued (pop_asks queue now))
-      (words : words_after queued (ask_of (pop_asks queue now)) ≡ queued)
-      (known : KnowsOverflowPop queue s.submission room after_it) (one : step_count (asked now) ≡ 1)
-      (steps : x.steps + 1 ≤ 2 * (x.backs + one_if back) + overflow_pop_number after_it)
-      (paid : (n : ℕ) → KnowsBacks s.submission (since + n) (changes + n) (x.backs + one_if back) after_it) where
-    goes_on : Looks now back (GoOn (receive_at slots queue p after_it room)) effects.Quiet
-    goes_on = (
-      gives_on code slots queue s latest turns changes since x p h other alive receives calls.Receive [] from (asked now) back
-          s.completion refl refl h.parts.completion (λ room stage known. known) (receive_at slots queue p after_it room)
-          (words_are now on words) (omega arith) (other, refl, refl, refl, refl, λ lives. (receives, known))
-          (paid (change_of (words_in s) (asked now))),
-      refl,
-    )
+    -- ---- it goes on
 
-  -- ---- nothing waits
+    module _ (now after_it : PopStage) (room : OneWord) (back : Bool) (on : IsOn queued (pop_asks queue now))
+        (words : words_after queued (ask_of (pop_asks queue now)) ≡ queued)
+        (known : KnowsOverflowPop queue s.submission room after_it) (one : step_count (asked now) ≡ 1)
+        (steps : x.steps + 1 ≤ 2 * (x.backs + one_if back) + overflow_pop_number after_it)
+        (paid : (n : ℕ) → KnowsBacks s.submission (since + n) (changes + n) (x.backs + one_if back) after_it) where
+      goes_on : Looks now back (GoOn (receive_at slots queue p after_it room)) effects.Quiet
+      goes_on = (
+        gives_on scene p calls.Receive r (asked now) back s.completion refl refl h.parts.completion
+            (λ room stage known. known) (receive_at slots queue p after_it room)
+            (words_are now on words) (omega arith) (other, refl, refl, refl, refl, λ lives. (receives, known))
+            (paid (change_of (words_in s) (asked now))),
+        refl,
+      )
 
-  abbrev acted : Event T
-  acted = Acted p call answers.PoppedNone
+    -- ---- nothing waits
 
-  abbrev ends : Event T
-  ends = Finished p call answers.PoppedNone
+    abbrev acted : Event T
+    acted = Acted p call answers.PoppedNone
 
-  abbrev told : List (Event T)
-  told = acted ∷ ends ∷ []
+    abbrev ends : Event T
+    ends = Finished p call answers.PoppedNone
 
-  told_still : AreStill told
-  told_still = grind arith
+    abbrev told : List (Event T)
+    told = acted ∷ ends ∷ []
 
-  module _ (read : ℕ) (empty : s.submission.waiting ≡ []) where
-    abbrev y_none : Party T
-    y_none = party_then s x since changes calls.Receive (asked (pops.LoadsWrite read)) false (Done answers.PoppedNone)
+    told_still : AreStill told
+    told_still = grind arith
 
-    tells_none : Tells queue (is_reclaiming s.events) s.submission.waiting s.submission.waiting s.completion.waiting s.completion.waiting told
-    tells_none = grind (arith, items, take, take-nil, append-nil)
+    module _ (read : ℕ) (empty : s.submission.waiting ≡ []) where
+      abbrev y_none : Party T
+      y_none = party_then scene calls.Receive (asked (pops.LoadsWrite read)) false (Done answers.PoppedNone)
 
-    passing_none : (i q : ℕ) → spot_of i (s.events ++ told) ≡ Passing q → Carries i (span_of q (s.events ++ told))
-    passing_none i q e =
-        carried_on p s.events told (refl, (refl, tt)) spanned from i q (h.passing i q (sym (spots_still i s.events told told_still) ∙ e))
-        (λ carried. absurd carried)
+      tells_none : Tells queue (is_reclaiming s.events) s.submission.waiting s.submission.waiting s.completion.waiting s.completion.waiting told
+      tells_none = grind (arith, items, take, take-nil, append-nil)
 
-    shows_none : Shows slots queue s (given_then slots queue s s.completion (s.events ++ told) p) p y_none latest turns told
-    shows_none =
-        let same = receiver_still s.events told told_still in
-        let placed = placed_still slots s.claims s.submission.waiting s.completion.waiting s.book s.events told told_still h.parts.placed in
-        let span = span_of-other p 0 s.events told (λ e. other (sym e)) (refl, (refl, tt)) in
-        let still = sends_still latest y_none p other in
-        grind (arith, tells_none, passing_none)
+      passing_none : (i q : ℕ) → spot_of i (s.events ++ told) ≡ Passing q → Carries i (span_of q (s.events ++ told))
+      passing_none i q e =
+          carried_on p s.events told (refl, (refl, tt)) spanned from i q (h.passing i q (sym (spots_still i s.events told told_still) ∙ e))
+          (λ carried. absurd carried)
 
-    finds_none : IsOn queued (pop_asks queue (pops.LoadsWrite read)) → x.steps ≤ 2 * x.backs + 1
-        → x.backs + since ≤ changes
-        → Looks (pops.LoadsWrite read) false (Done answers.PoppedNone) effects.FindsNone
-    finds_none on steps paid =
-        let words = words_are (pops.LoadsWrite read) on refl in
-        let others =
-        at_given slots queue s s.completion (s.events ++ told) p
-        (record { receiver = receives; alive = alive; pop = λ room stage known. known; passes = λ q i ne e. spots_still i s.events told told_still ∙ e }) in
-        grind (arith, shows_none)
+      shows_none : Shows slots queue s (given_then slots queue s s.completion (s.events ++ told) p) p y_none latest turns told
+      shows_none =
+          let same = receiver_still s.events told told_still in
+          let placed = placed_still slots s.claims s.submission.waiting s.completion.waiting s.book s.events told told_still h.parts.placed in
+          let span = span_of-other p 0 s.events told (λ e. other (sym e)) (refl, (refl, tt)) in
+          let still = sends_still latest y_none p other in
+          grind (arith, tells_none, passing_none)
 
-  -- ---- each stage that takes nothing out
+      finds_none : IsOn queued (pop_asks queue (pops.LoadsWrite read)) → x.steps ≤ 2 * x.backs + 1
+          → x.backs + since ≤ changes
+          → Looks (pops.LoadsWrite read) false (Done answers.PoppedNone) effects.FindsNone
+      finds_none on steps paid =
+          let words = words_are (pops.LoadsWrite read) on refl in
+          let others =
+          at_given slots queue s s.completion (s.events ++ told) p
+          (record { receiver = receives; alive = alive; pop = λ room stage known. known; passes = λ q i ne e. spots_still i s.events told told_still ∙ e }) in
+          grind (arith, shows_none)
 
-  loads_read : (room : OneWord) → x.steps ≤ 2 * x.backs → x.backs + since ≤ changes → LooksOf pops.LoadsRead room
-  loads_read room steps paid =
-      let some = h.parts.some in
-      let on : 1 < length queued = (let wide = long in omega arith) in
-      let is : goes pops.LoadsRead room (old pops.LoadsRead)
-      ≡ GoOn (receive_at slots queue p (pops.LoadsWrite s.submission.read) room) =
-      ap (goes pops.LoadsRead room) (old_is pops.LoadsRead on) in
-      subst (λ a. Looks pops.LoadsRead false a effects.Quiet) (sym is)
-      (goes_on pops.LoadsRead (pops.LoadsWrite s.submission.read) room false on refl
-      (omega arith, omega arith, λ less. absurd (omega arith)) refl (omega arith) (λ n. (omega arith, omega arith)))
+    -- ---- each stage that takes nothing out
 
-  loads_write : (read : ℕ) (room : OneWord)
-      → KnowsOverflowPop queue s.submission room (pops.LoadsWrite read) → x.steps ≤ 2 * x.backs + 1
-      → x.backs + since + s.submission.read ≤ changes + read → LooksOf (pops.LoadsWrite read) room
-  loads_write read room known steps paid = go (s.submission.write == read) refl
-    where
-      on : 0 < length queued
-      on = let wide = long in omega arith
+    loads_read : (room : OneWord) → x.steps ≤ 2 * x.backs → x.backs + since ≤ changes → LooksOf pops.LoadsRead room
+    loads_read room steps paid =
+        let some = h.parts.some in
+        let on : 1 < length queued = (let wide = long in omega arith) in
+        let is : goes pops.LoadsRead room (old pops.LoadsRead)
+        ≡ GoOn (receive_at slots queue p (pops.LoadsWrite s.submission.read) room) =
+        ap (goes pops.LoadsRead room) (old_is pops.LoadsRead on) in
+        subst (λ a. Looks pops.LoadsRead false a effects.Quiet) (sym is)
+        (goes_on pops.LoadsRead (pops.LoadsWrite s.submission.read) room false on refl
+        (omega arith, omega arith, λ less. absurd (omega arith)) refl (omega arith) (λ n. (omega arith, omega arith)))
 
-      go : (b : Bool) → (s.submission.write == read) ≡ b → LooksOf (pops.LoadsWrite read) room
-      go true t =
-          let write = h.parts.submission.write in
-          let low = known.1 in
-          let same : s.submission.write ≡ read = grind (arith, nat_tests) in
-          let none : length s.submission.waiting ≡ 0 = omega arith in
-          looks_by (pops.LoadsWrite read) room false (Done answers.PoppedNone) effects.FindsNone refl
-          (ap (goes (pops.LoadsWrite read) room) (old_is (pops.LoadsWrite read) on) ∙ (rw t refl))
-          (ap (effect_at (pops.LoadsWrite read)) (old_is (pops.LoadsWrite read) on) ∙ (rw t refl))
-          (finds_none read (nil_from_length s.submission.waiting none) on steps (omega arith))
-      go false t =
-          let write = h.parts.submission.write in
-          let some = h.parts.some in
-          let low = known.1 in
-          let apart : s.submission.write ≢ read = grind (arith, nat_tests) in
-          let ahead : s.submission.read < s.submission.write =
-          ⊎_elim known.2 (λ (still : s.submission.read ≤ read). omega arith) (cases_lt read s.submission.read) in
-          looks_by (pops.LoadsWrite read) room false (GoOn (receive_at slots queue p (pops.LoadsCell read) room))
-          effects.Quiet refl
-          (ap (goes (pops.LoadsWrite read) room) (old_is (pops.LoadsWrite read) on) ∙ (rw t refl))
-          (ap (effect_at (pops.LoadsWrite read)) (old_is (pops.LoadsWrite read) on) ∙ (rw t refl))
-          (goes_on (pops.LoadsWrite read) (pops.LoadsCell read) room false on refl
-          (omega arith, low, ahead) refl (omega arith) (λ n. (low, omega arith)))
+    loads_write : (read : ℕ) (room : OneWord)
+        → KnowsOverflowPop queue s.submission room (pops.LoadsWrite read) → x.steps ≤ 2 * x.backs + 1
+        → x.backs + since + s.submission.read ≤ changes + read → LooksOf (pops.LoadsWrite read) room
+    loads_write read room known steps paid = go (s.submission.write == read) refl
+      where
+        on : 0 < length queued
+        on = let wide = long in omega arith
 
-  loads_cell : (read : ℕ) (room : OneWord)
-      → KnowsOverflowPop queue s.submission room (pops.LoadsCell read) → x.steps ≤ 2 * x.backs + 2
-      → x.backs + since + s.submission.read ≤ changes + read → LooksOf (pops.LoadsCell read) room
-  loads_cell read room known steps paid =
-      let write = h.parts.submission.write in
-      let some = h.parts.some in
-      let low = known.1 in
-      let ahead = known.2 in
-      let first = oldest queue s.submission h.parts.submission (omega arith) in
-      let on = submission.cell_on queue h.parts.some h.parts.few s.submission h.parts.submission reached read in
-      let found : old (pops.LoadsCell read) ≡ get_or s.submission.cells (read % (queue + 1)) 0 =
-      old_is (pops.LoadsCell read) on
-      ∙ submission.cell_is queue h.parts.some h.parts.few s.submission h.parts.submission reached read in
-      let is : goes (pops.LoadsCell read) room (old (pops.LoadsCell read))
-      ≡ GoOn (receive_at slots queue p (pops.MovesRead read) (word_of (get_or s.submission.cells (read % (queue + 1)) 0))) =
-      ap (goes (pops.LoadsCell read) room) found in
-      subst (λ a. Looks (pops.LoadsCell read) false a effects.Quiet) (sym is)
-      (goes_on (pops.LoadsCell read) (pops.MovesRead read)
-      (word_of (get_or s.submission.cells (read % (queue + 1)) 0)) false on
-      (set-get_or queued (cell_word queue read) 0) (
-        omega arith,
-        low,
-        ahead,
-        λ same. (first.0, subst (λ r. s.submission.waiting ≡ get_or s.submission.cells (r % (queue + 1)) 0 ∷ first.0) (sym same) first.1),
-      ) refl (omega arith) (λ n. (low, omega arith)))
+        go : (b : Bool) → (s.submission.write == read) ≡ b → LooksOf (pops.LoadsWrite read) room
+        go true t =
+            let write = h.parts.submission.write in
+            let low = known.1 in
+            let same : s.submission.write ≡ read = grind (arith, nat_tests) in
+            let none : length s.submission.waiting ≡ 0 = omega arith in
+            looks_by (pops.LoadsWrite read) room false (Done answers.PoppedNone) effects.FindsNone refl
+            (ap (goes (pops.LoadsWrite read) room) (old_is (pops.LoadsWrite read) on) ∙ (rw t refl))
+            (ap (effect_at (pops.LoadsWrite read)) (old_is (pops.LoadsWrite read) on) ∙ (rw t refl))
+            (finds_none read (nil_from_length s.submission.waiting none) on steps (omega arith))
+        go false t =
+            let write = h.parts.submission.write in
+            let some = h.parts.some in
+            let low = known.1 in
+            let apart : s.submission.write ≢ read = grind (arith, nat_tests) in
+            let ahead : s.submission.read < s.submission.write =
+            ⊎_elim known.2 (λ (still : s.submission.read ≤ read). omega arith) (cases_lt read s.submission.read) in
+            looks_by (pops.LoadsWrite read) room false (GoOn (receive_at slots queue p (pops.LoadsCell read) room))
+            effects.Quiet refl (ap (goes (pops.LoadsWrite read) room) (old_is (pops.LoadsWrite read) on) ∙ (rw t refl))
+            (ap (effect_at (pops.LoadsWrite read)) (old_is (pops.LoadsWrite read) on) ∙ (rw t refl))
+            (goes_on (pops.LoadsWrite read) (pops.LoadsCell read) room false on refl
+            (omega arith, low, ahead) refl (omega arith) (λ n. (low, omega arith)))
 
-  -- a send has moved the read position: the cell is loaded again, at the position found
-  moves_back : (read : ℕ) (room : OneWord)
-      → KnowsOverflowPop queue s.submission room (pops.MovesRead read) → (s.submission.read == read) ≡ false
-      → x.steps ≤ 2 * x.backs + 3 → x.backs + since + s.submission.read ≤ changes + read
-      → LooksOf (pops.MovesRead read) room
-  moves_back read room known moved steps paid =
-      let some = h.parts.some in
-      let low = known.1 in
-      let ahead = known.2 in
-      let apart : s.submission.read ≢ read = grind (arith, nat_tests) in
-      let on : 1 < length queued = (let wide = long in omega arith) in
-      let found : old (pops.MovesRead read) ≡ s.submission.read = old_is (pops.MovesRead read) on in
-      looks_by (pops.MovesRead read) room true
-      (GoOn (receive_at slots queue p (pops.LoadsCell s.submission.read) room)) effects.Quiet
-      (ap (goes_back (pops.MovesRead read)) found ∙ (rw moved refl))
-      (ap (goes (pops.MovesRead read) room) found ∙ (rw moved refl))
-      (ap (effect_at (pops.MovesRead read)) found ∙ (rw moved refl))
-      (goes_on (pops.MovesRead read) (pops.LoadsCell s.submission.read) room true on
-      (submission.stays_words queue h.parts.some h.parts.few s.submission h.parts.submission reached read moved)
-      (omega arith, omega arith, ahead) refl (omega arith) (λ n. (omega arith, omega arith)))
+    loads_cell : (read : ℕ) (room : OneWord)
+        → KnowsOverflowPop queue s.submission room (pops.LoadsCell read) → x.steps ≤ 2 * x.backs + 2
+        → x.backs + since + s.submission.read ≤ changes + read → LooksOf (pops.LoadsCell read) room
+    loads_cell read room known steps paid =
+        let write = h.parts.submission.write in
+        let some = h.parts.some in
+        let low = known.1 in
+        let ahead = known.2 in
+        let first = oldest queue s.submission h.parts.submission (omega arith) in
+        let on = submission.cell_on queue h.parts.some h.parts.few s.submission h.parts.submission reached read in
+        let found : old (pops.LoadsCell read) ≡ get_or s.submission.cells (read % (queue + 1)) 0 =
+        old_is (pops.LoadsCell read) on
+        ∙ submission.cell_is queue h.parts.some h.parts.few s.submission h.parts.submission reached read in
+        let is : goes (pops.LoadsCell read) room (old (pops.LoadsCell read))
+        ≡ GoOn (receive_at slots queue p (pops.MovesRead read) (word_of (get_or s.submission.cells (read % (queue + 1)) 0))) =
+        ap (goes (pops.LoadsCell read) room) found in
+        subst (λ a. Looks (pops.LoadsCell read) false a effects.Quiet) (sym is) (goes_on (pops.LoadsCell read) (pops.MovesRead read)
+        (word_of (get_or s.submission.cells (read % (queue + 1)) 0)) false on (set-get_or queued (cell_word queue read) 0) (
+          omega arith,
+          low,
+          ahead,
+          λ same. (first.0, subst (λ r. s.submission.waiting ≡ get_or s.submission.cells (r % (queue + 1)) 0 ∷ first.0) (sym same) first.1),
+        ) refl (omega arith) (λ n. (low, omega arith)))
 
-  pub looks : (stage : PopStage) (room : OneWord) → IsLook s stage → KnowsOverflowPop queue s.submission room stage
-      → x.steps ≤ 2 * x.backs + overflow_pop_number stage → KnowsBacks s.submission since changes x.backs stage
-      → LooksOf stage room
-  looks pops.FindsNone room is known steps paid = let some = h.parts.some in absurd (omega arith)
-  looks pops.LoadsRead room is known steps paid = loads_read room (omega arith) paid
-  looks (pops.LoadsWrite read) room is known steps paid = loads_write read room known steps paid.1
-  looks (pops.LoadsCell read) room is known steps paid = loads_cell read room known steps paid.1
-  looks (pops.MovesRead read) room is known steps paid = moves_back read room known is steps paid.1
+    -- a send has moved the read position: the cell is loaded again, at the position found
+    moves_back : (read : ℕ) (room : OneWord)
+        → KnowsOverflowPop queue s.submission room (pops.MovesRead read) → (s.submission.read == read) ≡ false
+        → x.steps ≤ 2 * x.backs + 3 → x.backs + since + s.submission.read ≤ changes + read
+        → LooksOf (pops.MovesRead read) room
+    moves_back read room known moved steps paid =
+        let some = h.parts.some in
+        let low = known.1 in
+        let ahead = known.2 in
+        let apart : s.submission.read ≢ read = grind (arith, nat_tests) in
+        let on : 1 < length queued = (let wide = long in omega arith) in
+        let found : old (pops.MovesRead read) ≡ s.submission.read = old_is (pops.MovesRead read) on in
+        looks_by (pops.MovesRead read) room true (GoOn (receive_at slots queue p (pops.LoadsCell s.submission.read) room)) effects.Quiet
+        (ap (goes_back (pops.MovesRead read)) found ∙ (rw moved refl)) (ap (goes (pops.MovesRead read) room) found ∙ (rw moved refl))
+        (ap (effect_at (pops.MovesRead read)) found ∙ (rw moved refl)) (goes_on (pops.MovesRead read) (pops.LoadsCell s.submission.read) room true on
+        (submission.stays_words queue h.parts.some h.parts.few s.submission h.parts.submission reached read moved)
+        (omega arith, omega arith, ahead) refl (omega arith) (λ n. (omega arith, omega arith)))
+
+    pub looks : (stage : PopStage) (room : OneWord) → IsLook s stage → KnowsOverflowPop queue s.submission room stage
+        → x.steps ≤ 2 * x.backs + overflow_pop_number stage → KnowsBacks s.submission since changes x.backs stage
+        → LooksOf stage room
+    looks pops.FindsNone room is known steps paid = let some = h.parts.some in absurd (omega arith)
+    looks pops.LoadsRead room is known steps paid = loads_read room (omega arith) paid
+    looks (pops.LoadsWrite read) room is known steps paid = loads_write read room known steps paid.1
+    looks (pops.LoadsCell read) room is known steps paid = loads_cell read room known steps paid.1
+    looks (pops.MovesRead read) room is known steps paid = moves_back read room known is steps paid.1

@@ -1,7 +1,7 @@
 -- The end of a reclaim: no index is sent any more, so each is free or with the sender.
 use Rattle.laws_loan.proofs.Names.{◌≡◌, ◌≢◌, ℕ, ◌+◌, ◌*◌, ◌-◌, ◌^◌, ◌<◌, ◌≤◌, false, Option, List, [], ◌∷◌, ◌++◌}
 use Rattle.laws_loan.proofs.Names.{append-nil, fold, refl, length, Ask, ReclaimStage, place_at, Answer, Number, Event}
-use Rattle.laws_loan.proofs.Names.{Party, Coding, Passing, spot_of, freed, Open, Ended, span_of, step_count}
+use Rattle.laws_loan.proofs.Names.{Passing, spot_of, freed, Open, Ended, span_of, step_count}
 use Rattle.laws_loan.proofs.Names.{span_of-own}
 use Rattle.std.proofs.Common.{arith}
 use Rattle.steps.specs.declared.ask.After.TheVariants.{Done}
@@ -9,20 +9,21 @@ use Rattle.steps.specs.declared.loan.places.Place.TheVariants as places
 use Rattle.model.specs.declared.event.Start.TheVariants as starts
 use Rattle.model.specs.declared.families.loan.LoanStart.TheVariants as calls
 use Rattle.laws_loan.proofs.Channel.{Channel}
-use Rattle.laws_loan.proofs.Invariant.{Carries, HoldsNow}
-use Rattle.laws_loan.proofs.Knows.{ReclaimAt}
-use Rattle.laws_loan.proofs.Reclaiming.{reclaimed, end_of, receiver_then, none_passing, placed_ended}
+use Rattle.laws_loan.proofs.Invariant.{Carries}
+use Rattle.laws_loan.proofs.Reclaiming.{reclaimed, end_of, receiver_then, none_passing, placed_ended, Reclaims}
 use Rattle.laws_loan.proofs.Rests.{KeepsSet}
+use Rattle.laws_loan.proofs.Scene.{Scene}
 use Rattle.laws_loan.proofs.Sender.{party_then, Steps}
-use Rattle.laws_loan.proofs.Sents.{IsHome, all_home}
+use Rattle.laws_loan.proofs.SentIndices.{IsHome, all_home}
 use Rattle.laws_loan.proofs.SenderInterference.{others_dead}
-use Rattle.laws_loan.proofs.Told.{items}
+use Rattle.laws_loan.proofs.QueueEvents.{items}
 use Rattle.laws_loan.proofs.Turns.{Shows, sends_now}
 
-module _ {T : Type 0} (code : Coding T) (slots queue : ℕ) (s : Channel T) (latest : List (ℕ × Party T))
-    (turns changes since : ℕ) (x : Party T) (h : HoldsNow slots queue s latest s.events turns) (wrote : List (Event T))
-    (from : span_of 0 s.events ≡ Open (starts.Loan calls.Reclaim) wrote) (straight : x.backs ≡ 0) (stage : ReclaimStage)
-    (known : ReclaimAt slots queue s wrote stage) (ask : Option Ask) (set' : List ℕ) (count : ℕ) where
+module _ {T : Type 0} (scene : Scene T) (wrote : List (Event T)) (stage : ReclaimStage) (r : Reclaims scene wrote stage) (ask : Option Ask)
+    (set' : List ℕ) (count : ℕ) where
+  open scene use {slots, queue, state as s, latest, turns, caller as x}
+  open r use {holds as h, known}
+
   abbrev answer : Answer T
   answer = Number count
 
@@ -42,7 +43,7 @@ module _ {T : Type 0} (code : Coding T) (slots queue : ℕ) (s : Channel T) (lat
     ended_then : span_of 0 (s.events ++ end ∷ []) ≡ Ended (starts.Loan calls.Reclaim) answer wrote
     ended_then = grind (arith, span_of-own, fold)
 
-    shows : Shows slots queue s s_end 0 (party_then s x since changes calls.Reclaim ask false (Done answer)) latest turns (end ∷ [])
+    shows : Shows slots queue s s_end 0 (party_then scene calls.Reclaim ask false (Done answer)) latest turns (end ∷ [])
     shows =
         let placed =
         placed_ended s.events answer home slots s.claims s.submission.waiting s.completion.waiting s.book h.parts.placed
@@ -51,7 +52,7 @@ module _ {T : Type 0} (code : Coding T) (slots queue : ℕ) (s : Channel T) (lat
         λ i q e. none_passing s.events answer home i q e in
         grind (arith, ended_then, receiver_then, sends_now, append-nil, items, home)
 
-    pub reclaim_ends : Steps code slots queue s latest turns changes since x 0 s_end (Open (starts.Loan calls.Reclaim) wrote)
+    pub reclaim_ends : Steps scene 0 s_end (Open (starts.Loan calls.Reclaim) wrote)
         calls.Reclaim ask false (Done answer) (end ∷ [])
     reclaim_ends =
         let words = keeps.words in

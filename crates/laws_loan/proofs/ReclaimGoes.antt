@@ -1,8 +1,8 @@
 -- A step of a reclaim that changes no word of the indices, after which the reclaim goes on.
-use Rattle.laws_loan.proofs.Names.{◌≡◌, ◌≢◌, ℕ, ◌+◌, ◌≤◌, ⊎_elim, true, false, Option, Some, None, List, [], ◌++◌}
+use Rattle.laws_loan.proofs.Names.{◌≡◌, ◌≢◌, ℕ, ◌+◌, ◌≤◌, ⊎_elim, true, false, Option, None, List, [], ◌++◌}
 use Rattle.laws_loan.proofs.Names.{length, fold, refl, sym, ap, subst, ◌∙◌, cases_eq, Ask, After, GoOn, ReclaimStage}
 use Rattle.laws_loan.proofs.Names.{place_at, reclaim_asks, reclaim_goes_back, Answer, Event, Start, LoanFlight}
-use Rattle.laws_loan.proofs.Names.{Effect, Party, Coding, one_word, ask_of, reclaim_goes, MovesRight, BeginsRight}
+use Rattle.laws_loan.proofs.Names.{Effect, Party, one_word, ask_of, reclaim_goes, MovesRight, BeginsRight}
 use Rattle.laws_loan.proofs.Names.{AnswersRight, promise, Passing, spot_of, receiver_of, given_back, reclaims_after}
 use Rattle.laws_loan.proofs.Names.{gives_back, reclaim_effect, words_of_index, Stands, moments, Open, own_after}
 use Rattle.laws_loan.proofs.Names.{span_of, old_of, words_after, change_of, step_count, AreRight, AreOwn, AllFollow}
@@ -11,7 +11,6 @@ use Rattle.std.proofs.Common.{arith}
 use Rattle.steps.specs.declared.loan.places.Place.TheVariants as places
 use Rattle.steps.specs.declared.queues.ring.PushStage.{PushStage}
 use Rattle.model.specs.declared.event.Start.TheVariants as starts
-use Rattle.model.specs.declared.families.Flight.TheVariants as flights
 use Rattle.model.specs.declared.families.loan.LoanStart.TheVariants as calls
 use Rattle.model.specs.declared.families.loan.effects.Effect.TheVariants as effects
 use Rattle.model.specs.Families.Loan.Reading.{claimed, claims}
@@ -19,19 +18,21 @@ use Rattle.model.specs.Families.Queues.Reading.{publishes, published}
 use Rattle.model.specs.Reading.{acts}
 use Rattle.laws_queues.proofs.Queues.Core.{Good}
 use Rattle.laws_loan.proofs.Channel.{Channel, no_roles, words_in}
-use Rattle.laws_loan.proofs.Invariant.{Hangs, sends_at, counted_for, hung, reclaims_in, Carries, HoldsNow}
+use Rattle.laws_loan.proofs.Invariant.{Hangs, sends_at, counted_for, hung, reclaims_in, Carries}
 use Rattle.laws_loan.proofs.Knows.{reclaim_counts, reclaim_number, StageAt, ReclaimAt}
 use Rattle.laws_loan.proofs.Placed.{Placed}
-use Rattle.laws_loan.proofs.Reclaiming.{reclaim_at, goes_known, none_more}
+use Rattle.laws_loan.proofs.Reclaiming.{reclaim_at, goes_known, none_more, Reclaims}
 use Rattle.laws_loan.proofs.Rests.{KeepsSet, keeps_all}
 use Rattle.laws_loan.proofs.Rests as rests
+use Rattle.laws_loan.proofs.Scene.{Scene}
 use Rattle.laws_loan.proofs.Sender.{party_then, Steps, StepBy}
 use Rattle.laws_loan.proofs.SenderInterference.{others_dead}
-use Rattle.laws_loan.proofs.Told.{is_reclaiming, Tells}
+use Rattle.laws_loan.proofs.QueueEvents.{is_reclaiming, Tells}
 use Rattle.laws_loan.proofs.Turns.{Shows, sends_now}
 
-module _ {T : Type 0} (code : Coding T) (slots queue : ℕ) (s : Channel T) (latest : List (ℕ × Party T))
-    (turns changes since : ℕ) (x : Party T) (wrote : List (Event T)) where
+module _ {T : Type 0} (scene : Scene T) (wrote : List (Event T)) where
+  open scene use {slots, queue, state as s, latest, turns, changes, caller as x}
+
   abbrev pub start : Start T
   start = starts.Loan calls.Reclaim
 
@@ -50,7 +51,7 @@ module _ {T : Type 0} (code : Coding T) (slots queue : ℕ) (s : Channel T) (lat
   effect_at stage value = reclaim_effect slots queue (words_in s) stage value
 
   abbrev pub StepTo : Channel T → ReclaimStage → After LoanFlight (Answer T) → Effect → Type 0
-  StepTo s' stage after effect = StepBy code slots queue s latest turns changes since x 0 s' (Open start wrote) calls.Reclaim (asked stage) false after effect
+  StepTo s' stage after effect = StepBy scene 0 s' (Open start wrote) calls.Reclaim (asked stage) false after effect
 
   -- what a step of a reclaim that stands here comes to
   pub record Does (stage : ReclaimStage) : Type 0 where
@@ -60,10 +61,9 @@ module _ {T : Type 0} (code : Coding T) (slots queue : ℕ) (s : Channel T) (lat
 
   -- ---- it goes on
 
-  module _ (h : HoldsNow slots queue s latest s.events turns) (under : ReclaimStage)
-      (here : sends_at latest ≡ Some (flights.Loan (reclaim_at slots queue under)))
-      (idle : reclaim_counts under ≡ 0) (from : span_of 0 s.events ≡ Open start wrote)
-      (known : ReclaimAt slots queue s wrote under) (straight : x.backs ≡ 0) where
+  module _ (under : ReclaimStage) (r : Reclaims scene wrote under) (idle : reclaim_counts under ≡ 0) where
+    open r use {holds as h, here, from, known, straight}
+
     pub calm : Hangs queue s.submission None
     calm = grind arith
 
@@ -75,7 +75,7 @@ module _ {T : Type 0} (code : Coding T) (slots queue : ℕ) (s : Channel T) (lat
 
     module _ (now : ReclaimStage) (k m : Core ℕ) (es : List (Event T)) (after_it : ReclaimStage) where
       abbrev pub y_on : Party T
-      y_on = party_then s x since changes calls.Reclaim (asked now) false (GoOn (reclaim_at slots queue after_it))
+      y_on = party_then scene calls.Reclaim (asked now) false (GoOn (reclaim_at slots queue after_it))
 
       abbrev pub s_on : Channel T
       s_on = record s { submission = k; completion = m; book = s.book; events = s.events ++ es }
@@ -127,8 +127,7 @@ module _ {T : Type 0} (code : Coding T) (slots queue : ℕ) (s : Channel T) (lat
         known_then : ReclaimAt slots queue s_on (wrote ++ es) after_it
         known_then = grind (arith, claims, none_more, publishes, gives_back, acts)
 
-        pub leads_on : Steps code slots queue s latest turns changes since x 0 s_on (Open start wrote) calls.Reclaim
-            (asked now) false (GoOn (reclaim_at slots queue after_it)) es
+        pub leads_on : Steps scene 0 s_on (Open start wrote) calls.Reclaim (asked now) false (GoOn (reclaim_at slots queue after_it)) es
         leads_on =
             let others = others_dead slots queue s s_on known.dead refl leads.push in
             grind (arith, shows_on, open_then, known_then)
@@ -142,11 +141,10 @@ module _ {T : Type 0} (code : Coding T) (slots queue : ℕ) (s : Channel T) (lat
         (counted : reclaim_counts after_it ≡ 0)
         (stands : StageAt slots s.submission s.completion s.book.places wrote after_it)
         (steps : x.steps + step_count (asked now) ≤ reclaim_number slots wrote after_it) where
-      pub goes_still : Steps code slots queue s latest turns changes since x 0 s_still (Open start wrote)
+      pub goes_still : Steps scene 0 s_still (Open start wrote)
           calls.Reclaim (asked now) false (GoOn (reclaim_at slots queue after_it)) []
       goes_still =
-          rests.goes_on code slots queue s latest turns changes since x h straight calls.Reclaim wrote from (asked now) s.set
-          (reclaim_at slots queue after_it)
+          rests.goes_on scene h straight calls.Reclaim wrote from (asked now) s.set (reclaim_at slots queue after_it)
           (subst (KeepsSet slots queue s latest (asked now) s.set) (sym counted)
           (keeps_all slots queue s latest (asked now) turns h words busy_none (ap (hung s.submission.read) here)))
           refl steps (refl, refl, refl, goes_known slots queue s s.set wrote under after_it known stands) (omega arith)

@@ -1,21 +1,21 @@
 -- A reclaim, as steps of the machine: it pops the two queues, and releases one index after the other that was sent.
-use Rattle.laws_loan.proofs.Names.{◌≡◌, ◌≢◌, ℕ, ◌+◌, ◌*◌, ◌-◌, ◌%◌, ◌^◌, ◌<◌, ◌≤◌, false, Option, Some, None, List}
+use Rattle.laws_loan.proofs.Names.{◌≡◌, ◌≢◌, ℕ, ◌+◌, ◌*◌, ◌%◌, ◌^◌, ◌<◌, ◌≤◌, false, Option, Some, None, List}
 use Rattle.laws_loan.proofs.Names.{[], ⊎_elim, refl, sym, ap, subst, ◌∙◌, AllByRecursion, cases_lt, Ask, After, GoOn}
 use Rattle.laws_loan.proofs.Names.{ReleaseState, DefaultMode, Release, ReleaseStage, Place, ReclaimStage, Releases}
 use Rattle.laws_loan.proofs.Names.{back_asks, back_takes, place_at, next_sent, reclaim_releases}
 use Rattle.laws_loan.proofs.Names.{reclaim_comes_to, reclaim_released, Answer, Number, Event, LoanFlight, Reclaim}
-use Rattle.laws_loan.proofs.Names.{Party, Coding, ask_of, freed, ended_book, Open, span_of, as_call, answer_in}
-use Rattle.laws_loan.proofs.Names.{old_of, words_after, Trace, release_counts, release_number}
+use Rattle.laws_loan.proofs.Names.{ask_of, freed, ended_book, Open, span_of, as_call, answer_in}
+use Rattle.laws_loan.proofs.Names.{old_of, words_after, release_counts, release_number}
 use Rattle.std.proofs.Common.{arith}
 use Rattle.steps.specs.declared.ask.After.TheVariants.{Done}
 use Rattle.steps.specs.declared.indices.unique.ReleaseStage.TheVariants as releases
 use Rattle.steps.specs.declared.loan.places.Place.TheVariants as places
 use Rattle.steps.specs.declared.loan.reclaim.Reclaim as reclaims
+use Rattle.steps.specs.declared.loan.reclaim.ReclaimStage.TheVariants as stages
 use Rattle.model.specs.declared.event.Start.TheVariants as starts
 use Rattle.model.specs.declared.families.Flight.TheVariants as flights
 use Rattle.model.specs.declared.families.loan.LoanStart.TheVariants as calls
 use Rattle.model.specs.declared.families.loan.effects.Effect.TheVariants as effects
-use Rattle.model.proofs.Frame as frame
 use Rattle.laws_indices.proofs.Core as indices
 use Rattle.laws_loan.proofs.Channel.{Channel, words_in}
 use Rattle.laws_loan.proofs.Drains.{drains_does}
@@ -25,19 +25,23 @@ use Rattle.laws_loan.proofs.Invariant.{sends_at, counted_for, HoldsNow}
 use Rattle.laws_loan.proofs.Knows.{wrote_in, StageAt}
 use Rattle.laws_loan.proofs.Parts.{set_old}
 use Rattle.laws_loan.proofs.ReclaimGoes.{asked, old, goes, effect_at, Does}
-use Rattle.laws_loan.proofs.Reclaiming.{reclaim_at}
+use Rattle.laws_loan.proofs.Reclaiming.{reclaim_at, Reclaims}
+use Rattle.laws_loan.proofs.Scene.{Scene, Underway, scene_of}
 use Rattle.laws_loan.proofs.Senders.{Stands, Comes, from_step}
-use Rattle.laws_loan.proofs.Sents.{ComesTo, comes_to}
+use Rattle.laws_loan.proofs.SentIndices.{ComesTo, comes_to}
 use Rattle.laws_loan.proofs.SetSteps.{ReleaseLeads}
-use Rattle.laws_loan.proofs.StepLaw.{channel, holds_now, ComesWith, ComesBy}
+use Rattle.laws_loan.proofs.StepLaw.{holds_now, ComesWith, ComesBy}
 
 -- how a reclaim goes on whose release goes on so
 abbrev pub reclaimed_after : (T : Type 0) → reclaims.Reclaim → List Place → ℕ → ℕ → After (Release DefaultMode) ReleaseState → After LoanFlight (Answer T)
 reclaimed_after T call table number index release = as_call Reclaim Number (reclaim_released call table number index release)
 
-module _ {T : Type 0} (code : Coding T) (slots queue : ℕ) (t : Trace T)
-    (sound : frame.Sound (channel code slots queue) t) (small : t.world.turns < 2 ^ 64 - 2) (x : Party T)
-    (since : ℕ) where
+module _ {T : Type 0} (m : Underway T) where
+  open m use {slots, queue, trace as t, sound, small, caller as x}
+
+  abbrev scene : Scene T
+  scene = scene_of m
+
   abbrev s : Channel T
   s = sound.state
 
@@ -46,17 +50,19 @@ module _ {T : Type 0} (code : Coding T) (slots queue : ℕ) (t : Trace T)
 
   abbrev There : ReclaimStage → Type 0
   There stage =
-      Stands code slots queue t sound small x since 0 (starts.Loan calls.Reclaim)
-      (flights.Loan (reclaim_at slots queue stage))
+      Stands m 0 (starts.Loan calls.Reclaim) (flights.Loan (reclaim_at slots queue stage))
 
   abbrev Goes : ReclaimStage → Type 0
-  Goes stage = Comes code slots queue t sound small x since 0 (starts.Loan calls.Reclaim) (flights.Loan (reclaim_at slots queue stage))
+  Goes stage = Comes m 0 (starts.Loan calls.Reclaim) (flights.Loan (reclaim_at slots queue stage))
 
   abbrev now : HoldsNow slots queue s t.world.latest s.events t.world.turns
-  now = holds_now code slots queue t sound x since
+  now = holds_now m
 
   from : (stage : ReclaimStage) → There stage → span_of 0 s.events ≡ Open (starts.Loan calls.Reclaim) wrote
   from stage there = ap (span_of 0) sound.holds.same ∙ there.span
+
+  stands : (stage : ReclaimStage) → There stage → Reclaims scene wrote stage
+  stands stage there = record { holds = now; here = there.found; from = from stage there; known = there.at.3; straight = there.knows }
 
   -- ---- it releases an index, and comes to the next one that is sent, or ends
 
@@ -72,11 +78,8 @@ module _ {T : Type 0} (code : Coding T) (slots queue : ℕ) (t : Trace T)
     clears : FreesThere releases.ClearsFlag → Goes (Releases number index releases.ClearsFlag)
     clears there =
         let few = there.steps in
-        let clear =
-        clears_steps code slots queue s t.world.latest t.world.turns t.world.changes since x now number index wrote
-        (from (Releases number index releases.ClearsFlag) there) there.knows there.found there.at.3 (omega arith) in
-        from_step code slots queue t sound small x since calls.Reclaim
-        (ask_of (back_asks slots index releases.ClearsFlag))
+        let clear = clears_steps scene number index wrote (stands (Releases number index releases.ClearsFlag) there) (omega arith) in
+        from_step m calls.Reclaim (ask_of (back_asks slots index releases.ClearsFlag))
         (GoOn (frees_at slots queue number index releases.LoadsHead)) (effects.Frees index) _ wrote
         (from (Releases number index releases.ClearsFlag) there) (clear, refl)
 
@@ -92,9 +95,12 @@ module _ {T : Type 0} (code : Coding T) (slots queue : ℕ) (t : Trace T)
       was_open : span_of 0 s.events ≡ Open (starts.Loan calls.Reclaim) wrote
       was_open = from (Releases number index stage) there
 
+      r : Reclaims scene wrote (Releases number index stage)
+      r = stands (Releases number index stage) there
+
       abbrev With : After LoanFlight (Answer T) → Type 0
       With after =
-          ComesWith code slots queue t sound x since 0 calls.Reclaim ask false after [] (ended_book {T = T} 0 calls.Reclaim (answer_in after) s.book)
+          ComesWith m 0 calls.Reclaim ask false after [] (ended_book {T = T} 0 calls.Reclaim (answer_in after) s.book)
 
       -- it goes on at this stage
       goes_on : (number' index' : ℕ) (stage' : ReleaseStage)
@@ -103,10 +109,8 @@ module _ {T : Type 0} (code : Coding T) (slots queue : ℕ) (t : Trace T)
           → x.steps + 1 ≤ 8 * (slots + 1) + 5 * number' + release_number stage' 0
           → With (GoOn (frees_at slots queue number' index' stage'))
       goes_on number' index' stage' good known more =
-          from_step code slots queue t sound small x since calls.Reclaim ask
-          (GoOn (frees_at slots queue number' index' stage')) effects.Quiet _ wrote was_open (
-            goes_steps code slots queue s t.world.latest t.world.turns t.world.changes since x now number index wrote
-                was_open there.knows stage heavy there.found there.at.3 there.steps number' index' stage' good
+          from_step m calls.Reclaim ask (GoOn (frees_at slots queue number' index' stage')) effects.Quiet _ wrote was_open (
+            goes_steps scene number index wrote stage heavy r there.steps number' index' stage' good
                 known more,
             refl,
           )
@@ -117,9 +121,8 @@ module _ {T : Type 0} (code : Coding T) (slots queue : ℕ) (t : Trace T)
           → With (as_call Reclaim Number (reclaim_releases (call stage) (number + 1) o))
       next good last None none =
           let few = there.steps in
-          from_step code slots queue t sound small x since calls.Reclaim ask (Done (Number (number + 1))) effects.Quiet _ wrote was_open (
-            ends_steps code slots queue s t.world.latest t.world.turns t.world.changes since x now number index wrote
-                was_open there.knows stage heavy there.found there.at.3 there.steps good
+          from_step m calls.Reclaim ask (Done (Number (number + 1))) effects.Quiet _ wrote was_open (
+            ends_steps scene number index wrote stage heavy r there.steps good
                 (λ j below. ⊎_elim (λ (low : j < index + 1). before j low) (λ (high : index + 1 ≤ j). none j high below) (cases_lt j (index + 1)))
                 (omega arith) small,
             refl,
@@ -177,12 +180,9 @@ module _ {T : Type 0} (code : Coding T) (slots queue : ℕ) (t : Trace T)
       later =
           let value : old_of (words_in s) ask ≡ old_of s.set ask =
           set_old slots queue s (counted_for (sends_at t.world.latest)) now.parts (back_asks slots index stage)
-          (on_words code slots queue s t.world.latest t.world.turns t.world.changes since x now number index wrote
-          was_open there.knows stage there.found there.at.3) in
+          (on_words scene number index wrote stage r) in
           subst (λ v. With (reclaimed_after T (call stage) s.book.places number index (back_takes slots stage v))) (sym value)
-          (leads_on (back_takes slots stage (old_of s.set ask))
-          (leads code slots queue s t.world.latest t.world.turns t.world.changes since x now number index wrote
-          was_open there.knows stage heavy there.found there.at.3 there.steps))
+          (leads_on (back_takes slots stage (old_of s.set ask)) (leads scene number index wrote stage heavy r there.steps))
 
     -- ---- any step
 
@@ -192,30 +192,33 @@ module _ {T : Type 0} (code : Coding T) (slots queue : ℕ) (t : Trace T)
   -- ---- any step
 
   -- no pop of it turns back
-  pops : (stage : ReclaimStage) → There stage → Does code slots queue s t.world.latest t.world.turns t.world.changes since x wrote stage → Goes stage
+  pops : (stage : ReclaimStage) → There stage → Does scene wrote stage → Goes stage
   pops stage there does =
-      let value = old code slots queue s t.world.latest t.world.turns t.world.changes since x wrote stage in
-      let after = goes code slots queue s t.world.latest t.world.turns t.world.changes since x wrote stage value in
-      let effect = effect_at code slots queue s t.world.latest t.world.turns t.world.changes since x wrote stage value in
-      let ask = asked code slots queue s t.world.latest t.world.turns t.world.changes since x wrote stage in
-      subst (λ back. ComesBy code slots queue t sound x since 0 calls.Reclaim ask back after effect)
-      (sym does.stays)
-      (from_step code slots queue t sound small x since calls.Reclaim ask after effect does.channel_then wrote (from stage there) does.step)
+      let value = old scene wrote stage in
+      let after = goes scene wrote stage value in
+      let effect = effect_at scene wrote stage value in
+      let ask = asked scene wrote stage in
+      subst (λ back. ComesBy m 0 calls.Reclaim ask back after effect) (sym does.stays)
+      (from_step m calls.Reclaim ask after effect does.channel_then wrote (from stage there) does.step)
 
   pub reclaim_steps : (stage : ReclaimStage) → There stage → Goes stage
-  reclaim_steps = grind (arith, pops, drains_does, from, empties_does, reclaim_frees)
+  reclaim_steps (stages.Drains stage) there =
+      let r = stands (stages.Drains stage) there in
+      pops (stages.Drains stage) there (drains_does scene wrote small (stages.Drains stage) r refl stage r.known.stage_at there.steps)
+  reclaim_steps (stages.Empties stage) there =
+      let r = stands (stages.Empties stage) there in
+      pops (stages.Empties stage) there (empties_does scene wrote small (stages.Empties stage) r refl stage r.known.stage_at there.steps)
+  reclaim_steps (Releases number index stage) there = reclaim_frees number index stage there
 
   -- as the machine has the call
   pub reclaim_steps_from : (held : reclaims.Reclaim)
-      → Stands code slots queue t sound small x since 0 (starts.Loan calls.Reclaim) (flights.Loan (Reclaim held))
-      → Comes code slots queue t sound small x since 0 (starts.Loan calls.Reclaim) (flights.Loan (Reclaim held))
+      → Stands m 0 (starts.Loan calls.Reclaim) (flights.Loan (Reclaim held))
+      → Comes m 0 (starts.Loan calls.Reclaim) (flights.Loan (Reclaim held))
   reclaim_steps_from held there =
       let at = there.at in
       let is : held ≡ record { slots = slots; queue = queue; stage = held.stage } =
       ap {A = ℕ} {B = reclaims.Reclaim} (λ n. record { slots = n; queue = held.queue; stage = held.stage }) at.1
       ∙ ap {A = ℕ} {B = reclaims.Reclaim} (λ n. record { slots = slots; queue = n; stage = held.stage }) at.2
       in
-      subst (λ c. Stands code slots queue t sound small x since 0 (starts.Loan calls.Reclaim)
-      (flights.Loan (Reclaim c))
-      → Comes code slots queue t sound small x since 0 (starts.Loan calls.Reclaim) (flights.Loan (Reclaim c)))
-      (sym is) (reclaim_steps held.stage) there
+      subst (λ c. Stands m 0 (starts.Loan calls.Reclaim) (flights.Loan (Reclaim c))
+      → Comes m 0 (starts.Loan calls.Reclaim) (flights.Loan (Reclaim c))) (sym is) (reclaim_steps held.stage) there

@@ -3,22 +3,33 @@ use Rattle.laws_loan.proofs.Names.{◌≡◌, ℕ, ◌+◌, ◌%◌, ◌^◌, �
 use Rattle.laws_loan.proofs.Names.{◌++◌, sym, ap, ◌∙◌, append-nil, cases_eq, flat_map-append}
 use Rattle.laws_loan.proofs.Names.{fold-append, ReclaimStage, place_at, Answer, Event, Finished, Book, LoanFlight}
 use Rattle.laws_loan.proofs.Names.{Reclaim, KeepsBook, Passing, Spot, Move, move_of, spot_of, receiver_after}
-use Rattle.laws_loan.proofs.Names.{receiver_of}
+use Rattle.laws_loan.proofs.Names.{receiver_of, Open, span_of}
 use Rattle.std.proofs.Common.{arith}
 use Rattle.std.specs.List.{flat_map}
 use Rattle.steps.specs.declared.loan.places.Place.TheVariants as places
 use Rattle.model.specs.declared.event.Start.TheVariants as starts
+use Rattle.model.specs.declared.families.Flight.TheVariants as flights
 use Rattle.model.specs.declared.families.loan.LoanStart.TheVariants as calls
 use Rattle.laws_loan.proofs.Channel.{Channel}
+use Rattle.laws_loan.proofs.Invariant.{sends_at}
 use Rattle.laws_loan.proofs.Knows.{StageAt, ReclaimAt}
 use Rattle.laws_loan.proofs.Lists.{lists_stay}
 use Rattle.laws_loan.proofs.Placed.{Placed, placed_on}
-use Rattle.laws_loan.proofs.Sents.{IsHome, home_by, home_stays}
+use Rattle.laws_loan.proofs.Scene.{Scene, HoldsIn}
+use Rattle.laws_loan.proofs.SentIndices.{IsHome, home_by, home_stays}
 use Rattle.laws_loan.proofs.Spots.{spot_stays, spot_other, spot_moved}
 use Rattle.laws_loan.proofs.Table.{IsAway, sent_there}
 
 abbrev pub reclaim_at : ℕ → ℕ → ReclaimStage → LoanFlight
 reclaim_at slots queue stage = Reclaim (record { slots = slots; queue = queue; stage = stage })
+
+-- a reclaim that stands there, and has written this
+pub record Reclaims {T : Type 0} (scene : Scene T) (wrote : List (Event T)) (stage : ReclaimStage) : Type 0 where
+  pub holds : HoldsIn scene
+  pub here : sends_at scene.latest ≡ Some (flights.Loan (reclaim_at scene.slots scene.queue stage))
+  pub from : span_of 0 scene.state.events ≡ Open (starts.Loan calls.Reclaim) wrote
+  pub known : ReclaimAt scene.slots scene.queue scene.state wrote stage
+  pub straight : scene.caller.backs ≡ 0
 
 -- ---- what it has written and one step more
 

@@ -2,9 +2,9 @@
 use Rattle.laws_loan.proofs.Names.{◌≡◌, ℕ, ◌+◌, ◌<◌, ◌≤◌, Bool, false, Option, Some, None, List, [], ◌∷◌, ◌++◌, set}
 use Rattle.laws_loan.proofs.Names.{refl, sym, ap, subst, ◌∙◌, append-nil, Ask, After, GoOn, ReleaseState, DefaultMode}
 use Rattle.laws_loan.proofs.Names.{Release, ReleaseStage, back_asks, back_takes, Answer, Event, Freed, Finished, Book}
-use Rattle.laws_loan.proofs.Names.{LoanStart, LoanFlight, Party, Coding, ask_of, most_steps, AnswersRight, Free}
+use Rattle.laws_loan.proofs.Names.{LoanStart, LoanFlight, Party, ask_of, most_steps, AnswersRight, Free}
 use Rattle.laws_loan.proofs.Names.{Passing, move_of, receiver_after, reclaims_after, Wrote, may_stand, ended_book}
-use Rattle.laws_loan.proofs.Names.{book_after, Span, Open, span_of, old_of, words_after, change_of, step_count}
+use Rattle.laws_loan.proofs.Names.{book_after, Open, span_of, old_of, words_after, change_of, step_count}
 use Rattle.laws_loan.proofs.Names.{release_counts, release_number, release_wrote, ReleaseAt}
 use Rattle.std.proofs.Common.{arith}
 use Rattle.steps.specs.declared.ask.After.TheVariants.{Done}
@@ -13,17 +13,18 @@ use Rattle.model.specs.declared.event.Start.TheVariants as starts
 use Rattle.model.specs.declared.families.Flight.TheVariants as flights
 use Rattle.laws_indices.proofs.Core as indices
 use Rattle.laws_loan.proofs.Channel.{Channel, words_in}
-use Rattle.laws_loan.proofs.Invariant.{sends_at, counted_for, hung, reclaims_in, Carries, HoldsNow}
+use Rattle.laws_loan.proofs.Invariant.{sends_at, counted_for, hung, reclaims_in, Carries}
 use Rattle.laws_loan.proofs.Knows.{counts, number_of, GivesAt, At, FlightKnows}
 use Rattle.laws_loan.proofs.OneMove.{OneMove, carried, passes_on, same_receiver, span_after}
 use Rattle.laws_loan.proofs.Parts.{set_words}
 use Rattle.laws_loan.proofs.Rests as rests
+use Rattle.laws_loan.proofs.Scene.{Scene, HoldsIn}
 use Rattle.laws_loan.proofs.Sender.{party_then, Steps}
 use Rattle.laws_loan.proofs.SetSteps.{ReleaseLeads, ReleaseStep, claims_then, release_step}
 use Rattle.laws_loan.proofs.Spots.{passing_same, free_passes}
 use Rattle.laws_loan.proofs.Table.{frees_it}
 use Rattle.laws_loan.proofs.SenderInterference.{others_beside}
-use Rattle.laws_loan.proofs.Told.{items}
+use Rattle.laws_loan.proofs.QueueEvents.{items}
 use Rattle.laws_loan.proofs.Turns.{Shows, sends_now}
 
 -- each stage takes one operation
@@ -56,6 +57,7 @@ pub record ReleasesLast (T : Type 0) (slots queue index : ℕ) (start : LoanStar
   pub reclaims : (b : Bool) → reclaims_after b (Finished 0 (starts.Loan start) answer) ≡ b
   pub book : (outcome : Option (Answer T)) (b : Book) → ended_book 0 start outcome b ≡ b
 
+-- a call that ends with the release of this index
 pub record Releasing (T : Type 0) (slots queue index : ℕ) : Type 0 where
   pub start : LoanStart
   pub at : ReleaseStage → LoanFlight
@@ -64,172 +66,170 @@ pub record Releasing (T : Type 0) (slots queue index : ℕ) : Type 0 where
   pub base : ℕ
   pub so : ReleasesLast T slots queue index start at before answer base
 
-module _ {T : Type 0} (code : Coding T) (slots queue : ℕ) (s : Channel T) (latest : List (ℕ × Party T))
-    (turns changes since : ℕ) (x : Party T) (index : ℕ) (below : index < slots) (r : Releasing T slots queue index)
-    (h : HoldsNow slots queue s latest s.events turns) where
+module _ {T : Type 0} (scene : Scene T) (index : ℕ) (r : Releasing T scene.slots scene.queue index) where
   abbrev Here : ReleaseStage → Type 0
-  Here stage = sends_at latest ≡ Some (flights.Loan (r.at stage))
+  Here stage = sends_at scene.latest ≡ Some (flights.Loan (r.at stage))
 
-  abbrev spanned : ReleaseStage → Span T
-  spanned stage = Open (starts.Loan r.start) (r.before ++ release_wrote 0 index stage)
+  -- the call stands at this stage of the release
+  pub record Stands (stage : ReleaseStage) : Type 0 where
+    pub found : Here stage
+    pub gives : GivesAt scene.slots scene.queue scene.state index stage
+    pub from : span_of 0 scene.state.events ≡ Open (starts.Loan r.start) (r.before ++ release_wrote 0 index stage)
+    pub few : scene.caller.steps ≤ r.base + release_number stage 0
 
-  -- what its step does to the words of the indices
-  release_at : (stage : ReleaseStage) → GivesAt slots queue s index stage → ReleaseAt s.claims 0 index stage
-  release_at = grind arith
+  module _ (below : index < scene.slots) (h : HoldsIn scene) where
+    open scene use {slots, queue, state as s, latest, turns, changes, since, caller as x}
 
-  good_at : (stage : ReleaseStage) → Here stage → indices.Good slots s.set s.claims (release_counts stage)
-  good_at = grind arith
+    -- what its step does to the words of the indices
+    release_at : (stage : ReleaseStage) → GivesAt slots queue s index stage → ReleaseAt s.claims 0 index stage
+    release_at = grind arith
 
-  pub steps_set : (stage : ReleaseStage) → Here stage → GivesAt slots queue s index stage → ReleaseStep slots index below s.set s.claims stage
-  steps_set stage here gives = release_step slots index below s.set s.claims stage (release_at stage gives) (good_at stage here)
+    good_at : (stage : ReleaseStage) → Here stage → indices.Good slots s.set s.claims (release_counts stage)
+    good_at = grind arith
 
-  whole_words : (stage : ReleaseStage) (here : Here stage) (gives : GivesAt slots queue s index stage)
-      → words_after (words_in s) (ask_of (back_asks slots index stage))
-      ≡ words_in (record s { set = words_after s.set (ask_of (back_asks slots index stage)) })
-  whole_words stage here gives = set_words slots queue s (counted_for (sends_at latest)) h.parts (back_asks slots index stage) (steps_set stage here gives).on
+    pub steps_set : (stage : ReleaseStage) → Here stage → GivesAt slots queue s index stage → ReleaseStep slots index below s.set s.claims stage
+    steps_set stage here gives = release_step slots index below s.set s.claims stage (release_at stage gives) (good_at stage here)
 
-  -- ---- the clear of the flag
+    whole_words : (stage : ReleaseStage) (here : Here stage) (gives : GivesAt slots queue s index stage)
+        → words_after (words_in s) (ask_of (back_asks slots index stage))
+        ≡ words_in (record s { set = words_after s.set (ask_of (back_asks slots index stage)) })
+    whole_words stage here gives = set_words slots queue s (counted_for (sends_at latest)) h.parts (back_asks slots index stage) (steps_set stage here gives).on
 
-  module _ (here : Here releases.ClearsFlag)
-      (gives : GivesAt slots queue s index releases.ClearsFlag)
-      (from : span_of 0 s.events ≡ spanned releases.ClearsFlag) (few : x.steps ≤ r.base)
-      (straight : x.backs ≡ 0) where
-    abbrev freed_es : List (Event T)
-    freed_es = Freed 0 index ∷ []
+    -- ---- the clear of the flag
 
-    abbrev clears_ask : Option Ask
-    clears_ask = ask_of (back_asks slots index releases.ClearsFlag)
+    module _ (there : Stands releases.ClearsFlag) (straight : x.backs ≡ 0) where
+      open there use {found as here, gives, from}
 
-    abbrev y_freed : Party T
-    y_freed = party_then s x since changes r.start clears_ask false (GoOn (r.at releases.LoadsHead))
+      abbrev freed_es : List (Event T)
+      freed_es = Freed 0 index ∷ []
 
-    abbrev book_freed : Book
-    book_freed = book_after {T = T} s.book (Freed 0 index)
+      abbrev clears_ask : Option Ask
+      clears_ask = ask_of (back_asks slots index releases.ClearsFlag)
 
-    abbrev s_freed : Channel T
-    s_freed =
-        record s {
-          set = words_after s.set clears_ask;
-          claims = set s.claims index None;
-          book = book_freed;
-          events = s.events ++ Freed 0 index ∷ [];
-        }
+      abbrev y_freed : Party T
+      y_freed = party_then scene r.start clears_ask false (GoOn (r.at releases.LoadsHead))
 
-    one_move : OneMove 0 index s.events freed_es (Passing 0) Free
-    one_move = grind arith
+      abbrev book_freed : Book
+      book_freed = book_after {T = T} s.book (Freed 0 index)
 
-    is_from : span_of 0 s.events ≡ Open (starts.Loan r.start) r.before
-    is_from = from ∙ ap (λ es. Open (starts.Loan r.start) es) (append-nil r.before)
+      abbrev s_freed : Channel T
+      s_freed =
+          record s {
+            set = words_after s.set clears_ask;
+            claims = set s.claims index None;
+            book = book_freed;
+            events = s.events ++ Freed 0 index ∷ [];
+          }
 
-    open_then : span_of 0 (s.events ++ freed_es) ≡ Open (starts.Loan r.start) (r.before ++ freed_es)
-    open_then = span_after 0 index s.events freed_es (Passing 0) Free one_move (Open (starts.Loan r.start) r.before) is_from
+      one_move : OneMove 0 index s.events freed_es (Passing 0) Free
+      one_move = grind arith
 
-    shows_freed : Shows slots queue s s_freed 0 y_freed latest turns freed_es
-    shows_freed =
-        let step = steps_set releases.ClearsFlag here gives in
-        let counted = r.so.counted releases.LoadsHead in
-        let calm = r.so.calm s.submission.read releases.LoadsHead in
-        let calm_before = r.so.calm s.submission.read releases.ClearsFlag in
-        let placed =
-        frees_it slots s.claims s.submission.waiting s.completion.waiting s.book s.events h.parts.placed index below (Passing 0) gives.1 refl refl in
-        let reclaiming = r.so.other r.before ∙ sym (r.so.other (r.before ++ freed_es)) in
-        let passing =
-        carried 0 index s.events freed_es (Passing 0) Free one_move (Open (starts.Loan r.start) r.before) is_from h.passing
-        (λ i ne held. absurd (ne (sym (r.so.carries i held)))) (λ q e. absurd (free_passes q e)) in
-        grind (arith, open_then, is_from, sends_now, append-nil, items, same_receiver, one_move)
+      is_from : span_of 0 s.events ≡ Open (starts.Loan r.start) r.before
+      is_from = from ∙ ap (λ es. Open (starts.Loan r.start) es) (append-nil r.before)
 
-    pub clears_steps : Steps code slots queue s latest turns changes since x 0 s_freed
-        (Open (starts.Loan r.start) r.before) r.start clears_ask false (GoOn (r.at releases.LoadsHead))
-        freed_es
-    clears_steps =
-        let words = whole_words releases.ClearsFlag here gives in
-        let may = r.so.may in
-        let number = r.so.number (r.before ++ freed_es) releases.LoadsHead (x.backs + 0) in
-        let stands = r.so.stands s_freed releases.LoadsHead below in
-        let knows =
-        r.so.knows s_freed (since + change_of (words_in s) clears_ask) (changes + change_of (words_in s) clears_ask)
-        (x.backs + 0) releases.LoadsHead (omega arith) in
-        let others =
-        others_beside slots queue s s_freed refl refl (λ room stage known. known) (λ i stage known. known)
-        (λ q ne. passes_on 0 index s.events freed_es (Passing 0) Free one_move q (λ e. ne (sym (passing_same 0 q e)))) in
-        grind (arith, shows_freed, open_then)
+      open_then : span_of 0 (s.events ++ freed_es) ≡ Open (starts.Loan r.start) (r.before ++ freed_es)
+      open_then = span_after 0 index s.events freed_es (Passing 0) Free one_move (Open (starts.Loan r.start) r.before) is_from
 
-  -- ---- every later step
+      shows_freed : Shows slots queue s s_freed 0 y_freed latest turns freed_es
+      shows_freed =
+          let step = steps_set releases.ClearsFlag here gives in
+          let counted = r.so.counted releases.LoadsHead in
+          let calm = r.so.calm s.submission.read releases.LoadsHead in
+          let calm_before = r.so.calm s.submission.read releases.ClearsFlag in
+          let placed =
+          frees_it slots s.claims s.submission.waiting s.completion.waiting s.book s.events h.parts.placed index below (Passing 0) gives.1 refl refl in
+          let reclaiming = r.so.other r.before ∙ sym (r.so.other (r.before ++ freed_es)) in
+          let passing =
+          carried 0 index s.events freed_es (Passing 0) Free one_move (Open (starts.Loan r.start) r.before) is_from h.passing
+          (λ i ne held. absurd (ne (sym (r.so.carries i held)))) (λ q e. absurd (free_passes q e)) in
+          grind (arith, open_then, is_from, sends_now, append-nil, items, same_receiver, one_move)
 
-  gives_for : (s' : Channel T) (stage : ReleaseStage) → release_counts stage ≡ 1 → GivesAt slots queue s' index stage
-  gives_for = grind arith
+      pub clears_steps : Steps scene 0 s_freed (Open (starts.Loan r.start) r.before) r.start clears_ask false (GoOn (r.at releases.LoadsHead))
+          freed_es
+      clears_steps =
+          let words = whole_words releases.ClearsFlag here gives in
+          let may = r.so.may in
+          let number = r.so.number (r.before ++ freed_es) releases.LoadsHead (x.backs + 0) in
+          let stands = r.so.stands s_freed releases.LoadsHead below in
+          let knows =
+          r.so.knows s_freed (since + change_of (words_in s) clears_ask) (changes + change_of (words_in s) clears_ask)
+          (x.backs + 0) releases.LoadsHead (omega arith) in
+          let others =
+          others_beside slots queue s s_freed refl refl (λ room stage known. known) (λ i stage known. known)
+          (λ q ne. passes_on 0 index s.events freed_es (Passing 0) Free one_move q (λ e. ne (sym (passing_same 0 q e)))) in
+          grind (arith, shows_freed, open_then)
 
-  wrote_for : (stage : ReleaseStage) → release_counts stage ≡ 1 → release_wrote {T = T} 0 index stage ≡ Freed 0 index ∷ []
-  wrote_for = grind arith
+    -- ---- every later step
 
-  claims_for : (stage : ReleaseStage) → release_counts stage ≡ 1 → claims_then index stage s.claims ≡ s.claims
-  claims_for = grind arith
+    gives_for : (s' : Channel T) (stage : ReleaseStage) → release_counts stage ≡ 1 → GivesAt slots queue s' index stage
+    gives_for = grind arith
 
-  module _ (stage : ReleaseStage) (heavy : release_counts stage ≡ 1) (here : Here stage)
-      (gives : GivesAt slots queue s index stage) (from : span_of 0 s.events ≡ spanned stage)
-      (few : x.steps ≤ r.base + release_number stage 0) (straight : x.backs ≡ 0) where
-    abbrev ask : Option Ask
-    ask = ask_of (back_asks slots index stage)
+    wrote_for : (stage : ReleaseStage) → release_counts stage ≡ 1 → release_wrote {T = T} 0 index stage ≡ Freed 0 index ∷ []
+    wrote_for = grind arith
 
-    abbrev wrote_now : List (Event T)
-    wrote_now = r.before ++ Freed 0 index ∷ []
+    claims_for : (stage : ReleaseStage) → release_counts stage ≡ 1 → claims_then index stage s.claims ≡ s.claims
+    claims_for = grind arith
 
-    abbrev words_then : List ℕ
-    words_then = words_after s.set ask
+    module _ (stage : ReleaseStage) (heavy : release_counts stage ≡ 1) (there : Stands stage) (straight : x.backs ≡ 0) where
+      open there use {found as here, gives}
 
-    pub was_open : span_of 0 s.events ≡ Open (starts.Loan r.start) wrote_now
-    was_open = grind (arith, wrote_for)
+      abbrev ask : Option Ask
+      ask = ask_of (back_asks slots index stage)
 
-    step : ReleaseStep slots index below s.set s.claims stage
-    step = steps_set stage here gives
+      abbrev wrote_now : List (Event T)
+      wrote_now = r.before ++ Freed 0 index ∷ []
 
-    pub leads : ReleaseLeads slots stage words_then s.claims (back_takes slots stage (old_of s.set ask))
-    leads = subst (λ hs. ReleaseLeads slots stage words_then hs (back_takes slots stage (old_of s.set ask))) (claims_for stage heavy) step.leads
+      abbrev words_then : List ℕ
+      words_then = words_after s.set ask
 
-    calm_now : hung s.submission.read (sends_at latest) ≡ None
-    calm_now = ap (hung s.submission.read) here ∙ r.so.calm s.submission.read stage
+      pub was_open : span_of 0 s.events ≡ Open (starts.Loan r.start) wrote_now
+      was_open = grind (arith, wrote_for)
 
-    -- ---- it goes on
+      step : ReleaseStep slots index below s.set s.claims stage
+      step = steps_set stage here gives
 
-    module _ (stage' : ReleaseStage) (good : indices.Good slots words_then s.claims 1)
-        (heavy' : release_counts stage' ≡ 1) (more : release_number stage 0 + 1 ≤ release_number stage' 0) where
-      abbrev s_on : Channel T
-      s_on = record s { set = words_then; claims = s.claims; book = s.book; events = s.events ++ [] }
+      pub leads : ReleaseLeads slots stage words_then s.claims (back_takes slots stage (old_of s.set ask))
+      leads = subst (λ hs. ReleaseLeads slots stage words_then hs (back_takes slots stage (old_of s.set ask))) (claims_for stage heavy) step.leads
 
-      pub goes_steps : Steps code slots queue s latest turns changes since x 0 s_on
-          (Open (starts.Loan r.start) wrote_now) r.start ask false (GoOn (r.at stage')) []
-      goes_steps =
-          let at_then : At slots queue s_on 0 wrote_now r.start (r.at stage') =
-          subst (λ es. At slots queue s_on 0 (r.before ++ es) r.start (r.at stage')) (wrote_for stage' heavy')
-          (r.so.stands s_on stage' (gives_for s_on stage' heavy'))
-          in
-          rests.goes_on code slots queue s latest turns changes since x h straight r.start wrote_now was_open ask words_then
-          (r.at stage')
-          (record {
-            words = whole_words stage here gives;
-            good = subst (λ n. indices.Good slots words_then s.claims n) (sym heavy' ∙ sym (r.so.counted stage')) good;
-            unlocked = step.unlocked;
-            calm = calm_now;
-          })
-          (r.so.calm s.submission.read stage')
-          (subst (λ n. x.steps + step_count ask ≤ n) (sym (r.so.number wrote_now stage' (x.backs + 0)))
-          (let one = one_step slots index stage in omega arith))
-          at_then
-          (r.so.knows s_on (since + change_of (words_in s) ask) (changes + change_of (words_in s) ask) (x.backs + 0) stage' (omega arith))
+      calm_now : hung s.submission.read (sends_at latest) ≡ None
+      calm_now = ap (hung s.submission.read) here ∙ r.so.calm s.submission.read stage
 
-    -- ---- it ends
+      -- ---- it goes on
 
-    module _ (good : indices.Good slots words_then s.claims 0) (more : release_number stage 0 + 1 ≤ 5) where
-      abbrev s_end : Channel T
-      s_end = record s { set = words_then; claims = s.claims; book = s.book; events = s.events ++ Finished 0 (starts.Loan r.start) r.answer ∷ [] }
+      module _ (stage' : ReleaseStage) (good : indices.Good slots words_then s.claims 1)
+          (heavy' : release_counts stage' ≡ 1) (more : release_number stage 0 + 1 ≤ release_number stage' 0) where
+        abbrev s_on : Channel T
+        s_on = record s { set = words_then; claims = s.claims; book = s.book; events = s.events ++ [] }
 
-      pub ends_steps : Steps code slots queue s latest turns changes since x 0 s_end
-          (Open (starts.Loan r.start) wrote_now) r.start ask false (Done r.answer) (Finished 0 (starts.Loan r.start) r.answer ∷ [])
-      ends_steps =
-          let most = r.so.most (x.backs + 0) in
-          let one = one_step slots index stage in
-          rests.ends code slots queue s latest turns changes since x h straight r.start wrote_now was_open ask words_then
-          r.answer (record { words = whole_words stage here gives; good = good; unlocked = step.unlocked; calm = calm_now })
-          (record { moves = r.so.still; receiver = r.so.receiver; dead = λ q b. refl })
-          (r.so.reclaims (reclaims_in (Open (starts.Loan r.start) wrote_now)) ∙ r.so.other wrote_now) (r.so.told s.events) r.so.freed
-          r.so.done (omega arith)
+        pub goes_steps : Steps scene 0 s_on (Open (starts.Loan r.start) wrote_now) r.start ask false (GoOn (r.at stage')) []
+        goes_steps =
+            let at_then : At slots queue s_on 0 wrote_now r.start (r.at stage') =
+            subst (λ es. At slots queue s_on 0 (r.before ++ es) r.start (r.at stage')) (wrote_for stage' heavy')
+            (r.so.stands s_on stage' (gives_for s_on stage' heavy'))
+            in
+            rests.goes_on scene h straight r.start wrote_now was_open ask words_then (r.at stage') (record {
+              words = whole_words stage here gives;
+              good = subst (λ n. indices.Good slots words_then s.claims n) (sym heavy' ∙ sym (r.so.counted stage')) good;
+              unlocked = step.unlocked;
+              calm = calm_now;
+            })
+            (r.so.calm s.submission.read stage') (subst (λ n. x.steps + step_count ask ≤ n) (sym (r.so.number wrote_now stage' (x.backs + 0)))
+            (let one = one_step slots index stage in omega arith))
+            at_then (r.so.knows s_on (since + change_of (words_in s) ask) (changes + change_of (words_in s) ask) (x.backs + 0) stage' (omega arith))
+
+      -- ---- it ends
+
+      module _ (good : indices.Good slots words_then s.claims 0) (more : release_number stage 0 + 1 ≤ 5) where
+        abbrev s_end : Channel T
+        s_end = record s { set = words_then; claims = s.claims; book = s.book; events = s.events ++ Finished 0 (starts.Loan r.start) r.answer ∷ [] }
+
+        pub ends_steps : Steps scene 0 s_end
+            (Open (starts.Loan r.start) wrote_now) r.start ask false (Done r.answer) (Finished 0 (starts.Loan r.start) r.answer ∷ [])
+        ends_steps =
+            let most = r.so.most (x.backs + 0) in
+            let one = one_step slots index stage in
+            rests.ends scene h straight r.start wrote_now was_open ask words_then
+            r.answer (record { words = whole_words stage here gives; good = good; unlocked = step.unlocked; calm = calm_now })
+            (record { moves = r.so.still; receiver = r.so.receiver; dead = λ q b. refl })
+            (r.so.reclaims (reclaims_in (Open (starts.Loan r.start) wrote_now)) ∙ r.so.other wrote_now) (r.so.told s.events) r.so.freed
+            r.so.done (omega arith)

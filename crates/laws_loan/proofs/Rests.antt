@@ -2,7 +2,7 @@
 -- nothing, or that it ends.
 use Rattle.laws_loan.proofs.Names.{◌≡◌, ◌≢◌, ℕ, ◌+◌, ◌≤◌, false, Option, Some, None, List, [], ◌∷◌, ◌++◌, fold, refl}
 use Rattle.laws_loan.proofs.Names.{sym, ap, subst, ◌∙◌, append-nil, Ask, After, GoOn, locked, Answer, Event, Finished}
-use Rattle.laws_loan.proofs.Names.{LoanStart, LoanFlight, Party, Coding, most_steps, MovesRight, BeginsRight}
+use Rattle.laws_loan.proofs.Names.{LoanStart, LoanFlight, Party, most_steps, MovesRight, BeginsRight}
 use Rattle.laws_loan.proofs.Names.{AnswersRight, promise, reclaims_after, Wrote, flight_of, Stands, Span, Open}
 use Rattle.laws_loan.proofs.Names.{own_after, span_of, words_after, change_of, step_count, AreRight, AreOwn}
 use Rattle.laws_loan.proofs.Names.{AllFollow, Passing, spot_of}
@@ -17,10 +17,11 @@ use Rattle.laws_loan.proofs.Carried.{span_then, carried_on}
 use Rattle.laws_loan.proofs.Channel.{Channel, words_in}
 use Rattle.laws_loan.proofs.Invariant.{sends_at, counted_for, hung, reclaims_in, Carries, HoldsNow, family}
 use Rattle.laws_loan.proofs.Knows.{counts, number_of, wrote_in, At, FlightKnows}
+use Rattle.laws_loan.proofs.Scene.{Scene, HoldsIn}
 use Rattle.laws_loan.proofs.Sender.{party_then, Steps}
 use Rattle.laws_loan.proofs.Still.{Still, AreStill, spots_still, receiver_still, placed_still}
 use Rattle.laws_loan.proofs.SenderInterference.{others_beside}
-use Rattle.laws_loan.proofs.Told.{is_reclaiming, Tells, silent_tells}
+use Rattle.laws_loan.proofs.QueueEvents.{is_reclaiming, Tells, silent_tells}
 use Rattle.laws_loan.proofs.Turns.{Shows, sends_now}
 
 module _ {T : Type 0} (slots queue : ℕ) (s : Channel T) (latest : List (ℕ × Party T)) (ask : Option Ask) where
@@ -36,10 +37,10 @@ module _ {T : Type 0} (slots queue : ℕ) (s : Channel T) (latest : List (ℕ ×
       → counted_for (sends_at latest) ≡ 0 → hung s.submission.read (sends_at latest) ≡ None → KeepsSet s.set 0
   keeps_all = grind arith
 
-module _ {T : Type 0} (code : Coding T) (slots queue : ℕ) (s : Channel T) (latest : List (ℕ × Party T))
-    (turns changes since : ℕ) (x : Party T) (h : HoldsNow slots queue s latest s.events turns) (straight : x.backs ≡ 0)
-    (start : LoanStart) (wrote : List (Event T)) (from : span_of 0 s.events ≡ Open (starts.Loan start) wrote)
-    (ask : Option Ask) (set' : List ℕ) where
+module _ {T : Type 0} (scene : Scene T) (h : HoldsIn scene) (straight : scene.caller.backs ≡ 0) (start : LoanStart) (wrote : List (Event T))
+    (from : span_of 0 scene.state.events ≡ Open (starts.Loan start) wrote) (ask : Option Ask) (set' : List ℕ) where
+  open scene use {coding as code, slots, queue, state as s, latest, turns, changes, since, caller as x}
+
   abbrev channel : frame.Family T
   channel = family code slots queue
 
@@ -51,7 +52,7 @@ module _ {T : Type 0} (code : Coding T) (slots queue : ℕ) (s : Channel T) (lat
 
   module _ (after : After LoanFlight (Answer T)) (es : List (Event T)) (still : AreStill es) (own : AreOwn 0 es) where
     abbrev y : Party T
-    y = party_then s x since changes start ask false after
+    y = party_then scene start ask false after
 
     module _ (keeps : KeepsSet slots queue s latest ask set' (counted_for (flight_of (Some y.doing))))
         (calm : hung s.submission.read (flight_of (Some y.doing)) ≡ None)
@@ -71,7 +72,7 @@ module _ {T : Type 0} (code : Coding T) (slots queue : ℕ) (s : Channel T) (lat
 
       rests : AllFollow (Stands promise slots) spanned es → frame.Fits channel (then_on es) 0 (Some y) (fold own_after spanned es)
           → frame.KnowsDoing channel (then_on es) 0 (s.events ++ es) (changes + change_of (words_in s) ask) y.backs y.doing
-          → Steps code slots queue s latest turns changes since x 0 (then_on es) spanned start ask false after es
+          → Steps scene 0 (then_on es) spanned start ask false after es
       rests stands here knows =
           let words = keeps.words in
           let others =
@@ -86,7 +87,7 @@ module _ {T : Type 0} (code : Coding T) (slots queue : ℕ) (s : Channel T) (lat
       → x.steps + step_count ask ≤ number_of slots wrote flight (x.backs + 0)
       → At slots queue (then_on []) 0 wrote start flight
       → FlightKnows slots queue (then_on []) (since + change_of (words_in s) ask) (changes + change_of (words_in s) ask) (x.backs + 0) flight
-      → Steps code slots queue s latest turns changes since x 0 (then_on []) spanned start ask false (GoOn flight) []
+      → Steps scene 0 (then_on []) spanned start ask false (GoOn flight) []
   goes_on flight keeps calm steps at knows =
       let was : wrote ≡ wrote_in (span_of 0 (s.events ++ [])) = sym (ap wrote_in (ap (span_of 0) (append-nil s.events) ∙ from)) in
       rests (GoOn flight) [] tt tt keeps calm
@@ -100,7 +101,7 @@ module _ {T : Type 0} (code : Coding T) (slots queue : ℕ) (s : Channel T) (lat
       → reclaims_after (reclaims_in spanned) (Finished 0 (starts.Loan start) answer) ≡ false
       → AnswersRight slots s.events (Finished 0 (starts.Loan start) answer) → ((i : ℕ) → Carries i spanned → ⊥)
       → Wrote start answer wrote → x.steps + step_count ask ≤ most_steps slots start (x.backs + 0)
-      → Steps code slots queue s latest turns changes since x 0 (then_on (Finished 0 (starts.Loan start) answer ∷ []))
+      → Steps scene 0 (then_on (Finished 0 (starts.Loan start) answer ∷ []))
       spanned start ask false (Done answer) (Finished 0 (starts.Loan start) answer ∷ [])
   ends answer keeps still reclaims right none done steps =
       rests (Done answer) (Finished 0 (starts.Loan start) answer ∷ []) (still, tt) (refl, tt) keeps refl

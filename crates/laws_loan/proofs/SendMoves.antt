@@ -4,7 +4,7 @@ use Rattle.laws_loan.proofs.Names.{◌≡◌, ◌≢◌, ℕ, suc, ◌+◌, ◌-
 use Rattle.laws_loan.proofs.Names.{Option, List, [], ◌∷◌, ◌++◌, length, get_or, refl, sym, ap, subst, ◌∙◌, None}
 use Rattle.laws_loan.proofs.Names.{append-nil, append_assoc, length-append, nat_tests, set-get_or, Ask, After, GoOn}
 use Rattle.laws_loan.proofs.Names.{submission_word, load, Answer, Event, Published, HandedOut, Acted, Finished, Index}
-use Rattle.laws_loan.proofs.Names.{Start, LoanFlight, Effect, Party, Coding, Passing, Waiting, spot_of, sent_at}
+use Rattle.laws_loan.proofs.Names.{Start, LoanFlight, Effect, Party, Passing, Waiting, spot_of, sent_at}
 use Rattle.laws_loan.proofs.Names.{words_of_index, handed_out, Open, span_of, change_of, oldest, push_over}
 use Rattle.laws_loan.proofs.Names.{take_keeps_pop, KnowsOverflowPush, overflow_push_number, Core, taken}
 use Rattle.std.proofs.Common.{arith}
@@ -18,7 +18,7 @@ use Rattle.model.specs.declared.event.Start.TheVariants as starts
 use Rattle.model.specs.declared.families.loan.LoanStart.TheVariants as calls
 use Rattle.model.specs.declared.families.loan.effects.Effect.TheVariants as effects
 use Rattle.laws_loan.proofs.Channel.{Channel, words_in}
-use Rattle.laws_loan.proofs.Invariant.{sends_at, counted_for, hung, reclaims_in, Carries, HoldsNow}
+use Rattle.laws_loan.proofs.Invariant.{sends_at, counted_for, hung, reclaims_in, Carries}
 use Rattle.laws_loan.proofs.Knows.{Passes, PushAt, push_wrote}
 use Rattle.laws_loan.proofs.Lists.{first_there}
 use Rattle.laws_loan.proofs.OneMove.{OneMove, carried, now_there, passes_on, same_receiver, span_after}
@@ -29,6 +29,7 @@ use Rattle.laws_loan.proofs.Releases.{send_frees_at}
 use Rattle.laws_loan.proofs.Rests.{keeps_all}
 use Rattle.laws_loan.proofs.Rests as rests
 use Rattle.laws_loan.proofs.Rooms.{sent_below, index_is}
+use Rattle.laws_loan.proofs.Scene.{Scene, HoldsIn}
 use Rattle.laws_loan.proofs.Sender.{party_then}
 use Rattle.laws_loan.proofs.Sends.{pushes_at, asked, old, queued, goes, effect_at, StepTo, Does, does_by, Here, reached, long, old_is, words_are, change_is}
 use Rattle.laws_loan.proofs.Sends.{loads_write, loads_read, stores_cell}
@@ -37,12 +38,12 @@ use Rattle.laws_loan.proofs.Still.{AreStill, placed_still}
 use Rattle.laws_loan.proofs.Submission as submission
 use Rattle.laws_loan.proofs.Table.{hands_it_out}
 use Rattle.laws_loan.proofs.SenderInterference.{others_beside}
-use Rattle.laws_loan.proofs.Told.{items, is_reclaiming, Tells}
+use Rattle.laws_loan.proofs.QueueEvents.{items, is_reclaiming, Tells}
 use Rattle.laws_loan.proofs.Turns.{Shows, sends_now}
 
-module _ {T : Type 0} (code : Coding T) (slots queue : ℕ) (s : Channel T) (latest : List (ℕ × Party T))
-    (turns changes since : ℕ) (x : Party T) (h : HoldsNow slots queue s latest s.events turns)
-    (small : turns < 2 ^ 64 - 2) (index : ℕ) (straight : x.backs ≡ 0) where
+module _ {T : Type 0} (scene : Scene T) (index : ℕ) (h : HoldsIn scene) (small : scene.turns < 2 ^ 64 - 2) (straight : scene.caller.backs ≡ 0) where
+  open scene use {slots, queue, state as s, latest, turns, caller as x}
+
   abbrev call : Start T
   call = starts.Loan (calls.Send index)
 
@@ -50,31 +51,31 @@ module _ {T : Type 0} (code : Coding T) (slots queue : ℕ) (s : Channel T) (lat
   publishes = Published 0 (Index index)
 
   abbrev asks : PushStage → Option Ask
-  asks stage = asked code slots queue s latest turns changes since x h small index straight stage
+  asks stage = asked scene index stage
 
   abbrev value : PushStage → ℕ
-  value stage = old code slots queue s latest turns changes since x h small index straight stage
+  value stage = old scene index stage
 
   abbrev then_of : PushStage → ℕ → After LoanFlight (Answer T)
-  then_of stage v = goes code slots queue s latest turns changes since x h small index straight stage v
+  then_of stage v = goes scene index stage v
 
   abbrev effect_of : PushStage → ℕ → Effect
-  effect_of stage v = effect_at code slots queue s latest turns changes since x h small index straight stage v
+  effect_of stage v = effect_at scene index stage v
 
   abbrev To : Channel T → List (Event T) → PushStage → After LoanFlight (Answer T) → Effect → Type 0
-  To s' wrote stage after effect = StepTo code slots queue s latest turns changes since x h small index straight s' wrote stage after effect
+  To s' wrote stage after effect = StepTo scene index s' wrote stage after effect
 
   abbrev Does_at : PushStage → Type 0
-  Does_at stage = Does code slots queue s latest turns changes since x h small index straight stage
+  Does_at stage = Does scene index stage
 
   abbrev party : PushStage → After LoanFlight (Answer T) → Party T
-  party stage after = party_then s x since changes (calls.Send index) (asks stage) false after
+  party stage after = party_then scene (calls.Send index) (asks stage) false after
 
   low_write : s.submission.write < 2 ^ 64 - 2
-  low_write = reached code slots queue s latest turns changes since x h small index straight
+  low_write = reached scene index h small straight
 
-  wide : length (queued code slots queue s latest turns changes since x h small index straight) ≡ 5 + queue
-  wide = long code slots queue s latest turns changes since x h small index straight
+  wide : length (queued scene index) ≡ 5 + queue
+  wide = long scene index h small straight
 
   -- the index in the cell of this position
   abbrev oldest_at : ℕ → ℕ
@@ -99,8 +100,7 @@ module _ {T : Type 0} (code : Coding T) (slots queue : ℕ) (s : Channel T) (lat
   abbrev loads : PushStage
   loads = pushes.LoadsCell s.submission.read
 
-  module _ (here : Here code slots queue s latest turns changes since x h small index straight moves)
-      (from : span_of 0 s.events ≡ Open call (publishes ∷ [])) (others rest : List ℕ)
+  module _ (here : Here scene index moves) (from : span_of 0 s.events ≡ Open call (publishes ∷ [])) (others rest : List ℕ)
       (is : s.submission.waiting ≡ others ++ index ∷ [])
       (first : s.submission.waiting ≡ oldest_at s.submission.read ∷ rest)
       (far : s.submission.write ≡ s.submission.read + queue + 1) (steps : x.steps ≤ 4) where
@@ -125,7 +125,7 @@ module _ {T : Type 0} (code : Coding T) (slots queue : ℕ) (s : Channel T) (lat
     abbrev y_out : Party T
     y_out = party moves (GoOn (pushes_at slots queue loads index))
 
-    on : 1 < length (queued code slots queue s latest turns changes since x h small index straight)
+    on : 1 < length (queued scene index)
     on = let all = wide in omega arith
 
     below : u < slots
@@ -179,10 +179,10 @@ module _ {T : Type 0} (code : Coding T) (slots queue : ℕ) (s : Channel T) (lat
     takes_out =
         let some = h.parts.some in
         let change : change_of (words_in s) (asks moves) ≡ 1 =
-        change_is code slots queue s latest turns changes since x h small index straight moves on
+        change_is scene index h small straight moves on
         ∙ submission.take_changes queue h.parts.some h.parts.few s.submission h.parts.submission low_write u rest first in
         let words =
-        words_are code slots queue s latest turns changes since x h small index straight moves k on
+        words_are scene index h small straight moves k on
         (submission.take_words queue h.parts.some h.parts.few s.submission h.parts.submission low_write u rest first) in
         let there = now_there 0 u s.events told Waiting (Passing 0) one_move in
         let others =
@@ -194,10 +194,9 @@ module _ {T : Type 0} (code : Coding T) (slots queue : ℕ) (s : Channel T) (lat
     moves_read : Does_at moves
     moves_read =
         let t : (s.submission.read == s.submission.read) ≡ true = grind (arith, nat_tests) in
-        let found : value moves ≡ s.submission.read = old_is code slots queue s latest turns changes since x h small index straight moves on in
+        let found : value moves ≡ s.submission.read = old_is scene index h small straight moves on in
         let place = sent_is s.submission.read in
-        does_by code slots queue s latest turns changes since x h small index straight s_out moves (publishes ∷ [])
-        (GoOn (pushes_at slots queue loads index)) (effects.TakesOut index u) (rw t refl)
+        does_by scene index s_out moves (publishes ∷ []) (GoOn (pushes_at slots queue loads index)) (effects.TakesOut index u) (rw t refl)
         (ap (then_of moves) found ∙ (rw t refl)) (ap (effect_of moves) found ∙ (rw (t, place) refl)) takes_out
 
   -- ---- a receive has moved it before: the send has acted, and ends
@@ -211,13 +210,13 @@ module _ {T : Type 0} (code : Coding T) (slots queue : ℕ) (s : Channel T) (lat
   abbrev late : ℕ → PushStage
   late read = pushes.MovesRead read
 
-  module _ (read : ℕ) (here : Here code slots queue s latest turns changes since x h small index straight (late read))
+  module _ (read : ℕ) (here : Here scene index (late read))
       (from : span_of 0 s.events ≡ Open call (publishes ∷ acted ∷ [])) (moved : (s.submission.read == read) ≡ false)
       (apart : (read == s.submission.read) ≡ false) (steps : x.steps ≤ 4) where
     abbrev s_end : Channel T
     s_end = record s { submission = s.submission; completion = s.completion; book = s.book; events = s.events ++ ends ∷ [] }
 
-    on_late : 1 < length (queued code slots queue s latest turns changes since x h small index straight)
+    on_late : 1 < length (queued scene index)
     on_late = let all = wide in omega arith
 
     -- the position is no more that before which it waited
@@ -226,10 +225,8 @@ module _ {T : Type 0} (code : Coding T) (slots queue : ℕ) (s : Channel T) (lat
 
     finds_room : To s_end (publishes ∷ acted ∷ []) (late read) (Done answers.PoppedNone) effects.Quiet
     finds_room = (
-      rests.ends code slots queue s latest turns changes since x h straight (calls.Send index)
-          (publishes ∷ acted ∷ []) from (asks (late read)) s.set answers.PoppedNone
-          (keeps_all slots queue s latest (asks (late read)) turns h
-          (words_are code slots queue s latest turns changes since x h small index straight (late read) s.submission on_late
+      rests.ends scene h straight (calls.Send index) (publishes ∷ acted ∷ []) from (asks (late read)) s.set answers.PoppedNone
+          (keeps_all slots queue s latest (asks (late read)) turns h (words_are scene index h small straight (late read) s.submission on_late
           (submission.stays_words queue h.parts.some h.parts.few s.submission h.parts.submission low_write read moved))
           (ap counted_for here) calm)
           (record { moves = refl; receiver = λ r. refl; dead = λ q b. refl }) refl tt
@@ -241,8 +238,8 @@ module _ {T : Type 0} (code : Coding T) (slots queue : ℕ) (s : Channel T) (lat
 
     moves_late : Does_at (late read)
     moves_late =
-        let found : value (late read) ≡ s.submission.read = old_is code slots queue s latest turns changes since x h small index straight (late read) on_late in
-        does_by code slots queue s latest turns changes since x h small index straight s_end (late read) (publishes ∷ acted ∷ [])
+        let found : value (late read) ≡ s.submission.read = old_is scene index h small straight (late read) on_late in
+        does_by scene index s_end (late read) (publishes ∷ acted ∷ [])
         (Done answers.PoppedNone) effects.Quiet (rw apart refl) (ap (then_of (late read)) found ∙ (rw moved refl))
         (ap (effect_of (late read)) found ∙ (rw moved refl)) finds_room
 
@@ -251,8 +248,7 @@ module _ {T : Type 0} (code : Coding T) (slots queue : ℕ) (s : Channel T) (lat
   abbrev wrote_out : ℕ → List (Event T)
   wrote_out read = publishes ∷ HandedOut 0 (Index (oldest_at read)) ∷ Acted 0 call (answers.PoppedIndex (oldest_at read)) ∷ []
 
-  module _ (read : ℕ)
-      (here : Here code slots queue s latest turns changes since x h small index straight (pushes.LoadsCell read))
+  module _ (read : ℕ) (here : Here scene index (pushes.LoadsCell read))
       (from : span_of 0 s.events ≡ Open call (wrote_out read)) (passes : Passes slots queue s 0 (oldest_at read))
       (steps : x.steps ≤ 5) where
     abbrev stage : PushStage
@@ -264,17 +260,14 @@ module _ {T : Type 0} (code : Coding T) (slots queue : ℕ) (s : Channel T) (lat
     abbrev frees : LoanFlight
     frees = send_frees_at slots queue index (oldest_at read) releases.ClearsFlag
 
-    on_cell : cell_word queue read < length (queued code slots queue s latest turns changes since x h small index straight)
+    on_cell : cell_word queue read < length (queued scene index)
     on_cell = grind (arith, low_write)
 
     has_it : To s_free (wrote_out read) stage (GoOn frees) effects.Quiet
     has_it = (
-      rests.goes_on code slots queue s latest turns changes since x h straight (calls.Send index) (wrote_out read) from
-          (asks stage) s.set frees
-          (keeps_all slots queue s latest (asks stage) turns h
-          (words_are code slots queue s latest turns changes since x h small index straight stage s.submission on_cell
-          (set-get_or (queued code slots queue s latest turns changes since x h small index straight) (cell_word queue read) 0))
-          (ap counted_for here) (ap (hung s.submission.read) here))
+      rests.goes_on scene h straight (calls.Send index) (wrote_out read) from (asks stage) s.set frees
+          (keeps_all slots queue s latest (asks stage) turns h (words_are scene index h small straight stage s.submission on_cell
+          (set-get_or (queued scene index) (cell_word queue read) 0)) (ap counted_for here) (ap (hung s.submission.read) here))
           refl (omega arith)
           (refl, refl, refl, refl, refl, (passes.0, ap (spot_of (oldest_at read)) (append-nil s.events) ∙ passes.1))
           (omega arith),
@@ -286,9 +279,9 @@ module _ {T : Type 0} (code : Coding T) (slots queue : ℕ) (s : Channel T) (lat
         let few = h.parts.set.few in
         let low : slots < 2 ^ 32 = omega arith in
         let found : value stage ≡ oldest_at read =
-        old_is code slots queue s latest turns changes since x h small index straight stage on_cell
+        old_is scene index h small straight stage on_cell
         ∙ submission.cell_is queue h.parts.some h.parts.few s.submission h.parts.submission low_write read in
-        does_by code slots queue s latest turns changes since x h small index straight s_free stage (wrote_out read) (GoOn frees) effects.Quiet
+        does_by scene index s_free stage (wrote_out read) (GoOn frees) effects.Quiet
         refl
         (ap (then_of stage) found
         ∙ ap (λ i. GoOn (send_frees_at slots queue index i releases.ClearsFlag)) (index_is (oldest_at read) slots passes.0 low))
@@ -297,31 +290,24 @@ module _ {T : Type 0} (code : Coding T) (slots queue : ℕ) (s : Channel T) (lat
   -- ---- every step of the push
 
   -- what a send knows leads on
-  pub does : (now : PushStage) → Here code slots queue s latest turns changes since x h small index straight now
+  pub does : (now : PushStage) → Here scene index now
       → span_of 0 s.events ≡ Open call (push_wrote queue s.submission index now)
       → KnowsOverflowPush queue s.submission index now → PushAt slots queue s index now
       → x.steps ≤ overflow_push_number now → Does_at now
   does pushes.HandsBack here from known stands steps = absurd stands
   does pushes.LoadsWrite here from known stands steps =
-      loads_write code slots queue s latest turns changes since x h small index straight stands from here steps
+      loads_write scene index h small straight stands from here steps
   does (pushes.LoadsRead write) here from known stands steps =
-      subst Does_at (ap (λ n. pushes.LoadsRead n) (sym known.1))
-      (loads_read code slots queue s latest turns changes since x h small index straight stands from
-      (subst (λ n. Here code slots queue s latest turns changes since x h small index straight (pushes.LoadsRead n))
-      known.1 here)
+      subst Does_at (ap (λ n. pushes.LoadsRead n) (sym known.1)) (loads_read scene index h small straight stands from
+      (subst (λ n. Here scene index (pushes.LoadsRead n)) known.1 here)
       steps)
   does (pushes.StoresCell write read) here from known stands steps =
-      subst Does_at (ap (λ n. pushes.StoresCell n read) (sym known.1))
-      (stores_cell code slots queue s latest turns changes since x h small index straight stands from read known.2
-      known.3
-      (subst (λ n. Here code slots queue s latest turns changes since x h small index straight (pushes.StoresCell n read))
-      known.1 here)
+      subst Does_at (ap (λ n. pushes.StoresCell n read) (sym known.1)) (stores_cell scene index h small straight stands from read known.2 known.3
+      (subst (λ n. Here scene index (pushes.StoresCell n read)) known.1 here)
       steps)
   does (pushes.StoresWrite write read) here from known stands steps =
-      subst Does_at (ap (λ n. pushes.StoresWrite n read) (sym known.1))
-      (stores_write code slots queue s latest turns changes since x h small index straight read
-      (subst (λ n. Here code slots queue s latest turns changes since x h small index straight (pushes.StoresWrite n read))
-      known.1 here)
+      subst Does_at (ap (λ n. pushes.StoresWrite n read) (sym known.1)) (stores_write scene index h small straight read
+      (subst (λ n. Here scene index (pushes.StoresWrite n read)) known.1 here)
       stands from known.4 steps known.2 known.3)
   does (pushes.MovesRead read) here from known stands steps = go (s.submission.read == read) refl
     where
@@ -334,10 +320,7 @@ module _ {T : Type 0} (code : Coding T) (slots queue : ℕ) (s : Channel T) (lat
           let write = h.parts.submission.write in
           let front = oldest queue s.submission h.parts.submission (omega arith) in
           let wrote : push_wrote {T = T} queue s.submission index moves ≡ publishes ∷ [] = rw t refl in
-          subst Does_at (ap (λ n. pushes.MovesRead n) (sym same))
-          (moves_read
-          (subst (λ n. Here code slots queue s latest turns changes since x h small index straight (pushes.MovesRead n))
-          same here)
+          subst Does_at (ap (λ n. pushes.MovesRead n) (sym same)) (moves_read (subst (λ n. Here scene index (pushes.MovesRead n)) same here)
           (subst (λ n. span_of 0 s.events ≡ Open call (push_wrote queue s.submission index (pushes.MovesRead n))) same from
           ∙ ap (λ es. Open call es) wrote)
           last.0 front.0 last.1 front.1 (omega arith) steps)

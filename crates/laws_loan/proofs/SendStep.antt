@@ -1,21 +1,20 @@
 -- A send, as steps of the machine: its push, and the release of the index that comes back.
-use Rattle.laws_loan.proofs.Names.{◌≡◌, ℕ, ◌-◌, ◌^◌, ◌<◌, sym, ap, subst, ◌∙◌, After, ReleaseState, DefaultMode}
+use Rattle.laws_loan.proofs.Names.{◌≡◌, ℕ, sym, ap, subst, ◌∙◌, After, ReleaseState, DefaultMode}
 use Rattle.laws_loan.proofs.Names.{Release, ReleaseStage, SendStage, back_asks, back_takes, send_released, went_on}
-use Rattle.laws_loan.proofs.Names.{Answer, PoppedIndex, LoanFlight, Send, Party, Coding, ask_of, release_effect}
-use Rattle.laws_loan.proofs.Names.{as_it_is, popped, Open, span_of, as_call, old_of, Trace}
+use Rattle.laws_loan.proofs.Names.{Answer, PoppedIndex, LoanFlight, Send, ask_of, release_effect}
+use Rattle.laws_loan.proofs.Names.{as_it_is, popped, Open, span_of, as_call, old_of}
 use native.Mathlib.Omega.{arith}
 use Rattle.steps.specs.declared.loan.send.Send as send
 use Rattle.steps.specs.declared.loan.send.SendStage.TheVariants as sends
 use Rattle.model.specs.declared.event.Start.TheVariants as starts
 use Rattle.model.specs.declared.families.Flight.TheVariants as flights
 use Rattle.model.specs.declared.families.loan.LoanStart.TheVariants as calls
-use Rattle.model.proofs.Frame as frame
 use Rattle.laws_loan.proofs.Channel.{words_in}
 use Rattle.laws_loan.proofs.Releases.{send_frees_at, sends_back}
 use Rattle.laws_loan.proofs.ReleaseSteps.{With, releases_on}
 use Rattle.laws_loan.proofs.Releasing.{embedded}
+use Rattle.laws_loan.proofs.Scene.{Underway}
 use Rattle.laws_loan.proofs.Senders.{Stands, Comes, send_pushes}
-use Rattle.laws_loan.proofs.StepLaw.{channel}
 
 abbrev pub send_at : ℕ → ℕ → ℕ → SendStage → LoanFlight
 send_at slots queue index stage =
@@ -31,21 +30,18 @@ module _ (T : Type 0) (slots queue index oldest : ℕ) where
       ≡ embedded {A = Answer T} (send_frees_at slots queue index oldest) (PoppedIndex oldest) release
   goes_so = grind arith
 
-module _ {T : Type 0} (code : Coding T) (slots queue : ℕ) (t : Trace T)
-    (sound : frame.Sound (channel code slots queue) t) (small : t.world.turns < 2 ^ 64 - 2) (x : Party T)
-    (since index : ℕ) where
+module _ {T : Type 0} (m : Underway T) (index : ℕ) where
+  open m use {slots, queue, sound}
+
   pub send_steps : (stage : SendStage)
-      → Stands code slots queue t sound small x since 0 (starts.Loan (calls.Send index))
-      (flights.Loan (send_at slots queue index stage))
-      → Comes code slots queue t sound small x since 0 (starts.Loan (calls.Send index))
-      (flights.Loan (send_at slots queue index stage))
-  send_steps (sends.Pushes stage) there = send_pushes code slots queue t sound small x since index stage there
+      → Stands m 0 (starts.Loan (calls.Send index)) (flights.Loan (send_at slots queue index stage))
+      → Comes m 0 (starts.Loan (calls.Send index)) (flights.Loan (send_at slots queue index stage))
+  send_steps (sends.Pushes stage) there = send_pushes m index stage there
   send_steps (sends.Releases oldest stage) there =
       let at = there.at in
       let from = ap (span_of 0) sound.holds.same ∙ (there.span ∙ ap (λ es. Open (starts.Loan (calls.Send index)) es) at.4) in
       let value = old_of (words_in sound.state) (ask_of (back_asks slots oldest stage)) in
-      subst (With code slots queue t sound small x since oldest (sends_back T slots queue index oldest) there.knows stage
-      (release_effect oldest stage))
+      subst (With m oldest (sends_back T slots queue index oldest) there.knows stage (release_effect oldest stage))
       (sym (goes_so T slots queue index oldest stage (back_takes slots stage value)))
-      (releases_on code slots queue t sound small x since oldest (sends_back T slots queue index oldest) there.knows
+      (releases_on m oldest (sends_back T slots queue index oldest) there.knows
       stage (record { found = there.found; gives = at.5; from = from; few = there.steps }))

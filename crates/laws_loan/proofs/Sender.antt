@@ -12,6 +12,7 @@ use Rattle.model.proofs.Frame as frame
 use Rattle.laws_loan.proofs.Channel.{Channel, words_in}
 use Rattle.laws_loan.proofs.Invariant.{family}
 use Rattle.laws_loan.proofs.Knows.{At}
+use Rattle.laws_loan.proofs.Scene.{Scene}
 use Rattle.laws_loan.proofs.SenderInterference.{Others, knows_keeps}
 use Rattle.laws_loan.proofs.Turns.{Shows}
 
@@ -20,11 +21,11 @@ module _ {T : Type 0} where
   abbrev pub any_call : After LoanFlight (Answer T) → After (Flight T) (Answer T)
   any_call after = as_call flights.Loan (λ answer. answer) after
 
-  -- its party after a step that does this operation, in a channel that was so
-  abbrev pub party_then : Channel T → Party T → ℕ → ℕ → LoanStart → Option Ask → Bool → After LoanFlight (Answer T) → Party T
-  party_then s x since changes start ask back after =
-      party_after (record x { start = starts.Loan start }) since changes (step_count ask) (change_of (words_in s) ask)
-      (record { after = any_call after; back = back; wrote = []; kept = registries.Loan s.book })
+  -- its party after a step that does this operation
+  abbrev pub party_then : Scene T → LoanStart → Option Ask → Bool → After LoanFlight (Answer T) → Party T
+  party_then scene start ask back after =
+      party_after (record (scene.caller) { start = starts.Loan start }) scene.since scene.changes (step_count ask)
+      (change_of (words_in scene.state) ask) (record { after = any_call after; back = back; wrote = []; kept = registries.Loan scene.state.book })
 
 -- a turn of a party that writes events of its own, where the calls of the others stand where they stood
 module _ {T : Type 0} (code : Coding T) (slots queue : ℕ) (s s' : Channel T) (p : ℕ) (y : Party T)
@@ -54,8 +55,9 @@ module _ {T : Type 0} (code : Coding T) (slots queue : ℕ) (s s' : Channel T) (
       frame.owes any s s' from p y latest s.events es changes changes' is inv
       (record { own = own; stands = stands; here = here; knows = knows; others = others; others_know = others_know })
 
-module _ {T : Type 0} (code : Coding T) (slots queue : ℕ) (s : Channel T) (latest : List (ℕ × Party T))
-    (turns changes since : ℕ) (x : Party T) (p : ℕ) where
+module _ {T : Type 0} (scene : Scene T) (p : ℕ) where
+  open scene use {coding as code, slots, queue, state as s, latest, turns, changes}
+
   abbrev channel : frame.Family T
   channel = family code slots queue
 
@@ -63,13 +65,12 @@ module _ {T : Type 0} (code : Coding T) (slots queue : ℕ) (s : Channel T) (lat
   pub record Steps (s' : Channel T) (from : Span T) (start : LoanStart) (ask : Option Ask) (back : Bool)
       (after : After LoanFlight (Answer T)) (es : List (Event T)) : Type 0 where
     pub words : words_after (words_in s) ask ≡ words_in s'
-    pub shows : Shows slots queue s s' p (party_then s x since changes start ask back after) latest turns es
+    pub shows : Shows slots queue s s' p (party_then scene start ask back after) latest turns es
     pub own : AreOwn p es
     pub stands : AllFollow (Stands promise slots) from es
-    pub here : frame.Fits channel s' p (Some (party_then s x since changes start ask back after)) (fold own_after from es)
-    pub knows : frame.KnowsDoing channel s' p (s.events ++ es) (changes + change_of (words_in s) ask)
-        (party_then s x since changes start ask back after).backs
-        (party_then s x since changes start ask back after).doing
+    pub here : frame.Fits channel s' p (Some (party_then scene start ask back after)) (fold own_after from es)
+    pub knows : frame.KnowsDoing channel s' p (s.events ++ es) (changes + change_of (words_in s) ask) (party_then scene start ask back after).backs
+        (party_then scene start ask back after).doing
     pub others : Others slots queue s s' p
     pub up : GoesUp s.submission s'.submission changes (changes + change_of (words_in s) ask)
 
@@ -86,7 +87,7 @@ module _ {T : Type 0} (code : Coding T) (slots queue : ℕ) (s : Channel T) (lat
   module _ (s' : Channel T) (from : Span T) (start : LoanStart) (ask : Option Ask) (back : Bool)
       (after : After LoanFlight (Answer T)) (es : List (Event T)) (steps : Steps s' from start ask back after es) where
     pub step_owes : span_of p s.events ≡ from → frame.Inv channel s latest s.events changes
-        → frame.Owes channel s' p (party_then s x since changes start ask back after) latest s.events es (changes + change_of (words_in s) ask)
+        → frame.Owes channel s' p (party_then scene start ask back after) latest s.events es (changes + change_of (words_in s) ask)
     step_owes =
-        owes_by code slots queue s s' p (party_then s x since changes start ask back after) latest from es changes
+        owes_by code slots queue s s' p (party_then scene start ask back after) latest from es changes
         (changes + change_of (words_in s) ask) steps.shows.events steps.own steps.others steps.up steps.stands steps.here steps.knows

@@ -1,7 +1,7 @@
 -- The push of a send, the pop of a take-back, the push of a give-back and what a receive looks at, as steps of the machine.
-use Rattle.laws_loan.proofs.Names.{◌≡◌, ℕ, ◌-◌, ◌^◌, ◌<◌, false, Bool, Option, List, [], ap, ◌∙◌, Ask, After, OneWord}
-use Rattle.laws_loan.proofs.Names.{goes_back, Answer, Event, LoanStart, LoanFlight, Effect, Party, Coding, has_died}
-use Rattle.laws_loan.proofs.Names.{beside, take_back_effect, give_back_effect, Open, span_of, Trace, StandsThere}
+use Rattle.laws_loan.proofs.Names.{◌≡◌, ℕ, false, Bool, Option, List, [], ap, ◌∙◌, Ask, After, OneWord}
+use Rattle.laws_loan.proofs.Names.{goes_back, Answer, Event, LoanStart, LoanFlight, Effect, has_died}
+use Rattle.laws_loan.proofs.Names.{beside, take_back_effect, give_back_effect, Open, span_of, StandsThere}
 use Rattle.laws_loan.proofs.Names.{Core}
 use Rattle.steps.specs.declared.loan.take_back.TakeBackStage.TheVariants as take_back_stages
 use Rattle.steps.specs.declared.queues.overflow.PopStage as overflow_pops
@@ -14,7 +14,6 @@ use Rattle.model.specs.declared.families.Flight.{Flight}
 use Rattle.model.specs.declared.families.Flight.TheVariants as flights
 use Rattle.model.specs.declared.families.Registry.TheVariants as registries
 use Rattle.model.specs.declared.families.loan.LoanStart.TheVariants as calls
-use Rattle.model.proofs.Frame as frame
 use Rattle.model.proofs.Scenes.{ComesFrom}
 use Rattle.laws_loan.proofs.Channel.{Channel, words_in}
 use Rattle.laws_loan.proofs.GiveBacks as give_backs
@@ -24,6 +23,7 @@ use Rattle.laws_loan.proofs.Invariant.{HoldsNow}
 use Rattle.laws_loan.proofs.Knows.{push_wrote}
 use Rattle.laws_loan.proofs.Receives as receives
 use Rattle.laws_loan.proofs.Receives.{receive_at, IsLook}
+use Rattle.laws_loan.proofs.Scene.{Scene, ReceiverCalls, Underway, scene_of}
 use Rattle.laws_loan.proofs.SendMoves as sends
 use Rattle.laws_loan.proofs.Sender.{StepBy}
 use Rattle.laws_loan.proofs.Sends.{pushes_at, asked, old, goes, effect_at}
@@ -31,9 +31,12 @@ use Rattle.laws_loan.proofs.StepLaw.{channel, holds_now, step_comes, ComesBy}
 use Rattle.laws_loan.proofs.TakeBacks as take_backs
 use Rattle.laws_loan.proofs.TakeBacks.{pops_at}
 
-module _ {T : Type 0} (code : Coding T) (slots queue : ℕ) (t : Trace T)
-    (sound : frame.Sound (channel code slots queue) t) (small : t.world.turns < 2 ^ 64 - 2) (x : Party T)
-    (since : ℕ) where
+module _ {T : Type 0} (m : Underway T) where
+  open m use {coding as code, slots, queue, trace as t, sound, small, caller as x, since}
+
+  abbrev scene : Scene T
+  scene = scene_of m
+
   -- a call of this party stands there, and comes so on
   abbrev pub Stands : ℕ → Start T → Flight T → Type 0
   Stands p start flight = StandsThere (channel code slots queue) t sound p x since start flight
@@ -47,28 +50,24 @@ module _ {T : Type 0} (code : Coding T) (slots queue : ℕ) (t : Trace T)
   pub from_step : (start : LoanStart) (ask : Option Ask) (after : After LoanFlight (Answer T)) (effect : Effect)
       (s' : Channel T) (wrote : List (Event T))
       → span_of 0 sound.state.events ≡ Open (starts.Loan start) wrote
-      → StepBy code slots queue sound.state t.world.latest t.world.turns t.world.changes since x 0 s'
-      (Open (starts.Loan start) wrote) start ask false after effect
-      → ComesBy code slots queue t sound x since 0 start ask false after effect
+      → StepBy scene 0 s' (Open (starts.Loan start) wrote) start ask false after effect
+      → ComesBy m 0 start ask false after effect
   from_step start ask after effect s' wrote =
-      step_comes code slots queue t sound x since 0 start ask false after effect s' (Open (starts.Loan start) wrote)
+      step_comes m 0 start ask false after effect s' (Open (starts.Loan start) wrote)
 
   -- of the receiver, whose call has written nothing before
   from_receiver : (p : ℕ) (start : LoanStart) (ask : Option Ask) (back : Bool) (after : After LoanFlight (Answer T))
       (effect : Effect) (k : Core ℕ) → span_of p sound.state.events ≡ Open (starts.Loan start) []
-      → GivesBy code slots queue sound.state t.world.latest t.world.turns t.world.changes since x p k
-      (Open (starts.Loan start) []) start ask back after effect
-      → ComesBy code slots queue t sound x since p start ask back after effect
+      → GivesBy scene p k (Open (starts.Loan start) []) start ask back after effect
+      → ComesBy m p start ask back after effect
   from_receiver p start ask back after effect k =
-      step_comes code slots queue t sound x since p start ask back after effect
-      (s_given code slots queue sound.state t.world.latest t.world.turns t.world.changes since x p k start after effect)
-      (Open (starts.Loan start) [])
+      step_comes m p start ask back after effect (s_given scene p k start after effect) (Open (starts.Loan start) [])
 
   abbrev s : Channel T
   s = sound.state
 
   abbrev h : HoldsNow slots queue s t.world.latest s.events t.world.turns
-  h = holds_now code slots queue t sound x since
+  h = holds_now m
 
   pub send_pushes : (index : ℕ) (stage : PushStage)
       → Stands 0 (starts.Loan (calls.Send index)) (flights.Loan (pushes_at slots queue stage index))
@@ -76,14 +75,9 @@ module _ {T : Type 0} (code : Coding T) (slots queue : ℕ) (t : Trace T)
   send_pushes index stage there =
       let at = there.at in
       let from = ap (span_of 0) sound.holds.same ∙ (there.span ∙ ap (λ es. Open (starts.Loan (calls.Send index)) es) at.4) in
-      let done =
-      sends.does code slots queue s t.world.latest t.world.turns t.world.changes since x h small index there.knows stage
-      there.found from at.5.0 at.5.1 there.steps in
-      let value = old code slots queue s t.world.latest t.world.turns t.world.changes since x h small index there.knows stage in
-      from_step (calls.Send index)
-      (asked code slots queue s t.world.latest t.world.turns t.world.changes since x h small index there.knows stage)
-      (goes code slots queue s t.world.latest t.world.turns t.world.changes since x h small index there.knows stage value)
-      (effect_at code slots queue s t.world.latest t.world.turns t.world.changes since x h small index there.knows stage value)
+      let done = sends.does scene index h small there.knows stage there.found from at.5.0 at.5.1 there.steps in
+      let value = old scene index stage in
+      from_step (calls.Send index) (asked scene index stage) (goes scene index stage value) (effect_at scene index stage value)
       done.channel_then (push_wrote queue s.submission index stage) from done.step
 
   pub take_back_pops : (stage : PopStage) (found : OneWord)
@@ -92,17 +86,8 @@ module _ {T : Type 0} (code : Coding T) (slots queue : ℕ) (t : Trace T)
   take_back_pops stage found there =
       let at = there.at in
       let from = ap (span_of 0) sound.holds.same ∙ (there.span ∙ ap (λ es. Open (starts.Loan calls.TakeBack) es) at.3) in
-      let done =
-      take_backs.does code slots queue s t.world.latest t.world.turns t.world.changes since x h small stage found
-      there.found from there.knows stage found at.4 there.steps in
-      let value =
-      take_backs.old code slots queue s t.world.latest t.world.turns t.world.changes since x h small stage found
-      there.found from there.knows stage in
-      from_step calls.TakeBack
-      (take_backs.asked code slots queue s t.world.latest t.world.turns t.world.changes since x h small stage found
-      there.found from there.knows stage)
-      (take_backs.goes code slots queue s t.world.latest t.world.turns t.world.changes since x h small stage found
-      there.found from there.knows stage found value)
+      let done = take_backs.does scene h small stage found there.found from there.knows stage found at.4 there.steps in
+      from_step calls.TakeBack (take_backs.asked scene stage) (take_backs.goes scene stage found (take_backs.old scene stage))
       (take_back_effect (take_back_stages.Pops stage found)) done.channel_then [] from done.step
 
   pub give_back_pushes : (p index : ℕ) (stage : ring_pushes.PushStage) → has_died p s.book.dead ≡ false
@@ -112,15 +97,10 @@ module _ {T : Type 0} (code : Coding T) (slots queue : ℕ) (t : Trace T)
       let at = there.at in
       let known = at.7 alive in
       let from = ap (span_of p) sound.holds.same ∙ (there.span ∙ ap (λ es. Open (starts.Loan (calls.GiveBack index)) es) at.5) in
-      let done =
-      give_backs.does code slots queue s t.world.latest t.world.turns t.world.changes since x p index h small at.0 alive
-      known.0 known.1 from there.knows stage known.2 there.steps in
-      from_receiver p (calls.GiveBack index)
-      (give_backs.asked code slots queue s t.world.latest t.world.turns t.world.changes since x p index h small at.0 alive
-      known.0 known.1 from there.knows stage)
-      false
-      (give_backs.after_of code slots queue s t.world.latest t.world.turns t.world.changes since x p index h small at.0 alive
-      known.0 known.1 from there.knows stage)
+      let r : ReceiverCalls scene p (calls.GiveBack index) =
+      record { holds = h; small = small; other = at.0; alive = alive; receives = known.0; from = from } in
+      let done = give_backs.does scene p index r known.1 there.knows stage known.2 there.steps in
+      from_receiver p (calls.GiveBack index) (give_backs.asked scene p index stage) false (give_backs.after_of scene p index stage)
       (give_back_effect index stage) done.queue_then from done.step
 
   -- a receive that takes nothing out with this step
@@ -132,19 +112,9 @@ module _ {T : Type 0} (code : Coding T) (slots queue : ℕ) (t : Trace T)
       let at = there.at in
       let known = at.5 alive in
       let from = ap (span_of p) sound.holds.same ∙ (there.span ∙ ap (λ es. Open (starts.Loan calls.Receive) es) at.4) in
+      let r : ReceiverCalls scene p calls.Receive =
+      record { holds = h; small = small; other = at.0; alive = alive; receives = known.0; from = from } in
       let send = beside s.book (words_in s) t.world.latest p in
-      let step =
-      receives.looks code slots queue s t.world.latest t.world.turns t.world.changes since x p h small at.0 alive known.0
-      from send stage room is known.1 there.steps there.knows in
-      let value =
-      receives.old code slots queue s t.world.latest t.world.turns t.world.changes since x p h small at.0 alive known.0
-      from send stage in
-      from_receiver p calls.Receive
-      (receives.asked code slots queue s t.world.latest t.world.turns t.world.changes since x p h small at.0 alive known.0
-      from send stage)
-      (goes_back stage value)
-      (receives.goes code slots queue s t.world.latest t.world.turns t.world.changes since x p h small at.0 alive known.0
-      from send stage room value)
-      (receives.effect_at code slots queue s t.world.latest t.world.turns t.world.changes since x p h small at.0 alive known.0
-      from send stage value)
-      s.completion from step
+      let value = receives.old scene p send stage in
+      from_receiver p calls.Receive (receives.asked scene p send stage) (goes_back stage value) (receives.goes scene p send stage room value)
+      (receives.effect_at scene p send stage value) s.completion from (receives.looks scene p send r stage room is known.1 there.steps there.knows)

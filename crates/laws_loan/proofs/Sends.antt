@@ -2,7 +2,7 @@
 use Rattle.laws_loan.proofs.Names.{◌≡◌, ◌≢◌, ℕ, ◌+◌, ◌-◌, ◌^◌, ◌<◌, ◌≤◌, ◌==◌, false, Option, Some, None, List, []}
 use Rattle.laws_loan.proofs.Names.{◌++◌, length, refl, ap, subst, ◌∙◌, append-nil, nat_tests, Ask, After, GoOn}
 use Rattle.laws_loan.proofs.Names.{OneWord, submission_word, shifted, send_takes, load, went_on, Answer, Event, Start}
-use Rattle.laws_loan.proofs.Names.{LoanFlight, Send, Effect, Party, Coding, ask_of, spot_of, read_in, push_effect}
+use Rattle.laws_loan.proofs.Names.{LoanFlight, Send, Effect, Party, ask_of, spot_of, read_in, push_effect}
 use Rattle.laws_loan.proofs.Names.{as_it_is, popped, words_of_index, Open, span_of, as_call, old_of, words_after}
 use Rattle.laws_loan.proofs.Names.{change_of, step_count, fill_keeps_pop, KnowsOverflowPush, KnowsOverflowPop}
 use Rattle.laws_loan.proofs.Names.{overflow_push_number, Core, filled, layout}
@@ -20,13 +20,14 @@ use Rattle.model.specs.declared.families.loan.effects.Effect.TheVariants as effe
 use Rattle.laws_queues.proofs.Queues.Core.{Good}
 use Rattle.laws_loan.proofs.Channel.{Channel, no_roles, words_in}
 use Rattle.laws_loan.proofs.Cuts.{IsOn}
-use Rattle.laws_loan.proofs.Invariant.{Hangs, sends_at, counted_for, hung, Carries, HoldsNow}
+use Rattle.laws_loan.proofs.Invariant.{Hangs, sends_at, counted_for, hung, Carries}
 use Rattle.laws_loan.proofs.Knows.{Passes, PushAt, push_wrote}
 use Rattle.laws_loan.proofs.Parts.{submission_old, submission_words, submission_change}
+use Rattle.laws_loan.proofs.Scene.{Scene, HoldsIn}
 use Rattle.laws_loan.proofs.Sender.{party_then, StepBy}
 use Rattle.laws_loan.proofs.Submission as submission
 use Rattle.laws_loan.proofs.SenderInterference.{others_beside}
-use Rattle.laws_loan.proofs.Told.{silent_tells}
+use Rattle.laws_loan.proofs.QueueEvents.{silent_tells}
 use Rattle.laws_loan.proofs.Turns.{Shows, sends_now}
 
 abbrev pub pushes_at : ℕ → ℕ → PushStage → ℕ → LoanFlight
@@ -42,9 +43,9 @@ abbrev pub IsCalm : PushStage → Type 0
 IsCalm (pushes.MovesRead read) = ⊥
 IsCalm stage = Unit {0}
 
-module _ {T : Type 0} (code : Coding T) (slots queue : ℕ) (s : Channel T) (latest : List (ℕ × Party T))
-    (turns changes since : ℕ) (x : Party T) (h : HoldsNow slots queue s latest s.events turns)
-    (small : turns < 2 ^ 64 - 2) (index : ℕ) (straight : x.backs ≡ 0) where
+module _ {T : Type 0} (scene : Scene T) (index : ℕ) where
+  open scene use {slots, queue, state as s, latest, turns, caller as x}
+
   abbrev pub start : Start T
   start = starts.Loan (calls.Send index)
 
@@ -67,7 +68,7 @@ module _ {T : Type 0} (code : Coding T) (slots queue : ℕ) (s : Channel T) (lat
 
   abbrev pub StepTo : Channel T → List (Event T) → PushStage → After LoanFlight (Answer T) → Effect → Type 0
   StepTo s' wrote stage after effect =
-      StepBy code slots queue s latest turns changes since x 0 s' (Open start wrote) (calls.Send index) (asked stage) false after effect
+      StepBy scene 0 s' (Open start wrote) (calls.Send index) (asked stage) false after effect
 
   -- what a step of a send that stands here comes to
   pub record Does (stage : PushStage) : Type 0 where
@@ -83,145 +84,138 @@ module _ {T : Type 0} (code : Coding T) (slots queue : ℕ) (s : Channel T) (lat
   abbrev pub Here : PushStage → Type 0
   Here stage = sends_at latest ≡ Some (flights.Loan (pushes_at slots queue stage index))
 
-  -- ---- what is so of the queue
+  module _ (h : HoldsIn scene) (small : turns < 2 ^ 64 - 2) (straight : x.backs ≡ 0) where
+    -- ---- what is so of the queue
 
-  pub reached : s.submission.write < 2 ^ 64 - 2
-  reached = let sent = h.sent in omega arith
+    pub reached : s.submission.write < 2 ^ 64 - 2
+    reached = let sent = h.sent in omega arith
 
-  pub long : length queued ≡ 5 + queue
-  long = grind (arith, reached)
+    pub long : length queued ≡ 5 + queue
+    long = grind (arith, reached)
 
-  pub old_is : (stage : PushStage) → IsOn queued (push_asks queue stage index) → old stage ≡ old_of queued (ask_of (push_asks queue stage index))
-  old_is stage on = submission_old slots queue s (counted_for (sends_at latest)) h.parts (push_asks queue stage index) on
+    pub old_is : (stage : PushStage) → IsOn queued (push_asks queue stage index) → old stage ≡ old_of queued (ask_of (push_asks queue stage index))
+    old_is stage on = submission_old slots queue s (counted_for (sends_at latest)) h.parts (push_asks queue stage index) on
 
-  pub words_are : (stage : PushStage) (k : Core ℕ) → IsOn queued (push_asks queue stage index)
-      → words_after queued (ask_of (push_asks queue stage index)) ≡ layout no_roles k
-      → words_after (words_in s) (asked stage) ≡ s.set ++ (layout no_roles k ++ layout no_roles s.completion)
-  words_are stage k on is =
-      submission_words slots queue s (counted_for (sends_at latest)) h.parts (push_asks queue stage index) on
-      ∙ ap (λ ws. s.set ++ (ws ++ layout no_roles s.completion)) is
+    pub words_are : (stage : PushStage) (k : Core ℕ) → IsOn queued (push_asks queue stage index)
+        → words_after queued (ask_of (push_asks queue stage index)) ≡ layout no_roles k
+        → words_after (words_in s) (asked stage) ≡ s.set ++ (layout no_roles k ++ layout no_roles s.completion)
+    words_are stage k on is =
+        submission_words slots queue s (counted_for (sends_at latest)) h.parts (push_asks queue stage index) on
+        ∙ ap (λ ws. s.set ++ (ws ++ layout no_roles s.completion)) is
 
-  pub change_is : (stage : PushStage) → IsOn queued (push_asks queue stage index)
-      → change_of (words_in s) (asked stage) ≡ change_of queued (ask_of (push_asks queue stage index))
-  change_is stage on = submission_change slots queue s (counted_for (sends_at latest)) h.parts (push_asks queue stage index) on
+    pub change_is : (stage : PushStage) → IsOn queued (push_asks queue stage index)
+        → change_of (words_in s) (asked stage) ≡ change_of queued (ask_of (push_asks queue stage index))
+    change_is stage on = submission_change slots queue s (counted_for (sends_at latest)) h.parts (push_asks queue stage index) on
 
-  -- the read position, as the words of the whole have it
-  pub read_is : read_in (submission_word slots) (words_in s) ≡ s.submission.read
-  read_is = submission_old slots queue s (counted_for (sends_at latest)) h.parts (load 1) (let wide = long in omega arith)
+    -- the read position, as the words of the whole have it
+    pub read_is : read_in (submission_word slots) (words_in s) ≡ s.submission.read
+    read_is = submission_old slots queue s (counted_for (sends_at latest)) h.parts (load 1) (let wide = long in omega arith)
 
-  idle : (stage : PushStage) → Here stage → counted_for (sends_at latest) ≡ 0
-  idle stage here = ap counted_for here
+    idle : (stage : PushStage) → Here stage → counted_for (sends_at latest) ≡ 0
+    idle stage here = ap counted_for here
 
-  -- a send carries no other index, until it takes one out
-  pub none_carried : {A : Type 0} (i : ℕ) → index ≢ i → Carries i (Open start []) → A
-  none_carried = grind arith
+    -- a send carries no other index, until it takes one out
+    pub none_carried : {A : Type 0} (i : ℕ) → index ≢ i → Carries i (Open start []) → A
+    none_carried = grind arith
 
-  -- ---- it goes on, and nothing has moved yet
+    -- ---- it goes on, and nothing has moved yet
 
-  module _ (now after_it : PushStage) (k : Core ℕ) (here : Here now) (calm : IsCalm now)
-      (from : span_of 0 s.events ≡ Open start []) (waits : k.waiting ≡ s.submission.waiting)
-      (write : k.write ≡ s.submission.write) (read : k.read ≡ s.submission.read)
-      (good : Good 1 words_of_index (queue + 1) k)
-      (on : IsOn queued (push_asks queue now index))
-      (words : words_after queued (ask_of (push_asks queue now index)) ≡ layout no_roles k)
-      (none : push_wrote {T = T} queue k index after_it ≡ [])
-      (calm_then : hung {T = T} k.read (Some (flights.Loan (pushes_at slots queue after_it index))) ≡ None)
-      (calm_now : hung {T = T} s.submission.read (Some (flights.Loan (pushes_at slots queue now index))) ≡ None)
-      (one : step_count (asked now) ≡ 1) (known : KnowsOverflowPush queue k index after_it)
-      (stands : PushAt slots queue
-      (record s { submission = k; completion = s.completion; book = s.book; events = s.events ++ [] }) index
-      after_it)
-      (steps : x.steps + 1 ≤ overflow_push_number after_it)
-      (pops : (room : OneWord) (stage : PopStage) → KnowsOverflowPop queue s.submission room stage
-      → KnowsOverflowPop queue k room stage) where
-    abbrev s_on : Channel T
-    s_on = record s { submission = k; completion = s.completion; book = s.book; events = s.events ++ [] }
+    module _ (now after_it : PushStage) (k : Core ℕ) (here : Here now) (calm : IsCalm now)
+        (from : span_of 0 s.events ≡ Open start []) (waits : k.waiting ≡ s.submission.waiting)
+        (write : k.write ≡ s.submission.write) (read : k.read ≡ s.submission.read) (good : Good 1 words_of_index (queue + 1) k)
+        (on : IsOn queued (push_asks queue now index)) (words : words_after queued (ask_of (push_asks queue now index)) ≡ layout no_roles k)
+        (none : push_wrote {T = T} queue k index after_it ≡ [])
+        (calm_then : hung {T = T} k.read (Some (flights.Loan (pushes_at slots queue after_it index))) ≡ None)
+        (calm_now : hung {T = T} s.submission.read (Some (flights.Loan (pushes_at slots queue now index))) ≡ None)
+        (one : step_count (asked now) ≡ 1) (known : KnowsOverflowPush queue k index after_it) (stands : PushAt slots queue
+        (record s { submission = k; completion = s.completion; book = s.book; events = s.events ++ [] }) index
+        after_it) (steps : x.steps + 1 ≤ overflow_push_number after_it)
+        (pops : (room : OneWord) (stage : PopStage) → KnowsOverflowPop queue s.submission room stage
+        → KnowsOverflowPop queue k room stage) where
+      abbrev s_on : Channel T
+      s_on = record s { submission = k; completion = s.completion; book = s.book; events = s.events ++ [] }
 
-    abbrev y_on : Party T
-    y_on = party_then s x since changes (calls.Send index) (asked now) false (GoOn (pushes_at slots queue after_it index))
+      abbrev y_on : Party T
+      y_on = party_then scene (calls.Send index) (asked now) false (GoOn (pushes_at slots queue after_it index))
 
-    as_was : span_of 0 (s.events ++ []) ≡ Open start []
-    as_was = ap (span_of 0) (append-nil s.events) ∙ from
+      as_was : span_of 0 (s.events ++ []) ≡ Open start []
+      as_was = ap (span_of 0) (append-nil s.events) ∙ from
 
-    few_wait : length k.waiting ≤ queue
-    few_wait = grind (arith, length)
+      few_wait : length k.waiting ≤ queue
+      few_wait = grind (arith, length)
 
-    shows_on : Shows slots queue s s_on 0 y_on latest turns []
-    shows_on = grind (arith, append-nil, idle, silent_tells, few_wait, sends_now)
+      shows_on : Shows slots queue s s_on 0 y_on latest turns []
+      shows_on = grind (arith, append-nil, idle, silent_tells, few_wait, sends_now)
 
-    pub goes_on : StepTo s_on [] now (GoOn (pushes_at slots queue after_it index)) effects.Quiet
-    goes_on =
-        let written = words_are now k on words in
-        let others =
-        others_beside slots queue s s_on refl refl pops (λ i stage known. known) (λ q ne i e. ap (spot_of i) (append-nil s.events) ∙ e) in
-        grind (arith, shows_on, as_was)
+      pub goes_on : StepTo s_on [] now (GoOn (pushes_at slots queue after_it index)) effects.Quiet
+      goes_on =
+          let written = words_are now k on words in
+          let others =
+          others_beside slots queue s s_on refl refl pops (λ i stage known. known) (λ q ne i e. ap (spot_of i) (append-nil s.events) ∙ e) in
+          grind (arith, shows_on, as_was)
 
-  -- ---- the loads, and the store into the cell
+    -- ---- the loads, and the store into the cell
 
-  module _ (passes : Passes slots queue s 0 index) (from : span_of 0 s.events ≡ Open start []) where
-    abbrev still : Channel T
-    still = record s { submission = s.submission; completion = s.completion; book = s.book; events = s.events ++ [] }
+    module _ (passes : Passes slots queue s 0 index) (from : span_of 0 s.events ≡ Open start []) where
+      abbrev still : Channel T
+      still = record s { submission = s.submission; completion = s.completion; book = s.book; events = s.events ++ [] }
 
-    passes_on : Passes slots queue (record s { events = s.events ++ [] }) 0 index
-    passes_on = (passes.0, ap (spot_of index) (append-nil s.events) ∙ passes.1)
+      passes_on : Passes slots queue (record s { events = s.events ++ [] }) 0 index
+      passes_on = (passes.0, ap (spot_of index) (append-nil s.events) ∙ passes.1)
 
-    pub loads_write : Here pushes.LoadsWrite → x.steps ≤ 0 → Does pushes.LoadsWrite
-    loads_write here steps =
-        let some = h.parts.some in
-        let on : 0 < length queued = (let wide = long in omega arith) in
-        does_by still pushes.LoadsWrite [] (GoOn (pushes_at slots queue (pushes.LoadsRead s.submission.write) index))
-        effects.Quiet refl
-        (ap (goes pushes.LoadsWrite) (old_is pushes.LoadsWrite on)
-        ∙ (let t : (s.submission.write == 2 ^ 64 - 1) ≡ false = (let low = reached in grind (arith, nat_tests)) in rw t refl))
-        refl
-        (goes_on pushes.LoadsWrite (pushes.LoadsRead s.submission.write) s.submission here tt from
-        refl refl refl h.parts.submission on refl refl refl refl refl
-        (omega arith, refl, (let low = reached in omega arith)) passes_on (omega arith) (λ room stage known. known))
+      pub loads_write : Here pushes.LoadsWrite → x.steps ≤ 0 → Does pushes.LoadsWrite
+      loads_write here steps =
+          let some = h.parts.some in
+          let on : 0 < length queued = (let wide = long in omega arith) in
+          does_by still pushes.LoadsWrite [] (GoOn (pushes_at slots queue (pushes.LoadsRead s.submission.write) index))
+          effects.Quiet refl (ap (goes pushes.LoadsWrite) (old_is pushes.LoadsWrite on)
+          ∙ (let t : (s.submission.write == 2 ^ 64 - 1) ≡ false = (let low = reached in grind (arith, nat_tests)) in rw t refl))
+          refl (goes_on pushes.LoadsWrite (pushes.LoadsRead s.submission.write) s.submission here tt from
+          refl refl refl h.parts.submission on refl refl refl refl refl
+          (omega arith, refl, (let low = reached in omega arith)) passes_on (omega arith) (λ room stage known. known))
 
-    pub loads_read : Here (pushes.LoadsRead s.submission.write) → x.steps ≤ 1 → Does (pushes.LoadsRead s.submission.write)
-    loads_read here steps =
-        let some = h.parts.some in
-        let on : 1 < length queued = (let wide = long in omega arith) in
-        let few : length s.submission.waiting ≤ queue = subst (Hangs queue s.submission) (ap (hung s.submission.read) here) h.hangs in
-        let write = h.parts.submission.write in
-        does_by still (pushes.LoadsRead s.submission.write) []
-        (GoOn (pushes_at slots queue (pushes.StoresCell s.submission.write s.submission.read) index)) effects.Quiet
-        refl (ap (goes (pushes.LoadsRead s.submission.write)) (old_is (pushes.LoadsRead s.submission.write) on)) refl
-        (goes_on (pushes.LoadsRead s.submission.write)
-        (pushes.StoresCell s.submission.write s.submission.read) s.submission here tt from refl refl refl
-        h.parts.submission on refl refl refl refl refl
-        (omega arith, refl, omega arith, omega arith, (let low = reached in omega arith)) passes_on (omega arith)
-        (λ room stage known. known))
+      pub loads_read : Here (pushes.LoadsRead s.submission.write) → x.steps ≤ 1 → Does (pushes.LoadsRead s.submission.write)
+      loads_read here steps =
+          let some = h.parts.some in
+          let on : 1 < length queued = (let wide = long in omega arith) in
+          let few : length s.submission.waiting ≤ queue = subst (Hangs queue s.submission) (ap (hung s.submission.read) here) h.hangs in
+          let write = h.parts.submission.write in
+          does_by still (pushes.LoadsRead s.submission.write) []
+          (GoOn (pushes_at slots queue (pushes.StoresCell s.submission.write s.submission.read) index)) effects.Quiet
+          refl (ap (goes (pushes.LoadsRead s.submission.write)) (old_is (pushes.LoadsRead s.submission.write) on)) refl
+          (goes_on (pushes.LoadsRead s.submission.write)
+          (pushes.StoresCell s.submission.write s.submission.read) s.submission here tt from refl refl refl
+          h.parts.submission on refl refl refl refl refl
+          (omega arith, refl, omega arith, omega arith, (let low = reached in omega arith)) passes_on (omega arith) (λ room stage known. known))
 
-    pub stores_cell : (read : ℕ) → read ≤ s.submission.read → s.submission.write ≤ read + queue
-        → Here (pushes.StoresCell s.submission.write read) → x.steps ≤ 2
-        → Does (pushes.StoresCell s.submission.write read)
-    stores_cell read low far here steps =
-        let some = h.parts.some in
-        let few : length s.submission.waiting ≤ queue = subst (Hangs queue s.submission) (ap (hung s.submission.read) here) h.hangs in
-        let below : length s.submission.waiting < queue + 1 = omega arith in
-        record {
-          channel_then =
-              record s {
-                submission = filled 1 words_of_index (queue + 1) s.submission 0 index;
-                completion = s.completion;
-                book = s.book;
-                events = s.events ++ [];
-              };
-          step =
-              goes_on (pushes.StoresCell s.submission.write read)
-              (pushes.StoresWrite s.submission.write read)
-              (filled 1 words_of_index (queue + 1) s.submission 0 index) here tt from refl refl refl
-              (submission.fill_good queue h.parts.some h.parts.few s.submission h.parts.submission reached index below)
-              (submission.cell_on queue h.parts.some h.parts.few s.submission h.parts.submission reached s.submission.write)
-              (submission.fill_words queue h.parts.some h.parts.few s.submission h.parts.submission reached index)
-              refl refl refl refl (
-                omega arith,
-                refl,
-                low,
-                far,
-                submission.fill_whole queue h.parts.some h.parts.few s.submission h.parts.submission reached index below,
-                (let up = reached in omega arith),
-              )
-              passes_on (omega arith) (fill_keeps_pop queue s.submission 0 index);
-        }
+      pub stores_cell : (read : ℕ) → read ≤ s.submission.read → s.submission.write ≤ read + queue
+          → Here (pushes.StoresCell s.submission.write read) → x.steps ≤ 2
+          → Does (pushes.StoresCell s.submission.write read)
+      stores_cell read low far here steps =
+          let some = h.parts.some in
+          let few : length s.submission.waiting ≤ queue = subst (Hangs queue s.submission) (ap (hung s.submission.read) here) h.hangs in
+          let below : length s.submission.waiting < queue + 1 = omega arith in
+          record {
+            channel_then =
+                record s {
+                  submission = filled 1 words_of_index (queue + 1) s.submission 0 index;
+                  completion = s.completion;
+                  book = s.book;
+                  events = s.events ++ [];
+                };
+            step =
+                goes_on (pushes.StoresCell s.submission.write read) (pushes.StoresWrite s.submission.write read)
+                (filled 1 words_of_index (queue + 1) s.submission 0 index) here tt from refl refl refl
+                (submission.fill_good queue h.parts.some h.parts.few s.submission h.parts.submission reached index below)
+                (submission.cell_on queue h.parts.some h.parts.few s.submission h.parts.submission reached s.submission.write)
+                (submission.fill_words queue h.parts.some h.parts.few s.submission h.parts.submission reached index)
+                refl refl refl refl (
+                  omega arith,
+                  refl,
+                  low,
+                  far,
+                  submission.fill_whole queue h.parts.some h.parts.few s.submission h.parts.submission reached index below,
+                  (let up = reached in omega arith),
+                )
+                passes_on (omega arith) (fill_keeps_pop queue s.submission 0 index);
+          }

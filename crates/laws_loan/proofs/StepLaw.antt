@@ -1,83 +1,84 @@
 -- From what a step shows to what it comes to for the frame.
 use Rattle.laws_loan.proofs.Names.{◌≡◌, ℕ, ◌+◌, Bool, Option, List, ◌++◌, subst, fold, Ask, After, Answer, Event}
-use Rattle.laws_loan.proofs.Names.{Book, LoanStart, LoanFlight, Effect, Party, Coding, ended_book, book_after}
+use Rattle.laws_loan.proofs.Names.{Book, LoanStart, LoanFlight, Effect, Coding, ended_book, book_after}
 use Rattle.laws_loan.proofs.Names.{effects_of, put, Span, span_of, answer_in, words_after, change_of, step_count}
-use Rattle.laws_loan.proofs.Names.{party_after, ending_of, Trace}
+use Rattle.laws_loan.proofs.Names.{party_after, ending_of}
 use Rattle.std.proofs.Common.{arith}
 use Rattle.model.specs.declared.event.Start.TheVariants as starts
 use Rattle.model.specs.declared.families.Registry.TheVariants as registries
 use Rattle.model.proofs.Frame as frame
 use Rattle.laws_loan.proofs.Channel.{Channel, words_in}
 use Rattle.laws_loan.proofs.Invariant.{HoldsNow, family}
+use Rattle.laws_loan.proofs.Scene.{Scene, Underway, scene_of}
 use Rattle.laws_loan.proofs.Sender.{any_call, party_then, told_by, StepBy, step_owes}
 use Rattle.laws_loan.proofs.Turns.{Shows, now_more}
 
-module _ {T : Type 0} (code : Coding T) (slots queue : ℕ) where
-  abbrev pub channel : frame.Family T
-  channel = family code slots queue
+module _ {T : Type 0} where
+  abbrev pub channel : Coding T → ℕ → ℕ → frame.Family T
+  channel code slots queue = family code slots queue
 
-  module _ (t : Trace T) (sound : frame.Sound channel t) (x : Party T) (since : ℕ) where
-    abbrev pub now : Channel T
-    now = sound.state
+module _ {T : Type 0} (m : Underway T) where
+  open m use {coding as code, slots, queue, trace as t, sound, caller as x, since}
 
-    -- what holds, by the events of the state, which are those of the run
-    pub holds_now : HoldsNow slots queue now t.world.latest now.events t.world.turns
-    holds_now = grind arith
+  abbrev any : frame.Family T
+  any = channel code slots queue
 
-    pub inv_now : frame.Inv channel now t.world.latest now.events t.world.changes
-    inv_now = grind arith
+  abbrev scene : Scene T
+  scene = scene_of m
 
-    -- what is done by this party with this operation, after which it goes on so, has written this and leaves this book
-    abbrev pub ComesWith : ℕ → LoanStart → Option Ask → Bool → After LoanFlight (Answer T) → List (Event T) → Book → Type 0
-    ComesWith p start ask back after wrote book =
-        frame.Comes channel t p (registries.Loan book) (words_after (words_in now) ask)
-        (party_after (record x { start = starts.Loan start }) since t.world.changes (step_count ask)
-        (change_of (words_in now) ask)
-        (record { after = any_call after; back = back; wrote = wrote; kept = registries.Loan book }))
-        (wrote ++ ending_of p (starts.Loan start) (answer_in (any_call after)))
-        (t.world.changes + change_of (words_in now) ask)
+  abbrev pub now : Channel T
+  now = sound.state
 
-    -- with this effect
-    abbrev pub ComesBy : ℕ → LoanStart → Option Ask → Bool → After LoanFlight (Answer T) → Effect → Type 0
-    ComesBy p start ask back after effect =
-        ComesWith p start ask back after (effects_of p effect (answer_in after))
-        (ended_book {T = T} p start (answer_in after) (fold (book_after {T = T}) now.book (effects_of p effect (answer_in after))))
+  -- what holds, by the events of the state, which are those of the run
+  pub holds_now : HoldsNow slots queue now t.world.latest now.events t.world.turns
+  holds_now = grind arith
 
-    -- any step that shows this and owes this
-    pub comes : (p : ℕ) (start : LoanStart) (ask : Option Ask) (back : Bool) (after : After LoanFlight (Answer T))
-        (es : List (Event T)) (book : Book) (s' : Channel T)
-        → book ≡ s'.book → words_after (words_in now) ask ≡ words_in s'
-        → Shows slots queue now s' p (party_then now x since t.world.changes start ask back after) t.world.latest t.world.turns es
-        → frame.Owes channel s' p (party_then now x since t.world.changes start ask back after) t.world.latest
-        now.events es (t.world.changes + change_of (words_in now) ask)
-        → frame.Comes channel t p (registries.Loan book) (words_after (words_in now) ask)
-        (party_then now x since t.world.changes start ask back after) es
-        (t.world.changes + change_of (words_in now) ask)
-    comes p start ask back after es book s' kept words shows owes =
-        record {
-          state = s';
-          fit = (kept, words);
-          holds =
-              subst (λ events. HoldsNow slots queue s'
-              (put p (party_then now x since t.world.changes start ask back after) t.world.latest) (events ++ es)
-              (t.world.turns + 1))
-              sound.holds.same
-              (now_more slots queue now s' p (party_then now x since t.world.changes start ask back after) t.world.latest t.world.turns es holds_now shows);
-          owes =
-              subst (λ events. frame.Owes channel s' p (party_then now x since t.world.changes start ask back after)
-              t.world.latest events es (t.world.changes + change_of (words_in now) ask))
-              sound.holds.same owes;
-        }
+  pub inv_now : frame.Inv any now t.world.latest now.events t.world.changes
+  inv_now = grind arith
 
-    -- by this effect, which leaves this book
-    pub step_comes : (p : ℕ) (start : LoanStart) (ask : Option Ask) (back : Bool) (after : After LoanFlight (Answer T))
-        (effect : Effect) (s' : Channel T) (from : Span T) → span_of p now.events ≡ from
-        → StepBy code slots queue now t.world.latest t.world.turns t.world.changes since x p s' from start ask back after effect
-        → ComesBy p start ask back after effect
-    step_comes p start ask back after effect s' from is step =
-        comes p start ask back after
-        (told_by code slots queue now t.world.latest t.world.turns t.world.changes since x p start after effect)
-        (ended_book {T = T} p start (answer_in after) (fold (book_after {T = T}) now.book (effects_of p effect (answer_in after))))
-        s' step.1 step.0.words step.0.shows
-        (step_owes code slots queue now t.world.latest t.world.turns t.world.changes since x p s' from start ask back after
-        (told_by code slots queue now t.world.latest t.world.turns t.world.changes since x p start after effect) step.0 is inv_now)
+  -- what is done by this party with this operation, after which it goes on so, has written this and leaves this book
+  abbrev pub ComesWith : ℕ → LoanStart → Option Ask → Bool → After LoanFlight (Answer T) → List (Event T) → Book → Type 0
+  ComesWith p start ask back after wrote book =
+      frame.Comes any t p (registries.Loan book) (words_after (words_in now) ask)
+      (party_after (record x { start = starts.Loan start }) since t.world.changes (step_count ask) (change_of (words_in now) ask)
+      (record { after = any_call after; back = back; wrote = wrote; kept = registries.Loan book }))
+      (wrote ++ ending_of p (starts.Loan start) (answer_in (any_call after))) (t.world.changes + change_of (words_in now) ask)
+
+  -- with this effect
+  abbrev pub ComesBy : ℕ → LoanStart → Option Ask → Bool → After LoanFlight (Answer T) → Effect → Type 0
+  ComesBy p start ask back after effect =
+      ComesWith p start ask back after (effects_of p effect (answer_in after))
+      (ended_book {T = T} p start (answer_in after) (fold (book_after {T = T}) now.book (effects_of p effect (answer_in after))))
+
+  -- any step that shows this and owes this
+  pub comes : (p : ℕ) (start : LoanStart) (ask : Option Ask) (back : Bool) (after : After LoanFlight (Answer T))
+      (es : List (Event T)) (book : Book) (s' : Channel T)
+      → book ≡ s'.book → words_after (words_in now) ask ≡ words_in s'
+      → Shows slots queue now s' p (party_then scene start ask back after) t.world.latest t.world.turns es
+      → frame.Owes any s' p (party_then scene start ask back after) t.world.latest
+      now.events es (t.world.changes + change_of (words_in now) ask)
+      → frame.Comes any t p (registries.Loan book) (words_after (words_in now) ask) (party_then scene start ask back after) es
+      (t.world.changes + change_of (words_in now) ask)
+  comes p start ask back after es book s' kept words shows owes =
+      record {
+        state = s';
+        fit = (kept, words);
+        holds =
+            subst (λ events. HoldsNow slots queue s' (put p (party_then scene start ask back after) t.world.latest) (events ++ es)
+            (t.world.turns + 1))
+            sound.holds.same (now_more slots queue now s' p (party_then scene start ask back after) t.world.latest t.world.turns es holds_now shows);
+        owes =
+            subst (λ events. frame.Owes any s' p (party_then scene start ask back after)
+            t.world.latest events es (t.world.changes + change_of (words_in now) ask))
+            sound.holds.same owes;
+      }
+
+  -- by this effect, which leaves this book
+  pub step_comes : (p : ℕ) (start : LoanStart) (ask : Option Ask) (back : Bool) (after : After LoanFlight (Answer T))
+      (effect : Effect) (s' : Channel T) (from : Span T) → span_of p now.events ≡ from
+      → StepBy scene p s' from start ask back after effect
+      → ComesBy p start ask back after effect
+  step_comes p start ask back after effect s' from is step =
+      comes p start ask back after (told_by scene p start after effect)
+      (ended_book {T = T} p start (answer_in after) (fold (book_after {T = T}) now.book (effects_of p effect (answer_in after))))
+      s' step.1 step.0.words step.0.shows (step_owes scene p s' from start ask back after (told_by scene p start after effect) step.0 is inv_now)

@@ -125,11 +125,11 @@ module _ {T : Type 0} (code : Coding T) (slots queue : ℕ) where
         go : (o : Option (Party T)) → party_of p t.world.latest ≡ o
             → AreRight (MovesRight slots) t.events (events_of_next t.world p o) → (i : ℕ)
             → place_in (after_next t.world p o).kept i ≡ place_of i (t.events ++ events_of_next t.world p o)
-        go x0 x1 x2 x3 = grind (arith, place_of, append-nil, answered)
+        go = grind (arith, place_of, append-nil, answered)
     turn_tabled (Decide p said) moves = go (party_of p t.world.latest) refl (right_of (MovesRight slots) t.events (events_of t.world (Decide p said)) moves)
       where
         go : (o : Option (Party T)) → party_of p t.world.latest ≡ o
             → AreRight (MovesRight slots) t.events (events_of_decision t.world p said o) → (i : ℕ)
             → place_in (after_decision t.world p said o).kept i ≡ place_of i (t.events ++ events_of_decision t.world p said o)
-        go x0 x1 x2 x3 = grind (arith, place_of, append-nil, answered, number_of)
+        go = grind (arith, place_of, append-nil, answered, number_of)
     turn_tabled (Die owner) moves = λ i. died owner i ∙ (tabled i ∙ sym (as_before i (Died owner) (λ place. refl)))

@@ -1,21 +1,20 @@
 -- A take-back, as steps of the machine: its pop, and the release of the index that it has taken.
-use Rattle.laws_loan.proofs.Names.{◌≡◌, ℕ, ◌-◌, ◌^◌, ◌<◌, sym, ap, subst, ◌∙◌, After, ReleaseState, DefaultMode}
+use Rattle.laws_loan.proofs.Names.{◌≡◌, ℕ, sym, ap, subst, ◌∙◌, After, ReleaseState, DefaultMode}
 use Rattle.laws_loan.proofs.Names.{Release, ReleaseStage, TakeBackStage, back_asks, back_takes, take_back_released}
-use Rattle.laws_loan.proofs.Names.{went_on, Answer, PoppedIndex, LoanFlight, TakeBack, Party, Coding, ask_of}
-use Rattle.laws_loan.proofs.Names.{release_effect, as_it_is, popped, Open, span_of, as_call, old_of, Trace}
+use Rattle.laws_loan.proofs.Names.{went_on, Answer, PoppedIndex, LoanFlight, TakeBack, ask_of}
+use Rattle.laws_loan.proofs.Names.{release_effect, as_it_is, popped, Open, span_of, as_call, old_of}
 use native.Mathlib.Omega.{arith}
 use Rattle.steps.specs.declared.loan.take_back.TakeBack as take_back
 use Rattle.steps.specs.declared.loan.take_back.TakeBackStage.TheVariants as take_backs
 use Rattle.model.specs.declared.event.Start.TheVariants as starts
 use Rattle.model.specs.declared.families.Flight.TheVariants as flights
 use Rattle.model.specs.declared.families.loan.LoanStart.TheVariants as calls
-use Rattle.model.proofs.Frame as frame
 use Rattle.laws_loan.proofs.Channel.{words_in}
 use Rattle.laws_loan.proofs.Releases.{take_back_frees_at, takes_back}
 use Rattle.laws_loan.proofs.ReleaseSteps.{With, releases_on}
 use Rattle.laws_loan.proofs.Releasing.{embedded}
+use Rattle.laws_loan.proofs.Scene.{Underway}
 use Rattle.laws_loan.proofs.Senders.{Stands, Comes, take_back_pops}
-use Rattle.laws_loan.proofs.StepLaw.{channel}
 
 abbrev pub take_back_at : ℕ → ℕ → TakeBackStage → LoanFlight
 take_back_at slots queue stage =
@@ -31,21 +30,17 @@ module _ (T : Type 0) (slots queue index : ℕ) where
       ≡ embedded {A = Answer T} (take_back_frees_at slots queue index) (PoppedIndex index) release
   goes_so = grind arith
 
-module _ {T : Type 0} (code : Coding T) (slots queue : ℕ) (t : Trace T)
-    (sound : frame.Sound (channel code slots queue) t) (small : t.world.turns < 2 ^ 64 - 2) (x : Party T)
-    (since : ℕ) where
+module _ {T : Type 0} (m : Underway T) where
+  open m use {slots, queue, sound}
+
   pub take_back_steps : (stage : TakeBackStage)
-      → Stands code slots queue t sound small x since 0 (starts.Loan calls.TakeBack)
-      (flights.Loan (take_back_at slots queue stage))
-      → Comes code slots queue t sound small x since 0 (starts.Loan calls.TakeBack)
-      (flights.Loan (take_back_at slots queue stage))
-  take_back_steps (take_backs.Pops stage found) there = take_back_pops code slots queue t sound small x since stage found there
+      → Stands m 0 (starts.Loan calls.TakeBack) (flights.Loan (take_back_at slots queue stage))
+      → Comes m 0 (starts.Loan calls.TakeBack) (flights.Loan (take_back_at slots queue stage))
+  take_back_steps (take_backs.Pops stage found) there = take_back_pops m stage found there
   take_back_steps (take_backs.Releases index stage) there =
       let at = there.at in
       let from = ap (span_of 0) sound.holds.same ∙ (there.span ∙ ap (λ es. Open (starts.Loan calls.TakeBack) es) at.3) in
       let value = old_of (words_in sound.state) (ask_of (back_asks slots index stage)) in
-      subst (With code slots queue t sound small x since index (takes_back T slots queue index) there.knows stage
-      (release_effect index stage))
-      (sym (goes_so T slots queue index stage (back_takes slots stage value)))
-      (releases_on code slots queue t sound small x since index (takes_back T slots queue index) there.knows stage
+      subst (With m index (takes_back T slots queue index) there.knows stage (release_effect index stage))
+      (sym (goes_so T slots queue index stage (back_takes slots stage value))) (releases_on m index (takes_back T slots queue index) there.knows stage
       (record { found = there.found; gives = at.4; from = from; few = there.steps }))

@@ -3,7 +3,7 @@ use Rattle.laws_loan.proofs.Names.{◌≡◌, ℕ, ◌+◌, ◌-◌, ◌^◌, �
 use Rattle.laws_loan.proofs.Names.{◌++◌, length, refl, sym, ap, subst, ◌∙◌, append-nil, ◌==◌, ◌||◌, true, nat_tests}
 use Rattle.laws_loan.proofs.Names.{set-get_or, Ask, After, GoOn, OneWord, completion_word, shifted, take_back_takes}
 use Rattle.laws_loan.proofs.Names.{went_on, Answer, Event, Finished, TakenBack, Start, LoanFlight, TakeBack, Effect}
-use Rattle.laws_loan.proofs.Names.{Party, Coding, one_word, ask_of, Passing, Returning, spot_of, taken_back}
+use Rattle.laws_loan.proofs.Names.{Party, one_word, ask_of, Passing, Returning, spot_of, taken_back}
 use Rattle.laws_loan.proofs.Names.{take_back_effect, as_it_is, popped, words_of_index, Span, Open, span_of, as_call}
 use Rattle.laws_loan.proofs.Names.{old_of, words_after, step_count, Core, taken, layout, in_one, KnowsPop, pop_number}
 use Rattle.std.proofs.Common.{arith}
@@ -22,7 +22,7 @@ use Rattle.laws_queues.proofs.Ring.Keeping.{take_keeps}
 use Rattle.laws_loan.proofs.Channel.{Channel, no_roles, words_in}
 use Rattle.laws_loan.proofs.Completion as completion
 use Rattle.laws_loan.proofs.Cuts.{IsOn}
-use Rattle.laws_loan.proofs.Invariant.{Hangs, sends_at, counted_for, Carries, HoldsNow}
+use Rattle.laws_loan.proofs.Invariant.{Hangs, sends_at, counted_for, Carries}
 use Rattle.laws_loan.proofs.Lists.{first_there}
 use Rattle.laws_loan.proofs.OneMove.{OneMove, carried, now_there, passes_on, same_receiver, span_after}
 use Rattle.laws_loan.proofs.Parts.{completion_long, completion_old, completion_words}
@@ -31,23 +31,22 @@ use Rattle.laws_loan.proofs.Releases.{take_back_frees_at}
 use Rattle.laws_loan.proofs.Rests.{KeepsSet, keeps_all}
 use Rattle.laws_loan.proofs.Rests as rests
 use Rattle.laws_loan.proofs.Rooms.{back_below, index_is}
+use Rattle.laws_loan.proofs.Scene.{Scene, HoldsIn}
 use Rattle.laws_loan.proofs.Sender.{party_then, StepBy}
 use Rattle.laws_loan.proofs.Spots.{returns_there, passing_same, returning_passes}
 use Rattle.laws_loan.proofs.Table.{takes_it_back}
 use Rattle.laws_loan.proofs.SenderInterference.{others_beside}
-use Rattle.laws_loan.proofs.Told.{silent_tells}
-use Rattle.laws_loan.proofs.Told.{is_reclaiming}
+use Rattle.laws_loan.proofs.QueueEvents.{silent_tells}
+use Rattle.laws_loan.proofs.QueueEvents.{is_reclaiming}
 use Rattle.laws_loan.proofs.Turns.{Shows, sends_now}
 
 abbrev pub pops_at : ℕ → ℕ → PopStage → OneWord → LoanFlight
 pops_at slots queue stage found =
     TakeBack (record { call = record { slots = slots; queue = queue; stage = take_backs.Pops stage found }; given = tt; room = tt })
 
-module _ {T : Type 0} (code : Coding T) (slots queue : ℕ) (s : Channel T) (latest : List (ℕ × Party T))
-    (turns changes since : ℕ) (x : Party T) (h : HoldsNow slots queue s latest s.events turns)
-    (small : turns < 2 ^ 64 - 2) (under : PopStage) (had : OneWord)
-    (here : sends_at latest ≡ Some (flights.Loan (pops_at slots queue under had)))
-    (from : span_of 0 s.events ≡ Open (starts.Loan calls.TakeBack) []) (straight : x.backs ≡ 0) where
+module _ {T : Type 0} (scene : Scene T) where
+  open scene use {slots, queue, state as s, latest, turns, caller as x}
+
   abbrev start : Start T
   start = starts.Loan calls.TakeBack
 
@@ -70,7 +69,7 @@ module _ {T : Type 0} (code : Coding T) (slots queue : ℕ) (s : Channel T) (lat
       (take_backs.Pops stage found) value))
 
   abbrev StepTo : Channel T → PopStage → After LoanFlight (Answer T) → Effect → Type 0
-  StepTo s' stage after effect = StepBy code slots queue s latest turns changes since x 0 s' spanned calls.TakeBack (asked stage) false after effect
+  StepTo s' stage after effect = StepBy scene 0 s' spanned calls.TakeBack (asked stage) false after effect
 
   -- what a step of a take-back that stands here comes to
   pub record Does (stage : PopStage) (found : OneWord) : Type 0 where
@@ -82,211 +81,205 @@ module _ {T : Type 0} (code : Coding T) (slots queue : ℕ) (s : Channel T) (lat
       → StepTo s' stage after (take_back_effect (take_backs.Pops stage found)) → Does stage found
   does_by = grind arith
 
-  -- ---- what is so of the queue
+  module _ (h : HoldsIn scene) (small : turns < 2 ^ 64 - 2) (under : PopStage) (had : OneWord)
+      (here : sends_at latest ≡ Some (flights.Loan (pops_at slots queue under had))) (from : span_of 0 s.events ≡ spanned) (straight : x.backs ≡ 0) where
+    -- ---- what is so of the queue
 
-  some : 1 ≤ slots
-  some = h.parts.set.some
+    some : 1 ≤ slots
+    some = h.parts.set.some
 
-  few : slots < 2 ^ 24
-  few = let low = h.parts.set.few in omega arith
+    few : slots < 2 ^ 24
+    few = let low = h.parts.set.few in omega arith
 
-  reached : s.completion.write < 2 ^ 64 - 2
-  reached = let given = h.given in omega arith
+    reached : s.completion.write < 2 ^ 64 - 2
+    reached = let given = h.given in omega arith
 
-  long : length queued ≡ 4 + slots
-  long = completion_long slots queue s (counted_for (sends_at latest)) h.parts
+    long : length queued ≡ 4 + slots
+    long = completion_long slots queue s (counted_for (sends_at latest)) h.parts
 
-  old_is : (stage : PopStage) → IsOn queued (pop_asks stage) → old stage ≡ old_of queued (ask_of (pop_asks stage))
-  old_is stage on = completion_old slots queue s (counted_for (sends_at latest)) h.parts (pop_asks stage) on
+    old_is : (stage : PopStage) → IsOn queued (pop_asks stage) → old stage ≡ old_of queued (ask_of (pop_asks stage))
+    old_is stage on = completion_old slots queue s (counted_for (sends_at latest)) h.parts (pop_asks stage) on
 
-  words_are : (stage : PopStage) (k : Core ℕ) → IsOn queued (pop_asks stage)
-      → words_after queued (ask_of (pop_asks stage)) ≡ layout no_roles k
-      → words_after (words_in s) (asked stage) ≡ s.set ++ (layout no_roles s.submission ++ layout no_roles k)
-  words_are stage k on is =
-      completion_words slots queue s (counted_for (sends_at latest)) h.parts (pop_asks stage) on
-      ∙ ap (λ ws. s.set ++ (layout no_roles s.submission ++ ws)) is
+    words_are : (stage : PopStage) (k : Core ℕ) → IsOn queued (pop_asks stage)
+        → words_after queued (ask_of (pop_asks stage)) ≡ layout no_roles k
+        → words_after (words_in s) (asked stage) ≡ s.set ++ (layout no_roles s.submission ++ layout no_roles k)
+    words_are stage k on is =
+        completion_words slots queue s (counted_for (sends_at latest)) h.parts (pop_asks stage) on
+        ∙ ap (λ ws. s.set ++ (layout no_roles s.submission ++ ws)) is
 
-  one_step : (stage : PopStage) → step_count (asked stage) ≡ 1
-  one_step = grind arith
+    one_step : (stage : PopStage) → step_count (asked stage) ≡ 1
+    one_step = grind arith
 
-  calm : Hangs queue s.submission None
-  calm = grind arith
+    calm : Hangs queue s.submission None
+    calm = grind arith
 
-  idle : counted_for (sends_at latest) ≡ 0
-  idle = ap counted_for here
+    idle : counted_for (sends_at latest) ≡ 0
+    idle = ap counted_for here
 
-  -- ---- it goes on
+    -- ---- it goes on
 
-  abbrev still : Channel T
-  still = record s { submission = s.submission; completion = s.completion; book = s.book; events = s.events ++ [] }
+    abbrev still : Channel T
+    still = record s { submission = s.submission; completion = s.completion; book = s.book; events = s.events ++ [] }
 
-  keeps : (now : PopStage) → IsOn queued (pop_asks now) → words_after queued (ask_of (pop_asks now)) ≡ queued
-      → KeepsSet slots queue s latest (asked now) s.set 0
-  keeps = grind (arith, keeps_all, words_are, idle)
+    keeps : (now : PopStage) → IsOn queued (pop_asks now) → words_after queued (ask_of (pop_asks now)) ≡ queued
+        → KeepsSet slots queue s latest (asked now) s.set 0
+    keeps = grind (arith, keeps_all, words_are, idle)
 
-  goes_on : (now after_it : PopStage) (then_found : OneWord) → IsOn queued (pop_asks now)
-      → words_after queued (ask_of (pop_asks now)) ≡ queued → KnowsPop one_word slots s.completion (in_one then_found) after_it
-      → x.steps + 1 ≤ pop_number 1 after_it
-      → StepTo still now (GoOn (pops_at slots queue after_it then_found)) effects.Quiet
-  goes_on now after_it then_found on words known steps =
-      let one = one_step now in (
-        rests.goes_on code slots queue s latest turns changes since x h straight calls.TakeBack [] from (asked now)
-            s.set (pops_at slots queue after_it then_found) (keeps now on words) refl (omega arith)
-            (refl, refl, refl, refl, known) (omega arith),
-        refl,
-      )
+    goes_on : (now after_it : PopStage) (then_found : OneWord) → IsOn queued (pop_asks now)
+        → words_after queued (ask_of (pop_asks now)) ≡ queued → KnowsPop one_word slots s.completion (in_one then_found) after_it
+        → x.steps + 1 ≤ pop_number 1 after_it
+        → StepTo still now (GoOn (pops_at slots queue after_it then_found)) effects.Quiet
+    goes_on now after_it then_found on words known steps =
+        let one = one_step now in (
+          rests.goes_on scene h straight calls.TakeBack [] from (asked now)
+              s.set (pops_at slots queue after_it then_found) (keeps now on words) refl (omega arith) (refl, refl, refl, refl, known) (omega arith),
+          refl,
+        )
 
-  -- ---- nothing waits
+    -- ---- nothing waits
 
-  abbrev load_of_write : PopStage
-  load_of_write = pops.LoadsWrite s.completion.read
+    abbrev load_of_write : PopStage
+    load_of_write = pops.LoadsWrite s.completion.read
 
-  abbrev s_none : Channel T
-  s_none = record s { submission = s.submission; completion = s.completion; book = s.book; events = s.events ++ Finished 0 start answers.PoppedNone ∷ [] }
+    abbrev s_none : Channel T
+    s_none = record s { submission = s.submission; completion = s.completion; book = s.book; events = s.events ++ Finished 0 start answers.PoppedNone ∷ [] }
 
-  -- nothing is in passing in a take-back that has taken nothing
-  none_carried : {A : Type 0} (i : ℕ) → Carries i spanned → A
-  none_carried i carried = let clash : [] ≡ i ∷ [] = carried.0 in absurd (cc)
+    -- nothing is in passing in a take-back that has taken nothing
+    none_carried : {A : Type 0} (i : ℕ) → Carries i spanned → A
+    none_carried i carried = let clash : [] ≡ i ∷ [] = carried.0 in absurd (cc)
 
-  finds_none : s.completion.waiting ≡ [] → IsOn queued (pop_asks load_of_write) → x.steps ≤ 1
-      → StepTo s_none load_of_write (Done answers.PoppedNone) effects.Quiet
-  finds_none empty on steps = (
-    rests.ends code slots queue s latest turns changes since x h straight calls.TakeBack [] from (asked load_of_write)
-        s.set answers.PoppedNone (keeps load_of_write on refl)
-        (record { moves = refl; receiver = λ r. refl; dead = λ q b. refl }) refl
-        (h.told.given ∙ (ap (λ xs. taken_back s.events ++ xs) empty ∙ append-nil (taken_back s.events)))
-        (λ i carried. none_carried i carried)
-        (grind arith)
-        (omega arith),
-    refl,
-  )
+    finds_none : s.completion.waiting ≡ [] → IsOn queued (pop_asks load_of_write) → x.steps ≤ 1
+        → StepTo s_none load_of_write (Done answers.PoppedNone) effects.Quiet
+    finds_none empty on steps = (
+      rests.ends scene h straight calls.TakeBack [] from (asked load_of_write)
+          s.set answers.PoppedNone (keeps load_of_write on refl) (record { moves = refl; receiver = λ r. refl; dead = λ q b. refl }) refl
+          (h.told.given ∙ (ap (λ xs. taken_back s.events ++ xs) empty ∙ append-nil (taken_back s.events))) (λ i carried. none_carried i carried)
+          (grind arith) (omega arith),
+      refl,
+    )
 
-  -- ---- the first one leaves the queue
+    -- ---- the first one leaves the queue
 
-  module _ (index : ℕ) (rest : List ℕ) (first : s.completion.waiting ≡ index ∷ rest) where
-    abbrev store_of_read : PopStage
-    store_of_read = pops.StoresRead s.completion.read
+    module _ (index : ℕ) (rest : List ℕ) (first : s.completion.waiting ≡ index ∷ rest) where
+      abbrev store_of_read : PopStage
+      store_of_read = pops.StoresRead s.completion.read
 
-    abbrev takes : Event T
-    takes = TakenBack 0 index
+      abbrev takes : Event T
+      takes = TakenBack 0 index
 
-    abbrev without : Core ℕ
-    without = taken 1 words_of_index slots s.completion rest
+      abbrev without : Core ℕ
+      without = taken 1 words_of_index slots s.completion rest
 
-    abbrev frees_at : LoanFlight
-    frees_at = take_back_frees_at slots queue index releases.ClearsFlag
+      abbrev frees_at : LoanFlight
+      frees_at = take_back_frees_at slots queue index releases.ClearsFlag
 
-    abbrev y_taken : Party T
-    y_taken = party_then s x since changes calls.TakeBack (asked store_of_read) false (GoOn frees_at)
+      abbrev y_taken : Party T
+      y_taken = party_then scene calls.TakeBack (asked store_of_read) false (GoOn frees_at)
 
-    abbrev s_taken : Channel T
-    s_taken = record s { submission = s.submission; completion = without; book = s.book; events = s.events ++ takes ∷ [] }
+      abbrev s_taken : Channel T
+      s_taken = record s { submission = s.submission; completion = without; book = s.book; events = s.events ++ takes ∷ [] }
 
-    below : index < slots
-    below = back_below slots s.claims s.submission.waiting s.completion.waiting s.book s.events h.parts.placed index rest first
+      below : index < slots
+      below = back_below slots s.claims s.submission.waiting s.completion.waiting s.book s.events h.parts.placed index rest first
 
-    was_returning : spot_of index s.events ≡ Returning
-    was_returning = grind (arith, returns_there, first_there)
+      was_returning : spot_of index s.events ≡ Returning
+      was_returning = grind (arith, returns_there, first_there)
 
-    one_move : OneMove 0 index s.events (takes ∷ []) Returning (Passing 0)
-    one_move = grind (arith, was_returning)
+      one_move : OneMove 0 index s.events (takes ∷ []) Returning (Passing 0)
+      one_move = grind (arith, was_returning)
 
-    open_then : span_of 0 (s.events ++ takes ∷ []) ≡ Open start (takes ∷ [])
-    open_then = span_after 0 index s.events (takes ∷ []) Returning (Passing 0) one_move spanned from
+      open_then : span_of 0 (s.events ++ takes ∷ []) ≡ Open start (takes ∷ [])
+      open_then = span_after 0 index s.events (takes ∷ []) Returning (Passing 0) one_move spanned from
 
-    shows_taken : Shows slots queue s s_taken 0 y_taken latest turns (takes ∷ [])
-    shows_taken =
-        let good = completion.take_good slots some few s.completion h.parts.completion reached index rest first in
-        let placed = takes_it_back slots s.claims s.submission.waiting s.completion.waiting s.book s.events h.parts.placed index below rest first in
-        let tells =
-        silent_tells queue (is_reclaiming s.events) s.submission.waiting s.completion.waiting rest (takes ∷ [])
-        refl refl refl (append-nil s.completion.waiting ∙ first) in
-        let passing =
-        carried 0 index s.events (takes ∷ []) Returning (Passing 0) one_move spanned from h.passing (λ i ne. none_carried i)
-        (λ q e. (sym (passing_same 0 q e), (refl, refl))) in
-        grind (arith, open_then, sends_now, same_receiver, one_move, idle, calm, below, was_returning)
+      shows_taken : Shows slots queue s s_taken 0 y_taken latest turns (takes ∷ [])
+      shows_taken =
+          let good = completion.take_good slots some few s.completion h.parts.completion reached index rest first in
+          let placed = takes_it_back slots s.claims s.submission.waiting s.completion.waiting s.book s.events h.parts.placed index below rest first in
+          let tells =
+          silent_tells queue (is_reclaiming s.events) s.submission.waiting s.completion.waiting rest (takes ∷ [])
+          refl refl refl (append-nil s.completion.waiting ∙ first) in
+          let passing =
+          carried 0 index s.events (takes ∷ []) Returning (Passing 0) one_move spanned from h.passing (λ i ne. none_carried i)
+          (λ q e. (sym (passing_same 0 q e), (refl, refl))) in
+          grind (arith, open_then, sends_now, same_receiver, one_move, idle, calm, below, was_returning)
 
-    takes_it : IsOn queued (pop_asks store_of_read) → x.steps ≤ 3 → StepTo s_taken store_of_read (GoOn frees_at) (effects.TakesBack index)
-    takes_it on steps =
-        let words = words_are store_of_read without on (completion.take_words slots some few s.completion h.parts.completion reached index rest first) in
-        let there = now_there 0 index s.events (takes ∷ []) Returning (Passing 0) one_move in
-        let others =
-        others_beside slots queue s s_taken refl refl (λ room stage known. known) (take_keeps one_word slots s.completion index rest first)
-        (λ q ne. passes_on 0 index s.events (takes ∷ []) Returning (Passing 0) one_move q (returning_passes q)) in
-        grind (arith, shows_taken, open_then, below)
+      takes_it : IsOn queued (pop_asks store_of_read) → x.steps ≤ 3 → StepTo s_taken store_of_read (GoOn frees_at) (effects.TakesBack index)
+      takes_it on steps =
+          let words = words_are store_of_read without on (completion.take_words slots some few s.completion h.parts.completion reached index rest first) in
+          let there = now_there 0 index s.events (takes ∷ []) Returning (Passing 0) one_move in
+          let others =
+          others_beside slots queue s s_taken refl refl (λ room stage known. known) (take_keeps one_word slots s.completion index rest first)
+          (λ q ne. passes_on 0 index s.events (takes ∷ []) Returning (Passing 0) one_move q (returning_passes q)) in
+          grind (arith, shows_taken, open_then, below)
 
-  -- ---- each of its stages
+    -- ---- each of its stages
 
-  loads_read : (room : OneWord) → x.steps ≤ 0 → Does pops.LoadsRead room
-  loads_read room steps =
-      let on : 1 < length queued = (let wide = long in omega arith) in
-      does_by still pops.LoadsRead room (GoOn (pops_at slots queue load_of_write room))
-      (ap (goes pops.LoadsRead room) (old_is pops.LoadsRead on))
-      (goes_on pops.LoadsRead load_of_write room on refl (omega arith, refl) (omega arith))
+    loads_read : (room : OneWord) → x.steps ≤ 0 → Does pops.LoadsRead room
+    loads_read room steps =
+        let on : 1 < length queued = (let wide = long in omega arith) in
+        does_by still pops.LoadsRead room (GoOn (pops_at slots queue load_of_write room)) (ap (goes pops.LoadsRead room) (old_is pops.LoadsRead on))
+        (goes_on pops.LoadsRead load_of_write room on refl (omega arith, refl) (omega arith))
 
-  abbrev load_of_cell : PopStage
-  load_of_cell = pops.LoadsCell s.completion.read (cell_word slots 1 s.completion.read) 0
+    abbrev load_of_cell : PopStage
+    load_of_cell = pops.LoadsCell s.completion.read (cell_word slots 1 s.completion.read) 0
 
-  loads_write : (room : OneWord) → x.steps ≤ 1 → Does load_of_write room
-  loads_write room steps = go (s.completion.write == s.completion.read) refl
-    where
-      on : 0 < length queued
-      on = let wide = long in omega arith
+    loads_write : (room : OneWord) → x.steps ≤ 1 → Does load_of_write room
+    loads_write room steps = go (s.completion.write == s.completion.read) refl
+      where
+        on : 0 < length queued
+        on = let wide = long in omega arith
 
-      none : (slots == 0) ≡ false
-      none = let most = some in grind (arith, nat_tests)
+        none : (slots == 0) ≡ false
+        none = let most = some in grind (arith, nat_tests)
 
-      go : (same : Bool) → (s.completion.write == s.completion.read) ≡ same → Does load_of_write room
-      go true e =
-          let zero = none in
-          let both : (slots == 0 || s.completion.write == s.completion.read) ≡ true = rw (zero, e) refl in
-          does_by s_none load_of_write room (Done answers.PoppedNone)
-          (ap (goes load_of_write room) (old_is load_of_write on) ∙ (rw both refl))
-          (finds_none (completion.finds_none slots some few s.completion h.parts.completion reached e) on steps)
-      go false e =
-          let zero = none in
-          let both : (slots == 0 || s.completion.write == s.completion.read) ≡ false = rw (zero, e) refl in
-          let ahead = completion.finds_some slots some few s.completion h.parts.completion reached e in
-          let write = h.parts.completion.write in
-          let front = completion.first_of s.completion.waiting (omega arith) in
-          let known : KnowsPop one_word slots s.completion (in_one room) load_of_cell =
-          (omega arith, front.0, front.1, refl, front.2, refl, omega arith, λ i below. absurd (omega arith)) in
-          does_by still load_of_write room (GoOn (pops_at slots queue load_of_cell room))
-          (ap (goes load_of_write room) (old_is load_of_write on) ∙ (rw both refl))
-          (goes_on load_of_write load_of_cell room on refl known (omega arith))
+        go : (same : Bool) → (s.completion.write == s.completion.read) ≡ same → Does load_of_write room
+        go true e =
+            let zero = none in
+            let both : (slots == 0 || s.completion.write == s.completion.read) ≡ true = rw (zero, e) refl in
+            does_by s_none load_of_write room (Done answers.PoppedNone) (ap (goes load_of_write room) (old_is load_of_write on) ∙ (rw both refl))
+            (finds_none (completion.finds_none slots some few s.completion h.parts.completion reached e) on steps)
+        go false e =
+            let zero = none in
+            let both : (slots == 0 || s.completion.write == s.completion.read) ≡ false = rw (zero, e) refl in
+            let ahead = completion.finds_some slots some few s.completion h.parts.completion reached e in
+            let write = h.parts.completion.write in
+            let front = completion.first_of s.completion.waiting (omega arith) in
+            let known : KnowsPop one_word slots s.completion (in_one room) load_of_cell =
+            (omega arith, front.0, front.1, refl, front.2, refl, omega arith, λ i below. absurd (omega arith)) in
+            does_by still load_of_write room (GoOn (pops_at slots queue load_of_cell room))
+            (ap (goes load_of_write room) (old_is load_of_write on) ∙ (rw both refl))
+            (goes_on load_of_write load_of_cell room on refl known (omega arith))
 
-  -- the cell has the first value
-  loads_cell : (room : OneWord) (v : ℕ) (rest : List ℕ) → s.completion.waiting ≡ v ∷ rest → x.steps ≤ 2 → Does load_of_cell room
-  loads_cell room v rest first steps =
-      let on = completion.cell_on slots some few s.completion h.parts.completion reached s.completion.read in
-      let value : old load_of_cell ≡ v =
-      old_is load_of_cell on
-      ∙ completion.first_is slots some few s.completion h.parts.completion reached v rest first in
-      does_by still load_of_cell room (GoOn (pops_at slots queue (pops.StoresRead s.completion.read) (word_of v)))
-      (ap (goes load_of_cell room) value)
-      (goes_on load_of_cell (pops.StoresRead s.completion.read) (word_of v) on
-      (set-get_or queued (word_at (cell_word slots 1 s.completion.read) 0) 0) (rest, refl, first) (omega arith))
+    -- the cell has the first value
+    loads_cell : (room : OneWord) (v : ℕ) (rest : List ℕ) → s.completion.waiting ≡ v ∷ rest → x.steps ≤ 2 → Does load_of_cell room
+    loads_cell room v rest first steps =
+        let on = completion.cell_on slots some few s.completion h.parts.completion reached s.completion.read in
+        let value : old load_of_cell ≡ v =
+        old_is load_of_cell on
+        ∙ completion.first_is slots some few s.completion h.parts.completion reached v rest first in
+        does_by still load_of_cell room (GoOn (pops_at slots queue (pops.StoresRead s.completion.read) (word_of v)))
+        (ap (goes load_of_cell room) value) (goes_on load_of_cell (pops.StoresRead s.completion.read) (word_of v) on
+        (set-get_or queued (word_at (cell_word slots 1 s.completion.read) 0) 0) (rest, refl, first) (omega arith))
 
-  stores_read : (room : OneWord) (rest : List ℕ) → s.completion.waiting ≡ room.0 ∷ rest → x.steps ≤ 3
-      → Does (pops.StoresRead s.completion.read) room
-  stores_read room rest first steps =
-      let on : 1 < length queued = (let wide = long in omega arith) in
-      let low : slots < 2 ^ 32 = (let less = few in omega arith) in
-      does_by (s_taken room.0 rest first) (pops.StoresRead s.completion.read) room
-      (GoOn (take_back_frees_at slots queue room.0 releases.ClearsFlag))
-      (ap (λ i. GoOn (take_back_frees_at slots queue i releases.ClearsFlag)) (index_is room.0 slots (below room.0 rest first) low))
-      (takes_it room.0 rest first on steps)
+    stores_read : (room : OneWord) (rest : List ℕ) → s.completion.waiting ≡ room.0 ∷ rest → x.steps ≤ 3
+        → Does (pops.StoresRead s.completion.read) room
+    stores_read room rest first steps =
+        let on : 1 < length queued = (let wide = long in omega arith) in
+        let low : slots < 2 ^ 32 = (let less = few in omega arith) in
+        does_by (s_taken room.0 rest first) (pops.StoresRead s.completion.read) room
+        (GoOn (take_back_frees_at slots queue room.0 releases.ClearsFlag))
+        (ap (λ i. GoOn (take_back_frees_at slots queue i releases.ClearsFlag)) (index_is room.0 slots (below room.0 rest first) low))
+        (takes_it room.0 rest first on steps)
 
-  -- what a take-back knows leads on
-  pub does : (now : PopStage) (room : OneWord) → KnowsPop one_word slots s.completion (in_one room) now → x.steps ≤ pop_number 1 now → Does now room
-  does pops.LoadsRead room known steps = loads_read room steps
-  does (pops.LoadsWrite read) room known steps =
-      subst (λ n. Does (pops.LoadsWrite n) room) (sym known.1) (loads_write room steps)
-  does (pops.LoadsCell read cell at) room known steps =
-      let first : at ≡ 0 = (let low = known.6 in omega arith) in
-      subst (λ n. Does (pops.LoadsCell read cell n) room) (sym first)
-      (subst (λ n. Does (pops.LoadsCell read n 0) room) (sym known.5)
-      (subst (λ n. Does (pops.LoadsCell n (cell_word slots 1 s.completion.read) 0) room) (sym known.3)
-      (loads_cell room known.1 known.2 known.4 (omega arith))))
-  does (pops.StoresRead read) room known steps =
-      subst (λ n. Does (pops.StoresRead n) room) (sym known.1) (stores_read room known.0 known.2 steps)
+    -- what a take-back knows leads on
+    pub does : (now : PopStage) (room : OneWord) → KnowsPop one_word slots s.completion (in_one room) now → x.steps ≤ pop_number 1 now → Does now room
+    does pops.LoadsRead room known steps = loads_read room steps
+    does (pops.LoadsWrite read) room known steps =
+        subst (λ n. Does (pops.LoadsWrite n) room) (sym known.1) (loads_write room steps)
+    does (pops.LoadsCell read cell at) room known steps =
+        let first : at ≡ 0 = (let low = known.6 in omega arith) in
+        subst (λ n. Does (pops.LoadsCell read cell n) room) (sym first) (subst (λ n. Does (pops.LoadsCell read n 0) room) (sym known.5)
+        (subst (λ n. Does (pops.LoadsCell n (cell_word slots 1 s.completion.read) 0) room) (sym known.3)
+        (loads_cell room known.1 known.2 known.4 (omega arith))))
+    does (pops.StoresRead read) room known steps =
+        subst (λ n. Does (pops.StoresRead n) room) (sym known.1) (stores_read room known.0 known.2 steps)

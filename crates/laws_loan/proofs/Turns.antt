@@ -6,7 +6,7 @@ use Rattle.laws_loan.proofs.Names.{span_of, AreRight, Each-append}
 use Rattle.std.proofs.Common.{arith}
 use Rattle.laws_loan.proofs.Channel.{Channel, Holds}
 use Rattle.laws_loan.proofs.Invariant.{Hangs, sends_at, counted_for, hung, reclaims_in, Carries, HoldsNow}
-use Rattle.laws_loan.proofs.Told.{is_reclaiming, Told, Tells, told_more}
+use Rattle.laws_loan.proofs.QueueEvents.{is_reclaiming, Told, Tells, told_more}
 
 module _ {T : Type 0} (slots queue : ℕ) (s s' : Channel T) (p : ℕ) (y : Party T) (latest : List (ℕ × Party T)) (turns : ℕ) (es : List (Event T)) where
   -- by a turn of this party, whose call is then this, with these events

@@ -364,7 +364,7 @@ module _ {T : Type 0} (alone changes : ℕ) (code : Coding T) (words : List ℕ)
 
 -- the first word of a cell
 cell_low : (capacity size position : ℕ) → 4 ≤ cell_word capacity size position
-cell_low x0 x1 x2 = grind arith
+cell_low = grind arith
 
 cell_high : (capacity size position : ℕ) → 1 ≤ size → cell_word capacity size position ≤ 4 + size * capacity
 cell_high capacity size position some = go (capacity == 0) refl
@@ -389,34 +389,34 @@ module _ {T : Type 0} (kd : QueueKind) where
 
     goes : 1 ≤ code.size → (start : Start T) (flight : Flight T) (old : ℕ) → At kd code c start flight
         → OwnAfter (outline kd) code c start (after_of code flight old)
-    goes x0 x1 x2 x3 x4 = grind (arith, nat_tests, cell_low, cell_high)
+    goes = grind (arith, nat_tests, cell_low, cell_high)
 
     begins : (start : Start T) (kept : Registry T) (flight : Flight T) → Kept kept → first_of (machine_kind kd) c start kept ≡ Some flight
         → At kd code c start flight × ((p : ℕ) → Kept (kept_after_begin code c start p kept))
-    begins x0 x1 x2 x3 x4 = grind arith
+    begins = grind arith
 
     stays : (words : List ℕ) (beside : Option (ℕ × ℕ)) (p : ℕ) (start : Start T) (flight : Flight T) (old : ℕ) (kept : Registry T)
         → At kd code c start flight → Kept kept → Kept (step_of code words beside p start flight old kept).kept
-    stays x0 x1 x2 x3 x4 x5 x6 x7 x8 = grind arith
+    stays = grind arith
 
     told : (words : List ℕ) (beside : Option (ℕ × ℕ)) (p : ℕ) (start : Start T) (flight : Flight T) (old : ℕ) (kept : Registry T)
         → At kd code c start flight → Kept kept
         → ((step_of code words beside p start flight old kept).after ≡ after_of code flight old)
         × (goes_of code p flight old kept ≡ after_of code flight old)
-    told x0 x1 x2 x3 x4 x5 x6 x7 x8 = grind arith
+    told = grind arith
 
     asks : (start : Start T) (flight : Flight T) → At kd code c start flight → is_question (want_of code flight) ≡ false
-    asks x0 x1 x2 = grind arith
+    asks = grind arith
 
     dies : (kept : Registry T) (owner : ℕ) → Kept kept → Kept (kept_after_death kept owner)
-    dies x0 x1 x2 = grind arith
+    dies = grind arith
 
     most : 1 ≤ code.size → (words : List ℕ) (start : Start T) (flight : Flight T) → At kd code c start flight
         → (((outline kd).measure code c).left words flight ≤ alone_of code.size kd) × (pays flight ≤ changes_of kd)
-    most x0 x1 x2 x3 x4 = grind arith
+    most = grind arith
 
     opens : (kd : QueueKind) → Kept {T = T} ((opening_of (machine_kind kd)).kept c)
-    opens x0 = grind arith
+    opens = grind arith
 
   laws : (code : Coding T) (c : ℕ) → IsCoding code → capacity_error (machine_kind kd) c ≡ None → TableLaws (outline kd) code c
   laws code c coded admitted =

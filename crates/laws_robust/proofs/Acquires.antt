@@ -65,4 +65,4 @@ module _ {T : Type 0} (scene : Scene T) (inv : Inv scene) (owner : ℕ) (fits : 
   pub acquire_step : (stage : AcquireStage) → AcquireAt c owner (all scene) stage
       → Knows c (acquire_at c owner stage) (now scene) → steps ≤ acquire_number c stage backs
       → StepOf scene (Acquire owner) (acquire_at c owner stage)
-  acquire_step x0 x1 x2 x3 = grind (arith, held_step, caller)
+  acquire_step = grind (arith, held_step, caller)

@@ -51,7 +51,7 @@ module _ {T : Type 0} (t : Trace T) where
         go (Going flight since) d = steps p x since flight (number_of said) found d
 
     turn_leaves : (turn : Turn T) → open_refusal t.world turn ≡ None → AllByRecursion Leaves (events_of t.world turn)
-    turn_leaves x0 x1 = grind (arith, next_leaves, decision_leaves)
+    turn_leaves = grind (arith, next_leaves, decision_leaves)
 
     pub all_live_on : (turn : Turn T) → open_refusal t.world turn ≡ None → AllLive t.events → AllLive (after_turn t turn).events
-    all_live_on x0 x1 x2 x3 = grind (arith, fold-append, false, all_leave, turn_leaves)
+    all_live_on = grind (arith, fold-append, false, all_leave, turn_leaves)

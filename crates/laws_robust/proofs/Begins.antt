@@ -27,7 +27,7 @@ module _ {T : Type 0} where
   pub taken : (p index owner : ℕ) (start : Start T) (events : List (Event T))
       → ((r : Right) → right_after index r (Begun p start) ≡ (if index == index then taken_by p owner r else r))
       → AreOwned events → settled_of index events ≡ Some owner → IsBy p index owner (events ++ Begun p start ∷ [])
-  taken x0 x1 x2 x3 x4 x5 x6 x7 = grind (arith, fold-append, right_of, at_same, taken_by, eq-eqb)
+  taken = grind (arith, fold-append, right_of, at_same, taken_by, eq-eqb)
 
 module _ {T : Type 0} (scene : Scene T) (g : Good scene.by scene.capacity scene.set.words scene.set.dead scene.events scene.turns) (start : Start T) where
   open scene use {party as p, events as events}
@@ -48,7 +48,7 @@ module _ {T : Type 0} (scene : Scene T) (g : Good scene.by scene.capacity scene.
   same_holder i = fold-append (holder_after i) None events es
 
   settles : AreOwned events → (i o : ℕ) → settled_of i (events ++ es) ≡ Some o → (filled_of i (events ++ es) ≡ Some o) × (right_of i (events ++ es) ≡ Settled o)
-  settles x0 x1 x2 x3 = grind (arith, still_settled, right_of, fold-append, same)
+  settles = grind (arith, still_settled, right_of, fold-append, same)
 
   pub begins : Does scene scene.set.words (Begun p start ∷ [])
   begins =

@@ -72,7 +72,7 @@ module _ {T : Type 0} (by : GoneBy) (c : ℕ) (words dead : List ℕ) (events : 
       let filled = same_filled in let holder = same_holder in let dead = dead_then in let less = well_formed_less events es in grind arith
 
   pub death_spares : (q : ℕ) → Spares by q events es
-  death_spares x0 = grind (arith, set_acts, span_of-death, same_right, same_filled, same_holder, same_settled)
+  death_spares = grind (arith, set_acts, span_of-death, same_right, same_filled, same_holder, same_settled)
 
   pub death_known : (q since changes backs : ℕ) (flight : Flight T)
       → Knowing c flight (view by words events q since changes backs)

@@ -38,6 +38,7 @@ both_ways b f t = let same : true ≡ false = sym t ∙ f in absurd (cc)
 module _ {T : Type 0} where
   -- ---- events that change nothing of the set
 
+  -- whatever stood before, these events leave who fills, holds and settled each index, its right, the lock and the dead
   pub record Quiet (es : List (Event T)) : Type 0 where
     pub filled : (i : ℕ) (o : Option ℕ) → fold (filled_after i) o es ≡ o
     pub holder : (i : ℕ) (o : Option ℕ) → fold (holder_after i) o es ≡ o
@@ -68,7 +69,7 @@ module _ {T : Type 0} where
   quiet_end p start answer settles rights = grind arith
 
   pub well_formed_less : (events es : List (Event T)) → IsWellFormed (events ++ es) → IsWellFormed events
-  well_formed_less x0 x1 x2 x3 x4 x5 x6 = grind (arith, append_assoc)
+  well_formed_less = grind (arith, append_assoc)
 
 module _ {T : Type 0} (scene : Scene T) where
   open scene use {by as by, capacity as c, party as p, turns as turns, events as events}
@@ -81,6 +82,7 @@ module _ {T : Type 0} (scene : Scene T) where
 
   -- ---- what becomes of the words where no cell changes
 
+  -- these words have the same cells and the same lock, and a counter that is no less
   pub record Leaves (words' : List ℕ) : Type 0 where
     pub wide : length words' ≡ length ws
     pub cells : (i : ℕ) → i < c → cell words' i ≡ cell ws i
@@ -179,7 +181,7 @@ module _ {T : Type 0} (scene : Scene T) where
     stays_same words' same = grind arith
 
     pub stays_raised : (words' : List ℕ) → counter_of ws < greatest → words' ≡ set ws 0 (counter_of ws + 1) → Stays words'
-    stays_raised x0 x1 x2 = grind (arith, counter_set, length, length-set, cell, cells_stay, ne_eqb, locked, not_shut, get_or-set_other)
+    stays_raised = grind (arith, counter_set, length, length-set, cell, cells_stay, ne_eqb, locked, not_shut, get_or-set_other)
 
     module _ (words' : List ℕ) (raised : IsRaised words') where
       pub raised_open : counter_of ws ≢ locked
@@ -189,7 +191,7 @@ module _ {T : Type 0} (scene : Scene T) where
       raised_stays = ⊎_elim (λ h. stays_raised words' h.0 h.1) (λ h. stays_same words' h.2) raised
 
       pub raised_more : counter_of ws < greatest → counter_of words' ≡ counter_of ws + 1
-      raised_more x0 = grind (arith, counter_set)
+      raised_more = grind (arith, counter_set)
 
     -- a cell tells with whom its index is filled
     module _ (i : ℕ) (below : i < c) where
@@ -224,7 +226,7 @@ module _ {T : Type 0} (scene : Scene T) where
       right_more i = fold-append (right_after i) _ events es ∙ quiet.right i (right_of i events)
 
       still_owned : AreOwned events → AreOwned (events ++ es)
-      still_owned x0 = grind (arith, filled_more, holder_more, settled_more, right_more)
+      still_owned = grind (arith, filled_more, holder_more, settled_more, right_more)
 
       pub quietly : Does scene words' es
       quietly =
@@ -269,13 +271,13 @@ module _ {T : Type 0} (scene : Scene T) where
       within_words = let wide = g.wide in omega arith
 
       fill_cells : (j : ℕ) → j < c → cell words' j ≡ cell_of (filled_of j (events ++ fill))
-      fill_cells x0 x1 = grind (arith, filled_then, cell_set, within_words, cell_stays)
+      fill_cells = grind (arith, filled_then, cell_set, within_words, cell_stays)
 
       fill_filled : (j o : ℕ) → filled_of j (events ++ fill) ≡ Some o → (j < c) × (o < empty)
       fill_filled j o e = let is = filled_then j in let was = g.filled j o in grind arith
 
       fill_owned : AreOwned events → AreOwned (events ++ fill)
-      fill_owned x0 = grind (arith, filled_then, fill_holder, fill_settled, fill_right)
+      fill_owned = grind (arith, filled_then, fill_holder, fill_settled, fill_right)
 
       fill_counter : counter_of words' ≡ counter_of ws
       fill_counter = ap counter_of new ∙ counter_stays ws i owner

@@ -25,6 +25,24 @@ use Rattle.laws_robust.proofs.Sound.{scene_of, inv_of, is_there}
 use Rattle.laws_robust.proofs.Stages.{all, now, any_call}
 use Rattle.laws_robust.proofs.Written.{all_effects}
 
+-- the call of party `q` is handed this answer, and party `p` may so have ended a find of this owner with this number
+pub record Handed (T : Type 0) : Type 0 where
+  pub code : Coding T
+  pub c : ℕ
+  pub t : Trace T
+  pub s : frame.Sound (family code c) t
+  pub q : ℕ
+  pub x : Party T
+  pub since : ℕ
+  pub small : t.world.turns < 2 ^ 64 - 2
+  pub found : party_of q t.world.latest ≡ Some x
+  pub turn : Turn T
+  pub mine : IsParty turn q
+  pub answer : ℕ
+  pub p : ℕ
+  pub owner : ℕ
+  pub number : ℕ
+
 module _ {T : Type 0} where
   -- ---- a turn that writes an end alone
 
@@ -67,7 +85,7 @@ module _ {T : Type 0} where
         (any_call (after {T = T} flight answer)) ≡ Some (Number number) → IsCount p (IsFilledWith owner) c number events
 
     stage_tells : (fits : owner < empty) (number : ℕ) (due : Bool) (stage : FindStage) → FindAt c (all scene) stage → Tells number due (find_at c owner stage)
-    stage_tells x0 x1 x2 x3 x4 x5 x6 x7 x8 x9 x10 = grind (arith, find_loads_all, done_is, find_asks_all)
+    stage_tells = grind (arith, find_loads_all, done_is, find_asks_all)
 
     find_tells : (number : ℕ) (due : Bool) (flight : RobustFlight) → At c (all scene) (starts.Find owner) flight → Tells number due flight
     find_tells number due (calls.Find run) at =
@@ -82,9 +100,9 @@ module _ {T : Type 0} where
 
   -- ---- a step of a party's call
 
-  module _ (code : Coding T) (c : ℕ) (t : Trace T) (s : frame.Sound (family code c) t) (q : ℕ) (x : Party T)
-      (since : ℕ) (small : t.world.turns < 2 ^ 64 - 2) (found : party_of q t.world.latest ≡ Some x) (turn : Turn T)
-      (mine : IsParty turn q) (answer p owner number : ℕ) where
+  module _ (handed : Handed T) where
+    open handed use {code, c, t, s, q, x, since, small, found, turn, mine, answer, p, owner, number}
+
     -- it wrote that a find is done, and nothing else
     abbrev Wrote : Registry T → Start T → Flight T → Type 0
     Wrote kept start flight =
@@ -101,7 +119,7 @@ module _ {T : Type 0} where
 
     own_end : (start : Start T) (flight : Flight T) → StandsThere (family code c) t s q x since start flight
         → Wrote (registries.Owners s.state.dead) start flight → q ≡ p
-    own_end x0 x1 x2 x3 = grind (arith, wrote_end)
+    own_end = grind (arith, wrote_end)
 
     counted : (due : Bool) → (due ≡ true → answer ≢ 0) → (start : Start T) (flight : Flight T)
         → StandsThere (family code c) t s q x since start flight → is_question (want_of t.world.coding flight) ≡ due
@@ -143,6 +161,27 @@ module _ {T : Type 0} where
     abbrev Ended : List (Event T) → Type 0
     Ended es = es ≡ Finished p (Robust (starts.Find owner)) (Number number) ∷ []
 
+    abbrev handed : (q : ℕ) {x : Party T} → t.world.turns < 2 ^ 64 - 2 → party_of q t.world.latest ≡ Some x → ℕ → (turn : Turn T) → IsParty turn q → ℕ
+        → Handed T
+    handed q {x} small found since turn mine answer =
+        record {
+          code = code;
+          c = c;
+          t = t;
+          s = s;
+          q = q;
+          x = x;
+          since = since;
+          small = small;
+          found = found;
+          turn = turn;
+          mine = mine;
+          answer = answer;
+          p = p;
+          owner = owner;
+          number = number;
+        }
+
     next_tells : (q : ℕ) → t.world.turns < 2 ^ 64 - 2 → is_due t.world.coding (flight_in t.world q) ≡ false
         → (o : Option (Party T)) → party_of q t.world.latest ≡ o → Ended (events_of_next t.world q o)
         → IsCount p (IsFilledWith owner) c number t.events
@@ -155,8 +194,7 @@ module _ {T : Type 0} where
         go (Over others) d e = absurd (cc)
         go (Going flight since) d e =
             let here : flight_in t.world q ≡ Some flight = ap (λ o. flight_of (doing_of o)) found ∙ ap (λ d. flight_of (Some d)) d in
-            all_counted code c t s q x since small found (Next q) refl
-            (old_of t.world.words (ask_of (want_of t.world.coding flight))) p owner number flight d e false
+            all_counted (handed q small found since (Next q) refl (old_of t.world.words (ask_of (want_of t.world.coding flight)))) flight d e false
             (λ told. absurd (cc)) (rw here at free) (λ no. refl)
 
     decision_tells : (q : ℕ) (said : Bool) → t.world.turns < 2 ^ 64 - 2
@@ -174,12 +212,11 @@ module _ {T : Type 0} where
             by : (b : Bool) → said ≡ b → IsCount p (IsFilledWith owner) c number t.events
             by true is =
                 let here : flight_in t.world q ≡ Some flight = ap (λ o. flight_of (doing_of o)) found ∙ ap (λ d. flight_of (Some d)) d in
-                all_counted code c t s q x since small found (Decide q said) refl (number_of said) p owner number
-                flight d e true
+                all_counted (handed q small found since (Decide q said) refl (number_of said)) flight d e true
                 (λ told zero. let one : number_of said ≡ 1 = ap number_of is in absurd (omega arith))
                 (rw here at due) (λ no. absurd (cc))
             by false is =
-                let party = own_party code c t s q x since small found (Decide q said) refl (number_of said) p owner number flight d e in
+                let party = own_party (handed q small found since (Decide q said) refl (number_of said)) flight d e in
                 absurd (ne (ap (λ n. Decide n said) party ∙ ap (λ b. Decide p b) is))
 
   -- no decision is due in a step

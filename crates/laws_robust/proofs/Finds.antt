@@ -15,6 +15,7 @@ use Rattle.laws_robust.proofs.Invariant.{Scene, Inv, Good}
 use Rattle.laws_robust.proofs.Knows.{Knows, IsPaid}
 use Rattle.laws_robust.proofs.CallProgress.{find_at, find_number, FindAt}
 use Rattle.laws_robust.proofs.Stages.{IsHere, all, now, sees, loads, loads_same, StepOf, AnswerOf, Leads, goes_quietly, ends_quietly}
+use Rattle.laws_robust.proofs.Cases.{on_bool}
 
 module _ {T : Type 0} (scene : Scene T) (inv : Inv scene) (owner : ℕ) (fits : owner < empty) where
   open scene use {capacity as c, party as p, steps as steps, events as events}
@@ -73,25 +74,25 @@ module _ {T : Type 0} (scene : Scene T) (inv : Inv scene) (owner : ℕ) (fits : 
 
     loads_step : (k found : ℕ) → k < c → Knows c (find_at c owner (finds.LoadsCell k found)) (now scene)
         → steps ≤ k → StepOf scene (Find owner) (find_at c owner (finds.LoadsCell k found))
-    loads_step k found below h s = go (cell ws k == owner) refl
-      where
-        go : (b : Bool) → (cell ws k == owner) ≡ b → Lead (Some (loads (cell_word k))) (if b then GoOn
-            (at_find (call_at (finds.LoadsCell k found)) (finds.Asks k (one_more found)))
-            else find_comes_to (call_at (finds.LoadsCell k found)) (k + 1) found)
-        go true t =
-            let is : cell ws k ≡ owner = grind (arith, nat_tests) in
-            let paid = h.paid in
-            goes_quietly scene inv (Find owner) (find_at c owner (finds.Asks k (one_more found)))
-            (Some (loads (cell_word k))) false here (stays_same scene inv _ (loads_same ws (cell_word k)))
-            (omega arith)
-            (refl, refl, fits, (below, none))
-            (record { paid = omega arith; scanned = tt; owns = tt; says = one_counts k found below h.says is; gone = tt })
-        go false t =
-            let other : cell ws k ≢ owner = grind (arith, nat_tests) in
-            let paid = h.paid in
-            comes_to_next (Some (loads (cell_word k))) (loads_same ws (cell_word k)) (omega arith)
-            (finds.LoadsCell k found) k found below (omega arith)
-            (none_counts k found below h.says other)
+    loads_step k found below h s =
+        on_bool (λ b. Lead (Some (loads (cell_word k)))
+        (if b then GoOn (at_find (call_at (finds.LoadsCell k found)) (finds.Asks k (one_more found))) else
+        find_comes_to (call_at (finds.LoadsCell k found)) (k + 1) found))
+        (cell ws k == owner)
+        (λ t.
+        let is : cell ws k ≡ owner = grind (arith, nat_tests) in
+        let paid = h.paid in
+        goes_quietly scene inv (Find owner) (find_at c owner (finds.Asks k (one_more found)))
+        (Some (loads (cell_word k))) false here (stays_same scene inv _ (loads_same ws (cell_word k)))
+        (omega arith)
+        (refl, refl, fits, (below, none))
+        (record { paid = omega arith; scanned = tt; owns = tt; says = one_counts k found below h.says is; gone = tt }))
+        (λ t.
+        let other : cell ws k ≢ owner = grind (arith, nat_tests) in
+        let paid = h.paid in
+        comes_to_next (Some (loads (cell_word k))) (loads_same ws (cell_word k)) (omega arith)
+        (finds.LoadsCell k found) k found below (omega arith)
+        (none_counts k found below h.says other))
 
   pub find_decided : IsHere scene (Find owner) → (k found : ℕ)
       → FindAt c (all scene) (finds.Asks k found)
@@ -107,7 +108,7 @@ module _ {T : Type 0} (scene : Scene T) (inv : Inv scene) (owner : ℕ) (fits : 
   pub find_step : IsHere scene (Find owner) → (stage : FindStage) → FindAt c (all scene) stage
       → Knows c (find_at c owner stage) (now scene) → steps ≤ find_number stage
       → StepOf scene (Find owner) (find_at c owner stage)
-  find_step x0 x1 x2 x3 x4 = grind (arith, loads_step, find_decided)
+  find_step = grind (arith, loads_step, find_decided)
 
   -- ---- a find that is done without a no has come to all indices
 

@@ -97,4 +97,4 @@ module _ (T : Type 0) (c : ℕ) where
 
   pub begins_own : (kept : Registry T) (start : Start T) (flight : Flight T)
       → first_of kinds.Robust c start kept ≡ Some flight → IsOwn T c start flight
-  begins_own x0 x1 x2 x3 = grind (arith, named_own)
+  begins_own = grind (arith, named_own)

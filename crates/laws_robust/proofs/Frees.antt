@@ -59,19 +59,19 @@ module _ {T : Type 0} (scene : Scene T) (inv : Inv scene) where
     counter_same = ap counter_of new ∙ counter_stays ws i empty
 
     cells_then : (j : ℕ) → j < c → cell words' j ≡ cell_of (filled_of j (events ++ es))
-    cells_then x0 x1 = grind (arith, filled_then, cell_set, empty, within_words, cell_stays)
+    cells_then = grind (arith, filled_then, cell_set, empty, within_words, cell_stays)
 
     filled_was : (j o : ℕ) → filled_of j (events ++ es) ≡ Some o → filled_of j events ≡ Some o
     filled_was j o e = let is = filled_then j in grind arith
 
     still_owned : AreOwned events → AreOwned (events ++ es)
-    still_owned x0 = grind (arith, filled_then, holder_then, settled_then, right_then)
+    still_owned = grind (arith, filled_then, holder_then, settled_then, right_then)
 
     unheld_then : (j : ℕ) → holder_of j events ≡ None → holder_of j (events ++ es) ≡ None
     unheld_then j none = let is = holder_then j in grind arith
 
     owned_then : IsCalm by (events ++ es) → (q : ℕ) → q ≢ p → (j o : ℕ) → is_gone by o events ≡ false → IsBy q j o events → IsBy q j o (events ++ es)
-    owned_then x0 x1 x2 x3 x4 x5 x6 = grind (arith, filled_then, right_then)
+    owned_then = grind (arith, filled_then, right_then)
 
     pub frees : Does scene words' (free i owner)
     frees =

@@ -36,20 +36,20 @@ module _ {T : Type 0} where
   gone_stays owner (e ∷ es) = gone_stays owner es
 
   pub gone_more : (by : GoneBy) (owner : ℕ) (events es : List (Event T)) → is_gone by owner events ≡ true → is_gone by owner (events ++ es) ≡ true
-  gone_more x0 x1 x2 x3 x4 = grind (arith, fold-append, false, fold, dead_stays, gone_stays)
+  gone_more = grind (arith, fold-append, false, fold, dead_stays, gone_stays)
 
   pub gone_less : (by : GoneBy) (owner : ℕ) (events es : List (Event T)) → is_gone by owner (events ++ es) ≡ false → is_gone by owner events ≡ false
-  gone_less x0 x1 x2 x3 x4 = grind (arith, was_false, gone_more)
+  gone_less = grind (arith, was_false, gone_more)
 
   -- who is told of is gone, if he has to be dead for it
   pub gone_told : (by : GoneBy) (p index owner : ℕ) (events : List (Event T)) → MayBeTold by owner events
       → is_gone by owner (events ++ Told p index owner ∷ []) ≡ true
-  gone_told x0 x1 x2 x3 x4 x5 = grind (arith, gone_more, fold-append, false, eq-eqb)
+  gone_told = grind (arith, gone_more, fold-append, false, eq-eqb)
 
   -- and so is he for whom a container's recovery begins
   pub gone_begun : (p owner : ℕ) (mode : ReleaseMode) (events : List (Event T))
       → is_gone Word owner (events ++ Begun p (Container (containers.Recover owner mode)) ∷ []) ≡ true
-  gone_begun x0 x1 x2 x3 = grind (arith, fold-append, false, eq-eqb)
+  gone_begun = grind (arith, fold-append, false, eq-eqb)
 
   -- ---- honest runs
 
@@ -63,18 +63,18 @@ module _ {T : Type 0} where
   -- an index is granted for an owner who lives
   pub lives_granted : (by : GoneBy) (p index owner : ℕ) (events : List (Event T)) → is_dead owner events ≡ false
       → IsHonestBy by (events ++ Granted p index owner ∷ []) → is_gone by owner events ≡ false
-  lives_granted x0 x1 x2 x3 x4 x5 x6 = grind arith
+  lives_granted = grind arith
 
   -- a release frees one of an owner who lives
   pub lives_freed : (by : GoneBy) (p index owner : ℕ) (events : List (Event T)) → is_dead owner events ≡ false
       → (IsHonest (events ++ FreedOf p index owner ∷ []) → is_gone Word owner events ≡ false)
       → IsHonestBy by (events ++ FreedOf p index owner ∷ []) → is_gone by owner events ≡ false
-  lives_freed x0 x1 x2 x3 x4 x5 x6 x7 = grind arith
+  lives_freed = grind arith
 
   -- an add ends with an index for an owner who lives
   pub lives_settled : (by : GoneBy) (p index owner : ℕ) (value : T) (events : List (Event T)) → is_dead owner events ≡ false
       → IsHonestBy by (events ++ Finished p (Container (containers.Add value owner)) (Index index) ∷ []) → is_gone by owner events ≡ false
-  lives_settled x0 x1 x2 x3 x4 x5 x6 x7 = grind arith
+  lives_settled = grind arith
 
   -- ---- nothing is filled with an owner who is gone
 
@@ -97,7 +97,7 @@ module _ {T : Type 0} where
       → ((i owner : ℕ) → is_dead owner events ≡ true → filled_of i (events ++ es) ≡ Some owner → filled_of i events ≡ Some owner)
       → (i owner : ℕ) → IsHonestBy by (events ++ es) → is_gone by owner events ≡ true
       → filled_of i (events ++ es) ≡ Some owner → filled_of i events ≡ Some owner
-  stays_lost x0 x1 x2 x3 x4 x5 x6 x7 x8 = grind (arith, lost_so_far)
+  stays_lost = grind (arith, lost_so_far)
 
   -- ---- answers, in the words of a machine whose owners die
 
@@ -126,4 +126,4 @@ module _ {T : Type 0} where
 
     pub answers_right : (by : GoneBy) (c : ℕ) (events : List (Event T)) → IsHonestBy by events
         → Each (AnswersBy by worn c) events → Each (AnswersRight c) events
-    answers_right x0 x1 x2 x3 x4 x5 x6 x7 x8 = grind (arith, answer_right, honest_less)
+    answers_right = grind (arith, answer_right, honest_less)

@@ -48,7 +48,7 @@ module _ {T : Type 0} (scene : Scene T) (inv : Inv scene) where
 
     module _ (calm : IsCalm by (events ++ es)) where
       still_owned : AreOwned events → AreOwned (events ++ es)
-      still_owned x0 = grind (arith, same, holder_then, settled_then, right_then)
+      still_owned = grind (arith, same, holder_then, settled_then, right_then)
 
       -- no other party has a right to it
       other_index : (q : ℕ) → q ≢ p → (j o : ℕ) → IsBy q j o events → j ≢ i
@@ -56,7 +56,7 @@ module _ {T : Type 0} (scene : Scene T) (inv : Inv scene) where
 
       -- nor may it be given back
       unsettled : (j o : ℕ) → settled_of j events ≡ Some o → j ≢ i
-      unsettled x0 x1 x2 x3 = grind (arith, calm_less)
+      unsettled = grind (arith, calm_less)
 
     pub gives : AreOwn p es → AreRight (SetDoes c) events es → AreRight (AnswersBy by (IsWorn by words') c) events es
         → (IsCalm by (events ++ es) → AreRight HoldsRight events es)
@@ -97,7 +97,7 @@ module _ {T : Type 0} (scene : Scene T) (inv : Inv scene) where
     -- the call goes on: the party has the right to it, and its owner holds it
     pub owns_then : IsCalm by (events ++ Granted p i owner ∷ [])
         → IsBy p i owner (events ++ Granted p i owner ∷ []) × (holder_of i (events ++ Granted p i owner ∷ []) ≡ Some owner)
-    owns_then x0 = grind (arith, fold-append, same_filled, g, stays, keeps, at_same)
+    owns_then = grind (arith, fold-append, same_filled, g, stays, keeps, at_same)
 
     pub grants_alone : Does scene words' (Granted p i owner ∷ [])
     grants_alone =

@@ -25,6 +25,7 @@ use Rattle.laws_robust.proofs.Parts.{raise_ask, raise_step, none_holds, finds_co
 use Rattle.laws_robust.proofs.Rights.{By, right_after, right_of, IsBy}
 use Rattle.laws_robust.proofs.Stages.{all, now, sees, then_sees, backs_then, loads, exchanges, loads_same, fails_same}
 use Rattle.laws_robust.proofs.Stages.{exchange_sets, paid_of, paid_back, holds_on}
+use Rattle.laws_robust.proofs.Cases.{on_bool}
 
 pub some_is : (o : Option ℕ) (owner : ℕ) → o ≡ Some owner → is_some o ≡ true
 some_is o owner e = ap is_some e
@@ -79,11 +80,11 @@ module _ {T : Type 0} (scene : Scene T) (inv : Inv scene) (owner : ℕ) (fits : 
         (none : all scene ≡ []) (low : steps + step_count ask ≤ extra + (1 + backs_then scene back * (c + 1)))
         (paid : IsPaid (sees scene ask back)) where
       finds_locked : counter_of ws ≡ locked → Lead ask back [] (Done (Err failures.IsLocked))
-      finds_locked x0 = grind (arith, is_shut, inl)
+      finds_locked = grind (arith, is_shut, inl)
 
       begins_cells : counter_of ws ≢ locked → counter_of ws ≢ greatest
           → Lead ask back [] (GoOn (at_acquire (call_at stage) (acquires.FillsCell (counter_of ws) 0)))
-      begins_cells x0 x1 = grind (arith, finds_counter, held_now, unlocked)
+      begins_cells = grind (arith, finds_counter, held_now, unlocked)
 
       finds : Lead ask back [] (acquire_sees (call_at stage) (counter_of ws))
       finds =
@@ -134,21 +135,19 @@ module _ {T : Type 0} (scene : Scene T) (inv : Inv scene) (owner : ℕ) (fits : 
           (omega arith)
 
       was_filled : cell ws i ≢ empty → (j : ℕ) → j < i + 1 → HeldSometime p (IsFilled j) events
-      was_filled x0 x1 x2 = grind (arith, held_now, some_is, cell, filled_some)
+      was_filled = grind (arith, held_now, some_is, cell, filled_some)
 
       passes : cell ws i ≢ empty → Lead exchange false [] (acquire_tries (call_at filling) number (i + 1))
-      passes x0 = grind (arith, fails_same, empty, holds_on, by_test, false, was_filled, nat_tests)
+      passes = grind (arith, fails_same, empty, holds_on, by_test, false, was_filled, nat_tests)
 
       fills_step : Lead exchange false (acquire_effects p owner filling (cell ws i)) (acquire_takes (call_at filling) filling (cell ws i))
-      fills_step = go (cell ws i == empty) refl
-        where
-          go : (b : Bool) → (cell ws i == empty) ≡ b → Lead (Some (exchanges (cell_word i) empty owner)) false (if b then Filled p i owner ∷ [] else [])
-              (if b then GoOn (at_acquire (call_at (acquires.FillsCell number i))
-              (acquires.Raises i raises.LoadsCounter))
-              else acquire_tries
-              (call_at (acquires.FillsCell number i)) number (i + 1))
-          go true t = let is : cell ws i ≡ empty = grind (arith, nat_tests) in fills_cell is
-          go false t = let other : cell ws i ≢ empty = grind (arith, nat_tests) in passes other
+      fills_step =
+          on_bool (λ b. Lead (Some (exchanges (cell_word i) empty owner)) false (if b then Filled p i owner ∷ [] else [])
+          (if b then GoOn (at_acquire (call_at (acquires.FillsCell number i)) (acquires.Raises i raises.LoadsCounter))
+          else acquire_tries (call_at (acquires.FillsCell number i)) number (i + 1)))
+          (cell ws i == empty)
+          (λ t. let is : cell ws i ≡ empty = grind (arith, nat_tests) in fills_cell is)
+          (λ t. let other : cell ws i ≢ empty = grind (arith, nat_tests) in passes other)
 
     -- ---- the exchange of the counter for itself
 
@@ -158,22 +157,22 @@ module _ {T : Type 0} (scene : Scene T) (inv : Inv scene) (owner : ℕ) (fits : 
         (acquire_goes_back (acquires.ChecksCounter number) (counter_of ws)) []
         (acquire_takes (call_at (acquires.ChecksCounter number))
         (acquires.ChecksCounter number) (counter_of ws))
-    checks_step number none s k = go (counter_of ws == number) refl
-      where
-        go : (b : Bool) → (counter_of ws == number) ≡ b → Lead (Some (exchanges 0 number number)) (not b) []
-            (if b then Done (Err failures.OutOfIndices) else acquire_sees (call_at (acquires.ChecksCounter number)) (counter_of ws))
-        go true t =
-            let is : counter_of ws ≡ number = grind (arith, nat_tests) in
-            let paid_now = paid_of scene (counter_of ws ≡ number) k.paid.paid in
-            let same : words_after ws (Some (exchanges 0 number number)) ≡ ws =
-            exchange_sets ws 0 number number is ∙ (ap (set ws 0) (sym is) ∙ set-get_or ws 0 0) in
-            caller.fails failures.OutOfIndices (Some (exchanges 0 number number)) false same
-            (unlocked scene inv (λ shut. let end = k.paid.before_end in absurd (omega arith)), inr k.says, none) (omega arith) (omega arith)
-        go false t =
-            let other : counter_of ws ≢ number = grind (arith, nat_tests) in
-            finds (acquires.ChecksCounter number) (Some (exchanges 0 number number)) true
-            (fails_same ws 0 number number other) none (omega arith)
-            (paid_back scene number (Some (exchanges 0 number number)) events other k.paid)
+    checks_step number none s k =
+        on_bool (λ b. Lead (Some (exchanges 0 number number)) (not b) []
+        (if b then Done (Err failures.OutOfIndices) else acquire_sees (call_at (acquires.ChecksCounter number)) (counter_of ws)))
+        (counter_of ws == number)
+        (λ t.
+        let is : counter_of ws ≡ number = grind (arith, nat_tests) in
+        let paid_now = paid_of scene (counter_of ws ≡ number) k.paid.paid in
+        let same : words_after ws (Some (exchanges 0 number number)) ≡ ws =
+        exchange_sets ws 0 number number is ∙ (ap (set ws 0) (sym is) ∙ set-get_or ws 0 0) in
+        caller.fails failures.OutOfIndices (Some (exchanges 0 number number)) false same
+        (unlocked scene inv (λ shut. let end = k.paid.before_end in absurd (omega arith)), inr k.says, none) (omega arith) (omega arith))
+        (λ t.
+        let other : counter_of ws ≢ number = grind (arith, nat_tests) in
+        finds (acquires.ChecksCounter number) (Some (exchanges 0 number number)) true
+        (fails_same ws 0 number number other) none (omega arith)
+        (paid_back scene number (Some (exchanges 0 number number)) events other k.paid))
 
     -- ---- the raise of the counter
 

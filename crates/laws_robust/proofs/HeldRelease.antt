@@ -28,9 +28,10 @@ use Rattle.laws_robust.proofs.CallProgress.{at_least_one, release_at, release_nu
 use Rattle.laws_robust.proofs.Parts.{raise_ask, lock_ask, raise_step, lock_step, IsSaid}
 use Rattle.laws_robust.proofs.Rights.{right_of, IsBy}
 use Rattle.laws_robust.proofs.Stages.{all, now, sees, then_sees, backs_then, exchanges, fails_same, exchange_sets}
+use Rattle.laws_robust.proofs.Cases.{on_bool}
 
 first_few : (c index owner backs n : ℕ) (mode : ReleaseMode) → n ≤ 1 → n ≤ most_steps c (Release index owner mode) backs
-first_few x0 x1 x2 x3 x4 x5 x6 = grind arith
+first_few = grind arith
 
 module _ {T : Type 0} (scene : Scene T) (inv : Inv scene) (index owner : ℕ) (mode : ReleaseMode) (fits : owner < empty) (below : index < scene.capacity)
     (lives : LivesToRelease owner scene.events (span_of scene.party scene.events))
@@ -92,13 +93,13 @@ module _ {T : Type 0} (scene : Scene T) (inv : Inv scene) (index owner : ℕ) (m
       exchange = Some (exchanges (cell_word index) owner empty)
 
       owns_it : IsCalm by (events ++ FreedOf p index owner ∷ []) → IsBy p index owner events
-      owns_it x0 = grind (arith, calm_less)
+      owns_it = grind (arith, calm_less)
 
       mine : IsCalm by (events ++ FreedOf p index owner ∷ []) → (q : ℕ) → q ≢ p → (o : ℕ) → is_gone by o events ≡ false → IsBy q index o events → ⊥
       mine calm q ne o lives h = ne (one_party _ p q (owns_it calm).right h.right)
 
       unsettled : IsCalm by (events ++ FreedOf p index owner ∷ []) → (o : ℕ) → is_gone by o events ≡ false → settled_of index events ≡ Some o → ⊥
-      unsettled x0 x1 x2 x3 = grind (arith, calm_less, owns_it, right_of)
+      unsettled = grind (arith, calm_less, owns_it, right_of)
 
       empties : cell ws index ≡ owner
           → Lead exchange false (FreedOf p index owner ∷ []) (GoOn (call_at (releases.Raises raises.LoadsCounter)))
@@ -111,21 +112,20 @@ module _ {T : Type 0} (scene : Scene T) (inv : Inv scene) (index owner : ℕ) (m
           (record { paid = let paid = k.paid in omega arith; scanned = tt; owns = tt; says = tt; gone = tt }) (omega arith)
 
       refuses : cell ws index ≢ owner → Lead exchange false [] (Done (Err IndexIsNotOwnedByProvidedOwner))
-      refuses x0 = grind (arith, fails_same, empty, first_few)
+      refuses = grind (arith, fails_same, empty, first_few)
 
       empties_step : Lead exchange false
           (release_effects p (record { index = index; owner = owner; mode = mode }) releases.EmptiesCell (cell ws index))
           (release_takes (call_at releases.EmptiesCell) releases.EmptiesCell
           (record { index = index; owner = owner; mode = mode }) (cell ws index))
-      empties_step = go (cell ws index == owner) refl
-        where
-          go : (b : Bool) → (cell ws index == owner) ≡ b
-              → Lead (Some (exchanges (cell_word index) owner empty)) false (if b then FreedOf p index owner ∷ [] else [])
-              (if b then GoOn
-              (at_release (call_at releases.EmptiesCell) (releases.Raises raises.LoadsCounter))
-              else Done (Err IndexIsNotOwnedByProvidedOwner))
-          go true t = let is : cell ws index ≡ owner = grind (arith, nat_tests) in empties is
-          go false t = let other : cell ws index ≢ owner = grind (arith, nat_tests) in refuses other
+      empties_step =
+          on_bool (λ b. Lead (Some (exchanges (cell_word index) owner empty)) false
+          (if b then FreedOf p index owner ∷ [] else [])
+          (if b then GoOn (at_release (call_at releases.EmptiesCell) (releases.Raises raises.LoadsCounter)) else
+          Done (Err IndexIsNotOwnedByProvidedOwner)))
+          (cell ws index == owner)
+          (λ t. let is : cell ws index ≡ owner = grind (arith, nat_tests) in empties is)
+          (λ t. let other : cell ws index ≢ owner = grind (arith, nat_tests) in refuses other)
 
     -- ---- the raise of the counter
 
@@ -139,7 +139,7 @@ module _ {T : Type 0} (scene : Scene T) (inv : Inv scene) (index owner : ℕ) (m
           → Stays scene (words_after ws ask) → IsPaid (sees scene ask back)
           → steps + step_count ask ≤ extra + (3 + backs_then scene back * for_back c m)
           → Lead ask back [] (release_raised (call_at (releases.Raises raise)) m (Done state))
-      closes x0 x1 x2 x3 x4 x5 x6 x7 = grind arith
+      closes = grind arith
 
       raises_step : raises_to (Some (raise_ask raise)) (raise_goes_back raise (counter_of ws)) (raise_after raise (counter_of ws))
       raises_step =
@@ -181,7 +181,7 @@ module _ {T : Type 0} (scene : Scene T) (inv : Inv scene) (index owner : ℕ) (m
           }
 
       few_end : (ask : Option Ask) (back : Bool) → steps + step_count ask ≤ extra + (c + 6 + backs_then scene back * (c + 3)) → FewEnd ask back
-      few_end x0 x1 x2 = grind arith
+      few_end = grind arith
 
       locks_step : locks_to (Some (lock_ask lock)) (lock_goes_back lock (old_of ws (Some (lock_ask lock))))
           (locked_by p lock (old_of ws (Some (lock_ask lock)))) (lock_after c lock (old_of ws (Some (lock_ask lock))))

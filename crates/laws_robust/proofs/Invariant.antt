@@ -60,11 +60,11 @@ worn_on Death words words' on worn = worn
 worn_on Word words words' on worn = on worn
 
 pub worn_at : (by : GoneBy) (words : List ℕ) → HasRoom by words → counter_of words ≡ greatest → IsWorn by words
-worn_at x0 x1 x2 x3 = grind arith
+worn_at = grind arith
 
 -- one number before it, and then at it
 pub worn_then : (by : GoneBy) (words words' : List ℕ) → HasRoom by words → counter_of words + 1 ≡ greatest → counter_of words' ≡ greatest → IsWorn by words'
-worn_then x0 x1 x2 x3 x4 x5 = grind arith
+worn_then = grind arith
 
 module _ {T : Type 0} where
   -- what is so of the words, of the dead and of the events, after so many turns
@@ -147,7 +147,7 @@ module _ {T : Type 0} where
 
   pub room_of_few : (by : GoneBy) (c : ℕ) (words dead : List ℕ) (events : List (Event T)) (turns : ℕ)
       → Good by c words dead events turns → turns < 2 ^ 64 - 2 → HasRoom by words
-  room_of_few x0 x1 x2 x3 x4 x5 x6 x7 = grind (arith, ahead_of_few)
+  room_of_few = grind (arith, ahead_of_few)
 
   abbrev pub set_then : Scene T → List ℕ → List (Event T) → RobustSet T
   set_then scene words es =
@@ -174,7 +174,7 @@ module _ {T : Type 0} where
       → Goes words words' events es → Spares by q events es → IsSeen words words' changes changes'
       → (since backs : ℕ) (flight : Flight T) → Knowing c flight (view by words events q since changes backs)
       → Knowing c flight (view by words' (events ++ es) q since changes' backs)
-  any_knows x0 x1 x2 x3 x4 x5 x6 x7 x8 x9 x10 x11 x12 x13 x14 x15 = grind (arith, knows_later)
+  any_knows = grind (arith, knows_later)
 
   -- a call stands there by what its party has written
   pub at_written : (c : ℕ) (w w' : List (Event T)) (start : Start T) (flight : Flight T) → w' ≡ w

@@ -16,7 +16,7 @@ use Rattle.laws_robust.proofs.Invariant.{RobustSet, outline, family}
 use Rattle.laws_robust.proofs.Kept.{bounds, set_kept}
 use Rattle.laws_robust.proofs.Sound.{May, all_turns}
 use Rattle.laws_robust.proofs.FindCoverage.{finds_all}
-use Rattle.laws_robust.proofs.Told.{finds_up_to, tells_once, yes_tells}
+use Rattle.laws_robust.proofs.Decisions.{finds_up_to, tells_once, yes_tells}
 use Rattle.laws_robust.proofs.Written.{all_effects}
 
 module _ {T : Type 0} (code : Coding T) (c : ℕ) where

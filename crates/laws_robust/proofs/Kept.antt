@@ -21,7 +21,7 @@ pub count_most : (c : ℕ) (count : Count) → CountAt c count → count_number 
 count_most c count at = grind arith
 
 pub lock_most : (c : ℕ) (lock : Lock) → LockAt c lock → lock_number c lock ≤ c + 2
-lock_most x0 x1 x2 = grind (arith, count_most)
+lock_most = grind (arith, count_most)
 
 pub acquire_most : (c owner : ℕ) (all : List SetAct) (stage : AcquireStage) (backs : ℕ) → AcquireAt c owner all stage
     → acquire_number c stage backs ≤ c + 3 + backs * (c + 1)
@@ -32,7 +32,7 @@ pub release_most : (c index owner : ℕ) (mode : ReleaseMode) (all : List SetAct
 release_most c index owner mode all stage backs at = grind arith
 
 find_most : (c : ℕ) (all : List SetAct) (stage : FindStage) → FindAt c all stage → find_number stage ≤ c
-find_most x0 x1 x2 x3 = grind arith
+find_most = grind arith
 
 recover_at_most : (c : ℕ) (mode : ReleaseMode) (all : List SetAct) (stage : RecoverStage) (backs : ℕ) → 4 ≤ for_index c mode
     → ((lock : Lock) → mode ≡ LockIfLastIndex → LockAt c lock → lock_number c lock + 5 ≤ for_index c mode)
@@ -43,20 +43,20 @@ recover_at_most c mode all stage backs wide lock at = grind arith
 recover_most : (c : ℕ) (mode : ReleaseMode) (all : List SetAct) (stage : RecoverStage) (backs : ℕ)
     → RecoverAt c mode all stage
     → recover_number c mode stage backs ≤ most_steps c (starts.Recover mode) backs
-recover_most x0 x1 x2 x3 x4 x5 = grind (arith, recover_at_most, lock_most)
+recover_most = grind (arith, recover_at_most, lock_most)
 
 pub steps_most : (c : ℕ) (all : List SetAct) (backs : ℕ) (start : RobustStart) (flight : RobustFlight)
     → At c all start flight → number_of c flight backs ≤ most_steps c start backs
-steps_most x0 x1 x2 x3 x4 x5 = grind (arith, acquire_most, release_most, find_most, recover_most, count_most)
+steps_most = grind (arith, acquire_most, release_most, find_most, recover_most, count_most)
 
 module _ {T : Type 0} where
   -- ---- how often it has turned back
 
   pub held_paid : (held : Option ℕ) (v : View T) → Paid held v → v.backs ≤ v.changes - v.since
-  held_paid x0 x1 x2 = grind arith
+  held_paid = grind arith
 
   pub bounds : (code : Coding T) (c : ℕ) → frame.Bounds (family code c)
-  bounds x0 x1 = grind (arith, steps_most, held_paid)
+  bounds = grind (arith, steps_most, held_paid)
 
   -- ---- what is promised
 

@@ -31,9 +31,9 @@ pub record View (T : Type 0) : Type 0 where
   pub words : List ℕ
   pub events : List (Event T)
   pub party : ℕ
-  pub since : ℕ
-  pub changes : ℕ
-  pub backs : ℕ
+  pub since : ℕ  -- how often words had changed when the call began
+  pub changes : ℕ  -- how often they have
+  pub backs : ℕ  -- so often the call has turned back
 
 -- ---- the counter that they hold
 
@@ -139,7 +139,7 @@ count_says : (c : ℕ) (P Q : ℕ → ℕ → Type 0) → ((k n : ℕ) → P k n
 count_says c h k follows count m = grind arith
 
 lock_says : (c : ℕ) (P Q : ℕ → ℕ → Type 0) → ((k n : ℕ) → P k n → Q k n) → (lock : Lock) → LockSays c P lock → LockSays c Q lock
-lock_says x0 x1 x2 x3 x4 x5 = grind (arith, count_says)
+lock_says = grind (arith, count_says)
 
 -- the index that a recovery frees now
 abbrev pub FreesNow : RecoverStage → ℕ → ℕ → Type 0
@@ -329,7 +329,7 @@ module _ {T : Type 0} where
         )
 
     acquire_owns : (owner : ℕ) (stage : AcquireStage) → AcquireOwns owner stage before → AcquireOwns owner stage later
-    acquire_owns x0 x1 x2 = grind (arith, gone_less, calm_less)
+    acquire_owns = grind (arith, gone_less, calm_less)
 
     release_owns : (index owner : ℕ) (stage : ReleaseStage) → ReleaseOwns index owner stage before → ReleaseOwns index owner stage later
     release_owns index owner releases.EmptiesCell h =
@@ -341,22 +341,22 @@ module _ {T : Type 0} where
     release_owns index owner stage h = tt
 
     still_owns : (flight : RobustFlight) → Owns flight before → Owns flight later
-    still_owns x0 x1 = grind (arith, acquire_owns, release_owns)
+    still_owns = grind (arith, acquire_owns, release_owns)
 
     once_later : (P : List (Event T) → Type 0) → HeldSometime q P events → HeldSometime q P (events ++ es)
     once_later P h = held_later q P events es spares.none h
 
     acquire_says : (c : ℕ) (stage : AcquireStage) → AcquireSays c stage before → AcquireSays c stage later
-    acquire_says x0 x1 x2 = grind (arith, once_later)
+    acquire_says = grind (arith, once_later)
 
     freed_later : (owner index : ℕ) → FilledSinceFreed q owner index events → FilledSinceFreed q owner index (events ++ es)
     freed_later owner index h = record { other = h.other; once = once_later _ h.once }
 
     release_says : (c index owner : ℕ) (stage : ReleaseStage) → ReleaseSays c index owner stage before → ReleaseSays c index owner stage later
-    release_says x0 x1 x2 x3 x4 = grind (arith, lock_says, freed_later)
+    release_says = grind (arith, lock_says, freed_later)
 
     find_says : (owner : ℕ) (stage : FindStage) → FindSays owner stage before → FindSays owner stage later
-    find_says x0 x1 x2 = grind (arith, count_later)
+    find_says = grind (arith, count_later)
 
     asked_later : (k : ℕ) → AskedBelow k before → AskedBelow k later
     asked_later k h i owner below through =
@@ -372,7 +372,7 @@ module _ {T : Type 0} where
     recover_says c recovers.LoadsCounterAgain h = asked_later c h
 
     still_says : (c : ℕ) (flight : RobustFlight) → Says c flight before → Says c flight later
-    still_says x0 x1 x2 = grind (arith, acquire_says, release_says, find_says, recover_says, count_says, count_later)
+    still_says = grind (arith, acquire_says, release_says, find_says, recover_says, count_says, count_later)
 
     -- whoever fills an index is not gone, so an index that an owner who is gone has lost stays lost to him
     gone_later : (Now : ℕ → ℕ → Type 0) → GoneBut Now before → GoneBut Now later
@@ -388,4 +388,4 @@ module _ {T : Type 0} where
     still_gone flight h = tt
 
     pub knows_later : (c : ℕ) (flight : RobustFlight) → Knows c flight before → Knows c flight later
-    knows_later x0 x1 x2 = grind (arith, held_paid, still_scanned, still_owns, still_says, still_gone)
+    knows_later = grind (arith, held_paid, still_scanned, still_owns, still_says, still_gone)

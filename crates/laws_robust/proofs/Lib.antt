@@ -1,10 +1,12 @@
 pub mod Acquires
 pub mod Alive
 pub mod Begins
+pub mod Cases
 pub mod Core
 pub mod Counter
 pub mod Counting
 pub mod Deaths
+pub mod Decisions
 mod Names
 pub mod SetActs
 pub mod Effects
@@ -40,6 +42,5 @@ pub mod Sound
 pub mod Stages
 pub mod CallProgress
 pub mod FindCoverage
-pub mod Told
 pub mod Wide
 pub mod Written

@@ -11,7 +11,7 @@ use Rattle.model.proofs.Frame as frame
 use Rattle.laws_robust.specs.Gone.{Word}
 use Rattle.laws_robust.proofs.Alive.{Leaves, AllLive, StepsLeave, end_leaves}
 use Rattle.laws_robust.proofs.Invariant.{family_by}
-use Rattle.laws_robust.proofs.Told.{joined}
+use Rattle.laws_robust.proofs.Decisions.{joined}
 use Rattle.laws_robust.proofs.Written.{effects_hold}
 
 module _ {T : Type 0} (code : Coding T) (c : ℕ) (t : Trace T) (s : frame.Sound (family_by Word code c) t) where
@@ -24,7 +24,7 @@ module _ {T : Type 0} (code : Coding T) (c : ℕ) (t : Trace T) (s : frame.Sound
 
     step_leaves : (start : Start T) (flight : Flight T) → (family_by Word code c).At s.state p start flight
         → AllByRecursion Leaves (writes (registries.Owners s.state.dead) start flight)
-    step_leaves x0 x1 x2 = grind (arith, joined, effects, effects_hold, end_leaves, after)
+    step_leaves = grind (arith, joined, effects, effects_hold, end_leaves, after)
 
   same_kept : t.world.kept ≡ registries.Owners s.state.dead
   same_kept = s.fit.kept
@@ -39,7 +39,7 @@ module _ {T : Type 0} (code : Coding T) (c : ℕ) (t : Trace T) (s : frame.Sound
     has_not_died owner = s.holds.good.died owner ∙ all owner
 
     acts_for_none : (flight : RobustFlight) → acts_for_dead s.state.dead flight ≡ false
-    acts_for_none x0 = grind (arith, has_not_died)
+    acts_for_none = grind (arith, has_not_died)
 
     frees_none : (flight : RobustFlight) → frees_living s.state.dead flight None ≡ false
     frees_none (Recover run) = refl
@@ -47,4 +47,4 @@ module _ {T : Type 0} (code : Coding T) (c : ℕ) (t : Trace T) (s : frame.Sound
 
     -- a step of a call of the set
     pub step_is_free : (flight : RobustFlight) → first_row (going_rows t.world.coding t.world.kept (Some (flights.Robust flight)) None) ≡ None
-    step_is_free x0 = grind (arith, first_row, same_kept, acts_for_none, frees_none)
+    step_is_free = grind (arith, first_row, same_kept, acts_for_none, frees_none)

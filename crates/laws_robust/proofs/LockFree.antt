@@ -80,7 +80,7 @@ module _ (c : ℕ) (some : 1 ≤ c) where
   release_most now (releases.Locks lock) = omega arith
 
   pays_most : (stage : RecoverStage) → recover_pays c stage ≤ c
-  pays_most x0 = grind arith
+  pays_most = grind arith
 
   most : {T : Type 0} → (now : ℕ) (flight : Flight T) → (left_at c now flight ≤ 4 * c + 1) × (pays c flight ≤ c)
   most now (flights.Robust (calls.Acquire run)) = (acquire_most now run.call.stage, omega arith)
@@ -102,25 +102,25 @@ module _ {T : Type 0} (code : Coding T) (c : ℕ) where
   decides words start flight said at due = absurd at
 
   goes : (start : Start T) (flight : Flight T) (old : ℕ) → At code c start flight → OwnAfter outline code c start (after_of code flight old)
-  goes x0 x1 x2 x3 = grind arith
+  goes = grind arith
 
   begins : (start : Start T) (kept : Registry T) (flight : Flight T) → IsDefault start → Kept kept
       → first_of kinds.Robust c start kept ≡ Some flight
       → At code c start flight × ((p : ℕ) → Kept (kept_after_begin code c start p kept))
-  begins x0 x1 x2 x3 x4 x5 = grind arith
+  begins = grind arith
 
   stays : (words : List ℕ) (beside : Option (ℕ × ℕ)) (p : ℕ) (start : Start T) (flight : Flight T) (old : ℕ) (kept : Registry T)
       → At code c start flight → Kept kept → Kept (step_of code words beside p start flight old kept).kept
-  stays x0 x1 x2 x3 x4 x5 x6 x7 x8 = grind arith
+  stays = grind arith
 
   told : (words : List ℕ) (beside : Option (ℕ × ℕ)) (p : ℕ) (start : Start T) (flight : Flight T) (old : ℕ) (kept : Registry T)
       → At code c start flight → Kept kept
       → ((step_of code words beside p start flight old kept).after ≡ after_of code flight old)
       × (goes_of code p flight old kept ≡ after_of code flight old)
-  told x0 x1 x2 x3 x4 x5 x6 x7 x8 = grind arith
+  told = grind arith
 
   dies : (kept : Registry T) (owner : ℕ) → Kept kept → Kept (kept_after_death kept owner)
-  dies x0 x1 x2 = grind arith
+  dies = grind arith
 
   laws : capacity_error kinds.Robust c ≡ None → TableLaws outline code c
   laws admitted =

@@ -51,7 +51,7 @@ module _ {T : Type 0} (scene : Scene T) (inv : Inv scene) where
     now_locked = fold-append locked_after false events es ∙ quiet.locked true
 
     still_owned : IsCalm by (events ++ es) → AreOwned (events ++ es)
-    still_owned x0 = grind (arith, calm_less, same_filled, same_holder, same_settled, same_right)
+    still_owned = grind (arith, calm_less, same_filled, same_holder, same_settled, same_right)
 
     pub locks : Does scene words' (Locked p ∷ more)
     locks =

@@ -42,6 +42,7 @@ use Rattle.model.specs.Turns.{number_of}
 use Rattle.model.proofs.LockFree.Falls.{same_is, load_leaves, LeavesAll, FallsIn, StepFalls}
 use Rattle.model.proofs.LockFree.Measure.{WordMeasure}
 use Rattle.model.proofs.LockFree.Own.{Outline}
+use Rattle.laws_robust.proofs.Cases.{by_bool}
 
 -- ---- how many steps a call takes at most before its last one, while the counter stays
 
@@ -236,12 +237,11 @@ module _ {T : Type 0} (code : Coding T) (c : ℕ) (words : List ℕ) where
           rw (t, u) (inl (load_leaves words (cell_word index), rw v (omega arith), omega arith))
       go false t false u true v = rw (t, u) (inl (load_leaves words (cell_word index), rw v (omega arith), omega arith))
       go false t false u false v = rw (t, u) (inl (load_leaves words (cell_word index), rw v (omega arith), omega arith))
-  acquire_falls owner (acquires.ChecksCounter counter) = go (now == counter) refl
-    where
-      go : (t : Bool) → (now == counter) ≡ t → Shown (acquire_at c owner (acquires.ChecksCounter counter))
-      go true t = rw t tt
-      go false t =
-          rw t (acquire_sees_falls _ owner (acquires.ChecksCounter counter) (load_leaves words 0) (rw t (omega arith)))
+  acquire_falls owner (acquires.ChecksCounter counter) =
+      by_bool (now == counter)
+      (λ t. rw t tt)
+      (λ t.
+      rw t (acquire_sees_falls _ owner (acquires.ChecksCounter counter) (load_leaves words 0) (rw t (omega arith))))
   acquire_falls owner (acquires.Raises index raises.LoadsCounter) = go (now == locked) refl (now == greatest) refl
     where
       go : (t : Bool) → (now == locked) ≡ t → (u : Bool) → (now == greatest) ≡ u
@@ -262,11 +262,10 @@ module _ {T : Type 0} (code : Coding T) (c : ℕ) (words : List ℕ) where
   -- ---- a release
 
   release_falls : (index owner : ℕ) (stage : ReleaseStage) → ReleaseStands stage → Shown (release_at c index owner stage)
-  release_falls index owner releases.EmptiesCell stands = go (get_or words (cell_word index) 0 == owner) refl
-    where
-      go : (t : Bool) → (get_or words (cell_word index) 0 == owner) ≡ t → Shown (release_at c index owner releases.EmptiesCell)
-      go true t = rw t (inr (omega arith, inl (cell_leaves index empty, omega arith)))
-      go false t = rw t tt
+  release_falls index owner releases.EmptiesCell stands =
+      by_bool (get_or words (cell_word index) 0 == owner)
+      (λ t. rw t (inr (omega arith, inl (cell_leaves index empty, omega arith))))
+      (λ t. rw t tt)
   release_falls index owner (releases.Raises raises.LoadsCounter) stands = go (now == locked) refl (now == greatest) refl
     where
       go : (t : Bool) → (now == locked) ≡ t → (u : Bool) → (now == greatest) ≡ u
@@ -323,11 +322,10 @@ module _ {T : Type 0} (code : Coding T) (c : ℕ) (words : List ℕ) where
       go false u true v t e = rw (u, v) tt
       go false u false v true t = rw (u, v) (inl (load_leaves words (cell_word index), rw t (omega arith), omega arith))
       go false u false v false t = rw (u, v) (inl (load_leaves words (cell_word index), rw t (omega arith), omega arith))
-  borrowed_falls (counts.ExchangesCounter counter filled) = go (now == counter) refl
-    where
-      go : (t : Bool) → (now == counter) ≡ t → Shown (borrowed_at c (counts.ExchangesCounter counter filled))
-      go true t = rw t tt
-      go false t = rw t (inl (load_leaves words 0, rw t (omega arith), omega arith))
+  borrowed_falls (counts.ExchangesCounter counter filled) =
+      by_bool (now == counter)
+      (λ t. rw t tt)
+      (λ t. rw t (inl (load_leaves words 0, rw t (omega arith), omega arith)))
 
   -- ---- a recovery
 
@@ -338,17 +336,12 @@ module _ {T : Type 0} (code : Coding T) (c : ℕ) (words : List ℕ) where
       (as_call flights.Robust (λ answer. answer)
       (as_call calls.Recover answers.State
       (went_on as_it_is Default tt (recover_comes_to (record { capacity = c; stage = stage }) (index + 1)))))
-  comes_fall new steps index stage same one enough pays = go (nat_lt (index + 1) c) refl
-    where
-      go : (u : Bool) → nat_lt (index + 1) c ≡ u
-          → FallsIn M words new steps (flights.Robust (recover_at c stage))
-          (as_call flights.Robust (λ answer. answer)
-          (as_call calls.Recover answers.State
-          (went_on as_it_is Default tt (recover_comes_to (record { capacity = c; stage = stage }) (index + 1)))))
-      go true u =
-          let less : index + 2 ≤ c = grind (arith, nat_tests) in
-          rw u (inl (same, omega arith, omega arith))
-      go false u = rw u (inl (same, omega arith, omega arith))
+  comes_fall new steps index stage same one enough pays =
+      by_bool (nat_lt (index + 1) c)
+      (λ u.
+      let less : index + 2 ≤ c = grind (arith, nat_tests) in
+      rw u (inl (same, omega arith, omega arith)))
+      (λ u. rw u (inl (same, omega arith, omega arith)))
 
   recover_falls : (stage : RecoverStage) → RecoverStands stage → Shown (recover_at c stage)
   recover_falls recovers.LoadsCounter stands = go (now == locked) refl (nat_lt 0 c) refl
@@ -357,22 +350,20 @@ module _ {T : Type 0} (code : Coding T) (c : ℕ) (words : List ℕ) where
       go true t u e = rw t tt
       go false t true u = rw (t, u) (inl (load_leaves words 0, omega arith, omega arith))
       go false t false u = rw (t, u) (inl (load_leaves words 0, omega arith, omega arith))
-  recover_falls (recovers.LoadsCell index) stands = go (get_or words (cell_word index) 0 == empty) refl
-    where
-      go : (t : Bool) → (get_or words (cell_word index) 0 == empty) ≡ t → Shown (recover_at c (recovers.LoadsCell index))
-      go true t =
-          rw t (comes_fall _ 1 index (recovers.LoadsCell index) (load_leaves words (cell_word index))
-          (omega arith) (omega arith) (omega arith))
-      go false t = rw t (inl (load_leaves words (cell_word index), omega arith, omega arith))
+  recover_falls (recovers.LoadsCell index) stands =
+      by_bool (get_or words (cell_word index) 0 == empty)
+      (λ t.
+      rw t (comes_fall _ 1 index (recovers.LoadsCell index) (load_leaves words (cell_word index))
+      (omega arith) (omega arith) (omega arith)))
+      (λ t. rw t (inl (load_leaves words (cell_word index), omega arith, omega arith)))
   recover_falls (recovers.Asks index owner) stands =
       comes_fall _ 0 index (recovers.Asks index owner) refl (omega arith) (omega arith) (omega arith)
-  recover_falls (recovers.EmptiesCell index owner) stands = go (get_or words (cell_word index) 0 == owner) refl
-    where
-      go : (t : Bool) → (get_or words (cell_word index) 0 == owner) ≡ t → Shown (recover_at c (recovers.EmptiesCell index owner))
-      go true t = rw t (inr (omega arith, inl (cell_leaves index empty, omega arith)))
-      go false t =
-          rw t (comes_fall _ 1 index (recovers.EmptiesCell index owner) (load_leaves words (cell_word index))
-          (omega arith) (omega arith) (omega arith))
+  recover_falls (recovers.EmptiesCell index owner) stands =
+      by_bool (get_or words (cell_word index) 0 == owner)
+      (λ t. rw t (inr (omega arith, inl (cell_leaves index empty, omega arith))))
+      (λ t.
+      rw t (comes_fall _ 1 index (recovers.EmptiesCell index owner) (load_leaves words (cell_word index))
+      (omega arith) (omega arith) (omega arith)))
   recover_falls (recovers.Raises index raises.LoadsCounter) stands = go (now == locked) refl (now == greatest) refl
     where
       stage : RecoverStage
@@ -427,15 +418,12 @@ module _ {T : Type 0} (code : Coding T) (c : ℕ) (words : List ℕ) where
       → FallsIn M words words 0 (flights.Robust (find_at c owner stage))
       (after_of code (flights.Robust (find_at c owner stage)) (number_of said))
   find_decides owner (finds.LoadsCell index found) said due = absurd (cc)
-  find_decides owner (finds.Asks index found) true due = go (nat_lt (index + 1) c) refl
-    where
-      go : (u : Bool) → nat_lt (index + 1) c ≡ u
-          → FallsIn M words words 0 (flights.Robust (find_at c owner (finds.Asks index found)))
-          (after_of code (flights.Robust (find_at c owner (finds.Asks index found))) 1)
-      go true u =
-          let less : index + 2 ≤ c = grind (arith, nat_tests) in
-          rw u (inl (refl, omega arith, omega arith))
-      go false u = rw u tt
+  find_decides owner (finds.Asks index found) true due =
+      by_bool (nat_lt (index + 1) c)
+      (λ u.
+      let less : index + 2 ≤ c = grind (arith, nat_tests) in
+      rw u (inl (refl, omega arith, omega arith)))
+      (λ u. rw u tt)
   find_decides owner (finds.Asks index found) false due = tt
 
   recover_decides : (stage : RecoverStage) (said : Bool) → RecoverStands stage
@@ -460,7 +448,7 @@ module _ {T : Type 0} (code : Coding T) (c : ℕ) (words : List ℕ) where
 
   never_asks : (flight : RobustFlight) → CallStands c flight → is_question (want_of code (flights.Robust flight)) ≡ true
       → (◌≡◌ {A = Bool} (is_looking flight) true)
-  never_asks x0 x1 x2 = grind arith
+  never_asks = grind arith
 
   pub call_decides : (flight : RobustFlight) → CallStands c flight → Decided flight
   call_decides (calls.Acquire run) at said due = let looks = never_asks (calls.Acquire run) at due in absurd (cc)

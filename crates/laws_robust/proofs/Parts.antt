@@ -21,6 +21,7 @@ use Rattle.laws_robust.proofs.Knows.{unless_last, raise_holds, count_holds, lock
 use Rattle.laws_robust.proofs.Knows.{CountSays, LockSays, IsPaid, Holding, Paid, Scanned}
 use Rattle.laws_robust.proofs.CallProgress.{raise_number, count_number, lock_number, CountAt, LockAt}
 use Rattle.laws_robust.proofs.Stages.{loads, exchanges, loads_same, fails_same, exchange_sets, backs_then, now, sees, paid_of, paid_back, holds_on}
+use Rattle.laws_robust.proofs.Cases.{by_bool, on_bool}
 
 abbrev pub raise_ask : Raise → Ask
 raise_ask raises.LoadsCounter = loads 0
@@ -70,7 +71,7 @@ module _ {T : Type 0} (scene : Scene T) (inv : Inv scene) where
   -- the exchange of the counter for the next number
   pub raised : (number : ℕ) → counter_of ws ≡ number → Holding number (now scene)
       → words_after ws (Some (exchanges 0 number (one_more number))) ≡ set ws 0 (counter_of ws + 1)
-  raised x0 x1 x2 = grind (arith, one_more, exchange_sets, set)
+  raised = grind (arith, one_more, exchange_sets, set)
 
   -- the counter that a call finds
   pub finds_counter : (ask : Option Ask) (back : Bool) → words_after ws ask ≡ ws → counter_of ws ≢ locked
@@ -124,7 +125,7 @@ module _ {T : Type 0} (scene : Scene T) (inv : Inv scene) where
         go : (b : Bool) → (counter_of ws == number) ≡ b
             → Lead (Some (exchanges 0 number (one_more number))) (not b)
             (if b then Done states.Unlocked else raise_sees (counter_of ws))
-        go x0 x1 = grind (arith, paid_of, exchanges, one_more, before_end, raised, raise_finds, fails_same, paid_back, nat_tests)
+        go = grind (arith, paid_of, exchanges, one_more, before_end, raised, raise_finds, fails_same, paid_back, nat_tests)
 
   -- ---- the counter that a count has loaded, which it holds unless that is at its end
 
@@ -136,15 +137,14 @@ module _ {T : Type 0} (scene : Scene T) (inv : Inv scene) where
   still_held number ask same h = grind arith
 
   holds_one : (number : ℕ) → number ≢ greatest → Paid (unless_last number) (now scene) → Holding number (now scene)
-  holds_one x0 x1 x2 = grind (arith, now, ne_eqb, greatest)
+  holds_one = grind (arith, now, ne_eqb, greatest)
 
   found_held : (ask : Option Ask) → words_after ws ask ≡ ws → counter_of ws ≢ locked → IsPaid (sees scene ask false)
       → Paid (unless_last (counter_of ws)) (sees scene ask false)
-  found_held ask same open_now paid = go (counter_of ws == greatest) refl
-    where
-      go : (b : Bool) → (counter_of ws == greatest) ≡ b → Paid (if b then None else Some (counter_of ws)) (sees scene ask false)
-      go true t = paid
-      go false t = let other : counter_of ws ≢ greatest = grind (arith, nat_tests) in finds_counter ask false same open_now other paid
+  found_held ask same open_now paid =
+      on_bool (λ b. Paid (if b then None else Some (counter_of ws)) (sees scene ask false)) (counter_of ws == greatest)
+      (λ t. paid)
+      (λ t. let other : counter_of ws ≢ greatest = grind (arith, nat_tests) in finds_counter ask false same open_now other paid)
 
   -- ---- a count, which says this where it has come to so many cells and found so many filled
 
@@ -244,47 +244,44 @@ module _ {T : Type 0} (scene : Scene T) (inv : Inv scene) where
           (omega arith, omega arith) (found_held (Some (loads 0)) same open_now (omega arith))
           (omega arith, λ end. same_counter ∙ end, λ before zero is calm i less. absurd (omega arith)) said.none (λ n w wide low. omega arith))
           (λ t. let none : c ≤ 0 = grind (arith, nat_tests) in absurd (omega arith)))
-      count_step (counts.LoadsCell number k filled) at paid scanned says goes meets rests closes = go (cell ws k == empty) refl
-        where
-          go : (b : Bool) → (cell ws k == empty) ≡ b
-              → Lead (Some (loads (cell_word k))) false (count_comes_to c number (k + 1) (if b then filled else one_more filled))
-          go true t =
-              let is : cell ws k ≡ empty = grind (arith, nat_tests) in
-              let none = filled_none scene inv k at.0 is in
-              let few = at.1 in
-              count_comes number k filled filled goes rests at.0 (omega arith) paid scanned.0 scanned.1 (said.empty_next k filled at.0 none says)
-              (λ before zero is calm i less. ⊎_elim (λ earlier. scanned.2 before zero is calm i earlier)
-              (λ last. let here : i ≡ k = omega arith in none_holds calm i (ap (λ j. filled_of j events) here ∙ none))
-              (cases_lt i k))
-          go false t =
-              let other : cell ws k ≢ empty = grind (arith, nat_tests) in
-              let some = filled_some scene inv k at.0 other in
-              let few = at.1 in
-              let below = at.0 in
-              let most = g.few in
-              let next : one_more filled ≡ filled + 1 = omega arith in
-              subst (λ m. Lead (Some (loads (cell_word k))) false (count_comes_to c number (k + 1) m)) (sym next)
-              (count_comes number k filled (filled + 1) goes rests at.0 (omega arith) paid scanned.0 scanned.1
-              (said.filled_next k filled (cell ws k) at.0 some.1 says)
-              (λ before zero is calm i less. absurd (omega arith)))
-      count_step (counts.ExchangesCounter number filled) at paid scanned says goes meets rests closes = go (counter_of ws == number) refl
-        where
-          go : (b : Bool) → (counter_of ws == number) ≡ b
-              → Lead (Some (exchanges 0 number (one_more number))) (not b)
-              (if b then Done (ends.Filled filled (one_more number)) else GoOn counts.LoadsCounter)
-          go true t =
-              let is : counter_of ws ≡ number = grind (arith, nat_tests) in
-              let paid_now = paid_of scene (counter_of ws ≡ number) paid.paid in
-              let less = paid.before_end in
-              let next : one_more number ≡ counter_of ws + 1 = omega arith in
-              subst (λ m. Lead (Some (exchanges 0 number (one_more number))) false (Done (ends.Filled filled m))) (sym next)
-              (closes filled (Some (exchanges 0 number (one_more number))) (before_end number is paid)
-              (raised number is paid) at says (λ zero calm i below. scanned.2 paid.before_end zero is calm i below)
-              (omega arith) (λ n w wide low. omega arith))
-          go false t =
-              let other : counter_of ws ≢ number = grind (arith, nat_tests) in
-              goes counts.LoadsCounter (Some (exchanges 0 number (one_more number))) true (fails_same ws 0 number (one_more number) other) tt
-              (paid_back scene number (Some (exchanges 0 number (one_more number))) events other paid) tt tt (λ n w wide low. omega arith)
+      count_step (counts.LoadsCell number k filled) at paid scanned says goes meets rests closes =
+          on_bool (λ b. Lead (Some (loads (cell_word k))) false (count_comes_to c number (k + 1) (if b then filled else one_more filled))) (cell ws k == empty)
+          (λ t.
+          let is : cell ws k ≡ empty = grind (arith, nat_tests) in
+          let none = filled_none scene inv k at.0 is in
+          let few = at.1 in
+          count_comes number k filled filled goes rests at.0 (omega arith) paid scanned.0 scanned.1 (said.empty_next k filled at.0 none says)
+          (λ before zero is calm i less. ⊎_elim (λ earlier. scanned.2 before zero is calm i earlier)
+          (λ last. let here : i ≡ k = omega arith in none_holds calm i (ap (λ j. filled_of j events) here ∙ none))
+          (cases_lt i k)))
+          (λ t.
+          let other : cell ws k ≢ empty = grind (arith, nat_tests) in
+          let some = filled_some scene inv k at.0 other in
+          let few = at.1 in
+          let below = at.0 in
+          let most = g.few in
+          let next : one_more filled ≡ filled + 1 = omega arith in
+          subst (λ m. Lead (Some (loads (cell_word k))) false (count_comes_to c number (k + 1) m)) (sym next)
+          (count_comes number k filled (filled + 1) goes rests at.0 (omega arith) paid scanned.0 scanned.1
+          (said.filled_next k filled (cell ws k) at.0 some.1 says)
+          (λ before zero is calm i less. absurd (omega arith))))
+      count_step (counts.ExchangesCounter number filled) at paid scanned says goes meets rests closes =
+          on_bool (λ b. Lead (Some (exchanges 0 number (one_more number))) (not b)
+          (if b then Done (ends.Filled filled (one_more number)) else GoOn counts.LoadsCounter))
+          (counter_of ws == number)
+          (λ t.
+          let is : counter_of ws ≡ number = grind (arith, nat_tests) in
+          let paid_now = paid_of scene (counter_of ws ≡ number) paid.paid in
+          let less = paid.before_end in
+          let next : one_more number ≡ counter_of ws + 1 = omega arith in
+          subst (λ m. Lead (Some (exchanges 0 number (one_more number))) false (Done (ends.Filled filled m))) (sym next)
+          (closes filled (Some (exchanges 0 number (one_more number))) (before_end number is paid)
+          (raised number is paid) at says (λ zero calm i below. scanned.2 paid.before_end zero is calm i below)
+          (omega arith) (λ n w wide low. omega arith)))
+          (λ t.
+          let other : counter_of ws ≢ number = grind (arith, nat_tests) in
+          goes counts.LoadsCounter (Some (exchanges 0 number (one_more number))) true (fails_same ws 0 number (one_more number) other) tt
+          (paid_back scene number (Some (exchanges 0 number (one_more number))) events other paid) tt tt (λ n w wide low. omega arith))
 
     -- ---- a lock
 
@@ -331,38 +328,37 @@ module _ {T : Type 0} (scene : Scene T) (inv : Inv scene) where
           (finds : LockFinds (locks.Counts count))
           (rests : LockStays (locks.Counts count)) where
         counted : CountEnds (λ ask back r. Lead ask back [] (lock_counted r)) count
-        counted filled ask less new most says none paid few = go (counter_of ws + 1 == greatest) refl
+        counted filled ask less new most says none paid few =
+            by_bool (counter_of ws + 1 == greatest)
+            (λ t.
+            let last : counter_of ws + 1 ≡ greatest = grind (arith, nat_tests) in
+            none_locks (Lead ask false []) (GoOn (locks.ExchangesCounter (counter_of ws + 1)))
+            (Done states.Unlocked) (filled == 0) (counter_of ws + 1 == greatest) t
+            (rests ask stays (not_shut scene inv less)
+            (worn_then by ws (words_after ws ask) inv.room last (is ∙ last)) paid
+            (λ n w more bound. let next = few n w (omega arith) bound in omega arith)))
+            (λ t.
+            let other : not (counter_of ws + 1 == greatest) ≡ true = ap not t in
+            let differs : counter_of ws + 1 ≢ greatest = grind (arith, nat_tests) in
+            let same = is in
+            let low : counter_of ws + 1 ≤ counter_of (words_after ws ask) = omega arith in
+            rw other
+            (by_test (Lead ask false []) ((filled == 0) && true)
+            (GoOn (locks.ExchangesCounter (counter_of ws + 1))) (Done states.Unlocked)
+            (λ u.
+            let zero : filled ≡ 0 = zero_if filled u in
+            goes (locks.ExchangesCounter (counter_of ws + 1)) ask false stays tt
+            (record { before_end = omega arith; low = low; paid = inl (is, paid) })
+            (low, λ end. absurd (differs end), λ before same_zero same calm i below. none zero calm i below) tt
+            (λ n w more bound. let next = few n w (omega arith) bound in omega arith))
+            (λ u. finds filled ask stays (not_shut scene inv less) (more_if filled u) says paid
+            (λ n w more bound. let next = few n w (omega arith) bound in omega arith))))
           where
             stays : Stays scene (words_after ws ask)
             stays = stays_raised scene inv (words_after ws ask) less new
 
             is : counter_of (words_after ws ask) ≡ counter_of ws + 1
             is = grind (arith, counter_set)
-
-            go : (b : Bool) → (counter_of ws + 1 == greatest) ≡ b → Lead ask false [] (lock_counted (Done (ends.Filled filled (counter_of ws + 1))))
-            go true t =
-                let last : counter_of ws + 1 ≡ greatest = grind (arith, nat_tests) in
-                none_locks (Lead ask false []) (GoOn (locks.ExchangesCounter (counter_of ws + 1)))
-                (Done states.Unlocked) (filled == 0) (counter_of ws + 1 == greatest) t
-                (rests ask stays (not_shut scene inv less)
-                (worn_then by ws (words_after ws ask) inv.room last (is ∙ last)) paid
-                (λ n w more bound. let next = few n w (omega arith) bound in omega arith))
-            go false t =
-                let other : not (counter_of ws + 1 == greatest) ≡ true = ap not t in
-                let differs : counter_of ws + 1 ≢ greatest = grind (arith, nat_tests) in
-                let same = is in
-                let low : counter_of ws + 1 ≤ counter_of (words_after ws ask) = omega arith in
-                rw other
-                (by_test (Lead ask false []) ((filled == 0) && true)
-                (GoOn (locks.ExchangesCounter (counter_of ws + 1))) (Done states.Unlocked)
-                (λ u.
-                let zero : filled ≡ 0 = zero_if filled u in
-                goes (locks.ExchangesCounter (counter_of ws + 1)) ask false stays tt
-                (record { before_end = omega arith; low = low; paid = inl (is, paid) })
-                (low, λ end. absurd (differs end), λ before same_zero same calm i below. none zero calm i below) tt
-                (λ n w more bound. let next = few n w (omega arith) bound in omega arith))
-                (λ u. finds filled ask stays (not_shut scene inv less) (more_if filled u) says paid
-                (λ n w more bound. let next = few n w (omega arith) bound in omega arith)))
 
       pub lock_step : (lock : Lock) → LockAt c lock → Paid (lock_holds lock) (now scene)
           → Scanned (lock_scan c lock) (now scene) → LockSays c Says lock → LockGoes lock → LockMeets lock
@@ -383,20 +379,19 @@ module _ {T : Type 0} (scene : Scene T) (inv : Inv scene) where
           (subst (IsWorn by) (sym same) worn) done_paid
           (λ n w more bound. let next = few n w (omega arith) bound in omega arith)))
           (counted count goes finds rests)
-      lock_step (locks.ExchangesCounter number) at paid scanned says goes meets finds rests shuts = go (counter_of ws == number) refl
-        where
-          go : (b : Bool) → (counter_of ws == number) ≡ b
-              → Lead (Some (exchanges 0 number locked)) (not b) (if b then Locked p ∷ [] else [])
-              (if b then Done states.Locked else GoOn first_lock)
-          go true t =
-              let is : counter_of ws ≡ number = grind (arith, nat_tests) in
-              let paid_now = paid_of scene (counter_of ws ≡ number) paid.paid in
-              shuts (Some (exchanges 0 number locked))
-              (λ calm i. ⊎_elim (λ below. scanned.2 paid.before_end refl is calm i below) (λ beyond. none_holds calm i (none_beyond i beyond)) (cases_lt i c))
-              (before_end number is paid) (exchange_sets ws 0 number locked is) (omega arith) (λ n w more bound. omega arith)
-          go false t =
-              let other : counter_of ws ≢ number = grind (arith, nat_tests) in
-              goes first_lock (Some (exchanges 0 number locked)) true
-              (stays_same scene inv (words_after ws (Some (exchanges 0 number locked))) (fails_same ws 0 number locked other))
-              tt
-              (paid_back scene number (Some (exchanges 0 number locked)) events other paid) tt tt (λ n w more bound. omega arith)
+      lock_step (locks.ExchangesCounter number) at paid scanned says goes meets finds rests shuts =
+          on_bool (λ b. Lead (Some (exchanges 0 number locked)) (not b) (if b then Locked p ∷ [] else [])
+          (if b then Done states.Locked else GoOn first_lock))
+          (counter_of ws == number)
+          (λ t.
+          let is : counter_of ws ≡ number = grind (arith, nat_tests) in
+          let paid_now = paid_of scene (counter_of ws ≡ number) paid.paid in
+          shuts (Some (exchanges 0 number locked))
+          (λ calm i. ⊎_elim (λ below. scanned.2 paid.before_end refl is calm i below) (λ beyond. none_holds calm i (none_beyond i beyond)) (cases_lt i c))
+          (before_end number is paid) (exchange_sets ws 0 number locked is) (omega arith) (λ n w more bound. omega arith))
+          (λ t.
+          let other : counter_of ws ≢ number = grind (arith, nat_tests) in
+          goes first_lock (Some (exchanges 0 number locked)) true
+          (stays_same scene inv (words_after ws (Some (exchanges 0 number locked))) (fails_same ws 0 number locked other))
+          tt
+          (paid_back scene number (Some (exchanges 0 number locked)) events other paid) tt tt (λ n w more bound. omega arith))

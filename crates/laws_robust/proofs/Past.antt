@@ -7,7 +7,7 @@ use Rattle.laws_robust.proofs.Names.{no_more}
 module _ {T : Type 0} (p : ℕ) where
   pub through_less : (P : List (Event T) → Type 0) (events es : List (Event T)) → BeginsNone p es
       → HeldThroughout p P (events ++ es) → HeldThroughout p P events
-  through_less x0 x1 x2 x3 x4 x5 x6 x7 x8 = grind (arith, append_assoc, begins_none_more)
+  through_less = grind (arith, append_assoc, begins_none_more)
 
   pub through_so : (P Q : List (Event T) → Type 0) (events : List (Event T))
       → ((part : List (Event T)) → P part → Q part) → HeldThroughout p P events → HeldThroughout p Q events
@@ -34,7 +34,7 @@ module _ {T : Type 0} (p : ℕ) where
     pub within : BeginsNone p since
 
   one_behind : (x b : Event T) (xs bs : List (Event T)) (start : Start T) → x ≡ b → BeganIn xs bs start → BeganIn (x ∷ xs) (b ∷ bs) start
-  one_behind x0 x1 x2 x3 x4 x5 x6 = grind arith
+  one_behind = grind arith
 
   pub began_earlier : (events es before : List (Event T)) (start : Start T) (since : List (Event T))
       → events ++ es ≡ before ++ Begun p start ∷ since → BeginsNone p es → BeginsNone p since
@@ -74,4 +74,4 @@ module _ {T : Type 0} (p : ℕ) where
   -- of a call that has just begun
   pub since_begun : (P : List (Event T) → Type 0) (events : List (Event T)) (start : Start T)
       → SinceBegin p (λ part since. P part) (events ++ Begun p start ∷ []) → P events
-  since_begun x0 x1 x2 x3 = grind (arith, last_begin)
+  since_begun = grind (arith, last_begin)

@@ -30,6 +30,7 @@ use Rattle.laws_robust.proofs.Stages.{IsHere, now, sees, backs_then, loads, exch
 use Rattle.laws_robust.proofs.Stages.{loads_same, fails_same, exchange_sets, set_acts_more, StepOf, AnswerOf, Leads}
 use Rattle.laws_robust.proofs.Stages.{goes_on, goes_quietly}
 use Rattle.laws_robust.proofs.Recovers.{asked_then, comes_quietly, ends_so, g, gone_then, open_then}
+use Rattle.laws_robust.proofs.Cases.{on_bool}
 
 module _ {T : Type 0} (scene : Scene T) (inv : Inv scene) (mode : ReleaseMode) (here : IsHere scene (Recover mode)) where
   open scene use {by as by, capacity as c, party as p, steps as steps, backs as backs, events as events}
@@ -73,7 +74,7 @@ module _ {T : Type 0} (scene : Scene T) (inv : Inv scene) (mode : ReleaseMode) (
       tells_set_acts = set_acts_more scene (Recover mode) here telling tells_does.own (λ start w. refl)
 
       frees_this : (i o : ℕ) → Yes index owner ≡ Yes i o → (is_gone by o (events ++ telling) ≡ true) × ((i ≡ index) × (o ≡ owner))
-      frees_this x0 x1 x2 = grind (arith, gone_told)
+      frees_this = grind (arith, gone_told)
 
       says_yes : Lead None false telling (GoOn (at_recover (call_at (recovers.Asks index owner)) (recovers.EmptiesCell index owner)))
       says_yes =
@@ -109,13 +110,13 @@ module _ {T : Type 0} (scene : Scene T) (inv : Inv scene) (mode : ReleaseMode) (
 
     pub decided : (answer : ℕ) → (answer ≢ 0 → MayBeTold by owner events)
         → AnswerOf scene (Recover mode) (recover_at c mode (recovers.Asks index owner)) None answer
-    decided answer may = go (answer == 0) refl
-      where
-        go : (b : Bool) → (answer == 0) ≡ b → Lead None false (if b then [] else Told p index owner ∷ [])
-            (if b then recover_comes_to (call_at (recovers.Asks index owner)) (index + 1) else GoOn
-            (at_recover (call_at (recovers.Asks index owner)) (recovers.EmptiesCell index owner)))
-        go true t = says_no
-        go false t = let other : answer ≢ 0 = grind (arith, nat_tests) in says_yes (may other)
+    decided answer may =
+        on_bool (λ b. Lead None false (if b then [] else Told p index owner ∷ [])
+        (if b then recover_comes_to (call_at (recovers.Asks index owner)) (index + 1) else GoOn
+        (at_recover (call_at (recovers.Asks index owner)) (recovers.EmptiesCell index owner))))
+        (answer == 0)
+        (λ t. says_no)
+        (λ t. let other : answer ≢ 0 = grind (arith, nat_tests) in says_yes (may other))
 
   -- ---- the exchange of a cell
 
@@ -169,7 +170,7 @@ module _ {T : Type 0} (scene : Scene T) (inv : Inv scene) (mode : ReleaseMode) (
       frees_set_acts = set_acts_more scene (Recover mode) here freeing frees_does.own (λ start w. refl)
 
       freed_here : (i o : ℕ) → (i ≡ index) × (o ≡ owner) → filled_of i (events ++ freeing) ≢ Some o
-      freed_here x0 x1 x2 x3 = grind (arith, some_none, fold-append, at_same)
+      freed_here = grind (arith, some_none, fold-append, at_same)
 
       asked_about : (i o : ℕ) → Frees index owner ≡ Frees i o → IsOneOf (Asks i o) done
       asked_about i o e = grind arith
@@ -209,23 +210,32 @@ module _ {T : Type 0} (scene : Scene T) (inv : Inv scene) (mode : ReleaseMode) (
           })
 
     pub empties_cell : StepOf scene (Recover mode) (recover_at c mode (recovers.EmptiesCell index owner))
-    empties_cell = go (cell ws index == owner) refl
-      where
-        go : (b : Bool) → (cell ws index == owner) ≡ b
-            → Lead (Some (exchanges (cell_word index) owner empty)) false (if b then FreedOf p index owner ∷ [] else [])
-            (if b then GoOn (at_recover (call_at (recovers.EmptiesCell index owner))
-            (recovers.Raises index raises.LoadsCounter))
-            else recover_comes_to
-            (call_at (recovers.EmptiesCell index owner)) (index + 1))
-        go true t = let is : cell ws index ≡ owner = grind (arith, nat_tests) in empties is
-        go false t = let other : cell ws index ≢ owner = grind (arith, nat_tests) in misses other
+    empties_cell =
+        on_bool (λ b. Lead (Some (exchanges (cell_word index) owner empty)) false
+        (if b then FreedOf p index owner ∷ [] else [])
+        (if b then GoOn (at_recover (call_at (recovers.EmptiesCell index owner)) (recovers.Raises index raises.LoadsCounter))
+        else recover_comes_to (call_at (recovers.EmptiesCell index owner)) (index + 1)))
+        (cell ws index == owner)
+        (λ t. let is : cell ws index ≡ owner = grind (arith, nat_tests) in empties is)
+        (λ t. let other : cell ws index ≢ owner = grind (arith, nat_tests) in misses other)
 
   -- ---- the second look at the counter
 
   pub loads_again : FreedWereAsked done → steps ≤ 1 + c * for_index c mode + backs * for_back c mode
       → Knows c (recover_at c mode recovers.LoadsCounterAgain) (now scene)
       → StepOf scene (Recover mode) (recover_at c mode recovers.LoadsCounterAgain)
-  loads_again freed s k = go (counter_of ws == locked) refl
+  loads_again freed s k =
+      on_bool (λ b. Lead (Some (loads 0)) false [] (Done (if b then states.Locked else states.Unlocked))) (counter_of ws == locked)
+      (λ t.
+      let shut : counter_of ws ≡ locked = grind (arith, nat_tests) in
+      let paid = k.paid in
+      (ends_so scene inv mode here) states.Locked (Some (loads 0)) false (stays_same scene inv _ (loads_same ws 0))
+      (is_shut scene inv shut) (omega arith) (omega arith))
+      (λ t.
+      let other : counter_of ws ≢ locked = grind (arith, nat_tests) in
+      let paid = k.paid in
+      (ends_so scene inv mode here) states.Unlocked (Some (loads 0)) false (stays_same scene inv _ (loads_same ws 0))
+      (unlocked scene inv other, recovered) (omega arith) (omega arith))
     where
       recovered : HasRecoveredBy by p events
       recovered =
@@ -237,19 +247,6 @@ module _ {T : Type 0} (scene : Scene T) (inv : Inv scene) (mode : ReleaseMode) (
                 (λ was_freed. freed i owner was_freed) (through_now p (StillToFree p owner i) events through))
                 (cases_lt i c);
           }
-
-      go : (b : Bool) → (counter_of ws == locked) ≡ b
-          → Lead (Some (loads 0)) false [] (Done (if b then states.Locked else states.Unlocked))
-      go true t =
-          let shut : counter_of ws ≡ locked = grind (arith, nat_tests) in
-          let paid = k.paid in
-          (ends_so scene inv mode here) states.Locked (Some (loads 0)) false (stays_same scene inv _ (loads_same ws 0))
-          (is_shut scene inv shut) (omega arith) (omega arith)
-      go false t =
-          let other : counter_of ws ≢ locked = grind (arith, nat_tests) in
-          let paid = k.paid in
-          (ends_so scene inv mode here) states.Unlocked (Some (loads 0)) false (stays_same scene inv _ (loads_same ws 0))
-          (unlocked scene inv other, recovered) (omega arith) (omega arith)
 
   -- ---- the raise of the counter
 

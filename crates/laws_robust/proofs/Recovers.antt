@@ -28,6 +28,7 @@ use Rattle.laws_robust.proofs.Past.{through_less, through_now}
 use Rattle.laws_robust.proofs.Stages.{IsHere, Lengthens, now, sees, then_sees, backs_then, loads}
 use Rattle.laws_robust.proofs.Stages.{loads_same, set_acts_more, StepOf, Leads}
 use Rattle.laws_robust.proofs.Stages.{goes_on, goes_quietly, ends_quietly}
+use Rattle.laws_robust.proofs.Cases.{on_bool}
 
 most_is : (c backs : ℕ) (mode : ReleaseMode) → most_steps c (Recover mode) backs ≡ 2 + c * for_index c mode + backs * for_back c mode
 most_is c backs Default = omega arith
@@ -161,42 +162,41 @@ module _ {T : Type 0} (scene : Scene T) (inv : Inv scene) (mode : ReleaseMode) (
   pub loads_counter : done ≡ [] → steps ≤ 0
       → Knows c (recover_at c mode recovers.LoadsCounter) (now scene)
       → StepOf scene (Recover mode) (recover_at c mode recovers.LoadsCounter)
-  loads_counter none s k = go (counter_of ws == locked) refl
-    where
-      go : (b : Bool) → (counter_of ws == locked) ≡ b
-          → Lead (Some (loads 0)) false []
-          (if b then Done states.Locked else recover_comes_to (call_at recovers.LoadsCounter) 0)
-      go true t =
-          let shut : counter_of ws ≡ locked = grind (arith, nat_tests) in
-          let paid = k.paid in
-          ends_so states.Locked (Some (loads 0)) false (stays_same scene inv _ (loads_same ws 0))
-          (is_shut scene inv shut) (omega arith) (omega arith)
-      go false t =
-          let open_now : counter_of ws ≢ locked = grind (arith, nat_tests) in
-          let paid = k.paid in
-          let some = g.some in
-          by_test (λ s. Lead (Some (loads 0)) false [] (GoOn (at_recover (call_at recovers.LoadsCounter) s)))
-          (nat_lt 0 c) (recovers.LoadsCell 0) recovers.LoadsCounterAgain
-          (λ u.
-          goes_quietly scene inv (Recover mode) (recover_at c mode (recovers.LoadsCell 0))
-          (Some (loads 0)) false here (stays_same scene inv _ (loads_same ws 0)) (omega arith) (
-            refl,
-            refl,
-            record {
-              within = omega arith;
-              asked = subst (λ d. AllByRecursion (λ i. i < 0) (asked_in d)) (sym none) tt;
-              freed = λ i owner freed. absurd
-                  (no_more freed.before (Frees i owner) freed.after (sym none ∙ freed.is));
-            },
-          )
-          (record {
-            paid = omega arith;
-            scanned = tt;
-            owns = tt;
-            says = (held_now p IsUnlocked events (unlocked scene inv open_now), λ i owner below. absurd (omega arith));
-            gone = k.gone;
-          }))
-          (λ u. let nothing : c ≤ 0 = grind (arith, nat_tests) in absurd (omega arith))
+  loads_counter none s k =
+      on_bool
+      (λ b. Lead (Some (loads 0)) false [] (if b then Done states.Locked else recover_comes_to (call_at recovers.LoadsCounter) 0))
+      (counter_of ws == locked)
+      (λ t.
+      let shut : counter_of ws ≡ locked = grind (arith, nat_tests) in
+      let paid = k.paid in
+      ends_so states.Locked (Some (loads 0)) false (stays_same scene inv _ (loads_same ws 0))
+      (is_shut scene inv shut) (omega arith) (omega arith))
+      (λ t.
+      let open_now : counter_of ws ≢ locked = grind (arith, nat_tests) in
+      let paid = k.paid in
+      let some = g.some in
+      by_test (λ s. Lead (Some (loads 0)) false [] (GoOn (at_recover (call_at recovers.LoadsCounter) s)))
+      (nat_lt 0 c) (recovers.LoadsCell 0) recovers.LoadsCounterAgain
+      (λ u.
+      goes_quietly scene inv (Recover mode) (recover_at c mode (recovers.LoadsCell 0))
+      (Some (loads 0)) false here (stays_same scene inv _ (loads_same ws 0)) (omega arith) (
+        refl,
+        refl,
+        record {
+          within = omega arith;
+          asked = subst (λ d. AllByRecursion (λ i. i < 0) (asked_in d)) (sym none) tt;
+          freed = λ i owner freed. absurd
+              (no_more freed.before (Frees i owner) freed.after (sym none ∙ freed.is));
+        },
+      )
+      (record {
+        paid = omega arith;
+        scanned = tt;
+        owns = tt;
+        says = (held_now p IsUnlocked events (unlocked scene inv open_now), λ i owner below. absurd (omega arith));
+        gone = k.gone;
+      }))
+      (λ u. let nothing : c ≤ 0 = grind (arith, nat_tests) in absurd (omega arith)))
 
   -- ---- the load of a cell
 
@@ -211,7 +211,7 @@ module _ {T : Type 0} (scene : Scene T) (inv : Inv scene) (mode : ReleaseMode) (
 
     -- nothing is to be freed at an empty cell
     passed_says : cell ws index ≡ empty → AskedBelow (index + 1) (now scene)
-    passed_says x0 x1 x2 x3 x4 = grind (arith, some_none, filled_none, through_now)
+    passed_says = grind (arith, some_none, filled_none, through_now)
 
     passes_empty : cell ws index ≡ empty → Lead load false [] (recover_comes_to (call_at (recovers.LoadsCell index)) (index + 1))
     passes_empty is =
@@ -255,7 +255,7 @@ module _ {T : Type 0} (scene : Scene T) (inv : Inv scene) (mode : ReleaseMode) (
           filled_here : (i owner : ℕ) → i ≡ index
               → filled_of i (events ++ Asked p index (cell ws index) ∷ []) ≡ Some owner
               → IsOneOf (Asks i owner) (set_acts_of p (events ++ Asked p index (cell ws index) ∷ []))
-          filled_here x0 x1 x2 x3 = grind (arith, fold-append, cell, one_owner, asks_set_acts, last_one)
+          filled_here = grind (arith, fold-append, cell, one_owner, asks_set_acts, last_one)
 
       asks_about : Lead load false asking (GoOn (at_recover (call_at (recovers.LoadsCell index)) (recovers.Asks index (cell ws index))))
       asks_about =
@@ -286,10 +286,10 @@ module _ {T : Type 0} (scene : Scene T) (inv : Inv scene) (mode : ReleaseMode) (
           })
 
     pub loads_cell : StepOf scene (Recover mode) (recover_at c mode (recovers.LoadsCell index))
-    loads_cell = go (cell ws index == empty) refl
-      where
-        go : (b : Bool) → (cell ws index == empty) ≡ b → Lead (Some (loads (cell_word index))) false (if b then [] else Asked p index (cell ws index) ∷ [])
-            (if b then recover_comes_to (call_at (recovers.LoadsCell index)) (index + 1) else GoOn
-            (at_recover (call_at (recovers.LoadsCell index)) (recovers.Asks index (cell ws index))))
-        go true t = let is : cell ws index ≡ empty = grind (arith, nat_tests) in passes_empty is
-        go false t = let other : cell ws index ≢ empty = grind (arith, nat_tests) in asks_about other
+    loads_cell =
+        on_bool (λ b. Lead (Some (loads (cell_word index))) false (if b then [] else Asked p index (cell ws index) ∷ [])
+        (if b then recover_comes_to (call_at (recovers.LoadsCell index)) (index + 1) else GoOn
+        (at_recover (call_at (recovers.LoadsCell index)) (recovers.Asks index (cell ws index)))))
+        (cell ws index == empty)
+        (λ t. let is : cell ws index ≡ empty = grind (arith, nat_tests) in passes_empty is)
+        (λ t. let other : cell ws index ≢ empty = grind (arith, nat_tests) in asks_about other)

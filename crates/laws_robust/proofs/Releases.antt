@@ -28,13 +28,13 @@ use Rattle.laws_robust.proofs.Stages.{IsHere, all, now, sees, backs_then, StepOf
 
 not_owned_done : (T : Type 0) (index owner : ℕ) (mode : ReleaseMode) (failure : RobustUniqueIndexSetReleaseError) (done : List SetAct)
     → done ≡ [] → HasDone {T = T} (Release index owner mode) (NotOwned failure) done
-not_owned_done x0 x1 x2 x3 x4 x5 x6 = grind arith
+not_owned_done = grind arith
 
 not_owned_right : {T : Type 0} (by : GoneBy) (worn : Type 0) (c p index owner : ℕ) (mode : ReleaseMode)
     (failure : RobustUniqueIndexSetReleaseError) (events : List (Event T))
     → filled_of index events ≢ Some owner
     → AnswersBy by worn c events (Finished p (Robust (Release index owner mode)) (NotOwned failure))
-not_owned_right x0 x1 x2 x3 x4 x5 x6 x7 x8 x9 = grind arith
+not_owned_right = grind arith
 
 module _ {T : Type 0} (scene : Scene T) (inv : Inv scene) (index owner : ℕ) (fits : owner < empty)
     (below : index < scene.capacity) (alive : is_dead owner scene.events ≡ false) where
@@ -59,7 +59,7 @@ module _ {T : Type 0} (scene : Scene T) (inv : Inv scene) (index owner : ℕ) (f
 
     began : IsCalm by (events ++ FreedOf p index owner ∷ [])
         → (is_gone by owner events ≡ false) × SinceBegin p (λ part since. settled_of index part ≡ Some owner) events
-    began x0 = grind (arith, lives_freed, gives_back)
+    began = grind (arith, lives_freed, gives_back)
 
     abbrev Says : List ℕ → ReleaseMode → ReleaseState → Type 0
     Says words' m state = Ends scene inv index owner mode fits below lives began 0 words' m state
@@ -83,7 +83,7 @@ module _ {T : Type 0} (scene : Scene T) (inv : Inv scene) (index owner : ℕ) (f
         stays (λ j o. refl) (λ j r. refl) why done (omega arith) paid
 
     all_done : all scene ≡ Frees index owner ∷ [] → set_acts (wrote_of p events ++ Locked p ∷ []) ≡ Frees index owner ∷ Locks ∷ []
-    all_done x0 = grind (arith, flat_map-append)
+    all_done = grind (arith, flat_map-append)
 
     now_locked : is_locked (events ++ Locked p ∷ []) ≡ true
     now_locked = fold-append locked_after false events (Locked p ∷ [])

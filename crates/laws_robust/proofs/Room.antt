@@ -42,6 +42,7 @@ use Rattle.model.proofs.LockFree.Measure.{worth}
 use Rattle.laws_robust.proofs.Measured.{raise_left, acquire_left, find_left, count_left}
 use Rattle.laws_robust.proofs.Counter.{tested, raise_then, count_then, count_old, lock_then, lock_old, acquire_then, acquire_old, release_then, release_old}
 use Rattle.laws_robust.proofs.Counter.{recover_then, recover_old}
+use Rattle.laws_robust.proofs.Cases.{by_bool}
 
 -- ---- the room of a counter
 
@@ -50,11 +51,7 @@ abbrev pub room : ℕ → ℕ
 room n = if nat_lt locked n then 2 ^ 64 else locked - n
 
 pub room_most : (n : ℕ) → room n ≤ 2 ^ 64
-room_most n = go (nat_lt locked n) refl
-  where
-    go : (t : Bool) → nat_lt locked n ≡ t → room n ≤ 2 ^ 64
-    go true t = rw t (omega arith)
-    go false t = rw t (omega arith)
+room_most n = by_bool (nat_lt locked n) (λ t. rw t (omega arith)) (λ t. rw t (omega arith))
 
 apart : (k : ℕ) → (k == locked) ≡ false → k ≢ locked
 apart k e = grind (arith, nat_tests)
@@ -70,31 +67,29 @@ low_is k e = grind (arith, nat_tests)
 
 -- a raise leaves less
 pub rises : (k : ℕ) → (k == locked) ≡ false → room (one_more k) + 1 ≤ room k
-rises k other = go (nat_lt locked k) refl
+rises k other =
+    by_bool (nat_lt locked k)
+    (λ t. let low = low_is (one_more k) next_low in rw (low, t) (omega arith))
+    (λ t.
+    let low = low_is (one_more k) next_low in
+    let here = below k t in
+    let ne = apart k other in
+    let less : k < locked = omega (arith, ne) in
+    rw (low, t) (omega arith))
   where
     next_low : one_more k ≤ locked
     next_low = omega arith
 
-    go : (t : Bool) → nat_lt locked k ≡ t → room (one_more k) + 1 ≤ room k
-    go true t = let low = low_is (one_more k) next_low in rw (low, t) (omega arith)
-    go false t =
-        let low = low_is (one_more k) next_low in
-        let here = below k t in
-        let ne = apart k other in
-        let less : k < locked = omega (arith, ne) in
-        rw (low, t) (omega arith)
-
 -- and a lock leaves none
 pub shuts : (k : ℕ) → (k == locked) ≡ false → room locked + 1 ≤ room k
-shuts k other = go (nat_lt locked k) refl
-  where
-    go : (t : Bool) → nat_lt locked k ≡ t → room locked + 1 ≤ room k
-    go true t = rw t (omega arith)
-    go false t =
-        let here = below k t in
-        let ne = apart k other in
-        let less : k < locked = omega (arith, ne) in
-        rw t (omega arith)
+shuts k other =
+    by_bool (nat_lt locked k)
+    (λ t. rw t (omega arith))
+    (λ t.
+    let here = below k t in
+    let ne = apart k other in
+    let less : k < locked = omega (arith, ne) in
+    rw t (omega arith))
 
 pub up : (a b k : ℕ) → a + 1 ≤ b → a * k + k ≤ b * k
 up a b k le = let paid = worth (a + 1) b k le in omega arith
@@ -228,15 +223,14 @@ module _ (c n new : ℕ) where
       go false u true v t e = rw (u, v) (inl (is, v))
       go false u false v true t = rw (u, v) (is, rw t (omega arith))
       go false u false v false t = rw (u, v) (is, rw t (omega arith))
-  count_to (counts.ExchangesCounter k filled) cell at is = go (n == k) refl
-    where
-      go : (s : Bool) → (n == k) ≡ s → CountTo (counts.ExchangesCounter k filled) (count_after c (counts.ExchangesCounter k filled) n)
-      go true s =
-          let same = tested n k s in
-          let next : new ≡ one_more k = rw s at is in
-          let moved : room new + 1 ≤ room n = rw (next, same) (rises k at) in
-          rw s (inr moved)
-      go false s = let same : new ≡ n = rw s at is in rw s (same, rw s (omega arith))
+  count_to (counts.ExchangesCounter k filled) cell at is =
+      by_bool (n == k)
+      (λ s.
+      let same = tested n k s in
+      let next : new ≡ one_more k = rw s at is in
+      let moved : room new + 1 ≤ room n = rw (next, same) (rises k at) in
+      rw s (inr moved))
+      (λ s. let same : new ≡ n = rw s at is in rw s (same, rw s (omega arith)))
 
   abbrev pub LockTo : Lock → After Lock ReleaseState → Type 0
   LockTo lock (GoOn next) = Less 1 (lock_left c n lock) (lock_left c n next)
@@ -308,12 +302,10 @@ module _ (c n new : ℕ) where
       go false t true u false v = let less : index + 2 ≤ c = grind (arith, nat_tests) in rw (t, u) (inl (is, rw v (omega arith)))
       go false t false u true v = rw (t, u) (inl (is, rw v (omega arith)))
       go false t false u false v = rw (t, u) (inl (is, rw v (omega arith)))
-  acquire_to call (acquires.ChecksCounter k) cell cap at is = go (n == k) refl
-    where
-      go : (s : Bool) → (n == k) ≡ s
-          → AcquireTo (acquire_left c n (acquires.ChecksCounter k)) (acquire_takes call (acquires.ChecksCounter k) n)
-      go true s = rw s tt
-      go false s = let same : new ≡ n = rw s at is in rw s (acquire_sees_to call cap same (c - 1 + 3) (omega arith))
+  acquire_to call (acquires.ChecksCounter k) cell cap at is =
+      by_bool (n == k)
+      (λ s. rw s tt)
+      (λ s. let same : new ≡ n = rw s at is in rw s (acquire_sees_to call cap same (c - 1 + 3) (omega arith)))
   acquire_to call (acquires.Raises index raise) cell cap at is = acquire_raises call index raise (raise_after raise n) (raise_to raise at is)
 
   -- ---- a release
@@ -335,12 +327,10 @@ module _ (c n new : ℕ) where
 
   pub release_to : (call : releasing.Release) (stage : ReleaseStage) (given : GiveBack) (cell : ℕ) → call.capacity ≡ c → ReleaseAt stage
       → new ≡ release_then stage n → ReleaseTo (release_left c n stage) (release_takes call stage given (release_old stage n cell))
-  release_to call releases.EmptiesCell given cell cap at is = go (cell == given.owner) refl
-    where
-      go : (t : Bool) → (cell == given.owner) ≡ t
-          → ReleaseTo (release_left c n releases.EmptiesCell) (release_takes call releases.EmptiesCell given cell)
-      go true t = rw t (inl (is, omega arith))
-      go false t = rw t tt
+  release_to call releases.EmptiesCell given cell cap at is =
+      by_bool (cell == given.owner)
+      (λ t. rw t (inl (is, omega arith)))
+      (λ t. rw t tt)
   release_to call (releases.Raises raise) given cell cap at is =
       release_raises call given.mode raise (raise_after raise n) (raise_to raise at is)
   release_to call (releases.Locks lock) given cell cap at is =
@@ -355,14 +345,13 @@ module _ (c n new : ℕ) where
 
   recover_comes : (call : recovering.Recover) (index steps was : ℕ) → call.capacity ≡ c → rest c index + steps ≤ was → StaysOrMoves
       → RecoverTo steps was (recover_comes_to call (index + 1))
-  recover_comes call index steps was cap enough h = go (nat_lt (index + 1) call.capacity) refl
-    where
-      go : (t : Bool) → nat_lt (index + 1) call.capacity ≡ t → RecoverTo steps was (recover_comes_to call (index + 1))
-      go true t =
-          let less : index + 2 ≤ c = grind (arith, nat_tests) in
-          let paid = up (c - (index + 1 + 1)) (c - (index + 1)) (c - 1 + 7) (omega (arith, less)) in
-          rw t (less_by steps was (rest c (index + 1) + (c - 1 + 7)) (omega (arith, paid, enough)) h)
-      go false t = rw t (less_by steps was 0 (omega (arith, enough)) h)
+  recover_comes call index steps was cap enough h =
+      by_bool (nat_lt (index + 1) call.capacity)
+      (λ t.
+      let less : index + 2 ≤ c = grind (arith, nat_tests) in
+      let paid = up (c - (index + 1 + 1)) (c - (index + 1)) (c - 1 + 7) (omega (arith, less)) in
+      rw t (less_by steps was (rest c (index + 1) + (c - 1 + 7)) (omega (arith, paid, enough)) h))
+      (λ t. rw t (less_by steps was 0 (omega (arith, enough)) h))
 
   recover_raises : (call : recovering.Recover) (index : ℕ) (mode : ReleaseMode) (raise : Raise) (a : After Raise ReleaseState) → call.capacity ≡ c
       → RaiseTo raise a → RecoverTo 1 (rest c index + (c - 1 + 4) + raise_left n raise) (recover_raised call index mode a)
@@ -388,25 +377,18 @@ module _ (c n new : ℕ) where
       go true t u e = rw t tt
       go false t true u = rw (t, u) (inl (is, omega arith))
       go false t false u = rw (t, u) (inl (is, omega arith))
-  recover_to call (recovers.LoadsCell index) mode cell cap at is = go (cell == empty) refl
-    where
-      go : (t : Bool) → (cell == empty) ≡ t
-          → RecoverTo 1 (recover_left c n (recovers.LoadsCell index)) (recover_takes call (recovers.LoadsCell index) mode cell)
-      go true t = rw t (recover_comes call index 1 (rest c index + (c - 1 + 7)) cap (omega arith) (inl is))
-      go false t = rw t (inl (is, omega arith))
-  recover_to call (recovers.Asks index owner) mode cell cap at is = go (cell == 0) refl
-    where
-      go : (t : Bool) → (cell == 0) ≡ t
-          → RecoverTo 0 (recover_left c n (recovers.Asks index owner)) (recover_takes call (recovers.Asks index owner) mode cell)
-      go true t = rw t (recover_comes call index 0 (rest c index + (c - 1 + 6)) cap (omega arith) (inl is))
-      go false t = rw t (inl (is, omega arith))
-  recover_to call (recovers.EmptiesCell index owner) mode cell cap at is = go (cell == owner) refl
-    where
-      go : (t : Bool) → (cell == owner) ≡ t
-          → RecoverTo 1 (recover_left c n (recovers.EmptiesCell index owner))
-          (recover_takes call (recovers.EmptiesCell index owner) mode cell)
-      go true t = rw t (inl (is, omega arith))
-      go false t = rw t (recover_comes call index 1 (rest c index + (c - 1 + 6)) cap (omega arith) (inl is))
+  recover_to call (recovers.LoadsCell index) mode cell cap at is =
+      by_bool (cell == empty)
+      (λ t. rw t (recover_comes call index 1 (rest c index + (c - 1 + 7)) cap (omega arith) (inl is)))
+      (λ t. rw t (inl (is, omega arith)))
+  recover_to call (recovers.Asks index owner) mode cell cap at is =
+      by_bool (cell == 0)
+      (λ t. rw t (recover_comes call index 0 (rest c index + (c - 1 + 6)) cap (omega arith) (inl is)))
+      (λ t. rw t (inl (is, omega arith)))
+  recover_to call (recovers.EmptiesCell index owner) mode cell cap at is =
+      by_bool (cell == owner)
+      (λ t. rw t (inl (is, omega arith)))
+      (λ t. rw t (recover_comes call index 1 (rest c index + (c - 1 + 6)) cap (omega arith) (inl is)))
   recover_to call (recovers.Raises index raise) mode cell cap at is =
       recover_raises call index mode raise (raise_after raise n) cap (raise_to raise at is)
   recover_to call (recovers.Locks index lock) mode cell cap at is =
@@ -422,26 +404,21 @@ module _ (c n new : ℕ) where
 
   find_comes : (call : finding.Find) (index found steps was : ℕ) → call.capacity ≡ c → new ≡ n → steps ≤ 1 → c - (index + 1) + steps ≤ was
       → FindTo steps was (find_comes_to call (index + 1) found)
-  find_comes call index found steps was cap same one enough = go (nat_lt (index + 1) call.capacity) refl
-    where
-      go : (t : Bool) → nat_lt (index + 1) call.capacity ≡ t → FindTo steps was (find_comes_to call (index + 1) found)
-      go true t = let less : index + 2 ≤ c = grind (arith, nat_tests) in rw t (inl (same, omega (arith, less, enough)))
-      go false t = rw t tt
+  find_comes call index found steps was cap same one enough =
+      by_bool (nat_lt (index + 1) call.capacity)
+      (λ t. let less : index + 2 ≤ c = grind (arith, nat_tests) in rw t (inl (same, omega (arith, less, enough))))
+      (λ t. rw t tt)
 
   pub find_to : (call : finding.Find) (stage : FindStage) (owner cell : ℕ) → call.capacity ≡ c → new ≡ n
       → FindTo (find_steps stage) (find_left c stage) (find_takes call stage owner cell)
-  find_to call (finds.LoadsCell index found) owner cell cap same = go (cell == owner) refl
-    where
-      go : (t : Bool) → (cell == owner) ≡ t
-          → FindTo 1 (find_left c (finds.LoadsCell index found)) (find_takes call (finds.LoadsCell index found) owner cell)
-      go true t = rw t (inl (same, omega arith))
-      go false t = rw t (find_comes call index found 1 (c - (index + 1) + 1) cap same (omega arith) (omega arith))
-  find_to call (finds.Asks index found) owner cell cap same = go (cell == 0) refl
-    where
-      go : (t : Bool) → (cell == 0) ≡ t
-          → FindTo 0 (find_left c (finds.Asks index found)) (find_takes call (finds.Asks index found) owner cell)
-      go true t = rw t tt
-      go false t = rw t (find_comes call index found 0 (c - (index + 1)) cap same (omega arith) (omega arith))
+  find_to call (finds.LoadsCell index found) owner cell cap same =
+      by_bool (cell == owner)
+      (λ t. rw t (inl (same, omega arith)))
+      (λ t. rw t (find_comes call index found 1 (c - (index + 1) + 1) cap same (omega arith) (omega arith)))
+  find_to call (finds.Asks index found) owner cell cap same =
+      by_bool (cell == 0)
+      (λ t. rw t tt)
+      (λ t. rw t (find_comes call index found 0 (c - (index + 1)) cap same (omega arith) (omega arith)))
 
   abbrev pub BorrowedTo : ℕ → After counting.BorrowedIndices ℕ → Type 0
   BorrowedTo was (GoOn next) = Less 1 was (count_left c n next.count)

@@ -347,20 +347,20 @@ module _ {T : Type 0} (code : Coding T) (c : ℕ) where
   begins : (start : Start T) (kept : Registry T) (flight : Flight T) → Unit {0} → Kept kept
       → first_of kinds.Robust c start kept ≡ Some flight
       → AtAny code c start flight × ((p : ℕ) → Kept (kept_after_begin code c start p kept))
-  begins x0 x1 x2 x3 x4 x5 = grind arith
+  begins = grind arith
 
   keeps : (words : List ℕ) (beside : Option (ℕ × ℕ)) (p : ℕ) (start : Start T) (flight : Flight T) (old : ℕ) (kept : Registry T)
       → AtAny code c start flight → Kept kept → Kept (step_of code words beside p start flight old kept).kept
-  keeps x0 x1 x2 x3 x4 x5 x6 x7 x8 = grind arith
+  keeps = grind arith
 
   told : (words : List ℕ) (beside : Option (ℕ × ℕ)) (p : ℕ) (start : Start T) (flight : Flight T) (old : ℕ) (kept : Registry T)
       → AtAny code c start flight → Kept kept
       → ((step_of code words beside p start flight old kept).after ≡ after_of code flight old)
       × (goes_of code p flight old kept ≡ after_of code flight old)
-  told x0 x1 x2 x3 x4 x5 x6 x7 x8 = grind arith
+  told = grind arith
 
   dies : (kept : Registry T) (owner : ℕ) → Kept kept → Kept (kept_after_death kept owner)
-  dies x0 x1 x2 = grind arith
+  dies = grind arith
 
   laws : capacity_error kinds.Robust c ≡ None → TableLaws outline code c
   laws admitted =

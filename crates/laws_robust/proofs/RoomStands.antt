@@ -41,6 +41,7 @@ use Rattle.laws_robust.proofs.Counter.{tested, raise_then, count_then, lock_then
 use Rattle.laws_robust.proofs.Measured.{acquire_left, find_left, count_left}
 use Rattle.laws_robust.proofs.Room.{release_left, recover_left, RaiseAt, CountAt, LockAt, AcquireAt, ReleaseAt, RecoverAt}
 use Rattle.laws_robust.proofs.Room.{recover_steps, find_steps, rises, shuts, StaysOrMoves}
+use Rattle.laws_robust.proofs.Cases.{by_bool}
 
 -- ---- how many steps a call takes at most before its last one, while the counter stays
 
@@ -66,24 +67,23 @@ CallAt c (calls.BorrowedIndices run) = (run.call.capacity ≡ c) × CountAt run.
 CallAt c (calls.IsLocked run) = Unit {0}
 
 pub steps_one : (flight : RobustFlight) → robust_steps flight ≤ 1
-steps_one x0 = grind arith
+steps_one = grind arith
 
 pub steps_are : (flight : RobustFlight) → step_count (ask_of (want flight)) ≤ robust_steps flight
-steps_are x0 = grind arith
+steps_are = grind arith
 
 -- ---- the counter stays at a step, or has less room
 
 module _ (c n new : ℕ) where
   pub raise_moves : (raise : Raise) → RaiseAt raise → new ≡ raise_then raise n → StaysOrMoves c n new
   raise_moves raises.LoadsCounter at is = inl is
-  raise_moves (raises.ExchangesCounter k) at is = go (n == k) refl
-    where
-      go : (s : Bool) → (n == k) ≡ s → StaysOrMoves c n new
-      go true s =
-          let same = tested n k s in
-          let next : new ≡ one_more k = rw s at is in
-          inr (rw (next, same) (rises k at))
-      go false s = let same : new ≡ n = rw s at is in inl same
+  raise_moves (raises.ExchangesCounter k) at is =
+      by_bool (n == k)
+      (λ s.
+      let same = tested n k s in
+      let next : new ≡ one_more k = rw s at is in
+      inr (rw (next, same) (rises k at)))
+      (λ s. let same : new ≡ n = rw s at is in inl same)
 
   pub count_moves : (count : Count) → CountAt count → new ≡ count_then count n → StaysOrMoves c n new
   count_moves counts.LoadsCounter at is = inl is
@@ -106,14 +106,13 @@ module _ (c n new : ℕ) where
   pub acquire_moves : (stage : AcquireStage) → AcquireAt stage → new ≡ acquire_then stage n → StaysOrMoves c n new
   acquire_moves acquires.LoadsCounter at is = inl is
   acquire_moves (acquires.FillsCell k index) at is = inl is
-  acquire_moves (acquires.ChecksCounter k) at is = go (n == k) refl
-    where
-      go : (s : Bool) → (n == k) ≡ s → StaysOrMoves c n new
-      go true s =
-          let same = tested n k s in
-          let next : new ≡ k = rw s at is in
-          inl (next ∙ sym same)
-      go false s = let same : new ≡ n = rw s at is in inl same
+  acquire_moves (acquires.ChecksCounter k) at is =
+      by_bool (n == k)
+      (λ s.
+      let same = tested n k s in
+      let next : new ≡ k = rw s at is in
+      inl (next ∙ sym same))
+      (λ s. let same : new ≡ n = rw s at is in inl same)
   acquire_moves (acquires.Raises index raise) at is = raise_moves raise at is
 
   pub release_moves : (stage : ReleaseStage) → ReleaseAt stage → new ≡ release_then stage n → StaysOrMoves c n new
@@ -128,14 +127,14 @@ RaiseThen (GoOn next) = RaiseAt next
 RaiseThen (Done state) = Unit {0}
 
 pub raise_then_at : (raise : Raise) (old : ℕ) → RaiseThen (raise_after raise old)
-raise_then_at x0 x1 = grind arith
+raise_then_at = grind arith
 
 abbrev pub CountThen : After Count Counted → Type 0
 CountThen (GoOn next) = CountAt next
 CountThen (Done end) = Unit {0}
 
 pub count_then_at : (c : ℕ) (count : Count) (old : ℕ) → CountAt count → CountThen (count_after c count old)
-count_then_at x0 x1 x2 x3 = grind arith
+count_then_at = grind arith
 
 abbrev pub LockThen : After Lock ReleaseState → Type 0
 LockThen (GoOn next) = LockAt next
@@ -154,11 +153,7 @@ counted_then (Done (ends.Filled filled counter)) h = go (filled == 0) refl (coun
 
 pub lock_then_at : (c : ℕ) (lock : Lock) (old : ℕ) → LockAt lock → LockThen (lock_after c lock old)
 lock_then_at c (locks.Counts count) old at = counted_then (count_after c count old) (count_then_at c count old at)
-lock_then_at c (locks.ExchangesCounter k) old at = go (old == k) refl
-  where
-    go : (t : Bool) → (old == k) ≡ t → LockThen (lock_after c (locks.ExchangesCounter k) old)
-    go true t = rw t tt
-    go false t = rw t tt
+lock_then_at c (locks.ExchangesCounter k) old at = by_bool (old == k) (λ t. rw t tt) (λ t. rw t tt)
 
 module _ (c : ℕ) where
   abbrev pub AcquireThen : After acquiring.Acquire Acquired → Type 0
@@ -167,7 +162,7 @@ module _ (c : ℕ) where
 
   acquire_raised_at : (call : acquiring.Acquire) (index : ℕ) (a : After Raise ReleaseState) → call.capacity ≡ c → RaiseThen a
       → AcquireThen (acquire_raised call index a)
-  acquire_raised_at x0 x1 x2 x3 x4 = grind arith
+  acquire_raised_at = grind arith
 
   pub acquire_then_at : (call : acquiring.Acquire) (stage : AcquireStage) (old : ℕ) → call.capacity ≡ c → AcquireAt stage
       → AcquireThen (acquire_takes call stage old)
@@ -183,10 +178,10 @@ module _ (c : ℕ) where
 
   release_raised_at : (call : releasing.Release) (mode : ReleaseMode) (a : After Raise ReleaseState) → call.capacity ≡ c → RaiseThen a
       → ReleaseThen (release_raised call mode a)
-  release_raised_at x0 x1 x2 x3 x4 = grind arith
+  release_raised_at = grind arith
 
   release_locked_at : (call : releasing.Release) (a : After Lock ReleaseState) → call.capacity ≡ c → LockThen a → ReleaseThen (release_locked call a)
-  release_locked_at x0 x1 x2 x3 = grind arith
+  release_locked_at = grind arith
 
   pub release_then_at : (call : releasing.Release) (stage : ReleaseStage) (given : GiveBack) (old : ℕ) → call.capacity ≡ c → ReleaseAt stage
       → ReleaseThen (release_takes call stage given old)
@@ -201,15 +196,15 @@ module _ (c : ℕ) where
   RecoverThen (Done result) = Unit {0}
 
   recover_comes_at : (call : recovering.Recover) (index : ℕ) → call.capacity ≡ c → RecoverThen (recover_comes_to call index)
-  recover_comes_at x0 x1 x2 = grind arith
+  recover_comes_at = grind arith
 
   recover_raised_at : (call : recovering.Recover) (index : ℕ) (mode : ReleaseMode) (a : After Raise ReleaseState) → call.capacity ≡ c → RaiseThen a
       → RecoverThen (recover_raised call index mode a)
-  recover_raised_at x0 x1 x2 x3 x4 x5 = grind (arith, recover_comes_at)
+  recover_raised_at = grind (arith, recover_comes_at)
 
   recover_locked_at : (call : recovering.Recover) (index : ℕ) (a : After Lock ReleaseState) → call.capacity ≡ c → LockThen a
       → RecoverThen (recover_locked call index a)
-  recover_locked_at x0 x1 x2 x3 x4 = grind (arith, recover_comes_at)
+  recover_locked_at = grind (arith, recover_comes_at)
 
   pub recover_then_at : (call : recovering.Recover) (stage : RecoverStage) (mode : ReleaseMode) (old : ℕ) → call.capacity ≡ c → RecoverAt stage
       → RecoverThen (recover_takes call stage mode old)
@@ -228,7 +223,7 @@ module _ (c : ℕ) where
   FindThen (Done found) = Unit {0}
 
   pub find_then_at : (call : finding.Find) (stage : finds.FindStage) (owner old : ℕ) → call.capacity ≡ c → FindThen (find_takes call stage owner old)
-  find_then_at x0 x1 x2 x3 x4 = grind arith
+  find_then_at = grind arith
 
   abbrev pub BorrowThen : After counting.BorrowedIndices ℕ → Type 0
   BorrowThen (GoOn next) = (next.capacity ≡ c) × CountAt next.count
@@ -236,7 +231,7 @@ module _ (c : ℕ) where
 
   borrowed_at : (call : counting.BorrowedIndices) (a : After Count Counted) → call.capacity ≡ c → CountThen a
       → BorrowThen (borrowed_counted call a)
-  borrowed_at x0 x1 x2 x3 = grind arith
+  borrowed_at = grind arith
 
   pub borrow_then_at : (call : counting.BorrowedIndices) (old : ℕ) → call.capacity ≡ c → CountAt call.count
       → BorrowThen (borrowed_counted call (count_after call.capacity call.count old))

@@ -6,7 +6,7 @@ use Rattle.laws_robust.proofs.Names.{Asks, index_asked, asked_in, IsOneOf, IsLat
 use Rattle.laws_robust.proofs.Names.{split_last}
 
 pub still_one : (one d : SetAct) (all : List SetAct) → IsOneOf one all → IsOneOf one (all ++ d ∷ [])
-still_one x0 x1 x2 x3 = grind (arith, append_assoc)
+still_one = grind (arith, append_assoc)
 
 pub last_one : (d : SetAct) (all : List SetAct) → IsOneOf d (all ++ d ∷ [])
 last_one d all = record { before = all; after = []; is = refl }
@@ -34,7 +34,7 @@ all_so P Q (x ∷ xs) follows h = (follows x h.0, all_so P Q xs follows h.1)
 
 pub asks_more : (n : ℕ) (d : SetAct) (all : List SetAct) → AllByRecursion (λ i. i < n) (asked_in all)
     → AllByRecursion (λ i. i < n) (index_asked d) → AllByRecursion (λ i. i < n) (asked_in (all ++ d ∷ []))
-asks_more x0 x1 x2 x3 x4 = grind (arith, flat_map-append, append-nil, all_and)
+asks_more = grind (arith, flat_map-append, append-nil, all_and)
 
 -- each that was freed was asked about
 abbrev pub FreedWereAsked : List SetAct → Type 0
@@ -42,4 +42,4 @@ FreedWereAsked all = (i owner : ℕ) → IsOneOf (Frees i owner) all → IsOneOf
 
 pub freed_more : (d : SetAct) (all : List SetAct) → FreedWereAsked all
     → ((i owner : ℕ) → d ≡ Frees i owner → IsOneOf (Asks i owner) all) → FreedWereAsked (all ++ d ∷ [])
-freed_more x0 x1 x2 x3 x4 x5 x6 = grind (arith, still_one, was_one)
+freed_more = grind (arith, still_one, was_one)

@@ -46,13 +46,13 @@ use Rattle.laws_robust.proofs.Stages.{IsHere, all, now, StepOf, DecisionOf}
 
 -- no part of a call asks a question
 pub raise_asks_none : (raise : Raise) → is_question (raise_want raise) ≡ false
-raise_asks_none x0 = grind arith
+raise_asks_none = grind arith
 
 pub count_asks_none : (count : Count) → is_question (count_want count) ≡ false
 count_asks_none count = grind arith
 
 pub lock_asks_none : (lock : Lock) → is_question (lock_want lock) ≡ false
-lock_asks_none x0 = grind (arith, count_asks_none)
+lock_asks_none = grind (arith, count_asks_none)
 
 pub acquire_asks_none : (stage : AcquireStage) (owner : ℕ) → is_question (acquire_asks stage owner) ≡ false
 acquire_asks_none stage owner = grind arith
@@ -117,7 +117,7 @@ module _ {T : Type 0} (scene : Scene T) (inv : Inv scene) where
   find_decides : (said : Bool) (owner : ℕ) → owner < empty → IsHere scene (starts.Find owner)
       → (stage : FindStage) → FindAt c (all scene) stage
       → Decides said (starts.Find owner) (find_at c owner stage)
-  find_decides x0 x1 x2 x3 x4 x5 x6 x7 x8 x9 = grind (arith, find_decided, number_of)
+  find_decides = grind (arith, find_decided, number_of)
 
   recover_decides : (said : Bool) (mode : ReleaseMode) → IsHere scene (starts.Recover mode)
       → (stage : RecoverStage) → RecoverAt c mode (all scene) stage
@@ -181,7 +181,7 @@ module _ {T : Type 0} (by : GoneBy) (code : Coding T) (c : ℕ) (t : Trace T) (s
 
   module _ (p : ℕ) (x : Party T) (since : ℕ) (found : party_of p t.world.latest ≡ Some x) where
     pub inv_with : HasRoom by t.world.words → Inv (scene_of p x since)
-    inv_with x0 = grind (arith, room_there)
+    inv_with = grind (arith, room_there)
 
     pub inv_of : t.world.turns < 2 ^ 64 - 2 → Inv (scene_of p x since)
     inv_of small = inv_with (has_room small)
@@ -253,7 +253,7 @@ module _ {T : Type 0} (by : GoneBy) (code : Coding T) (c : ℕ) (t : Trace T) (s
     -- one that passes the machine's rows may
     pub passes_in : (flight : Flight T) (said : Bool)
         → first_row (going_rows code (registries.Owners s.state.dead) (Some flight) (Some said)) ≡ None → MayDecideIn flight said
-    passes_in x0 x1 x2 = grind (arith, decides_by)
+    passes_in = grind (arith, decides_by)
 
   -- ---- a call begins
 

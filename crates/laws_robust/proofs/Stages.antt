@@ -21,18 +21,18 @@ use Rattle.laws_robust.proofs.CallProgress as standing
 use Rattle.laws_robust.proofs.Knows.{View, Knows, IsSeen, IsPaid, PaidUnless, Holding}
 use Rattle.laws_robust.proofs.CallProgress.{At}
 use Rattle.laws_robust.proofs.Rights.{Right, right_after}
+use Rattle.laws_robust.proofs.Cases.{on_bool}
 
 -- the words stay, or their changes go up
 pub is_seen : (words : List ℕ) (ask : Option Ask) (changes : ℕ) → IsSeen words (words_after words ask) changes (changes + change_of words ask)
 is_seen words None changes = inl (refl, omega arith)
-is_seen words (Some ask) changes = go (get_or (words_after words (Some ask)) ask.word 0 == get_or words ask.word 0) refl
-  where
-    go : (b : Bool) → (get_or (words_after words (Some ask)) ask.word 0 == get_or words ask.word 0) ≡ b
-        → IsSeen words (words_after words (Some ask)) changes (changes + (if b then 0 else 1))
-    go true t =
-        let same : get_or (words_after words (Some ask)) ask.word 0 ≡ get_or words ask.word 0 = grind (arith, nat_tests) in
-        inl (kept_words words ask.word (written ask.op (get_or words ask.word 0)) same, omega arith)
-    go false t = inr refl
+is_seen words (Some ask) changes =
+    on_bool (λ b. IsSeen words (words_after words (Some ask)) changes (changes + (if b then 0 else 1)))
+    (get_or (words_after words (Some ask)) ask.word 0 == get_or words ask.word 0)
+    (λ t.
+    let same : get_or (words_after words (Some ask)) ask.word 0 ≡ get_or words ask.word 0 = grind (arith, nat_tests) in
+    inl (kept_words words ask.word (written ask.op (get_or words ask.word 0)) same, omega arith))
+    (λ t. inr refl)
 
 -- ---- the operations that the calls ask for
 
@@ -47,10 +47,10 @@ loads_same words word = set-get_or words word 0
 
 -- an exchange that finds another value changes nothing
 pub fails_same : (words : List ℕ) (word from to : ℕ) → get_or words word 0 ≢ from → words_after words (Some (exchanges word from to)) ≡ words
-fails_same x0 x1 x2 x3 x4 = grind (arith, set, ne_eqb, set-get_or)
+fails_same = grind (arith, set, ne_eqb, set-get_or)
 
 pub exchange_sets : (words : List ℕ) (word from to : ℕ) → get_or words word 0 ≡ from → words_after words (Some (exchanges word from to)) ≡ set words word to
-exchange_sets x0 x1 x2 x3 x4 = grind (arith, set, eq-eqb)
+exchange_sets = grind (arith, set, eq-eqb)
 
 module _ {T : Type 0} where
   -- a call of the kind as one of any

@@ -15,21 +15,21 @@ opening_wide c = let long = length-replicate {A = ℕ} c empty in omega arith
 module _ {T : Type 0} where
   answer_wide : (w : World T) (p : ℕ) (x : Party T) (ask : Option Ask) (answer : ℕ) (doing : Doing T)
       → length (after_answer w p x ask answer doing).words ≡ length w.words
-  answer_wide x0 x1 x2 x3 x4 x5 = grind (arith, as_long)
+  answer_wide = grind (arith, as_long)
 
   begin_wide : (w : World T) (p : ℕ) (start : Start T) (o : Option (Flight T)) → length (after_begin w p start o).words ≡ length w.words
   begin_wide w p start None = refl
   begin_wide w p start (Some flight) = refl
 
   next_wide : (w : World T) (p : ℕ) (o : Option (Party T)) → length (after_next w p o).words ≡ length w.words
-  next_wide x0 x1 x2 = grind (arith, answer_wide)
+  next_wide = grind (arith, answer_wide)
 
   decision_wide : (w : World T) (p : ℕ) (said : Bool) (o : Option (Party T)) → length (after_decision w p said o).words ≡ length w.words
   decision_wide w p said None = refl
   decision_wide w p said (Some x) = answer_wide w p x None (number_of said) x.doing
 
   turn_wide : (w : World T) (turn : Turn T) → length (world_after w turn).words ≡ length w.words
-  turn_wide x0 x1 = grind (arith, begin_wide, first_of, next_wide, decision_wide)
+  turn_wide = grind (arith, begin_wide, first_of, next_wide, decision_wide)
 
   pub reached_open_wide : (t : Trace T) → t.world.kind ≡ kinds.Robust → IsReachedOpen t → length t.world.words ≡ t.world.capacity + 1
   reached_open_wide t is r =

@@ -10,7 +10,7 @@ use Rattle.laws_queues.proofs.Ring.Pops.{same_words as as_far}
 
 -- a word of a cell lies among the cells
 pub cell_within : (size n i : ℕ) → i < size → size * (n % 2) + i < size * 2
-cell_within x0 x1 x2 x3 = grind arith
+cell_within = grind arith
 
 -- lists that begin with the same words
 pub same_words : (n : ℕ) (xs ys : List ℕ) → length ys ≡ n → n ≤ length xs → ((i : ℕ) → i < n → get_or xs i 0 ≡ get_or ys i 0) → take n xs ≡ ys
@@ -93,4 +93,4 @@ module _ (size : ℕ) where
 
   -- 1 added to the version over a whole cell
   pub stores : (k : Core) (words : List ℕ) → length words ≡ size → Good k → IsFilled k words size → Good (stored k words)
-  stores x0 x1 x2 x3 x4 = grind arith
+  stores = grind arith

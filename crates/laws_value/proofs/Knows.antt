@@ -88,17 +88,17 @@ KnowsFlight k since changes backs (Load run) = KnowsBacks k since changes backs 
 module _ (k k' : Core) (changes changes' : ℕ) (up : GoesUp k k' changes changes') where
   pub flight_keeps : {T : Type 0} (since backs : ℕ) (flight : AtomicFlight T)
       → KnowsFlight k since changes backs flight → KnowsFlight k' since changes' backs flight
-  flight_keeps x0 x1 x2 x3 = grind arith
+  flight_keeps = grind arith
 
 -- a store of a word, and the coming or going of the role, leave the version and the value that stands
 pub load_stays : (size : ℕ) (k k' : Core) (room : buffers.Buffer 128) (stage : LoadStage) → k'.version ≡ k.version
     → k'.now ≡ k.now → KnowsLoad size k room stage → KnowsLoad size k' room stage
-load_stays x0 x1 x2 x3 x4 x5 x6 x7 = grind arith
+load_stays = grind arith
 
 -- once the version has moved, the copy is not asked about
 pub load_passed : (size : ℕ) (k k' : Core) (room : buffers.Buffer 128) (stage : LoadStage) → k.version < k'.version
     → KnowsLoad size k room stage → KnowsLoad size k' room stage
-load_passed x0 x1 x2 x3 x4 x5 x6 = grind arith
+load_passed = grind arith
 
 module _ {T : Type 0} (code : Coding T) (ho ho' : Option ℕ) (k k' : Core) (q : ℕ) where
   pub record Keeps : Type 0 where
@@ -107,4 +107,4 @@ module _ {T : Type 0} (code : Coding T) (ho ho' : Option ℕ) (k k' : Core) (q :
     pub load : (room : buffers.Buffer 128) (stage : LoadStage) → KnowsLoad code.size k room stage → KnowsLoad code.size k' room stage
 
   pub kept : Keeps → (start : AtomicStart T) (flight : AtomicFlight T) → At code ho k q start flight → At code ho' k' q start flight
-  kept x0 x1 x2 x3 = grind arith
+  kept = grind arith

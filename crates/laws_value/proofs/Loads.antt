@@ -38,7 +38,7 @@ module _ {T : Type 0} (scene : Scene T Value) (inv : Inv outline scene) (small :
   DoesOf room stage = StepOf scene starts.Load (load_at room stage)
 
   loads : (room : buffers.Buffer 128) → length room.words ≡ 128 → steps ≤ 0 → backs + since ≤ changes → DoesOf room loading.LoadsVersion
-  loads x0 x1 x2 x3 = grind arith
+  loads = grind arith
 
   -- ---- the cell
 
@@ -58,7 +58,7 @@ module _ {T : Type 0} (scene : Scene T Value) (inv : Inv outline scene) (small :
 
     -- while the version is the same, this is a word of the value that stands
     found_is : version ≡ k.version → found ≡ get_or k.now at 0
-    found_is x0 = grind arith
+    found_is = grind arith
 
     copied_more : version ≡ k.version → IsCopied k room_then (at + 1)
     copied_more same =
@@ -113,11 +113,11 @@ module _ {T : Type 0} (scene : Scene T Value) (inv : Inv outline scene) (small :
   checks version = Some (record { word = 0; op = Exchange version version })
 
   value_is : (room : buffers.Buffer 128) → length room.words ≡ 128 → IsCopied k room code.size → read_in code room ≡ code.value_of k.now
-  value_is x0 x1 x2 = grind (arith, length, false, whole_room, nat_tests)
+  value_is = grind (arith, length, false, whole_room, nat_tests)
 
   ends : (version : ℕ) → backs + since ≤ changes → steps ≤ 1 + code.size + backs * (1 + code.size)
       → Does (checks version) false (Done (answers.Loaded (code.value_of k.now)))
-  ends x0 x1 x2 = grind arith
+  ends = grind arith
 
   abbrev checking : ℕ → LoadStage
   checking version = loading.ChecksVersion version

@@ -53,7 +53,7 @@ StoreStands size stage = Unit {0}
 
 -- a cell is one of two
 version_cell : (size n : ℕ) → size * (n % 2) ≤ size
-version_cell x0 x1 = grind arith
+version_cell = grind arith
 
 module _ {T : Type 0} where
   abbrev call_left : ℕ → ℕ → AtomicFlight T → ℕ
@@ -190,7 +190,7 @@ module _ {T : Type 0} where
 
   load_goes : (code : Coding T) (c : ℕ) (start : AtomicStart T) (run : Running (Load T (buffers.Buffer 128)) (Unit {0}) (buffers.Buffer 128)) (old : ℕ)
       → GoesOn code c (starts.Atomic start) (calls.Load run) old
-  load_goes x0 x1 x2 x3 x4 = grind arith
+  load_goes = grind arith
 
   call_goes : (code : Coding T) (c : ℕ) → IsCoding code → (start : AtomicStart T) (flight : AtomicFlight T) (old : ℕ) → CallStands code.size flight
       → GoesOn code c (starts.Atomic start) flight old
@@ -207,26 +207,26 @@ module _ {T : Type 0} where
   begins : (code : Coding T) (c : ℕ) (start : Start T) (kept : Registry T) (flight : Flight T) → Kept kept
       → first_of kinds.Atomic c start kept ≡ Some flight
       → At code c start flight × ((p : ℕ) → Kept (kept_after_begin code c start p kept))
-  begins x0 x1 x2 x3 x4 x5 x6 = grind arith
+  begins = grind arith
 
   stays : (code : Coding T) (c : ℕ) (words : List ℕ) (beside : Option (ℕ × ℕ)) (p : ℕ) (start : Start T) (flight : Flight T) (old : ℕ) (kept : Registry T)
       → At code c start flight → Kept kept → Kept (step_of code words beside p start flight old kept).kept
-  stays x0 x1 x2 x3 x4 x5 x6 x7 x8 x9 x10 = grind arith
+  stays = grind arith
 
   told : (code : Coding T) (c : ℕ) (words : List ℕ) (beside : Option (ℕ × ℕ)) (p : ℕ) (start : Start T) (flight : Flight T) (old : ℕ) (kept : Registry T)
       → At code c start flight → Kept kept
       → ((step_of code words beside p start flight old kept).after ≡ after_of code flight old)
       × (goes_of code p flight old kept ≡ after_of code flight old)
-  told x0 x1 x2 x3 x4 x5 x6 x7 x8 x9 x10 = grind arith
+  told = grind arith
 
   asks : (code : Coding T) (c : ℕ) (start : Start T) (flight : Flight T) → At code c start flight → is_question (want_of code flight) ≡ false
-  asks x0 x1 x2 x3 x4 = grind arith
+  asks = grind arith
 
   dies : (kept : Registry T) (owner : ℕ) → Kept kept → Kept (kept_after_death kept owner)
-  dies x0 x1 x2 = grind arith
+  dies = grind arith
 
   most : (size : ℕ) → 1 ≤ size → (words : List ℕ) (flight : Flight T) → (measure size).left words flight ≤ 2 * size + 1
-  most x0 x1 x2 x3 = grind arith
+  most = grind arith
 
   laws : (code : Coding T) (c : ℕ) → IsCoding code → TableLaws outline code c
   laws code c coded =

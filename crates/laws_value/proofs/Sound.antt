@@ -51,7 +51,7 @@ cell_is size holder k g =
 
 module _ {T : Type 0} where
   all_act : (p : ℕ) (start : AtomicStart T) (outcome : Option (Answer T)) → AllByRecursion IsAct (acted p start outcome)
-  all_act x0 x1 x2 = grind arith
+  all_act = grind arith
 
 -- ---- what an act tells
 
@@ -68,7 +68,7 @@ module _ {T : Type 0} (t : Trace T) (turn : Turn T) (p : ℕ) (mine : IsParty tu
   step_right : (holder : Option ℕ) (k : Core) (z : Coding T) (start : AtomicStart T) (flight : AtomicFlight T) (old : ℕ)
       → At z holder k p start flight → asked ≡ ask_of (want code flight) → old ≡ old_of t.world.words asked
       → AreRight (AnswersRight code) t.events (told_after p start (after code flight old)) → Justified (acted p start (answer_in (after code flight old)))
-  step_right x0 x1 x2 x3 x4 x5 x6 x7 x8 x9 = grind arith
+  step_right = grind arith
 
 -- ---- what is promised, and what a turn writes down
 
@@ -146,7 +146,7 @@ module _ {T : Type 0} where
 
   no_question : (code : Coding T) (c : ℕ) (s : Value) (p : ℕ) (start : Start T) (flight : Flight T) → (family code c).At s p start flight
       → is_question (want_of code flight) ≡ false
-  no_question x0 x1 x2 x3 x4 x5 x6 = grind arith
+  no_question = grind arith
 
   turns : (code : Coding T) (c : ℕ) → Turns outline code c IsFreshTurn
   turns code c =

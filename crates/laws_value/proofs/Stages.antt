@@ -70,7 +70,7 @@ module _ {T : Type 0} (scene : Scene T Value) where
         → KnowsFlight k' (scene.since + change_of words ask) (changes_then ask) (scene.backs + one_if back) flight
         → ((q : ℕ) → q ≢ p → (s : AtomicStart T) (f : AtomicFlight T) → At code ho k q s f → At code ho k' q s f)
         → Leaves ho [] start ask back (GoOn flight)
-    quiet x0 x1 x2 x3 x4 x5 x6 x7 x8 x9 x10 x11 x12 = grind arith
+    quiet = grind arith
 
     -- the call is done, and nothing acted
     pub ends :
@@ -80,4 +80,4 @@ module _ {T : Type 0} (scene : Scene T Value) where
         → scene.steps + step_count ask ≤ most_steps code.size start (scene.backs + 0) → scene.backs ≡ 0 → words_after words ask ≡ layout holder' k
         → ((q : ℕ) → q ≢ p → (s : AtomicStart T) (f : AtomicFlight T) → At code ho k q s f → At code holder' k q s f)
         → Leaves holder' (Finished p (Atomic start) answer ∷ []) start ask false (Done answer)
-    ends x0 x1 x2 x3 x4 x5 x6 x7 x8 x9 x10 = grind arith
+    ends = grind arith

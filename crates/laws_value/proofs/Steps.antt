@@ -45,7 +45,7 @@ module _ {T : Type 0} (scene : Scene T Value) (inv : Inv outline scene) where
 found_fresh : {T : Type 0} (z : Coding T) (words : List ℕ) (flight : AtomicFlight T)
     → IsFreshCall (old_of words (ask_of (want z flight))) (flights.Atomic flight)
     → IsFreshCall (get_or words 0 0) (flights.Atomic flight)
-found_fresh x0 x1 x2 x3 = grind arith
+found_fresh = grind arith
 
 module _ {T : Type 0} (code : Coding T) (c : ℕ) (t : Trace T) (s : frame.Sound (family code c) t) where
   pub version_is : get_or t.world.words 0 0 ≡ s.state.core.version
@@ -57,7 +57,7 @@ module _ {T : Type 0} (code : Coding T) (c : ℕ) (t : Trace T) (s : frame.Sound
 
   -- few turns are few versions
   pub few_turns : t.world.turns < 2 ^ 64 - 2 → (p : ℕ) → IsFreshTurn t (Next p)
-  few_turns x0 x1 = grind arith
+  few_turns = grind arith
 
 -- ---- what a step and a begin show
 

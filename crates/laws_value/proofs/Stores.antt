@@ -18,7 +18,7 @@ use Rattle.laws_value.proofs.Stages.{Comes, StepOf, quiet}
 
 -- the word of a cell as a call asks for it, which wraps
 pub asked_place : (size n at : ℕ) → size ≤ 128 → at < size → word_at (cell_word size n) at ≡ 2 + (size * (n % 2) + at)
-asked_place x0 x1 x2 x3 x4 = grind arith
+asked_place = grind arith
 
 module _ {T : Type 0} (scene : Scene T Value) (inv : Inv outline scene) (value : T) (holds : scene.state.holder ≡ Some scene.party) (b : scene.backs ≡ 0) where
   open scene.state use {holder as ho, core as k}
@@ -40,7 +40,7 @@ module _ {T : Type 0} (scene : Scene T Value) (inv : Inv outline scene) (value :
   adds_one = Some (record { word = 0; op = Add 1 })
 
   loads : k.version < 2 ^ 64 - 1 → steps ≤ 0 → DoesOf storing.LoadsVersion
-  loads x0 x1 = grind arith
+  loads = grind arith
 
   abbrev cell : ℕ → StoreStage
   cell at = storing.StoresCell (cell_word code.size k.version) at

@@ -5,13 +5,13 @@ use Rattle.model.specs.declared.turn.Turn.TheVariants.{Decide}
 use Rattle.model.specs.Refusals.{refusal_of}
 use Rattle.model.specs.Turns.{IsReached, events_of, after_turn, run}
 use Rattle.model.specs.World.{Trace, opened}
-use Rattle.laws_turns.proofs.Answering as answering
-use Rattle.laws_turns.proofs.Asking as asking
-use Rattle.laws_turns.proofs.Finding as finding
-use Rattle.laws_turns.proofs.Others as others
-use Rattle.laws_turns.proofs.Queue as submission
-use Rattle.laws_turns.proofs.Waiting as waiting
-use Rattle.laws_turns.specs.Questions.{waits_at}
+use Rattle.laws_machine.proofs.Answering as answering
+use Rattle.laws_machine.proofs.Asking as asking
+use Rattle.laws_machine.proofs.Finding as finding
+use Rattle.laws_machine.proofs.Others as others
+use Rattle.laws_machine.proofs.Queue as submission
+use Rattle.laws_machine.proofs.Waiting as waiting
+use Rattle.laws_machine.specs.Questions.{waits_at}
 use Rattle.headline.specs.Headline.{Holds}
 use Rattle.machine.proofs.Laws.{laws_of}
 use Rattle.machine.proofs.LockFree.{one_ends, robust_one_ends, container_one_ends, channel_one_ends}

@@ -1,12 +1,13 @@
 -- A history with its silent acts, as it goes on by one event; before the end of a call they are put in where the call has
 -- acted silently.
-use Rattle.history.proofs.Names.{◌≡◌, ◌≢◌, ⊎_elim, ℕ, zero, suc, ◌<◌, ◌≤◌, ◌==◌, ◌&&◌, Bool, true, false, cond, Some}
+use Rattle.history.proofs.Names.{◌≡◌, ◌≢◌, ⊎_elim, ℕ, zero, suc, ◌<◌, ◌≤◌, ◌==◌, ◌&&◌, true, false, cond, Some}
 use Rattle.history.proofs.Names.{None, List, [], ◌∷◌, ◌++◌, refl, sym, ap, subst, ◌∙◌, arith, cases_eq}
 use Rattle.history.proofs.Names.{Answer, Event, Finished, Start, Kind, BeginsNone}
 use Rattle.history.specs.Acts.{Mark, Happens, Leaves, left_by, told, MayAct, Way, Ends, IsRightEvent}
 use Rattle.history.proofs.Acts.Marks.{same_number, is_number, both_true, number_at, way_at, number_in}
 use Rattle.history.proofs.Acts.Marks.{way_in, number_told, way_at_more, way_more, told_more, Cut, cut, Right}
 use Rattle.history.proofs.Acts.Marks.{right_more, put_else, way_else, put_here, way_here}
+use Rattle.history.proofs.Cases.{by_bool}
 
 module _ {T : Type 0} (kind : Kind) (capacity : ℕ) (Sure : ℕ → Type 0) where
   abbrev IsGood : ℕ → ℕ → List (Mark T) → Type 0
@@ -30,12 +31,12 @@ module _ {T : Type 0} (kind : Kind) (capacity : ℕ) (Sure : ℕ → Type 0) whe
   right_one : (ms : List (Mark T)) (h : List (Event T)) (e : Event T) → told ms ≡ h → (p b : ℕ) (way : Way T)
       → IsGood p b ms → way_at p b 0 None ms ≡ way → IsRightEvent kind capacity (Sure b) p b (number_in b 0 h) way e
       → IsGood p b (ms ++ Happens e ∷ [])
-  right_one x0 x1 x2 x3 x4 x5 x6 x7 x8 x9 = grind (arith, right_more, way_at, numbers, number_in)
+  right_one = grind (arith, right_more, way_at, numbers, number_in)
 
   way_one : (ms : List (Mark T)) (h : List (Event T)) (e : Event T) → told ms ≡ h → (p b : ℕ)
       → way_at p b 0 None ms ≡ way_in p b 0 None h
       → way_at p b 0 None (ms ++ Happens e ∷ []) ≡ way_in p b 0 None (h ++ e ∷ [])
-  way_one x0 x1 x2 x3 x4 x5 x6 = grind (arith, way_at_more, way_at, numbers, number_in, way_more)
+  way_one = grind (arith, way_at_more, way_at, numbers, number_in, way_more)
 
   -- an event before which nothing has to be put in
   pub goes_on : (h : List (Event T)) (e : Event T) → Marked h
@@ -76,7 +77,7 @@ module _ {T : Type 0} (kind : Kind) (capacity : ℕ) (Sure : ℕ → Type 0) whe
       later : (b : ℕ) → k ≤ b → way_at p b 0 None marks ≡ way_in p b 0 None h
 
     stay : (k : ℕ) → Filled k → IsDone k (way_in p k 0 None h) → Filled (suc k)
-    stay x0 x1 x2 = grind arith
+    stay = grind arith
 
     module _ (k : ℕ) (f : Filled k) (part rest : List (Event T)) (is : h ≡ part ++ rest) (none : BeginsNone p rest)
         (under : way_in p k 0 None h ≡ Some (start, None)) (may : MayAct k start)
@@ -113,22 +114,20 @@ module _ {T : Type 0} (kind : Kind) (capacity : ℕ) (Sure : ℕ → Type 0) whe
       right_here = put_here kind capacity Sure p k start first second (was p k) late calm may left_there
 
       right_new : (q b : ℕ) → IsGood q b new
-      right_new q b = go (p == q && k == b) refl
-        where
-          go : (t : Bool) → (p == q && k == b) ≡ t → IsGood q b new
-          go true t =
-              let both = both_true (p == q) (k == b) t in
-              subst (λ z. IsGood z b new) (is_number p q both.0) (subst (λ z. IsGood p z new) (is_number k b both.1) right_here)
-          go false t = put_else kind capacity Sure p k q b t 0 None first second (was q b)
+      right_new q b =
+          by_bool (p == q && k == b)
+          (λ t. let both = both_true (p == q) (k == b) t in
+          subst (λ z. IsGood z b new) (is_number p q both.0) (subst (λ z. IsGood p z new) (is_number k b both.1) right_here))
+          (λ t. put_else kind capacity Sure p k q b t 0 None first second (was q b))
 
       elsewhere : (q b : ℕ) → (p == q && k == b) ≡ false → way_at q b 0 None new ≡ way_at q b 0 None f.marks
       elsewhere q b t = way_else kind capacity Sure p k q b t 0 None first second ∙ ap (way_at q b 0 None) (sym c.is)
 
       other_party : (q b : ℕ) → q ≢ p → (p == q && k == b) ≡ false
-      other_party x0 x1 x2 = grind arith
+      other_party = grind arith
 
       other_place : (b : ℕ) → b ≢ k → (p == p && k == b) ≡ false
-      other_place x0 x1 = grind arith
+      other_place = grind arith
 
       put_in : Filled (suc k)
       put_in =
@@ -153,7 +152,7 @@ module _ {T : Type 0} (kind : Kind) (capacity : ℕ) (Sure : ℕ → Type 0) whe
               (cases_eq b k)
 
     one_more : (k : ℕ) → Filled k → Fact k → Filled (suc k)
-    one_more x0 x1 x2 = grind (arith, stay, put_in)
+    one_more = grind (arith, stay, put_in)
 
     fill : (k : ℕ) → Marked h → ((b : ℕ) → b < k → Fact b) → Filled k
     fill zero m facts =
@@ -184,11 +183,10 @@ module _ {T : Type 0} (kind : Kind) (capacity : ℕ) (Sure : ℕ → Type 0) whe
         f = fill capacity m facts
 
         done : (b : ℕ) → IsDone b (way_at p b 0 None f.marks)
-        done x0 = grind arith
+        done = grind arith
 
         ways : (q b : ℕ) → way_at q b 0 None (f.marks ++ Happens end ∷ []) ≡ way_in q b 0 None (h ++ end ∷ [])
-        ways q b = go (p == q) refl
-          where
-            go : (t : Bool) → (p == q) ≡ t → way_at q b 0 None (f.marks ++ Happens end ∷ []) ≡ way_in q b 0 None (h ++ end ∷ [])
-            go true t = grind (arith, way_at_more, cond, way_at, way_in, way_more)
-            go false t = way_one f.marks h end f.is q b (f.others q b (λ e. (let yes : (p == q) ≡ true = ap (λ z. p == z) e ∙ same_number p in absurd (cc))))
+        ways q b =
+            by_bool (p == q)
+            (λ t. grind (arith, way_at_more, cond, way_at, way_in, way_more))
+            (λ t. way_one f.marks h end f.is q b (f.others q b (λ e. (let yes : (p == q) ≡ true = ap (λ z. p == z) e ∙ same_number p in absurd (cc)))))

@@ -30,16 +30,17 @@ use Rattle.laws_bits.proofs.Bits.Knows as bit_calls
 use Rattle.laws_bits.proofs.Bits.Lists.{sets_none}
 use Rattle.laws_bits.proofs.Counts.Invariant as counting
 use Rattle.history.proofs.Acts.Marks.{same_number}
+use Rattle.history.proofs.Cases.{by_bool}
 
 one_low : (b : Bool) → one_if b ≤ 1
 one_low true = omega arith
 one_low false = omega arith
 
 set_sided : (T : Type 0) → (p bit : ℕ) (stage : SetStage) (old b : ℕ) → clears {T = T} b (set_events p bit stage old) ≡ 0
-set_sided x0 x1 x2 x3 x4 x5 = grind arith
+set_sided = grind arith
 
 next_sided : (T : Type 0) → (p c : ℕ) (stage : ResetNextStage) (old b : ℕ) → sets {T = T} b (reset_events p c stage old) ≡ 0
-next_sided x0 x1 x2 x3 x4 x5 = grind arith
+next_sided = grind arith
 
 module _ {T : Type 0} where
   pub right_from : (P : List (Event T) → Event T → Type 0) (before es : List (Event T))
@@ -107,7 +108,7 @@ module _ {T : Type 0} where
         sided
 
     finds_there : OneSided es → (xs ys : List (Event T)) (e : Event T) → es ≡ xs ++ e ∷ ys → BitFinds (before ++ xs) e
-    finds_there x0 x1 x2 x3 x4 = grind (arith, set_here, clear_here)
+    finds_there = grind (arith, set_here, clear_here)
 
     turn_finds : OneSided es → AreRight BitFinds before es
     turn_finds sided = right_from BitFinds before es (finds_there sided)
@@ -218,19 +219,17 @@ module _ {T : Type 0} where
     take_right : (p word old : ℕ) (start : Start T) (o : Option (Answer T))
         → (1 ≤ old → old ≡ get_or t.world.words word 0)
         → AreRight CountFinds t.events (take_events p word old ++ ending_of p start o)
-    take_right p word old start o is = go (old == 0) refl
-      where
-        go : (z : Bool) → (old == 0) ≡ z → AreRight CountFinds t.events (take_events p word old ++ ending_of p start o)
-        go true z = rw z (ends_right t.events p start o)
-        go false z =
-            let s = counts_sound in
-            let some : 1 ≤ old = grind (arith, nat_tests) in
-            let same : old ≡ get_or s.state.words word 0 = is some ∙ ap (λ ws. get_or ws word 0) s.fit.words in
-            let low : get_or s.state.words word 0 < 2 ^ 64 = s.holds.0.low word in
-            let whole = s.holds.0.conserved word in
-            let all : counts word t.events ≡ takes word t.events + old + 2 ^ 64 * whole.0 = rw same whole.1 in
-            let less : old < 2 ^ 64 = rw same low in
-            rw z ((whole.0, all, some, less), ends_right (t.events ++ TakenOut p word old ∷ []) p start o)
+    take_right p word old start o is =
+        by_bool (old == 0)
+        (λ z. rw z (ends_right t.events p start o))
+        (λ z. let s = counts_sound in
+        let some : 1 ≤ old = grind (arith, nat_tests) in
+        let same : old ≡ get_or s.state.words word 0 = is some ∙ ap (λ ws. get_or ws word 0) s.fit.words in
+        let low : get_or s.state.words word 0 < 2 ^ 64 = s.holds.0.low word in
+        let whole = s.holds.0.conserved word in
+        let all : counts word t.events ≡ takes word t.events + old + 2 ^ 64 * whole.0 = rw same whole.1 in
+        let less : old < 2 ^ 64 = rw same low in
+        rw z ((whole.0, all, some, less), ends_right (t.events ++ TakenOut p word old ∷ []) p start o))
 
     -- what a call that takes out is handed is what stands there
     abbrev Hears : Flight T → ℕ → Type 0
@@ -238,12 +237,12 @@ module _ {T : Type 0} where
     Hears flight old = Unit {0}
 
     hears_next : (flight : Flight T) → Hears flight (old_of t.world.words (ask_of (want_of t.world.coding flight)))
-    hears_next x0 = grind arith
+    hears_next = grind arith
 
     count_step : (c p old : ℕ) (wrote : List (Event T)) (kept : Registry T) (start : Start T) (flight : Flight T) (o : Option (Answer T))
         → kept ≡ registries.Nothing → FlightAt (counting.CallAt c wrote) start flight → Hears flight old
         → AreRight CountFinds t.events (wrote_there t p old start flight kept ++ ending_of p start o)
-    count_step x0 x1 x2 x3 x4 x5 x6 x7 x8 x9 x10 = grind (arith, ends_right, take_right)
+    count_step = grind (arith, ends_right, take_right)
 
     counts_go : (p old : ℕ) (x : Party T) → party_of p t.world.latest ≡ Some x → (doing : Doing T) → x.doing ≡ doing
         → ((flight : Flight T) (since : ℕ) → doing ≡ Going flight since → Hears flight old)
@@ -256,15 +255,15 @@ module _ {T : Type 0} where
         (answer_in (step_in t.world p x flight old).after) s.fit.kept there.at (hears flight since refl)
 
     next_counts : (p : ℕ) (o : Option (Party T)) → party_of p t.world.latest ≡ o → AreRight CountFinds t.events (events_of_next t.world p o)
-    next_counts x0 x1 x2 = grind (arith, counts_go, hears_next)
+    next_counts = grind (arith, counts_go, hears_next)
 
     decide_counts : (p : ℕ) (said : Bool) → is_due t.world.coding (flight_in t.world p) ≡ true
         → (o : Option (Party T)) → party_of p t.world.latest ≡ o
         → AreRight CountFinds t.events (events_of_decision t.world p said o)
-    decide_counts x0 x1 x2 x3 x4 = grind arith
+    decide_counts = grind arith
 
     counts_events : (turn : Turn T) → call_refusal t.world turn ≡ None → AreRight CountFinds t.events (events_of t.world turn)
-    counts_events x0 x1 = grind (arith, next_counts, decide_counts, is_true, must_be_due)
+    counts_events = grind (arith, next_counts, decide_counts, is_true, must_be_due)
 
     counts_turn : (turn : Turn T) → call_refusal t.world turn ≡ None → CountsSo (after_turn t turn)
     counts_turn turn e =

@@ -22,15 +22,15 @@ module _ {T : Type 0} (t : Trace T) (r : IsReachedOn t) where
       counts_act t.world.capacity t.events (sound_on counting_set counts_laws t is r).inv.spans (counts_find t is r) kept.answers
 
   of_kind : (kind : Kind) → t.world.kind ≡ kind → IsSet kind → ActsByPlace kind t.world.capacity t.events
-  of_kind x0 x1 x2 = grind (arith, bits_so, counts_so)
+  of_kind = grind (arith, bits_so, counts_so)
 
   pub runs_act : IsSet t.world.kind → ActsByPlace t.world.kind t.world.capacity t.events
   runs_act set = of_kind t.world.kind refl set
 
 -- a set of places is reached as its own laws have it
 reached_as_set : {T : Type 0} (kind : Kind) → IsSet kind → (t : Trace T) → IsReachedAs kind t → IsReachedOn t
-reached_as_set x0 x1 x2 x3 = grind arith
+reached_as_set = grind arith
 
 pub histories_act : {T : Type 0} (code : Coding T) (kind : Kind) (capacity : ℕ) (events : List (Event T))
     → IsSet kind → IsHistory code kind capacity events → ActsByPlace kind capacity events
-histories_act x0 x1 x2 x3 x4 x5 = grind (arith, runs_act, reached_as_set)
+histories_act = grind (arith, runs_act, reached_as_set)

@@ -9,7 +9,7 @@ use Rattle.history.proofs.Acts.Laws.{runs_act}
 module _ {T : Type 0} where
   at_opening : (code : Coding T) (kind : Kind) (capacity queue parties : ℕ) → IsCoding code
       → capacity_error kind capacity ≡ None → IsSet kind → IsReachedOn (opened code kind capacity queue parties)
-  at_opening x0 x1 x2 x3 x4 x5 x6 x7 = grind arith
+  at_opening = grind arith
 
   abbrev IsRun : Trace T → Type 0
   IsRun u = IsSet u.world.kind → IsReachedOn u

@@ -19,7 +19,7 @@ pub no_number : (p q : ℕ) → (p == q) ≡ false → p ≢ q
 no_number p q t e = grind (arith, same_number, false)
 
 pub both_true : (x y : Bool) → (x && y) ≡ true → (x ≡ true) × (y ≡ true)
-both_true x0 x1 x2 = grind arith
+both_true = grind arith
 
 module _ {T : Type 0} where
   -- ---- what marks come to
@@ -133,10 +133,10 @@ module _ {T : Type 0} (kind : Kind) (capacity : ℕ) (Sure : ℕ → Type 0) whe
     leaf_way n way ms = rw t refl
 
     pub put_else : (n : ℕ) (way : Way T) (ms ns : List (Mark T)) → Right q c n way (ms ++ ns) → Right q c n way (ms ++ Leaves p b ∷ ns)
-    put_else x0 x1 x2 x3 x4 = grind (arith, right_more, right_first, leaf_right, right_second)
+    put_else = grind (arith, right_more, right_first, leaf_right, right_second)
 
     pub way_else : (n : ℕ) (way : Way T) (ms ns : List (Mark T)) → way_at q c n way (ms ++ Leaves p b ∷ ns) ≡ way_at q c n way (ms ++ ns)
-    way_else x0 x1 x2 x3 = grind (arith, way_at_more, leaf_way)
+    way_else = grind (arith, way_at_more, leaf_way)
 
   -- ---- a silent act of this party on this place: where its call has not acted there later, neither had it before
 

@@ -26,7 +26,7 @@ module _ {T : Type 0} where
 
   -- without an event that is no end
   without : (p : ℕ) (e : Event T) (es : List (Event T)) → (EndsNone p (e ∷ es) → EndsNone p es) → EndsNone p (own_of p e ++ es) → EndsNone p es
-  without x0 x1 x2 x3 x4 = grind arith
+  without = grind arith
 
   ends_none : (p : ℕ) (es : List (Event T)) → EndsNone p (events_by p es) → EndsNone p es
   ends_none p [] h = tt
@@ -114,4 +114,4 @@ module _ {T : Type 0} where
   pub in_order : (p q : ℕ) (s t : Start T) (a b : Answer T) (old new later last : View T) (history : List (Event T))
       (x : StandsIn p s a old new history) (y : StandsIn q t b later last history)
       → IsBeginning new.seen later.seen → Precedes x.call y.call
-  in_order x0 x1 x2 x3 x4 x5 x6 x7 x8 x9 x10 x11 x12 x13 = grind (arith, length, length-append)
+  in_order = grind (arith, length, length-append)

@@ -35,7 +35,7 @@ module _ {T : Type 0} where
     pub holds : P wrote
 
   pub open_for : (start : Start T) (P : List (Event T) → Type 0) (span : Span T) → IsOpenFor start P span → OpenFor start P span
-  open_for x0 x1 x2 x3 = grind arith
+  open_for = grind arith
 
   -- ---- ways
 
@@ -52,7 +52,7 @@ module _ {T : Type 0} where
     WayFits b (Ended start answer wrote) way = way ≡ None
 
     pub shut_way : (b : ℕ) (span : Span T) (way : Way T) → IsShut span → WayFits b span way → way ≡ None
-    shut_way x0 x1 x2 x3 x4 = grind arith
+    shut_way = grind arith
 
     pub fits_open : (b : ℕ) (span : Span T) (way : Way T) (start : Start T) (wrote : List (Event T))
         → span ≡ Open start wrote → WayFits b span way → Fits start b wrote way
@@ -60,18 +60,18 @@ module _ {T : Type 0} where
 
     pub begun_fits : (p q b n : ℕ) (span : Span T) (way : Way T) (s : Start T) → Fit s b [] None
         → WayFits b span way → WayFits b (span_after p span (Begun q s)) (way_after p b n way (Begun q s))
-    begun_fits x0 x1 x2 x3 x4 x5 x6 x7 x8 = grind arith
+    begun_fits = grind arith
 
     pub finished_fits : (p q b n : ℕ) (span : Span T) (way : Way T) (s : Start T) (a : Answer T)
         → WayFits b span way → WayFits b (span_after p span (Finished q s a)) (way_after p b n way (Finished q s a))
-    finished_fits x0 x1 x2 x3 x4 x5 x6 x7 x8 = grind arith
+    finished_fits = grind arith
 
     pub quiet_fits : (p b : ℕ) (span : Span T) (way : Way T) (e : Event T)
         → ((span : Span T) → own_after span e ≡ longer span e)
         → ((start : Start T) (wrote : List (Event T)) (d : Option ℕ) → Fit start b wrote d → Fit start b (wrote ++ e ∷ []) d)
         → WayFits b span way
         → WayFits b (span_after p span e) way
-    quiet_fits x0 x1 x2 x3 x4 x5 x6 x7 = grind arith
+    quiet_fits = grind arith
 
     -- all ways of a history
     abbrev pub Ways : List (Event T) → Type 0
@@ -80,4 +80,4 @@ module _ {T : Type 0} where
     pub ways_more : (h : List (Event T)) (e : Event T) (p b : ℕ)
         → WayFits b (span_after p (span_of p h) e) (way_after p b (number_in b 0 h) (way_in p b 0 None h) e)
         → WayFits b (span_of p (h ++ e ∷ [])) (way_in p b 0 None (h ++ e ∷ []))
-    ways_more x0 x1 x2 x3 x4 = grind (arith, way_in, fold-append, way_more)
+    ways_more = grind (arith, way_in, fold-append, way_more)

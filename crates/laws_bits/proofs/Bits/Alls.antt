@@ -18,7 +18,7 @@ use Rattle.laws_bits.proofs.Bits.Lists.{own_more, right_more, follow_more, place
 use Rattle.laws_bits.proofs.Bits.Lists.{begin_none, all_right, sets_none, position_same, clears_named, all_stand}
 use Rattle.laws_bits.proofs.Bits.Lists.{all_written, no_places}
 use Rattle.laws_bits.proofs.Bits.Steps.{no_change, pays_by}
-use Rattle.laws_bits.proofs.Family.{SetState, Shows, party_then, StepShows, ShowsStep}
+use Rattle.laws_bits.proofs.Family.{SetScene, Shows, party_then, StepShows, ShowsStep}
 use Rattle.laws_bits.proofs.Spans.{wrote_in}
 
 -- the call at this word, where it ends there and this was found last
@@ -29,11 +29,12 @@ all_at room word end =
 one_is : (t : Bool) → one_if t ≡ cond t 1 0
 one_is = grind arith
 
-module _ {T : Type 0} (code : Coding T) (c : ℕ) (s : SetState T) (events : List (Event T))
-    (turns p changes since steps backs : ℕ) (holds : Holds c s.words events) (wrote : List (Event T))
-    (is : span_of p events ≡ Open (Bits ResetAll) wrote) (word : ℕ) (some : 1 ≤ word)
-    (none : (b : ℕ) → word ≤ element_of b → clears b wrote ≡ 0) (cleared : SinceBegin p (ClearedBelow word) events)
-    (still : backs ≡ 0) (few : steps ≤ word - 1) where
+module _ {T : Type 0} (code : Coding T) (c : ℕ) (scene : SetScene T) (holds : Holds c scene.state.words scene.events) (wrote : List (Event T))
+    (is : span_of scene.party scene.events ≡ Open (Bits ResetAll) wrote) (word : ℕ) (some : 1 ≤ word)
+    (none : (b : ℕ) → word ≤ element_of b → clears b wrote ≡ 0) (cleared : SinceBegin scene.party (ClearedBelow word) scene.events)
+    (still : scene.backs ≡ 0) (few : scene.steps ≤ word - 1) where
+  open scene use {state as s, events, party as p, changes, since, steps}
+
   abbrev found : ℕ
   found = get_or s.words word 0
 
@@ -50,7 +51,7 @@ module _ {T : Type 0} (code : Coding T) (c : ℕ) (s : SetState T) (events : Lis
   then = set s.words word 0
 
   abbrev Does : Option Ask → After BitsFlight (Answer T) → List (Event T) → Type 0
-  Does ask after es = StepShows bit_set code c s events turns p changes since steps backs wrote ResetAll ask false after es
+  Does ask after es = StepShows bit_set code c scene wrote ResetAll ask false after es
 
   -- ---- the bits
 
@@ -162,8 +163,7 @@ module _ {T : Type 0} (code : Coding T) (c : ℕ) (s : SetState T) (events : Lis
 
     swaps_on : word < length s.words → word + 1 < end → Does swaps next fx
     swaps_on near more =
-        subst (λ es. Shows bit_set code c s events turns p changes then (Open (Bits ResetAll) wrote)
-        (party_then bit_set code c s events turns p changes since steps backs ResetAll swaps false next) es
+        subst (λ es. Shows bit_set code c scene then (Open (Bits ResetAll) wrote) (party_then bit_set code c scene ResetAll swaps false next) es
         (changes + change_of s.words swaps))
         (sym (append-nil fx))
         (record {
@@ -220,19 +220,18 @@ module _ {T : Type 0} (code : Coding T) (c : ℕ) (s : SetState T) (events : Lis
     asks_nothing at =
         record {
           preserves =
-              no_change code c s events turns p changes since steps backs None finish (λ b. refl) (λ b. refl)
-              (λ b. refl) refl (all_behind events word (omega arith) cleared, tt);
+              no_change code c scene None finish (λ b. refl) (λ b. refl) (λ b. refl) refl (all_behind events word (omega arith) cleared, tt);
           own = (refl, tt);
           stands = ((refl, tt), tt);
           here = record { answer = answers.Done; wrote = wrote; span = refl; steps = omega arith };
           knows = omega arith;
         }
 
-    pub reset_all_step : word ≤ end → ShowsStep bit_set code c s events turns p changes since steps backs wrote ResetAll (all_at room word end)
+    pub reset_all_step : word ≤ end → ShowsStep bit_set code c scene wrote ResetAll (all_at room word end)
     reset_all_step below = go (nat_lt word end) refl (nat_lt (word + 1) end) refl
       where
         go : (t : Bool) → nat_lt word end ≡ t → (u : Bool) → nat_lt (word + 1) end ≡ u
-            → ShowsStep bit_set code c s events turns p changes since steps backs wrote ResetAll (all_at room word end)
+            → ShowsStep bit_set code c scene wrote ResetAll (all_at room word end)
         go true t true u =
             let more : word + 1 < end = grind (arith, nat_tests) in
             let sized = holds.sized in

@@ -49,7 +49,7 @@ module _ {T : Type 0} where
         effects = are_effects c;
         most = steps_most c;
         paid = backs_paid;
-        step = λ s events turns p changes since steps backs holds. step_shows code c s events turns p changes since steps backs holds;
+        step = λ scene holds. step_shows code c scene holds;
       }
 
   -- what is proved of every run of a bit set

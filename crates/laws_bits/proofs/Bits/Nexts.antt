@@ -17,7 +17,7 @@ use Rattle.laws_bits.proofs.Bits.Knows.{NextStands, KnowsNext, Passed, Began, ne
 use Rattle.laws_bits.proofs.Bits.Sets.{element_near}
 use Rattle.model.proofs.Counts.{as_long}
 use Rattle.laws_bits.proofs.Bits.Steps.{same_bits, goes_on, ends, pays_by, by_parts}
-use Rattle.laws_bits.proofs.Family.{SetState, StepShows, ShowsStep}
+use Rattle.laws_bits.proofs.Family.{SetScene, StepShows, ShowsStep}
 use Rattle.laws_bits.proofs.Words.{load_leaves, failed_leaves, done_writes}
 
 -- ---- places one after another
@@ -44,16 +44,17 @@ place_comes c start b low below = ⊎_elim behind ahead (cases_lt b start)
 start_near : (c position : ℕ) → at_most c position ≤ c
 start_near = grind arith
 
-module _ {T : Type 0} (code : Coding T) (c : ℕ) (s : SetState T) (events : List (Event T))
-    (turns p changes since steps backs : ℕ) (holds : Holds c s.words events) where
+module _ {T : Type 0} (code : Coding T) (c : ℕ) (scene : SetScene T) (holds : Holds c scene.state.words scene.events) where
+  open scene use {state as s, events, party as p, changes, since, steps, backs}
+
   abbrev next : BitsStart
   next = starts.ResetNext
 
   abbrev Does : List (Event T) → Option Ask → Bool → After BitsFlight (Answer T) → List (Event T) → Type 0
-  Does before ask back after fx = StepShows bit_set code c s events turns p changes since steps backs before next ask back after fx
+  Does before ask back after fx = StepShows bit_set code c scene before next ask back after fx
 
   abbrev DoesOf : List (Event T) → ResetNextStage → Type 0
-  DoesOf before stage = ShowsStep bit_set code c s events turns p changes since steps backs before next (next_at c stage)
+  DoesOf before stage = ShowsStep bit_set code c scene before next (next_at c stage)
 
   -- with nothing written
   began_more : (start : ℕ) → Began c p start events → Began c p start (events ++ [])
@@ -74,8 +75,7 @@ module _ {T : Type 0} (code : Coding T) (c : ℕ) (s : SetState T) (events : Lis
 
     comes_none : Passed c p start c events → steps + 1 ≤ 3 + c + (backs + one_if back) → Does [] (Some a) back (Done answers.ResetNone) []
     comes_none held few =
-        ends code c s events turns p changes since steps backs [] next (Some a) back answers.ResetNone
-        (same_bits code c s events turns p changes since steps backs (Some a) same) (ap (λ ws. get_or ws 0 0) same)
+        ends code c scene [] next (Some a) back answers.ResetNone (same_bits code c scene (Some a) same) (ap (λ ws. get_or ws 0 0) same)
         all refl few paid
       where
         all : (b : ℕ) → b < c → HeldSometime p (λ part. standing b part ≡ 0) events
@@ -89,9 +89,8 @@ module _ {T : Type 0} (code : Coding T) (c : ℕ) (s : SetState T) (events : Lis
         → has_flag found (place_after c start passed) ≡ true
         → Does [] (Some a) back (GoOn (next_at c (resetting.ExchangesElement start passed found))) []
     exchanges passed found held few below is t =
-        goes_on code c s events turns p changes since steps backs next (Some a) back
-        (next_at c (resetting.ExchangesElement start passed found))
-        (same_bits code c s events turns p changes since steps backs (Some a) same) (ap (λ ws. get_or ws 0 0) same)
+        goes_on code c scene next (Some a) back (next_at c (resetting.ExchangesElement start passed found))
+        (same_bits code c scene (Some a) same) (ap (λ ws. get_or ws 0 0) same)
         few refl (refl, (low, below, t)) (
           (omega arith, λ ne. absurd (ne (ap (λ ws. get_or ws (element_of (place_after c start passed)) 0) same ∙ is))),
           passed_more start passed held,
@@ -280,8 +279,7 @@ module _ {T : Type 0} (code : Coding T) (c : ℕ) (s : SetState T) (events : Lis
   stores : (place : ℕ) → backs + since ≤ changes → CameTo p c place events → steps ≤ 2 + c + backs
       → DoesOf (Cleared p place ∷ []) (resetting.StoresPosition place)
   stores place paid came few =
-      ends code c s events turns p changes since steps backs (Cleared p place ∷ []) next
-      (Some (record { word = 0; op = Store (after_position place) })) false (answers.Reset place)
+      ends code c scene (Cleared p place ∷ []) next (Some (record { word = 0; op = Store (after_position place) })) false (answers.Reset place)
       (λ b. stands_elsewhere s.words 0 (after_position place) b (λ e. elements_after b (sym e))) stored came (refl, one) (omega arith) (omega arith)
     where
       stored : get_or (set s.words 0 (after_position place)) 0 0 ≡ after_position place

@@ -14,15 +14,16 @@ use Rattle.laws_bits.proofs.Bits.Invariant.{Holds, bit_set}
 use Rattle.laws_bits.proofs.Bits.Knows.{SetStands, KnowsSet, set_at, set_number}
 use Rattle.model.proofs.Counts.{as_long}
 use Rattle.laws_bits.proofs.Bits.Steps.{same_bits, ends, pays_by}
-use Rattle.laws_bits.proofs.Family.{SetState, StepShows, ShowsStep}
+use Rattle.laws_bits.proofs.Family.{SetScene, StepShows, ShowsStep}
 use Rattle.laws_bits.proofs.Words.{load_leaves, failed_leaves, done_writes}
 
 -- a bit below the capacity has its element among the words
 pub element_near : (c bit : ℕ) (words : List ℕ) → length words ≡ 1 + elements c → bit < c → element_of bit < length words
 element_near = omega arith
 
-module _ {T : Type 0} (code : Coding T) (c : ℕ) (s : SetState T) (events : List (Event T))
-    (turns p changes since steps backs : ℕ) (holds : Holds c s.words events) (bit : ℕ) (below : bit < c) where
+module _ {T : Type 0} (code : Coding T) (c : ℕ) (scene : SetScene T) (holds : Holds c scene.state.words scene.events) (bit : ℕ) (below : bit < c) where
+  open scene use {state as s, events, party as p, changes, since, steps, backs}
+
   abbrev element : ℕ
   element = element_of bit
 
@@ -30,10 +31,10 @@ module _ {T : Type 0} (code : Coding T) (c : ℕ) (s : SetState T) (events : Lis
   word = get_or s.words element 0
 
   abbrev Does : Option Ask → Bool → After BitsFlight (Answer T) → List (Event T) → Type 0
-  Does ask back after fx = StepShows bit_set code c s events turns p changes since steps backs [] (starts.Set bit) ask back after fx
+  Does ask back after fx = StepShows bit_set code c scene [] (starts.Set bit) ask back after fx
 
   abbrev DoesOf : SetStage → Type 0
-  DoesOf stage = ShowsStep bit_set code c s events turns p changes since steps backs [] (starts.Set bit) (set_at bit stage)
+  DoesOf stage = ShowsStep bit_set code c scene [] (starts.Set bit) (set_at bit stage)
 
   -- the bit that stands is seen in the events
   stood_now : has_flag word bit ≡ true → standing bit events ≡ 1

@@ -12,7 +12,7 @@ use Rattle.laws_bits.proofs.Bits.Invariant.{Holds, Preserves, bit_set}
 use Rattle.laws_bits.proofs.Bits.Knows.{CallAt, KnowsSet, KnowsNext, next_number, set_at, next_at}
 use Rattle.laws_bits.proofs.Bits.Nexts.{next_step}
 use Rattle.laws_bits.proofs.Bits.Sets.{set_step}
-use Rattle.laws_bits.proofs.Family.{SetState, ShowsStep, StepOf}
+use Rattle.laws_bits.proofs.Family.{SetScene, ShowsStep, StepOf}
 use Rattle.laws_bits.proofs.Laws.{IsOwn, IsFirst}
 use Rattle.laws_bits.proofs.Words.{zeros}
 
@@ -39,26 +39,26 @@ module _ {T : Type 0} where
 
   -- ---- one step of a call
 
-  module _ (code : Coding T) (c : ℕ) (s : SetState T) (events : List (Event T)) (turns p changes since steps backs : ℕ) (holds : Holds c s.words events) where
+  module _ (code : Coding T) (c : ℕ) (scene : SetScene T) (holds : Holds c scene.state.words scene.events) where
+    open scene use {state as s, events, party as p, changes, since, steps, backs}
+
     -- what its step shows, where its party's span was this
     abbrev Shown : List (Event T) → BitsStart → BitsFlight → Type 0
-    Shown wrote start flight = ShowsStep bit_set code c s events turns p changes since steps backs wrote start flight
+    Shown wrote start flight = ShowsStep bit_set code c scene wrote start flight
 
     pub step_shows : (start : BitsStart) (flight : BitsFlight) (wrote : List (Event T))
-        → StepOf bit_set code c s events turns p changes since steps backs start flight wrote
+        → StepOf bit_set code c scene start flight wrote
     step_shows (starts.Set bit) (calls.Set run) wrote at is from few knows =
         subst (λ n. Shown wrote (starts.Set bit) (set_at n run.call.stage)) (sym at.0)
-        (subst (λ es. Shown es (starts.Set bit) (set_at bit run.call.stage)) (sym from)
-        (set_step code c s events turns p changes since steps backs holds bit at.1 run.call.stage at.2
+        (subst (λ es. Shown es (starts.Set bit) (set_at bit run.call.stage)) (sym from) (set_step code c scene holds bit at.1 run.call.stage at.2
         (subst (λ n. KnowsSet s.words since changes backs n run.call.stage) at.0 knows) few))
     step_shows starts.ResetNext (calls.ResetNext run) wrote at is from few knows =
         subst (λ n. Shown wrote starts.ResetNext (next_at n run.call.stage)) (sym at.0)
-        (subst (λ es. Shown es starts.ResetNext (next_at c run.call.stage)) (sym from)
-        (next_step code c s events turns p changes since steps backs holds run.call.stage at.1
+        (subst (λ es. Shown es starts.ResetNext (next_at c run.call.stage)) (sym from) (next_step code c scene holds run.call.stage at.1
         (subst (λ n. KnowsNext n p events s.words since changes backs run.call.stage) at.0 knows)
         (subst (λ n. steps ≤ next_number n run.call.stage backs) at.0 few)))
     step_shows starts.ResetAll (calls.ResetAll run) wrote at is from few knows =
-        reset_all_step code c s events turns p changes since steps backs holds wrote is run.call.word at.1
+        reset_all_step code c scene holds wrote is run.call.word at.1
         (λ b past. subst (λ xs. clears b xs ≡ 0) (sym from) (at.3 b past)) knows.1 knows.0 few run.room run.call.end
         at.0 (let below = at.2 in let end = at.0 in omega arith)
     step_shows start flight wrote at is from few knows = absurd at

@@ -9,7 +9,7 @@ use Rattle.std.proofs.Common.{arith}
 use Rattle.laws_bits.proofs.Bits.Invariant.{Pays, Preserves, rest_preserves, bit_set}
 use Rattle.model.proofs.Counts.{as_long}
 use Rattle.laws_bits.proofs.Bits.Knows.{CallAt, KnowsCall, call_wrote, number_of}
-use Rattle.laws_bits.proofs.Family.{SetState, StepShows, ShowsStep}
+use Rattle.laws_bits.proofs.Family.{SetScene, StepShows, ShowsStep}
 use Rattle.laws_bits.proofs.Spans.{wrote_in}
 use Rattle.laws_bits.proofs.Words.{change_one}
 
@@ -17,12 +17,14 @@ use Rattle.laws_bits.proofs.Words.{change_one}
 pub pays_by : (words : List ℕ) (ask : Option Ask) (changes : ℕ) → Pays words (words_after words ask) changes (changes + change_of words ask)
 pays_by = grind (arith, change_one)
 
-module _ {T : Type 0} (code : Coding T) (c : ℕ) (s : SetState T) (events : List (Event T)) (turns p changes since steps backs : ℕ) where
+module _ {T : Type 0} (code : Coding T) (c : ℕ) (scene : SetScene T) where
+  open scene use {state as s, events, party as p, changes, since, steps, backs}
+
   abbrev Does : List (Event T) → BitsStart → Option Ask → Bool → After BitsFlight (Answer T) → List (Event T) → Type 0
-  Does before start ask back after fx = StepShows bit_set code c s events turns p changes since steps backs before start ask back after fx
+  Does before start ask back after fx = StepShows bit_set code c scene before start ask back after fx
 
   abbrev DoesOf : List (Event T) → BitsStart → BitsFlight → Type 0
-  DoesOf before start flight = ShowsStep bit_set code c s events turns p changes since steps backs before start flight
+  DoesOf before start flight = ShowsStep bit_set code c scene before start flight
 
   -- no bit changes
   abbrev pub SameBits : Option Ask → Type 0

@@ -15,6 +15,7 @@ number_of (TakeAll run) = run.call.word
 number_of flight = 0
 
 module _ {T : Type 0} where
+  -- what holds of a counting bit set: each word has what was counted and not taken, modulo 2 ^ 64
   pub record Holds (c : ℕ) (words : List ℕ) (events : List (Event T)) (turns : ℕ) : Type 0 where
     pub sized : length words ≡ c
     pub conserved : (b : ℕ) → (wraps : ℕ) × (counts b events ≡ takes b events + get_or words b 0 + 2 ^ 64 * wraps)

@@ -12,7 +12,7 @@ use Rattle.model.specs.declared.event.Answer.TheVariants as answers
 use Rattle.model.specs.declared.families.bits.BitsStart.TheVariants.{ResetAll}
 use Rattle.laws_bits.proofs.Counts.Core.{TakenBelow, taken_next, counts_more, takes_more}
 use Rattle.laws_bits.proofs.Counts.Invariant.{Holds, counting_set}
-use Rattle.laws_bits.proofs.Family.{SetState, Shows, party_then, StepShows}
+use Rattle.laws_bits.proofs.Family.{SetScene, Shows, party_then, StepShows}
 use Rattle.laws_bits.proofs.Spans.{wrote_in}
 
 -- the call at this word, where so many are to be emptied and this was found last
@@ -20,10 +20,12 @@ abbrev pub take_at : OneWord → ℕ → ℕ → BitsFlight
 take_at room word end =
     TakeAll (record { call = record { word = word; end = end }; given = tt; room = room })
 
-module _ {T : Type 0} (code : Coding T) (c : ℕ) (s : SetState T) (events : List (Event T))
-    (turns p changes since steps backs : ℕ) (holds : Holds c s.words events turns) (wrote : List (Event T))
-    (is : span_of p events ≡ Open (Bits ResetAll) wrote) (word : ℕ) (empty : (b : ℕ) → word ≤ b → takes b wrote ≡ 0)
-    (taken : SinceBegin p (TakenBelow word) events) (still : backs ≡ 0) (few : steps ≤ word) where
+module _ {T : Type 0} (code : Coding T) (c : ℕ) (scene : SetScene T) (holds : Holds c scene.state.words scene.events scene.turns)
+    (wrote : List (Event T)) (is : span_of scene.party scene.events ≡ Open (Bits ResetAll) wrote) (word : ℕ)
+    (empty : (b : ℕ) → word ≤ b → takes b wrote ≡ 0) (taken : SinceBegin scene.party (TakenBelow word) scene.events) (still : scene.backs ≡ 0)
+    (few : scene.steps ≤ word) where
+  open scene use {state as s, events, party as p, changes, steps}
+
   abbrev ws : List ℕ
   ws = s.words
 
@@ -34,7 +36,7 @@ module _ {T : Type 0} (code : Coding T) (c : ℕ) (s : SetState T) (events : Lis
   swaps = Some (record { word = word; op = Swap 0 })
 
   abbrev Does : Option Ask → After BitsFlight (Answer T) → List (Event T) → Type 0
-  Does ask after fx = StepShows counting_set code c s events turns p changes since steps backs wrote ResetAll ask false after fx
+  Does ask after fx = StepShows counting_set code c scene wrote ResetAll ask false after fx
 
   -- ---- the count
 
@@ -141,11 +143,8 @@ module _ {T : Type 0} (code : Coding T) (c : ℕ) (s : SetState T) (events : Lis
 
       goes_on : (fx : List (Event T)) → TakesOut fx → word + 1 < end → Does swaps next fx
       goes_on fx out more =
-          subst (λ es. Shows counting_set code c s events turns p changes (set ws word 0) (Open (Bits ResetAll) wrote)
-          (party_then counting_set code c s events turns p changes since steps backs ResetAll swaps false next) es
-          (changes + change_of ws swaps))
-          (sym (append-nil fx))
-          (record {
+          subst (λ es. Shows counting_set code c scene (set ws word 0) (Open (Bits ResetAll) wrote)
+          (party_then counting_set code c scene ResetAll swaps false next) es (changes + change_of ws swaps)) (sym (append-nil fx)) (record {
             preserves = record {
               sized = length-set ws word 0;
               moved = λ b. moved b (counts b fx) (takes b fx) (out.counts b) (out.takes b);

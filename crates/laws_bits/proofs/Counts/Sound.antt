@@ -8,7 +8,7 @@ use Rattle.model.specs.declared.turn.Kind.TheVariants as kinds
 use Rattle.laws_bits.proofs.Counts.Invariant.{Holds, CallAt, Preserves, counting_set}
 use Rattle.laws_bits.proofs.Counts.Resets.{reset_step}
 use Rattle.laws_bits.proofs.Counts.Steps.{set_shows}
-use Rattle.laws_bits.proofs.Family.{SetState, ShowsStep, StepOf}
+use Rattle.laws_bits.proofs.Family.{SetScene, ShowsStep, StepOf}
 use Rattle.laws_bits.proofs.Laws.{IsOwn, IsFirst}
 use Rattle.laws_bits.proofs.Words.{zeros}
 
@@ -30,20 +30,19 @@ module _ {T : Type 0} where
 
   -- ---- one step of a call
 
-  module _ (code : Coding T) (c : ℕ) (s : SetState T) (events : List (Event T))
-      (turns p changes since steps backs : ℕ) (holds : Holds c s.words events turns) where
+  module _ (code : Coding T) (c : ℕ) (scene : SetScene T) (holds : Holds c scene.state.words scene.events scene.turns) where
     -- what its step shows, where its party's span was this
     abbrev Shown : List (Event T) → BitsStart → BitsFlight → Type 0
-    Shown wrote start flight = ShowsStep counting_set code c s events turns p changes since steps backs wrote start flight
+    Shown wrote start flight = ShowsStep counting_set code c scene wrote start flight
 
     pub step_shows : (start : BitsStart) (flight : BitsFlight) (wrote : List (Event T))
-        → StepOf counting_set code c s events turns p changes since steps backs start flight wrote
+        → StepOf counting_set code c scene start flight wrote
     step_shows (Set place) (Count run) wrote at is from few knows =
         subst (λ n. Shown wrote (Set n) (Count run)) at.0
         (subst (λ xs. Shown xs (Set run.given) (Count run)) (sym from)
-        (set_shows code c s events turns p changes since steps backs holds run.given (let below = at.1 in let same = at.0 in omega arith) few knows))
+        (set_shows code c scene holds run.given (let below = at.1 in let same = at.0 in omega arith) few knows))
     step_shows ResetAll (TakeAll run) wrote at is from few knows =
-        reset_step code c s events turns p changes since steps backs holds wrote is run.call.word
+        reset_step code c scene holds wrote is run.call.word
         (λ b past. subst (λ xs. takes b xs ≡ 0) (sym from) (at.2 b past)) knows.1 knows.0 few run.room run.call.end
         at.0 at.1
     step_shows start flight wrote at is from few knows = absurd at

@@ -1,15 +1,17 @@
 -- What each step of a call shows: a set adds 1 to its count, and a reset of all swaps the next count with 0.
 use Rattle.laws_bits.proofs.Names.{◌≡◌, ◌≢◌, ℕ, ◌+◌, ◌*◌, ◌/◌, ◌%◌, ◌^◌, ◌<◌, ◌≤◌, ◌==◌, Bool, true, false, Some}
 use Rattle.laws_bits.proofs.Names.{List, [], ◌∷◌, length, get_or, set, refl, sym, length-set, get_or-set_same}
-use Rattle.laws_bits.proofs.Names.{get_or-set_other, nat_tests, Add, Done, Event, Counted, Finished, Bits, Coding}
+use Rattle.laws_bits.proofs.Names.{get_or-set_other, nat_tests, Add, Done, Counted, Finished, Bits, Coding}
 use Rattle.laws_bits.proofs.Names.{counts, count_at}
 use Rattle.std.proofs.Common.{arith}
 use Rattle.model.specs.declared.event.Answer.TheVariants as answers
 use Rattle.model.specs.declared.families.bits.BitsStart.TheVariants.{Set}
 use Rattle.laws_bits.proofs.Counts.Invariant.{Holds, counting_set}
-use Rattle.laws_bits.proofs.Family.{SetState, StepShows}
+use Rattle.laws_bits.proofs.Family.{SetScene, StepShows}
 
-module _ {T : Type 0} (code : Coding T) (c : ℕ) (s : SetState T) (events : List (Event T)) (turns p changes since steps backs : ℕ) where
+module _ {T : Type 0} (code : Coding T) (c : ℕ) (scene : SetScene T) where
+  open scene use {state as s, events, turns, party as p, steps, backs}
+
   abbrev ws : List ℕ
   ws = s.words
 
@@ -17,7 +19,7 @@ module _ {T : Type 0} (code : Coding T) (c : ℕ) (s : SetState T) (events : Lis
     -- ---- a set
 
     pub set_shows : (place : ℕ) → place < c → steps ≤ 0 → backs ≡ 0
-        → StepShows counting_set code c s events turns p changes since steps backs [] (Set place)
+        → StepShows counting_set code c scene [] (Set place)
         (Some (record { word = place; op = Add 1 })) false (Done (answers.Number (get_or ws place 0)))
         (Counted p place ∷ [])
     set_shows place below s b =

@@ -21,14 +21,14 @@ oldest c k g some =
 
 -- the list while a push waits
 list_is : (c : ℕ) (xs others : List ℕ) (v : ℕ) → xs ≡ others ++ v ∷ [] → length others ≡ c → take c xs ≡ others
-list_is x0 x1 x2 x3 x4 x5 = grind (arith, take, take-append_seam)
+list_is = grind (arith, take, take-append_seam)
 
 module _ {T : Type 0} where
   pub none_passes : (c : ℕ) (item : Item T) → c ≡ 0 → through_cells Overflow c item ≡ []
-  none_passes x0 x1 x2 = grind arith
+  none_passes = grind arith
 
   pub one_passes : (c : ℕ) (item : Item T) → 0 < c → through_cells Overflow c item ≡ item ∷ []
-  one_passes x0 x1 x2 = grind arith
+  one_passes = grind arith
 
   abbrev pub items : List ℕ → List (Item T)
   items xs = map Index xs
@@ -79,7 +79,7 @@ module _ {T : Type 0} where
   pub pop_front :
       (c : ℕ) (xs : List ℕ) (u : ℕ) (rest : List ℕ) → xs ≡ u ∷ rest → length xs ≤ c
       → (drop 1 (items (take c xs)) ≡ items (take c rest)) × (slice_get (items (take c xs)) 0 ≡ Some (Index u))
-  pop_front x0 x1 x2 x3 x4 x5 = grind (arith, suc, length, take, take_all)
+  pop_front = grind (arith, suc, length, take, take_all)
 
   -- a pop that makes room for a push, and then the push
   pub pop_room :

@@ -13,7 +13,7 @@ use Rattle.laws_queues.proofs.Overflow.Knows.{KnowsOverflowPush, KnowsOverflowPo
 -- a store into a cell
 pub fill_keeps_pop : (c : ℕ) (k : Core ℕ) (at word : ℕ) (room : OneWord) (stage : PopStage)
     → KnowsOverflowPop c k room stage → KnowsOverflowPop c (filled 1 words_of_index (c + 1) k at word) room stage
-fill_keeps_pop x0 x1 x2 x3 x4 x5 x6 = grind arith
+fill_keeps_pop = grind arith
 
 -- the next write position
 pub publish_keeps_pop : (c : ℕ) (k : Core ℕ) (v : ℕ) (room : OneWord) (stage : PopStage)
@@ -31,7 +31,7 @@ publish_keeps_pop c k v room (overflow_pops.MovesRead read) h =
 pub take_keeps_pop :
     (c : ℕ) (k : Core ℕ) (rest : List ℕ) → k.write ≡ k.read + c + 1 → (room : OneWord) (stage : PopStage) → KnowsOverflowPop c k room stage
     → KnowsOverflowPop c (taken 1 words_of_index (c + 1) k rest) room stage
-take_keeps_pop x0 x1 x2 x3 x4 x5 x6 = grind arith
+take_keeps_pop = grind arith
 
 -- ---- a push, where a pop moves the read position and no push was pending
 
@@ -40,4 +40,4 @@ pub take_keeps_push :
     → length k.waiting ≤ c → (w : ℕ) (stage : overflow_pushes.PushStage) → KnowsOverflowPush c k w stage
     → KnowsOverflowPush c (taken 1 words_of_index (c + 1) k rest) w stage
     × (overflow_wrote {T = T} c (taken 1 words_of_index (c + 1) k rest) q w stage ≡ overflow_wrote c k q w stage)
-take_keeps_push x0 x1 x2 x3 x4 x5 x6 x7 x8 = grind arith
+take_keeps_push = grind arith

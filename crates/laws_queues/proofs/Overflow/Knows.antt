@@ -80,7 +80,7 @@ KnowsBacks k since changes backs (overflow_pops.MovesRead read) =
 -- a turn of another party keeps it
 module _ {V : Type 0} (k k' : Core V) (changes changes' : ℕ) (up : GoesUp k k' changes changes') where
   pub backs_keep : (since backs : ℕ) (stage : PopStage) → KnowsBacks k since changes backs stage → KnowsBacks k' since changes' backs stage
-  backs_keep x0 x1 x2 x3 = grind arith
+  backs_keep = grind arith
 
 module _ {T : Type 0} where
   -- what a push has written since its begin

@@ -51,10 +51,10 @@ module _ {T : Type 0} (en : Coding T) (scene : Scene T kinds.Overflow)
   after_it ask after = party_then en kinds.Overflow scene (PushIndex v) ask false after
 
   calm_none : (position : ℕ) → pending_at position (flight_of (doing_of (party_of p latest))) ≡ None → pending position ro.producer latest ≡ None
-  calm_none x0 x1 = grind (arith, pending, option_map)
+  calm_none = grind (arith, pending, option_map)
 
   few : IsCalm → length k.waiting ≤ c
-  few x0 = grind (arith, few_wait, pending, calm_none)
+  few = grind (arith, few_wait, pending, calm_none)
 
   hands_back : c ≡ 0 → steps ≤ 0 → IsCalm → Does [] None (Done (PoppedIndex v)) Acts
   hands_back none s calm = (

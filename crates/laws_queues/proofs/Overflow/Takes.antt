@@ -171,15 +171,15 @@ module _ {T : Type 0} (en : Coding T) (scene : Scene T kinds.Overflow)
         IsAt state start run = (family en kinds.Overflow c).At state q start (flights.Queues (pushing run))
 
         start_is : (start : Start T) (run : Pushing) → IsAt (queue_in scene) start run → run.given ≡ w → start ≡ Queues (PushIndex w)
-        start_is x0 x1 x2 x3 = grind arith
+        start_is = grind arith
 
         still_at : (start : Start T) (run : Pushing) → run.call.stage ≡ overflow_pushes.MovesRead k.read
             → IsAt (queue_in scene) start run → IsAt after_queue start run
-        still_at x0 x1 x2 x3 = grind arith
+        still_at = grind arith
 
         module _ (producer : ro.producer ≡ Some q) (x : Party T) (run : Pushing) (begun : ℕ) (is : IsPending k.read latest q w x run begun) where
           other : q ≢ p
-          other x0 = grind arith
+          other = grind arith
 
           under : frame.IsUnderWay (family en kinds.Overflow c) (queue_in scene) q x (flights.Queues (pushing run)) (span_of q events)
           under = grind arith
@@ -230,7 +230,7 @@ module _ {T : Type 0} (en : Coding T) (scene : Scene T kinds.Overflow)
 
           other_fits : (r : ℕ) → r ≢ p → r ≢ q
               → frame.Fits (family en kinds.Overflow c) after_queue r (party_of r latest) (span_of r (events ++ told))
-          other_fits x0 x1 x2 = grind (arith, family, theirs, any_stays, kept, clash)
+          other_fits = grind (arith, family, theirs, any_stays, kept, clash)
 
           takes_for : MovesBy (asks_move k.read) false (Done answer) (MakesRoom (Index value) q w)
           takes_for =

@@ -20,7 +20,7 @@ module _ {T : Type 0} (en : Coding T) (c : ℕ) (ro : Roles) (k : Core ℕ) (pos
       → ((q : ℕ)
       → frame.Fits (family en kinds.Overflow c) (record { roles = ro; core = k }) q (party_of q latest) (span_of q events))
       → (o : Option ℕ) → pending position o latest ≡ None
-  past_none x0 x1 x2 x3 = grind arith
+  past_none = grind arith
 
 -- ---- the push that waits for the read position
 
@@ -39,12 +39,12 @@ module _ {T : Type 0} (position : ℕ) (latest : List (ℕ × Party T)) (q w : �
   party_is : (o : Option (Party T)) → pending_at position (flight_of (doing_of (party_of q latest))) ≡ Some w
       → party_of q latest ≡ o → pending_at position (flight_of (doing_of o)) ≡ Some w
       → (y : Party T) × (run : Pushing) × (since : ℕ) × IsPending position latest q w y run since
-  party_is x0 x1 x2 x3 = grind arith
+  party_is = grind arith
 
 some_mapped : (q r w : ℕ) (o : Option ℕ) → option_map {U = ℕ × ℕ} (λ (n : ℕ). (r, n)) o ≡ Some (q, w) → (r ≡ q) × (o ≡ Some w)
-some_mapped x0 x1 x2 x3 x4 = grind arith
+some_mapped = grind arith
 
 module _ {T : Type 0} (position : ℕ) (latest : List (ℕ × Party T)) (q w : ℕ) where
   pub pending_is : (pr : Option ℕ) → pending position pr latest ≡ Some (q, w)
       → (pr ≡ Some q) × (y : Party T) × (run : Pushing) × (since : ℕ) × IsPending position latest q w y run since
-  pending_is x0 x1 = grind (arith, some_mapped, party_is)
+  pending_is = grind (arith, some_mapped, party_is)

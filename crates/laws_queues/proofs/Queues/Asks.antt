@@ -3,4 +3,4 @@ use Rattle.laws_queues.proofs.Names.{◌≡◌, false, QueueFlight, Coding, is_q
 use native.Mathlib.Omega.{arith}
 
 pub never_asks : {T : Type 0} → (en : Coding T) (flight : QueueFlight T) → is_question (want en flight) ≡ false
-never_asks x0 x1 = grind arith
+never_asks = grind arith

@@ -22,4 +22,4 @@ module _ {T : Type 0} (en : Coding T) (law : IsCoding en) (c : ℕ) (ro : Roles)
 
   pub first_is : (kd : QueueKind) (k : Core (Val T kd)) (start : QueueStart T) (flight : QueueFlight T)
       → first kd c start ≡ Some flight → lacks_role ro p start ≡ false → First kd k start flight
-  first_is x0 x1 x2 x3 x4 x5 = grind arith
+  first_is = grind arith

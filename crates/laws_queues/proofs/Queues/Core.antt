@@ -17,7 +17,7 @@ take_all (suc n) (x ∷ xs) h = ap (λ ys. x ∷ ys) (take_all n xs (omega arith
 
 -- two positions less than a lap apart stand in different cells
 pub apart : (c r i n : ℕ) → i < n → n < c → (r + i) % c ≢ (r + n) % c
-apart x0 x1 x2 x3 x4 x5 x6 = grind arith
+apart = grind arith
 
 -- the words of different cells are different
 pub cells_apart : (size a b i j : ℕ) → i < size → j < size → a ≢ b → size * a + i ≢ size * b + j
@@ -31,7 +31,7 @@ cells_apart size a b i j is js ne e = ⊎_elim less more (cases_lt a b)
 
 -- a word of a cell lies among the cells
 pub cell_within : (size c p i : ℕ) → 0 < c → i < size → size * (p % c) + i < size * c
-cell_within x0 x1 x2 x3 x4 x5 = grind arith
+cell_within = grind arith
 
 -- words that agree with others as far as a place, and one more
 pub one_more : (place : ℕ → ℕ) (xs ys : List ℕ) (at word : ℕ) → ((i : ℕ) → i < at → place i ≢ place at) → place at < length xs
@@ -126,7 +126,7 @@ module _ {V : Type 0} (size : ℕ) (words_of : V → List ℕ) (c : ℕ) where
 
   -- the next write position stored over a whole cell
   pub publishes : (k : Core V) (v : V) → length k.waiting < c → Good k → Holds k.cells k.write v size → Good (published k v)
-  publishes x0 x1 x2 x3 x4 = grind (arith, length-append, get_more)
+  publishes = grind (arith, length-append, get_more)
 
   -- the next read position stored
   pub takes : (k : Core V) (v : V) (rest : List V) → k.waiting ≡ v ∷ rest → Good k → Good (taken k rest)
@@ -146,4 +146,4 @@ module _ {V : Type 0} (size : ℕ) (words_of : V → List ℕ) (c : ℕ) where
 
   -- the front value, read word by word
   pub front : (k : Core V) (v : V) (rest : List V) → k.waiting ≡ v ∷ rest → Good k → Holds k.cells k.read v size
-  front x0 x1 x2 x3 x4 x5 x6 = grind arith
+  front = grind arith

@@ -12,10 +12,10 @@ pub use Rattle.laws_queues.specs.Fresh.{IsFreshTurn, IsFreshRun}
 module _ {T : Type 0} (z : Coding T) where
   pub fresh_there : (words : List ℕ) (flight : QueueFlight T)
       → IsFreshAt {T = T} (old_of words (ask_of (want z flight))) flight → IsFreshAt {T = T} (get_or words 0 0) flight
-  fresh_there x0 x1 x2 = grind arith
+  fresh_there = grind arith
 
   pub fresh_any : (words : List ℕ) (flight : Flight T) → IsFreshCall (get_or words 0 0) flight → IsFreshCall (old_of words (ask_of (want_of z flight))) flight
-  fresh_any x0 x1 x2 = grind arith
+  fresh_any = grind arith
 
 module _ {T : Type 0} where
   may_more : (turns : List (Turn T)) (turn : Turn T) (t : Trace T) → AllMay IsFreshTurn turns t
@@ -24,7 +24,7 @@ module _ {T : Type 0} where
   may_more (x ∷ xs) turn t all one = (all.0, may_more xs turn (attempt_on t x) all.1 one)
 
   pub fresh_more : (t : Trace T) (turn : Turn T) → call_refusal t.world turn ≡ None → IsFreshTurn t turn → IsFreshRun t → IsFreshRun (after_turn t turn)
-  fresh_more x0 x1 x2 x3 x4 = grind (arith, turn_making, opening, after_turn, run_by_more, may_more)
+  fresh_more = grind (arith, turn_making, opening, after_turn, run_by_more, may_more)
 
   pub fresh_opening : (code : Coding T) (kind : Kind) (capacity parties : ℕ) → IsFreshRun (opening code kind capacity parties)
   fresh_opening code kind capacity parties = record { turns = []; is = refl; fresh = tt }

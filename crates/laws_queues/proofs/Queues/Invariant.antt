@@ -3,7 +3,7 @@
 use Rattle.laws_queues.proofs.Names.{◌≡◌, ◌≢◌, ℕ, ◌+◌, ◌^◌, ◌<◌, ◌≤◌, false, Some, None, List, [], ◌++◌, length, drop, map}
 use Rattle.laws_queues.proofs.Names.{fold, sym, ap, subst, ◌∙◌, append_assoc, length-append, drop_at, Event}
 use Rattle.laws_queues.proofs.Names.{Item, Start, Flight, Registry, QueueStart, Roles, QueueFlight, Party, QueueKind}
-use Rattle.laws_queues.proofs.Names.{Kind, Coding, AnswersRight, TellsLength, list_of, cells_of, promise, publishes}
+use Rattle.laws_queues.proofs.Names.{Coding, AnswersRight, TellsLength, list_of, cells_of, promise, publishes}
 use Rattle.laws_queues.proofs.Names.{hands_out, published, handed_out, waiting, producer_after, consumer_after}
 use Rattle.laws_queues.proofs.Names.{producer_of, consumer_of, GrantsRight, pending, BeginsNone, IsLegal, standing}
 use Rattle.laws_queues.proofs.Names.{answers_from, put, Stands, Each, acts, moments, Span, own_after, span_of, Family}
@@ -14,8 +14,6 @@ use Rattle.std.proofs.lemmas.List.Sums.{fold-append}
 use Rattle.model.specs.declared.event.Start.TheVariants as starts
 use Rattle.model.specs.declared.families.Flight.TheVariants as flights
 use Rattle.model.specs.declared.families.Registry.TheVariants as registries
-use Rattle.model.specs.declared.families.queues.QueueKind.TheVariants as kinds
-use Rattle.model.specs.declared.turn.Kind.TheVariants as any_kinds
 use Rattle.model.specs.Families.Loan.Opening.{is_loan}
 use Rattle.model.proofs.Family as families
 use Rattle.model.proofs.Family.{Outline}
@@ -24,6 +22,7 @@ use Rattle.model.proofs.Replays.{calls_of, answers_of, standing_more, legal_more
 use Rattle.laws_queues.proofs.Queues.Core.{Core, Good, GoesUp}
 use Rattle.laws_queues.proofs.Queues.Knows.{layout, number_of, Hangs, listed, has_written, KnowsFlight, flight_keeps, At}
 use Rattle.laws_queues.proofs.Queues.Values.{Val, encoded, item}
+pub use Rattle.laws_queues.specs.Kinds.{machine_kind}
 
 -- what the words and the roles of a queue hold
 pub record Queue (V : Type 0) : Type 0 where
@@ -44,10 +43,10 @@ pub record Scene (T : Type 0) (kd : QueueKind) : Type 0 where
   pub roles : Roles
   pub core : Core (Val T kd)
   pub party : ℕ
-  pub steps : ℕ
-  pub backs : ℕ
-  pub since : ℕ
-  pub changes : ℕ
+  pub steps : ℕ  -- of the call
+  pub backs : ℕ  -- so often it has turned back
+  pub since : ℕ  -- how often words had changed when it began
+  pub changes : ℕ  -- how often they have
   pub latest : List (ℕ × Party T)
   pub events : List (Event T)
   pub turns : ℕ
@@ -55,16 +54,16 @@ pub record Scene (T : Type 0) (kd : QueueKind) : Type 0 where
 module _ {T : Type 0} where
   -- what was published and not handed out is what waits
   pub waiting_is : (events : List (Event T)) (items : List (Item T)) → published events ≡ handed_out events ++ items → waiting events ≡ items
-  waiting_is x0 x1 x2 = grind (arith, drop, length, handed_out, drop_at)
+  waiting_is = grind (arith, drop, length, handed_out, drop_at)
 
   book_more :
       (events es : List (Event T)) (old new : List (Item T)) → published events ≡ handed_out events ++ old → old ++ published es ≡ handed_out es ++ new
       → published (events ++ es) ≡ handed_out (events ++ es) ++ new
-  book_more x0 x1 x2 x3 x4 x5 = grind (arith, flat_map-append, publishes, published, append_assoc, handed_out, hands_out)
+  book_more = grind (arith, flat_map-append, publishes, published, append_assoc, handed_out, hands_out)
 
   out_more : (events es : List (Event T)) (old new : ℕ) → old ≡ length (handed_out events)
       → new ≡ old + length (handed_out es) → new ≡ length (handed_out (events ++ es))
-  out_more x0 x1 x2 x3 x4 x5 = grind (arith, handed_out, flat_map-append, hands_out, length-append)
+  out_more = grind (arith, handed_out, flat_map-append, hands_out, length-append)
 
   -- what a party's call under way has written
   abbrev written : {V : Type 0} → ℕ → Core V → ℕ → Flight T → List (Event T)
@@ -75,13 +74,8 @@ module _ {T : Type 0} where
   queue_in scene = record { roles = scene.roles; core = scene.core }
 
 -- the kind of a machine that has this queue
-abbrev pub machine_kind : QueueKind → Kind
-machine_kind kinds.IndexQueue = any_kinds.IndexQueue
-machine_kind kinds.Overflow = any_kinds.Overflow
-machine_kind kinds.Queue = any_kinds.Queue
-
 pub no_loan : (kd : QueueKind) → is_loan (machine_kind kd) ≡ false
-no_loan x0 = grind arith
+no_loan = grind arith
 
 module _ {T : Type 0} (en : Coding T) where
   -- what is so of the queue and of the events
@@ -222,13 +216,13 @@ module _ {T : Type 0} (en : Coding T) where
       → At en kd c ro' k' q start flight × (has_written {T = T} c k' q flight ≡ has_written {T = T} c k q flight))
       → (start : Start T) (flight : Flight T) → FlightAt en kd c ro k q start flight
       → FlightAt en kd c ro' k' q start flight × (written c k' q flight ≡ written c k q flight)
-  any_stays x0 x1 x2 x3 x4 x5 x6 x7 x8 x9 x10 = grind arith
+  any_stays = grind arith
 
   pub any_knows : {V : Type 0} → (c : ℕ) (k k' : Core V) (q : ℕ) (events es : List (Event T)) (changes changes' : ℕ)
       → GoesUp k k' changes changes' → BeginsNone q es
       → (since backs : ℕ) (flight : Flight T) → Knowing en c k q events since changes backs flight
       → Knowing en c k' q (events ++ es) since changes' backs flight
-  any_knows x0 x1 x2 x3 x4 x5 x6 x7 x8 x9 x10 x11 x12 x13 = grind (arith, flight_keeps)
+  any_knows = grind (arith, flight_keeps)
 
   module _ (kd : QueueKind) (scene : Scene T kd) (ro' : Roles) (k' : Core (Val T kd)) (from : Span T) (y : Party T)
       (es : List (Event T)) (changes' : ℕ) (s : Shows kd scene ro' k' from y es changes') where

@@ -44,10 +44,10 @@ use Rattle.laws_queues.proofs.Ring.Kinds.{Ring, of_indices, of_values, kind_of, 
 
 -- where a pop finds nothing
 ring_finds : (r : Ring) (c : ℕ) → finding_none (kind_of r) c ≡ Some load_of_write
-ring_finds x0 x1 = grind arith
+ring_finds = grind arith
 
 overflow_finds : (c : ℕ) → (0 < c → finding_none kinds.Overflow c ≡ Some load_of_write) × (c ≡ 0 → finding_none kinds.Overflow c ≡ None)
-overflow_finds x0 = grind arith
+overflow_finds = grind arith
 
 module _ {T : Type 0} where
   -- ---- the order
@@ -74,13 +74,13 @@ module _ {T : Type 0} where
 
   effects_are : (p : ℕ) (start : QueueStart T) (effect : Effect T) (outcome : Option (Answer T))
       → effects_of p start effect outcome ≡ did p effect ++ acts_of p start effect outcome
-  effects_are x0 x1 x2 x3 = grind arith
+  effects_are = grind arith
 
   did_effects : (turn : Turn T) (p : ℕ) (effect : Effect T) → IsParty turn p → AllByRecursion (IsEffectOf turn) (did p effect)
-  did_effects x0 x1 x2 x3 = grind arith
+  did_effects = grind arith
 
   all_act : (p : ℕ) (start : QueueStart T) (effect : Effect T) (outcome : Option (Answer T)) → AllByRecursion IsAct (acts_of p start effect outcome)
-  all_act x0 x1 x2 x3 = grind arith
+  all_act = grind arith
 
 -- ---- what an act tells
 
@@ -111,7 +111,7 @@ module _ {T : Type 0} (own : QueueKind) (t : Trace T) (turn : Turn T) (p : ℕ) 
 
   pop_acts : (after : After (QueueFlight T) (Answer T)) → FindsNone after → asked ≡ finding_none own c
       → Right (told_after p Pop Acts after) → Justified (acts_if_done p Pop (answer_in after))
-  pop_acts x0 x1 x2 x3 = grind arith
+  pop_acts = grind arith
 
   -- ---- the positions
 
@@ -124,7 +124,7 @@ module _ {T : Type 0} (own : QueueKind) (t : Trace T) (turn : Turn T) (p : ℕ) 
 
   module _ (write read : ℕ) (at : Positions write read) where
     moves_read : asked ≡ Some (record { word = read_word; op = Exchange read (after_position read) }) → Adds read_word
-    moves_read x0 = grind arith
+    moves_read = grind arith
 
   module _ (words : List ℕ) (waits : Option (ℕ × ℕ)) where
     abbrev Tells : QueueStart T → QueueFlight T → ℕ → Type 0
@@ -140,7 +140,7 @@ module _ {T : Type 0} (own : QueueKind) (t : Trace T) (turn : Turn T) (p : ℕ) 
           → asked ≡ ask_of (want en (Overflow (overflow_push_at c v room stage)))
           → old ≡ old_of (k.write ∷ k.read ∷ place.rest) asked
           → Acting (PushIndex v) (Overflow (overflow_push_at c v room stage)) old
-      overflow_push_right x0 x1 x2 x3 x4 = grind arith
+      overflow_push_right = grind arith
 
     -- a pop that moves the read position answers a value, and then the push acts that waits for it
     taking : (item : Item T) (push : Option (ℕ × ℕ)) → ((q w : ℕ) → push ≡ Some (q, w) → q ≡ p → ⊥)
@@ -197,7 +197,7 @@ module _ {T : Type 0} (own : QueueKind) (t : Trace T) (turn : Turn T) (p : ℕ) 
         → (start : QueueStart T) (call : rings.RingCall T (cells.Buffer 128)) (old : ℕ)
         → ValueAt en kinds.Queue c ro k p start call → finding_none own c ≡ Some load_of_write
         → asked ≡ ask_of (want en (Values call)) → Tells start (Values call) old → Acting start (Values call) old
-    value_right x0 x1 x2 x3 x4 x5 x6 x7 x8 x9 = grind arith
+    value_right = grind arith
 
     overflow_right :
         (ro : Roles) (k : Core ℕ) (place : Positions k.write k.read) (start : QueueStart T) (call : OverflowCall) (old : ℕ)
@@ -255,7 +255,7 @@ waiter_is : {T : Type 0} (roles : Roles) (words : List ℕ) (latest : List (ℕ 
     → flight_of (doing_of (party_of p latest)) ≡ Some (flights.Queues flight) → (q w : ℕ)
     → beside roles words latest p ≡ Some (q, w) → q ≡ p
     → pending_at (get_or words 1 0) (Some (flights.Queues flight)) ≡ Some w
-waiter_is x0 x1 x2 x3 x4 x5 x6 x7 x8 x9 = grind arith
+waiter_is = grind arith
 
 module _ {T : Type 0} (en : Coding T) (law : IsCoding en) (kd : QueueKind) (c : ℕ) (t : Trace T) (s : frame.Sound (family en kd c) t) where
   pub writes : (p : ℕ) (x : Party T) (since : ℕ) → t.world.turns < 2 ^ 64 - 2 → (start : Start T) (flight : Flight T)

@@ -44,20 +44,20 @@ keeps_same en kinds.Queue c ro k q = record { push = λ mine v stage h. h; pop =
 
 module _ (ro ro' : Roles) (q : ℕ) (producer : ro.producer ≡ Some q → ro'.producer ≡ Some q) (consumer : ro.consumer ≡ Some q → ro'.consumer ≡ Some q) where
   role_kept : {T : Type 0} → (start : QueueStart T) (call : RoleCall) → RoleAt ro q start call → RoleAt ro' q start call
-  role_kept x0 x1 x2 = grind arith
+  role_kept = grind arith
 
   module _ {T : Type 0} (en : Coding T) (c : ℕ) where
     index_kept : (k k' : Core ℕ) → RingKeeps one_word c ro k k' q → (start : QueueStart T) (call : rings.RingCall ℕ OneWord)
         → IndexAt kinds.IndexQueue c ro k q start call → IndexAt kinds.IndexQueue c ro' k' q start call
-    index_kept x0 x1 x2 x3 x4 x5 = grind arith
+    index_kept = grind arith
 
     value_kept : (k k' : Core T) → RingKeeps en c ro k k' q → (start : QueueStart T) (call : rings.RingCall T (Buffer 128))
         → ValueAt en kinds.Queue c ro k q start call → ValueAt en kinds.Queue c ro' k' q start call
-    value_kept x0 x1 x2 x3 x4 x5 = grind arith
+    value_kept = grind arith
 
     overflow_kept : (k k' : Core ℕ) → OverflowKeeps T c ro k k' q → (start : QueueStart T) (call : overflows.OverflowCall) → OverflowAt c ro k q start call
         → OverflowAt c ro' k' q start call × (has_written {T = T} c k' q (Overflow call) ≡ has_written c k q (Overflow call))
-    overflow_kept x0 x1 x2 x3 x4 x5 = grind arith
+    overflow_kept = grind arith
 
     abbrev KeptAt : (kd : QueueKind) → Core (Val T kd) → Core (Val T kd) → QueueStart T → QueueFlight T → Type 0
     KeptAt kd k k' start flight =

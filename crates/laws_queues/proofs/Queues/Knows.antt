@@ -117,24 +117,24 @@ module _ {T : Type 0} where
   module _ {V : Type 0} (c : ℕ) (k k' : Core V) (p : ℕ) (events es : List (Event T)) (changes changes' : ℕ)
       (up : GoesUp k k' changes changes') (none : BeginsNone p es) where
     paid_keeps : (since backs write read : ℕ) → IsPaid k since changes backs write read → IsPaid k' since changes' backs write read
-    paid_keeps x0 x1 x2 x3 x4 = grind arith
+    paid_keeps = grind arith
 
     len_keeps : (since backs : ℕ) (stage : LenStage) → KnowsLen c k p events since changes backs stage
         → KnowsLen c k' p (events ++ es) since changes' backs stage
-    len_keeps x0 x1 x2 x3 = grind (arith, paid_keeps, held_later, length, waiting)
+    len_keeps = grind (arith, paid_keeps, held_later, length, waiting)
 
     pub flight_keeps : (since backs : ℕ) (flight : QueueFlight T)
         → KnowsFlight c k p events since changes backs flight
         → KnowsFlight c k' p (events ++ es) since changes' backs flight
-    flight_keeps x0 x1 x2 x3 = grind (arith, backs_keep, len_keeps)
+    flight_keeps = grind (arith, backs_keep, len_keeps)
 
   -- ---- a call that is to load the number which it moves finds another than the last
 
   pub all_fresh : (write : ℕ) (flight : QueueFlight T) → write < 2 ^ 64 - 1 → IsFreshAt write flight
-  all_fresh x0 x1 x2 = grind arith
+  all_fresh = grind arith
 
   pub any_fresh : (found : ℕ) (flight : Flight T) → found < 2 ^ 64 - 1 → IsFreshCall found flight
-  any_fresh x0 x1 x2 = grind arith
+  any_fresh = grind arith
 
   -- ---- where a call under way stands
 

@@ -26,7 +26,7 @@ call_at which c stage = Length which (len_at c stage)
 number_is : {V : Type 0} → (size : ℕ) (words_of : V → List ℕ) (cells c : ℕ) (k : Core V)
     → Good size words_of cells k → (c ≡ 0 → length k.waiting ≡ 0) → k.write < 2 ^ 64
     → length k.waiting ≡ number_waiting c k.write k.read
-number_is x0 x1 x2 x3 x4 x5 x6 x7 = grind arith
+number_is = grind arith
 
 module _ {T : Type 0} (en : Coding T) (kd : QueueKind) (scene : Scene T kd) (inv : Inv en kd scene)
     (small : scene.core.write < 2 ^ 64) (before : IsCalm en kd scene scene.core.read) where
@@ -50,6 +50,10 @@ module _ {T : Type 0} (en : Coding T) (kd : QueueKind) (scene : Scene T kd) (inv
       ∙ (long ∙ number_is (encoded en kd).size (encoded en kd).words_of (cells_of kd c) c k g
       (λ none. nothing_waits en kd c k (pending k.read ro.producer latest) none g hangs) (omega arith)))
 
+  -- what such a call knows at this stage
+  abbrev Knows : LenStage → Type 0
+  Knows stage = KnowsLen c k p events since changes backs stage
+
   -- what the three calls have in common
   module _ (which : LengthOf) (start : QueueStart T)
       (at : (stage : LenStage) → At en kd c ro k p start (call_at which c stage))
@@ -70,7 +74,7 @@ module _ {T : Type 0} (en : Coding T) (kd : QueueKind) (scene : Scene T kd) (inv
         (after en (call_at which c stage) (old_of (layout ro k) (ask_of (want en (call_at which c stage)))))
         Quiet
 
-    loads_write : steps ≤ 4 * backs + 0 → KnowsLen c k p events since changes backs lens.LoadsWrite → StaysAt lens.LoadsWrite
+    loads_write : steps ≤ 4 * backs + 0 → Knows lens.LoadsWrite → StaysAt lens.LoadsWrite
     loads_write s h =
         quiet en kd scene inv small before false start (Some load_of_write) (call_at which c (lens.LoadsRead k.write)) k refl refl refl refl g refl
         (record { span = refl; steps = omega arith; at = at (lens.LoadsRead k.write) })
@@ -78,7 +82,7 @@ module _ {T : Type 0} (en : Coding T) (kd : QueueKind) (scene : Scene T kd) (inv
         (λ q ne st f h. (h, refl))
 
     loads_read : (write : ℕ) → steps ≤ 4 * backs + 1
-        → KnowsLen c k p events since changes backs (lens.LoadsRead write)
+        → Knows (lens.LoadsRead write)
         → StaysAt (lens.LoadsRead write)
     loads_read write s h =
         let low = h.0 in
@@ -90,7 +94,7 @@ module _ {T : Type 0} (en : Coding T) (kd : QueueKind) (scene : Scene T kd) (inv
         (λ q ne st f h. (h, refl))
 
     loads_write_again : (write read : ℕ) → steps ≤ 4 * backs + 2
-        → KnowsLen c k p events since changes backs (lens.LoadsWriteAgain write read)
+        → Knows (lens.LoadsWriteAgain write read)
         → StaysAt (lens.LoadsWriteAgain write read)
     loads_write_again write read s h = go (k.write == write) refl
       where
@@ -119,7 +123,7 @@ module _ {T : Type 0} (en : Coding T) (kd : QueueKind) (scene : Scene T kd) (inv
             (λ q ne st f h. (h, refl))
 
     loads_read_again : (write read : ℕ) → steps ≤ 4 * backs + 3
-        → KnowsLen c k p events since changes backs (lens.LoadsReadAgain write read)
+        → Knows (lens.LoadsReadAgain write read)
         → StaysAt (lens.LoadsReadAgain write read)
     loads_read_again write read s h = go (k.read == read) refl
       where
@@ -155,20 +159,20 @@ module _ {T : Type 0} (en : Coding T) (kd : QueueKind) (scene : Scene T kd) (inv
             (omega arith)
             (λ q ne st f h. (h, refl))
 
-    length_step : (stage : LenStage) → steps ≤ 4 * backs + len_number stage → KnowsLen c k p events since changes backs stage → StaysAt stage
+    length_step : (stage : LenStage) → steps ≤ 4 * backs + len_number stage → Knows stage → StaysAt stage
     length_step lens.LoadsWrite s h = loads_write s h
     length_step (lens.LoadsRead write) s h = loads_read write s h
     length_step (lens.LoadsWriteAgain write read) s h = loads_write_again write read s h
     length_step (lens.LoadsReadAgain write read) s h = loads_read_again write read s h
 
-  pub len_step : (stage : LenStage) → steps ≤ 4 * backs + len_number stage → KnowsLen c k p events since changes backs stage
+  pub len_step : (stage : LenStage) → steps ≤ 4 * backs + len_number stage → Knows stage
       → StepOf en kd scene starts.Len (call_at measures.Len c stage)
   len_step = grind (arith, length_step, published, handed_out, held_so, length, waiting)
 
-  pub is_empty_step : (stage : LenStage) → steps ≤ 4 * backs + len_number stage → KnowsLen c k p events since changes backs stage
+  pub is_empty_step : (stage : LenStage) → steps ≤ 4 * backs + len_number stage → Knows stage
       → StepOf en kd scene starts.IsEmpty (call_at measures.IsEmpty c stage)
   is_empty_step = grind (arith, length_step, published, handed_out, held_so, length, waiting)
 
-  pub is_full_step : (stage : LenStage) → steps ≤ 4 * backs + len_number stage → KnowsLen c k p events since changes backs stage
+  pub is_full_step : (stage : LenStage) → steps ≤ 4 * backs + len_number stage → Knows stage
       → StepOf en kd scene starts.IsFull (call_at measures.IsFull c stage)
   is_full_step = grind (arith, length_step, published, handed_out, held_so, length, waiting)

@@ -32,12 +32,12 @@ module _ {T : Type 0} where
   -- the party that has moved holds the role
   pub pending_here : (position p : ℕ) (y : Party T) (latest : List (ℕ × Party T))
       → pending position (Some p) (put p y latest) ≡ option_map (λ v. (p, v)) (pending_at position (flight_of (Some y.doing)))
-  pending_here x0 x1 x2 x3 = grind (arith, option_map, party_put_same)
+  pending_here = grind (arith, option_map, party_put_same)
 
   -- which push is pending once the holder of the role has moved
   pub pending_after : (position p : ℕ) (pr : Option ℕ) → pr ≡ Some p → (y : Party T) (latest : List (ℕ × Party T))
       → pending position pr (put p y latest) ≡ option_map (λ v. (p, v)) (pending_at position (flight_of (Some y.doing)))
-  pending_after x0 x1 x2 x3 x4 x5 = grind (arith, pending, put, option_map, pending_here)
+  pending_after = grind (arith, pending, put, option_map, pending_here)
 
 pub hangs_same : (T : Type 0) (kd : QueueKind) (c : ℕ) (k k' : Core (Val T kd)) (o o' : Option (ℕ × ℕ))
     → k'.waiting ≡ k.waiting → o' ≡ o → Hangs T kd c k o → Hangs T kd c k' o'
@@ -71,4 +71,4 @@ nothing_waits {T = T} en kinds.Queue c k o e g h = let few = g.few in omega arit
 nothing_waits {T = T} en kinds.Overflow c k o e g h = go o h
   where
     go : (o : Option (ℕ × ℕ)) → Hangs T kinds.Overflow c k o → length k.waiting ≡ 0
-    go x0 x1 = grind arith
+    go = grind arith

@@ -39,7 +39,7 @@ module _ {T : Type 0} (en : Coding T) where
   -- ---- progress
 
   bounds : (kd : QueueKind) (c : ℕ) → frame.Bounds (family {T = T} en kd c)
-  bounds x0 x1 = grind arith
+  bounds = grind arith
 
   -- ---- the values that wait in the words
 
@@ -157,7 +157,7 @@ module _ {T : Type 0} (en : Coding T) where
       }
 
 promise_is : {T : Type 0} (kd : QueueKind) → promise_of {T = T} (machine_kind kd) ≡ promise kd
-promise_is x0 = grind arith
+promise_is = grind arith
 
 -- ---- a queue as it opens
 
@@ -169,10 +169,10 @@ empty_queue en kd c = record { roles = record { producer = None; consumer = None
 
 opening_fits : {T : Type 0} → (en : Coding T) (kd : QueueKind) (c : ℕ)
     → Represents ((opening_of (machine_kind kd)).kept {T = T} c) ((opening_of (machine_kind kd)).words en.size c) (empty_queue en kd c)
-opening_fits x0 x1 x2 = grind arith
+opening_fits = grind arith
 
 pub admitted_fits : (kd : QueueKind) (c : ℕ) → capacity_error (machine_kind kd) c ≡ None → c < 2 ^ 32
-admitted_fits x0 x1 x2 = grind arith
+admitted_fits = grind arith
 
 module _ {T : Type 0} (en : Coding T) (law : IsCoding en) where
   empty : (kd : QueueKind) (c : ℕ) → (list_of {T = T} kd c).opening ≡ listed kd c []
@@ -223,7 +223,7 @@ module _ {T : Type 0} (en : Coding T) (law : IsCoding en) where
       → (z : Coding T) (words : List ℕ) (beside : Option (ℕ × ℕ)) (answer : ℕ)
       → (step_of z words beside p start flight answer (registries.Queues s.roles)).after
       ≡ goes_of z p flight answer (registries.Queues s.roles)
-  told x0 x1 x2 x3 x4 x5 x6 x7 x8 x9 x10 = grind arith
+  told = grind arith
 
   turns : (kd : QueueKind) (c : ℕ) → Turns (outline kd) en c IsFreshTurn
   turns kd c =

@@ -21,25 +21,25 @@ use Rattle.laws_queues.proofs.Queues.Values.{Val, encoded, item}
 use Rattle.laws_queues.proofs.Queues.Pending.{pending_put, hangs_same}
 
 pub or_true : (a b : Bool) → (a || b) ≡ true → (a ≡ true) ⊎ (b ≡ true)
-or_true x0 x1 x2 = grind arith
+or_true = grind arith
 
 pub first_of_some : {A : Type 0} → (xs : List A) → 0 < length xs → (x : A) × (rest : List A) × (xs ≡ x ∷ rest)
 first_of_some [] h = absurd (omega arith)
 first_of_some (x ∷ xs) h = (x, xs, refl)
 
 pub or_false : (a b : Bool) → (a || b) ≡ false → (a ≡ false) × (b ≡ false)
-or_false x0 x1 x2 = grind arith
+or_false = grind arith
 
 -- the place of a cell's first word among the words
 pub cell_place : (size c position : ℕ) → 0 < c → cell_word c size position ≡ 4 + size * (position % c)
-cell_place x0 x1 x2 x3 = grind arith
+cell_place = grind arith
 
 -- a word of a cell as a call asks for it, which wraps
 abbrev pub cell_asked : ℕ → ℕ → ℕ → ℕ → ℕ
 cell_asked size c position at = word_at (cell_word c size position) at
 
 pub asked_place : (size c position at : ℕ) → 0 < c → c < 2 ^ 32 → size ≤ 128 → at < size → cell_asked size c position at ≡ 4 + (size * (position % c) + at)
-asked_place x0 x1 x2 x3 x4 x5 x6 x7 = grind (arith, cell_place, cell_within, mul-le-mul_right)
+asked_place = grind (arith, cell_place, cell_within, mul-le-mul_right)
 
 module _ {T : Type 0} where
   -- a queue's call as one of any family
@@ -103,7 +103,7 @@ module _ {T : Type 0} (en : Coding T) (kd : QueueKind) (scene : Scene T kd) wher
     pub still_hangs : (k' : Core (Val T kd)) (y : Party T) → k'.waiting ≡ k.waiting → k'.read ≡ k.read
         → pending_at k.read (flight_of (Some y.doing)) ≡ None → IsCalm k.read
         → Hangs T kd c k' (pending k'.read ro.producer (put p y scene.latest))
-    still_hangs x0 x1 x2 x3 x4 x5 = grind (arith, hangs_same, pending, put, pending_put)
+    still_hangs = grind (arith, hangs_same, pending, put, pending_put)
 
     -- the call goes on, and the positions and what waits stay
     pub quiet :
@@ -117,7 +117,7 @@ module _ {T : Type 0} (en : Coding T) (kd : QueueKind) (scene : Scene T kd) wher
         → ((q : ℕ) → q ≢ p → (s : QueueStart T) (f : QueueFlight T) → At en kd c ro k q s f
         → At en kd c ro k' q s f × (has_written {T = T} c k' q f ≡ has_written c k q f))
         → Stays start ask back (GoOn flight) Quiet
-    quiet x0 x1 x2 x3 x4 x5 x6 x7 x8 x9 x10 x11 x12 x13 x14 = grind (arith, still_hangs, append-nil, map, item, listed)
+    quiet = grind (arith, still_hangs, append-nil, map, item, listed)
 
     -- the call is done, and nothing is published, handed out or acted
     pub ends :
@@ -132,7 +132,7 @@ module _ {T : Type 0} (en : Coding T) (kd : QueueKind) (scene : Scene T kd) wher
         → ((q : ℕ) → q ≢ p → (s : QueueStart T) (f : QueueFlight T) → At en kd c ro k q s f
         → At en kd c ro' k q s f × (has_written {T = T} c k q f ≡ has_written c k q f))
         → Shows en kd scene ro' k (Open (Queues start) []) (party_then start ask back (Done answer)) (Finished p (Queues start) answer ∷ []) (changes_then ask)
-    ends x0 x1 x2 x3 x4 x5 x6 x7 x8 x9 x10 x11 x12 = grind (arith, append-nil, map, item)
+    ends = grind (arith, append-nil, map, item)
 
   -- ---- what a step owes, also where it writes events of two parties
 

@@ -194,11 +194,11 @@ module _ {T : Type 0} (en : Coding T) (law : IsCoding en) where
 -- ---- what a turn comes to
 
 call_is : {T : Type 0} (kd : QueueKind) (c : ℕ) (start : QueueStart T) → call_of (machine_kind kd) c start ≡ first kd c start
-call_is x0 x1 x2 = grind arith
+call_is = grind arith
 
 some_mapped : {T : Type 0} → (o : Option (QueueFlight T)) (flight : QueueFlight T)
     → option_map flights.Queues o ≡ Some (flights.Queues flight) → o ≡ Some flight
-some_mapped x0 x1 x2 = grind arith
+some_mapped = grind arith
 
 module _ {T : Type 0} (en : Coding T) (kd : QueueKind) (c : ℕ) (t : Trace T) (s : frame.Sound (family en kd c) t) where
   pub write_is : get_or t.world.words 0 0 ≡ s.state.core.write
@@ -206,7 +206,7 @@ module _ {T : Type 0} (en : Coding T) (kd : QueueKind) (c : ℕ) (t : Trace T) (
 
   -- few turns are few positions
   pub few_turns : t.world.turns < 2 ^ 64 - 2 → (p : ℕ) → IsFreshTurn t (Next p)
-  few_turns x0 x1 = grind arith
+  few_turns = grind arith
 
 module _ {T : Type 0} (en : Coding T) (law : IsCoding en) (kd : QueueKind) (c : ℕ) (t : Trace T) (s : frame.Sound (family en kd c) t) (p : ℕ) where
   abbrev pub scene_of : Party T → ℕ → Scene T kd
@@ -310,4 +310,4 @@ module _ {T : Type 0} (en : Coding T) (law : IsCoding en) (kd : QueueKind) (c : 
 
 pub no_question : {T : Type 0} → (en : Coding T) (kd : QueueKind) (c : ℕ) (s : Queue (Val T kd)) (p : ℕ) (start : Start T) (flight : Flight T)
     → (family en kd c).At s p start flight → is_question (want_of en flight) ≡ false
-no_question x0 x1 x2 x3 x4 x5 x6 x7 = grind arith
+no_question = grind arith

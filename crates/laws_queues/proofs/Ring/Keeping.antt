@@ -11,7 +11,7 @@ module _ {V : Type 0} (en : Coding V) (c : ℕ) (k : Core V) where
   -- a store into a cell keeps what a pop knows
   pub fill_keeps : (at word : ℕ) (room : List ℕ) (stage : PopStage) → KnowsPop en c k room stage
       → KnowsPop en c (filled en.size en.words_of c k at word) room stage
-  fill_keeps x0 x1 x2 x3 x4 = grind arith
+  fill_keeps = grind arith
 
   -- so does the next write position
   pub publish_keeps : (w : V) (room : List ℕ) (stage : PopStage) → KnowsPop en c k room stage
@@ -24,4 +24,4 @@ module _ {V : Type 0} (en : Coding V) (c : ℕ) (k : Core V) where
   -- and the next read position what a push knows
   pub take_keeps : (v : V) (rest : List V) → k.waiting ≡ v ∷ rest → (w : V) (stage : pushes.PushStage)
       → KnowsPush en c k w stage → KnowsPush en c (taken en.size en.words_of c k rest) w stage
-  take_keeps x0 x1 x2 x3 x4 x5 = grind arith
+  take_keeps = grind arith

@@ -98,29 +98,29 @@ are_words en of_indices h = record { some = omega arith; few = omega arith; size
 are_words en of_values h = h
 
 pub cells_are : (r : Ring) (c : ℕ) → cells_of (kind_of r) c ≡ c
-cells_are x0 x1 = grind arith
+cells_are = grind arith
 
 module _ (T : Type 0) where
   pub calm : (r : Ring) (position : ℕ) (call : RingCall (Val T (kind_of r)) (Room r))
       → pending_at position (Some (flights.Queues (flight {T = T} r call))) ≡ None
-  calm x0 x1 x2 = grind arith
+  calm = grind arith
 
   pub none_hangs : (r : Ring) (c : ℕ) (k : Core (Val T (kind_of r))) (o : Option (ℕ × ℕ)) → Hangs T (kind_of r) c k o
-  none_hangs x0 x1 x2 x3 = grind arith
+  none_hangs = grind arith
 
   pub hands_out : (r : Ring) → HandsOut {T = T} (kind_of r) (Queues Pop)
-  hands_out x0 = grind arith
+  hands_out = grind arith
 
 module _ {T : Type 0} where
   pub wrote_none : (r : Ring) (c : ℕ) (k : Core (Val T (kind_of r))) (p : ℕ) (call : RingCall (Val T (kind_of r)) (Room r))
       → has_written {T = T} c k p (flight r call) ≡ []
-  wrote_none x0 x1 x2 x3 x4 = grind arith
+  wrote_none = grind arith
 
   pub knows : (r : Ring) (c : ℕ) (k : Core (Val T (kind_of r))) (p : ℕ) (events : List (Event T))
       (since changes backs : ℕ) (call : RingCall (Val T (kind_of r)) (Room r))
       → backs ≡ 0
       → KnowsFlight c k p events since changes backs (flight r call)
-  knows x0 x1 x2 x3 x4 x5 x6 x7 x8 x9 = grind arith
+  knows = grind arith
 
   pub number : (en : Coding T) (r : Ring) (call : RingCall (Val T (kind_of r)) (Room r)) (backs : ℕ)
       → number_of en (flight r call) backs ≡ ring_number (encoded en (kind_of r)) (words_in r) call
@@ -178,7 +178,7 @@ module _ {T : Type 0} where
   -- ---- the events of a push
 
   pub push_roles : (r : Ring) (p : ℕ) (v : Val T (kind_of r)) (o : Option (Answer T)) (ro : Roles) → roles_after p (push r v) o ro ≡ ro
-  push_roles x0 x1 x2 x3 x4 = grind arith
+  push_roles = grind arith
 
   module _ (r : Ring) (c : ℕ) (before : List (Event T)) (p : ℕ) (v : Val T (kind_of r)) (b : Bool) where
     pub push_grants : GrantsRight before (Finished p (Queues (push r v)) (answers.Truth b))
@@ -188,19 +188,19 @@ module _ {T : Type 0} where
     push_tells = grind arith
 
     pub push_producer : (o : Option ℕ) → producer_after {T = T} o (Finished p (Queues (push r v)) (answers.Truth b)) ≡ o
-    push_producer x0 = grind arith
+    push_producer = grind arith
 
     pub push_consumer : (o : Option ℕ) → consumer_after {T = T} o (Finished p (Queues (push r v)) (answers.Truth b)) ≡ o
-    push_consumer x0 = grind arith
+    push_consumer = grind arith
 
   pub false_is_right : (r : Ring) (c : ℕ) (before : List (Event T)) (p : ℕ) (v : Val T (kind_of r))
       → length (waiting before) ≡ c
       → AnswersRight c before (Acted p (Queues (push r v)) (answers.Truth false))
-  false_is_right x0 x1 x2 x3 x4 x5 = grind arith
+  false_is_right = grind arith
 
   pub true_is_right : (r : Ring) (c : ℕ) (before : List (Event T)) (p : ℕ) (v : Val T (kind_of r))
       → AnswersRight c before (Acted p (Queues (push r v)) (answers.Truth true))
-  true_is_right x0 x1 x2 x3 x4 = grind arith
+  true_is_right = grind arith
 
   pub named : (r : Ring) (v : Val T (kind_of r)) → Queues (push {T = T} r v) ≡ push_of (item (kind_of r) v)
   named of_indices v = refl
@@ -209,7 +209,7 @@ module _ {T : Type 0} where
   pub wrote_false : (r : Ring) (c p : ℕ) (v : Val T (kind_of r))
       → Wrote {T = T} (kind_of r) c (push r v) (answers.Truth false)
       (Acted p (Queues (push r v)) (answers.Truth false) ∷ [])
-  wrote_false x0 x1 x2 x3 = grind arith
+  wrote_false = grind arith
 
   pub wrote_true : (r : Ring) (c p : ℕ) (v : Val T (kind_of r))
       → Wrote {T = T} (kind_of r) c (push r v) (answers.Truth true)
@@ -225,7 +225,7 @@ module _ {T : Type 0} where
   -- ---- the events of a pop
 
   pub got_is_right : (r : Ring) (c : ℕ) (before : List (Event T)) (p : ℕ) (v : Val T (kind_of r)) → AnswersRight c before (Acted p (Queues Pop) (got r v))
-  got_is_right x0 x1 x2 x3 x4 = grind arith
+  got_is_right = grind arith
 
   pub wrote_got : (r : Ring) (c p : ℕ) (v : Val T (kind_of r))
       → Wrote {T = T} (kind_of r) c Pop (got r v) (HandedOut p (item (kind_of r) v) ∷ Acted p (Queues Pop) (got r v) ∷ [])

@@ -41,7 +41,7 @@ same_words (x ∷ xs) (y ∷ ys) long each =
 module _ {V : Type 0} (en : Coding V) (law : IsCoding en) where
   room_value : (room : List ℕ) (v : V) → en.size ≤ length room
       → ((i : ℕ) → i < en.size → get_or room i 0 ≡ get_or (en.words_of v) i 0) → value_in en.value_of en.size room ≡ v
-  room_value x0 x1 x2 x3 = grind (arith, length, false, take, same_words, nat_tests)
+  room_value = grind (arith, length, false, take, same_words, nat_tests)
 
 module _ {T : Type 0} (en : Coding T) (r : Ring) (law : IsCoding en) (scene : Scene T (kind_of r))
     (inv : Inv en (kind_of r) scene) (small : scene.core.write < 2 ^ 64)
@@ -139,11 +139,11 @@ module _ {T : Type 0} (en : Coding T) (r : Ring) (law : IsCoding en) (scene : Sc
 
   -- nothing waits
   empty : (c == 0 || k.write == k.read) ≡ true → k.waiting ≡ []
-  empty x0 = grind (arith, length, nil_from_length, or_true, nat_tests)
+  empty = grind (arith, length, nil_from_length, or_true, nat_tests)
 
   -- something waits
   some : (c == 0 || k.write == k.read) ≡ false → 0 < length k.waiting
-  some x0 = grind arith
+  some = grind arith
 
   abbrev loads_cell : ℕ → PopStage
   loads_cell i = pops.LoadsCell k.read (cell_word c size k.read) i

@@ -62,7 +62,7 @@ module _ {T : Type 0} (en : Coding T) (r : Ring) (law : IsCoding en) (scene : Sc
   -- a push leaves the roles as they are
   stays : (ask : Option Ask) (after : After (QueueFlight T) (Answer T)) (effect : Effect T)
       → Leaves en (kind_of r) scene ro [] (push r v) ask false after effect → Does ask after effect
-  stays x0 x1 x2 x3 = grind (arith, push, false, push_roles)
+  stays = grind (arith, push, false, push_roles)
 
   abbrev DoesOf : PushStage → Type 0
   DoesOf stage =
@@ -98,10 +98,10 @@ module _ {T : Type 0} (en : Coding T) (r : Ring) (law : IsCoding en) (scene : Sc
       (goes_on (Some load_of_write) (pushes.LoadsRead k.write) k refl refl refl g refl (refl, fresh) (omega arith) (λ q ne st f h. (h, refl)))
 
   full : (c == 0 || distance k.write k.read == c) ≡ true → length k.waiting ≡ c
-  full x0 = grind arith
+  full = grind arith
 
   room : (c == 0 || distance k.write k.read == c) ≡ false → length k.waiting < c
-  room x0 = grind arith
+  room = grind arith
 
   refused : length k.waiting ≡ c → steps ≤ 1 → Does (Some load_of_read) (Done (answers.Truth false)) Acts
   refused lap s =

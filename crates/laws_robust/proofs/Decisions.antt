@@ -79,7 +79,7 @@ module _ {T : Type 0} (code : Coding T) (c : ℕ) (t : Trace T) (s : frame.Sound
     find_stops x since flight at = grind arith
 
   pub finds_up_to : (turn : Turn T) → refusal_of t.world turn ≡ None → FindsUpTo t turn (after_turn t turn)
-  finds_up_to x0 x1 x2 x3 x4 x5 = grind (arith, decided, false, after_turn, find_stops)
+  finds_up_to = grind (arith, decided, false, after_turn, find_stops)
 
   -- ---- a yes tells a recovery
 
@@ -92,14 +92,14 @@ module _ {T : Type 0} (code : Coding T) (c : ℕ) (t : Trace T) (s : frame.Sound
         → IsTold p t (after_turn t (Decide p true))
 
     stage_hears : (capacity : ℕ) (given : ReleaseMode) (stage : RecoverStage) → Hears (recover_at capacity given stage)
-    stage_hears x0 x1 x2 x3 x4 = grind (arith, raise_asks_none, lock_asks_none)
+    stage_hears = grind (arith, raise_asks_none, lock_asks_none)
 
     recovery_hears : (x : Party T) (since : ℕ) (flight : RobustFlight)
         → At c (all (scene_of Death code c t s p x since)) (starts.Recover mode) flight → Hears flight
-    recovery_hears x0 x1 x2 x3 = grind (arith, stage_hears)
+    recovery_hears = grind (arith, stage_hears)
 
   pub yes_tells : (turn : Turn T) → refusal_of t.world turn ≡ None → YesTells t turn (after_turn t turn)
-  yes_tells x0 x1 x2 x3 x4 x5 = grind (arith, decided, after_turn, recovery_hears)
+  yes_tells = grind (arith, decided, after_turn, recovery_hears)
 
   -- ---- no other turn tells it
 
@@ -117,11 +117,11 @@ module _ {T : Type 0} (code : Coding T) (c : ℕ) (t : Trace T) (s : frame.Sound
 
     step_right : (start : Start T) (flight : Flight T) → (family code c).At s.state q start flight
         → flight_in t.world q ≡ Some flight → ByYes flight → Right (writes q answer own start flight)
-    step_right x0 x1 x2 x3 x4 = grind (arith, joined, effects, effects_hold, asks_owned, want, end_right, after)
+    step_right = grind (arith, joined, effects, effects_hold, asks_owned, want, end_right, after)
 
     flight_right : (x : Party T) (since : ℕ) (flight : Flight T) → party_of q t.world.latest ≡ Some x
         → x.doing ≡ Going flight since → ByYes flight → Right (writes q answer t.world.kept x.start flight)
-    flight_right x0 x1 x2 x3 x4 x5 = grind (arith, stands_there, family, same_kept, step_right)
+    flight_right = grind (arith, stands_there, family, same_kept, step_right)
 
   next_right : (q : ℕ) → is_due t.world.coding (flight_in t.world q) ≡ false → (o : Option (Party T))
       → party_of q t.world.latest ≡ o → AllByRecursion (ToldRight t (Next q)) (events_of_next t.world q o)
@@ -152,7 +152,7 @@ module _ {T : Type 0} (code : Coding T) (c : ℕ) (t : Trace T) (s : frame.Sound
 
   -- no decision is due in a step
   not_due : (q : ℕ) → call_refusal t.world (Next q) ≡ None → is_due t.world.coding (flight_in t.world q) ≡ false
-  not_due x0 x1 = grind (arith, row_passed, is_none)
+  not_due = grind (arith, row_passed, is_none)
 
   all_told : (turn : Turn T) → refusal_of t.world turn ≡ None → AllByRecursion (ToldRight t turn) (events_of t.world turn)
   all_told x0 x1 = grind (arith, next_right, not_due, passes, decision_right)

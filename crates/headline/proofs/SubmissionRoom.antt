@@ -27,9 +27,9 @@ use Rattle.model.specs.Turns.{IsReached, number_of, after_begin, after_answer, a
 use Rattle.model.specs.World.{World, Trace, queue_error, kept_opened, flight_in}
 use Rattle.model.proofs.Parties.{party_put_same}
 use Rattle.model.proofs.Reached.{kept_by_runs}
-use Rattle.laws_turns.proofs.Others as others
-use Rattle.laws_turns.proofs.Queue as submission
-use Rattle.laws_turns.specs.Others.{queue_in}
+use Rattle.laws_machine.proofs.Others as others
+use Rattle.laws_machine.proofs.Queue as submission
+use Rattle.laws_machine.specs.Others.{queue_in}
 use Rattle.headline.proofs.WantsNothing.{HasRoom, HasRoomIn}
 use Rattle.headline.proofs.Holding.{is_it}
 

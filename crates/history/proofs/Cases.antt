@@ -1,0 +1,11 @@
+-- The two cases of a test.
+use Rattle.history.proofs.Names.{◌≡◌, Bool, true, false, refl}
+
+pub by_bool : {A : Type 0} → (b : Bool) → (b ≡ true → A) → (b ≡ false → A) → A
+by_bool true t f = t refl
+by_bool false t f = f refl
+
+-- where the goal speaks of the test
+pub on_bool : (P : Bool → Type 0) (b : Bool) → (b ≡ true → P true) → (b ≡ false → P false) → P b
+on_bool P true t f = t refl
+on_bool P false t f = f refl
