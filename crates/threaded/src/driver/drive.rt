@@ -11,6 +11,16 @@ use std::sync::Wait;
 use steps::ask::{After, Ask, Op, Want};
 use steps::routine::{Ends, Routine};
 
+/// What a call goes on as after a step. If the step ended it, the function returns its end.
+macro_rules! next_or_return {
+    ($after:expr) => {
+        match $after {
+            After::GoOn(next) => next,
+            After::Done(end) => return end,
+        }
+    };
+}
+
 impl<V> Tells<V> for Brand {
     ghost told = { λ _ _ _. Unit {0} };
 }
@@ -177,28 +187,12 @@ impl<V, K, Q: Rule<V, K>> Seated<V, K, Q> {
         ensures end { D.ends given.now (seen self.old) result room.new (seen self.new) }
     {
         // The first steps stand by themselves, so that a compiler sees at each of them the call's stage.
-        let call = match self.once::<Brand, C, D>(call, given, room) {
-            After::GoOn(next) => next,
-            After::Done(end) => return end,
-        };
-        let call = match self.once::<Brand, C, D>(call, given, room) {
-            After::GoOn(next) => next,
-            After::Done(end) => return end,
-        };
-        let call = match self.once::<Brand, C, D>(call, given, room) {
-            After::GoOn(next) => next,
-            After::Done(end) => return end,
-        };
-        let call = match self.once::<Brand, C, D>(call, given, room) {
-            After::GoOn(next) => next,
-            After::Done(end) => return end,
-        };
-        let mut call = call;
+        let call = next_or_return!(self.once::<Brand, C, D>(call, given, room));
+        let call = next_or_return!(self.once::<Brand, C, D>(call, given, room));
+        let call = next_or_return!(self.once::<Brand, C, D>(call, given, room));
+        let mut call = next_or_return!(self.once::<Brand, C, D>(call, given, room));
         loop {
-            match self.once::<Brand, C, D>(call, given, room) {
-                After::GoOn(next) => call = next,
-                After::Done(end) => return end,
-            }
+            call = next_or_return!(self.once::<Brand, C, D>(call, given, room));
         }
     }
 
@@ -220,52 +214,21 @@ impl<V, K, Q: Rule<V, K>> Seated<V, K, Q> {
         ensures end { D.ends given.now (seen self.old) result room.new (seen self.new) }
     {
         // The first steps stand by themselves, as in `drive`.
-        let call = match self.once::<Brand, C, D>(call, given, room) {
-            After::GoOn(next) => next,
-            After::Done(end) => return end,
-        };
-        let call = match self.once::<Brand, C, D>(call, given, room) {
-            After::GoOn(next) => next,
-            After::Done(end) => return end,
-        };
-        let call = match self.once::<Brand, C, D>(call, given, room) {
-            After::GoOn(next) => next,
-            After::Done(end) => return end,
-        };
-        let call = match self.once::<Brand, C, D>(call, given, room) {
-            After::GoOn(next) => next,
-            After::Done(end) => return end,
-        };
-        let call = match self.once::<Brand, C, D>(call, given, room) {
-            After::GoOn(next) => next,
-            After::Done(end) => return end,
-        };
-        let call = match self.once::<Brand, C, D>(call, given, room) {
-            After::GoOn(next) => next,
-            After::Done(end) => return end,
-        };
-        let call = match self.once::<Brand, C, D>(call, given, room) {
-            After::GoOn(next) => next,
-            After::Done(end) => return end,
-        };
-        let call = match self.once::<Brand, C, D>(call, given, room) {
-            After::GoOn(next) => next,
-            After::Done(end) => return end,
-        };
-        let mut call = call;
+        let call = next_or_return!(self.once::<Brand, C, D>(call, given, room));
+        let call = next_or_return!(self.once::<Brand, C, D>(call, given, room));
+        let call = next_or_return!(self.once::<Brand, C, D>(call, given, room));
+        let call = next_or_return!(self.once::<Brand, C, D>(call, given, room));
+        let call = next_or_return!(self.once::<Brand, C, D>(call, given, room));
+        let call = next_or_return!(self.once::<Brand, C, D>(call, given, room));
+        let call = next_or_return!(self.once::<Brand, C, D>(call, given, room));
+        let mut call = next_or_return!(self.once::<Brand, C, D>(call, given, room));
         'steps: for _ in rt.forever() {
-            match self.once::<Brand, C, D>(call, given, room) {
-                After::GoOn(next) => call = next,
-                After::Done(end) => return end,
-            }
+            call = next_or_return!(self.once::<Brand, C, D>(call, given, room));
             'alike: for _ in rt.forever() {
                 if !D::repeats(call) {
                     break;
                 }
-                match self.once::<Brand, C, D>(call, given, room) {
-                    After::GoOn(next) => call = next,
-                    After::Done(end) => return end,
-                }
+                call = next_or_return!(self.once::<Brand, C, D>(call, given, room));
             }
         }
         unreachable!()
