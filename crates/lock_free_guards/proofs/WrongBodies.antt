@@ -4,7 +4,9 @@ use Rattle.std.proofs.Common.{refl, sym, ap, ◌∙◌, arith, length-append, tr
 use Rattle.std.proofs.lemmas.Bool.Decides.{nat_tests}
 use Rattle.std.proofs.lemmas.List.{append_cancel_left, same_from_push}
 use Rattle.steps.specs.Indices.Robust.Release.{Released}
+use Rattle.steps.specs.declared.indices.enums.ReleaseMode.{ReleaseMode}
 use Rattle.steps.specs.declared.indices.enums.ReleaseState.{ReleaseState}
+use Rattle.steps.specs.declared.indices.enums.ReleaseState.TheVariants as states
 use Rattle.steps.specs.declared.indices.enums.RobustUniqueIndexSetReleaseError.{RobustUniqueIndexSetReleaseError}
 use Rattle.steps.specs.declared.indices.enums.UniqueIndexSetAcquireFailure.TheVariants.{IsLocked, OutOfIndices}
 use Rattle.steps.specs.declared.indices.robust.release.GiveBack.{GiveBack}
@@ -12,18 +14,25 @@ use Rattle.model.specs.declared.event.Answer.{Answer}
 use Rattle.model.specs.declared.event.Event.{Event}
 use Rattle.model.specs.declared.event.Event.TheVariants.{Begun, Finished}
 use Rattle.model.specs.declared.event.Start.{Start}
-use Rattle.model.specs.declared.event.Start.TheVariants.{Indices}
+use Rattle.model.specs.declared.event.Start.TheVariants.{Indices, Robust}
 use Rattle.model.specs.declared.families.indices.IndexStart.TheVariants.{Acquire}
+use Rattle.model.specs.declared.families.indices.robust.RobustStart.TheVariants as robust
 use Rattle.model.specs.Families.Indices.Reading.{is_locked}
+use Rattle.model.specs.Families.Indices.Robust.Promises.{HeldThroughout, StillToFree}
+use Rattle.model.specs.Families.Indices.Robust.Reading.{Yes, filled_of, set_acts_of, IsOneOf}
+use Rattle.laws_robust.specs.Gone.{IsHonest}
 use Rattle.history.specs.History.{Called}
 use Rattle.history.specs.Robust.{visit, HasFreed}
 use Rattle.history.specs.declared.view.View.{View}
 use Rattle.lock_free_owners.specs.Robust.Contracts.{HasGiven}
 use Rattle.lock_free_sets.specs.Unique.Contracts as unique
+use Rattle.lock_free_sets.specs.Unique.Held.{one_if, HeldBy}
+use Rattle.lock_free_sets.proofs.Unique.Holding.{times_both, times_one}
 use Rattle.lock_free_guards.specs.Acquired.{HasAcquired, HasFailed}
 use Rattle.lock_free_guards.specs.Held.{HoldsFor, number_freed}
-use Rattle.lock_free_guards.specs.Recovered.{IsToldFor}
-use Rattle.lock_free_guards.specs.Tries.{refused_by, EndsTries, EndsAtLimit}
+use Rattle.lock_free_guards.specs.Recovered.{IsToldFor, HasRecoveredOwner, IsRightOwnerRecovery}
+use Rattle.lock_free_guards.specs.Tries.{refused_by, EndsTries, EndsSometime, EndsWithin, EndsAtLimit}
+use Rattle.lock_free_guards.specs.Unique.{HoldsMore, HoldsTheSame}
 use Rattle.lock_free_guards.proofs.Trying.{unlocked_before}
 
 module _ (p : ℕ) (start : Start ℕ) (one : Answer ℕ) (wrote : List (Event ℕ)) (v w : View ℕ) (c : Called p start one wrote v w) where
@@ -112,6 +121,35 @@ recover_owner_says_yes_of_all owner index other apart told =
     let no : (other == owner) ≡ false = grind (arith, nat_tests) in
     true≢false (told ∙ no)
 
+module _ (owner : ℕ) (mode : ReleaseMode) (state : ReleaseState) (v w : View ℕ) (wrong : HasRecoveredOwner owner mode state v w) where
+  -- it does nothing
+  pub recover_owner_does_nothing : w.made ≡ v.made → ⊥
+  recover_owner_does_nothing none = no_call _ _ _ _ v w wrong.called none
+
+  -- it comes to an index of a set that was seen locked
+  pub recover_owner_goes_on_at_a_lock : is_locked v.seen ≡ true → wrong.visits ≢ [] → ⊥
+  recover_owner_goes_on_at_a_lock shut some = some (wrong.nothing shut)
+
+module _ (owner : ℕ) (mode : ReleaseMode) (v w : View ℕ) where
+  -- it leaves the owner an index that was his through the call
+  pub recover_owner_leaves_one : (index : ℕ) (wrong : IsRightOwnerRecovery owner mode states.Unlocked v w) → IsHonest wrong.before
+      → HeldThroughout wrong.by (StillToFree wrong.by owner index) wrong.before → filled_of index wrong.before ≡ Some owner → ⊥
+  recover_owner_leaves_one index wrong honest his still = wrong.right.1.gone honest index his still
+
+  -- it says no about such an index
+  pub recover_owner_says_no : (index : ℕ) (wrong : IsRightOwnerRecovery owner mode states.Unlocked v w)
+      → HeldThroughout wrong.by (StillToFree wrong.by owner index) wrong.before
+      → (IsOneOf (Yes index owner) (set_acts_of wrong.by wrong.before) → ⊥) → ⊥
+  recover_owner_says_no index wrong his none = none (wrong.right.1.told index his)
+
+  -- it answers that a locked set is not locked
+  pub recover_owner_says_unlocked : (wrong : IsRightOwnerRecovery owner mode states.Unlocked v w) → is_locked wrong.before ≡ true → ⊥
+  recover_owner_says_unlocked wrong shut = true≢false (sym shut ∙ wrong.right.0)
+
+  -- it answers that an open set is locked
+  pub recover_owner_says_locked : (wrong : IsRightOwnerRecovery owner mode states.Locked v w) → is_locked wrong.before ≡ false → ⊥
+  recover_owner_says_locked wrong free = true≢false (sym wrong.right ∙ free)
+
 -- ---- acquires that wait
 
 two_each : (start : Start ℕ) (ps : List ℕ) → length (flat_map (refused_by start) ps) ≡ 2 * length ps
@@ -141,3 +179,56 @@ module _ (u w : View ℕ) where
   pub acquire_waits_at_a_lock : (n : ℕ) → is_locked u.seen ≡ true → EndsTries n (Indices Acquire) (unique.WasRefused OutOfIndices) u w → ⊥
   acquire_waits_at_a_lock n shut wrong =
       true≢false (sym shut ∙ unlocked_before (Indices Acquire) n u wrong.begun wrong.tried (wrong.last.unlocked refl))
+
+-- how much so many tries make, of which the last gets an index
+acquires_long : (owner index n : ℕ) (u w : View ℕ) → EndsTries n (Robust (robust.Acquire owner)) (HasAcquired owner index) u w
+    → length w.made ≡ length u.made + 2 * (n + 2)
+acquires_long owner index n u w h =
+    let last = makes _ _ _ _ h.begun w h.last.taken.called in
+    let two = ap length h.last.taken.tells.1 in
+    let before = ap length h.tried.made in
+    let all = length-append u.made (flat_map (refused_by (Robust (robust.Acquire owner))) h.tried.parties) in
+    let each = two_each (Robust (robust.Acquire owner)) h.tried.parties in
+    let many = h.tried.so_many in
+    omega arith
+
+module _ (owner index : ℕ) (u w : View ℕ) where
+  -- it waits, and calls nothing
+  pub acquire_waits_without_a_call : w.made ≡ u.made → EndsSometime (Robust (robust.Acquire owner)) (HasAcquired owner index) u w → ⊥
+  acquire_waits_without_a_call none wrong =
+      let long = acquires_long owner index wrong.0 u w wrong.1 in
+      let same = ap length none in
+      absurd (omega arith)
+
+  -- it goes on past the limit
+  pub acquire_tries_too_often : (tries number : ℕ) → tries - 1 < number
+      → EndsTries number (Robust (robust.Acquire owner)) (HasAcquired owner index) u w
+      → EndsWithin (Robust (robust.Acquire owner)) (HasAcquired owner index) tries u w → ⊥
+  acquire_tries_too_often tries number late right wrong =
+      let a = acquires_long owner index number u w right in
+      let b = acquires_long owner index wrong.0 u w wrong.2 in
+      let few = wrong.1 in
+      absurd (omega arith)
+
+-- what it takes it does not hold
+pub acquire_holds_no_more : (index : ℕ) (is : List ℕ) (made : List (Event ℕ)) → HeldBy is made → HoldsMore index made made → ⊥
+acquire_holds_no_more index is made held wrong =
+    let was = held index in
+    let now = wrong is held index in
+    let both = times_both index is (index ∷ []) in
+    let one = times_one index index in
+    let it : (index == index) ≡ true = grind (arith, nat_tests) in
+    let counted : one_if index index ≡ 1 = rw it refl in
+    absurd (omega arith)
+
+-- where it finds none it holds one more
+pub acquire_holds_one_it_was_refused : (index : ℕ) (is : List ℕ) (old new : List (Event ℕ)) → HeldBy is old → HeldBy (is ++ index ∷ []) new
+    → HoldsTheSame old new → ⊥
+acquire_holds_one_it_was_refused index is old new held more wrong =
+    let was = wrong is held index in
+    let now = more index in
+    let both = times_both index is (index ∷ []) in
+    let one = times_one index index in
+    let it : (index == index) ≡ true = grind (arith, nat_tests) in
+    let counted : one_if index index ≡ 1 = rw it refl in
+    absurd (omega arith)

@@ -1,2 +1,3 @@
 -- The proofs of the contracts and of the laws.
 pub mod Loan
+pub mod WrongBodies

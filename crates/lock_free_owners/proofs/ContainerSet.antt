@@ -23,3 +23,4 @@ pub mod States
 pub mod Changes
 pub mod UpdateAnswers
 pub mod Steps
+pub mod CallAnswers

@@ -35,7 +35,7 @@ pub use Rattle.history.specs.declared.view.View.{View}
 pub use Rattle.laws_robust.proofs.Counting.{count_later, count_most}
 pub use Rattle.laws_robust.specs.Gone.{IsHonest, Word}
 pub use Rattle.model.proofs.Reached.{turn_making}
-pub use Rattle.model.specs.Coding.{Coding, IsCoding, coding_of, one_word}
+pub use Rattle.model.specs.Coding.{Coding, IsCoding, coding_by, one_word}
 pub use Rattle.model.specs.Families.Container.Calls.{added, looked, removed, replaced, settled_if}
 pub use Rattle.model.specs.Families.Indices.Reading.{is_locked}
 pub use Rattle.model.specs.Families.Indices.Robust.Promises.{HoldsRight, IsCount, IsFilledWith, IsUnlocked}

@@ -7,3 +7,4 @@ pub mod Asking
 pub mod Finding
 pub mod Recoveries
 pub mod Looking
+pub mod CallAnswers

@@ -14,5 +14,6 @@ pub mod RecoverContract
 pub mod Callable
 pub mod Visits
 pub mod Questions
+pub mod Calls
 pub mod Handles
 pub mod Steps

@@ -4,5 +4,6 @@ pub mod Contracts
 pub mod Finding
 pub mod Recovering
 pub mod Turns
+pub mod Calls
 pub mod Handles
 pub mod Steps

@@ -10,7 +10,7 @@ ghost use Rattle.model.specs.Coding.{Coding, one_word};
 ghost use Rattle.model.specs.Families.Container.Promises.{IsWellFormedRun, IsContained};
 ghost use Rattle.model.specs.Reading.{Each};
 ghost use Rattle.laws_container.specs.Open.{IsFaithfulRun};
-ghost use Rattle.laws_turns.specs.Changes.{changes_of, MeetsChanges};
+ghost use Rattle.laws_machine.specs.Changes.{changes_of, MeetsChanges};
 ghost use Rattle.history.specs.declared.view.View.{View};
 ghost use Rattle.history.specs.History.{IsHistory, Knows};
 ghost use Rattle.lock_free_owners.specs.Robust.Contracts.{IsSound};

@@ -1,7 +1,7 @@
 -- The names of the standard library and of the crates below that proofs here use.
 pub use Rattle.atomic_table.specs.Seated.{TableId}
 pub use Rattle.atomic_table.specs.Table.{Allows, Me, opening}
-pub use Rattle.history.proofs.Alone.{Here, begins, ends, maker, same_seat, sums}
+pub use Rattle.history.proofs.Alone.{OneMachine, Here, begins, ends, maker, same_seat, sums}
 pub use Rattle.history.proofs.AnyRoles.{acquire_first_on, len_first_on, release_first_on}
 pub use Rattle.history.proofs.Calls.{get_left, set_left}
 pub use Rattle.history.proofs.Drives.{called}
@@ -36,7 +36,7 @@ pub use Rattle.laws_queues.proofs.Queues.Knows.{Hangs, IsFreshCall, free, layout
 pub use Rattle.laws_queues.proofs.Queues.Values.{Val, encoded, item}
 pub use Rattle.laws_queues.proofs.Ring.Kinds.{Ring, Room, are_words, flight, kind_of, of_indices, of_values, put_in}
 pub use Rattle.laws_queues.proofs.Ring.Kinds.{read_in, with_word, words_in}
-pub use Rattle.model.specs.Coding.{Coding, IsCoding, coding_of, one_word}
+pub use Rattle.model.specs.Coding.{Coding, IsCoding, coding_by, one_word}
 pub use Rattle.model.specs.Families.{after_of, beside_of, first_of, opening_of, want_of}
 pub use Rattle.model.specs.Families.Queues.Calls.{fresh_cell, length_answer, popped, popped_value}
 pub use Rattle.model.specs.Families.Queues.Opening.{cells_of, lacks_role, words_of_cell}

@@ -3,3 +3,4 @@ pub mod Opens
 mod AtOnce
 pub mod Emptying
 pub mod Emptied
+pub mod Passes

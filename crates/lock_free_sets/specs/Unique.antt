@@ -2,4 +2,5 @@
 pub mod Held
 pub mod Pools
 pub mod Contracts
+pub mod Calls
 pub mod Handles

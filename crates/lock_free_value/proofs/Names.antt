@@ -6,7 +6,7 @@ pub use Rattle.history.specs.Value.{HasProducer, IsLast, gives_producer, last_or
 pub use Rattle.history.specs.Views.{Looks, LooksOnce}
 pub use Rattle.history.specs.declared.view.View.{View}
 pub use Rattle.laws_value.specs.Stored.{stored, stores}
-pub use Rattle.model.specs.Coding.{Coding, IsCoding, coding_of}
+pub use Rattle.model.specs.Coding.{Coding, IsCoding, coding_by}
 pub use Rattle.model.specs.Families.Atomic.Roles.{GrantsRight}
 pub use Rattle.model.specs.declared.event.Answer.TheVariants.{Done, Loaded, Truth}
 pub use Rattle.model.specs.declared.event.Event.{Event}

@@ -4,7 +4,7 @@ use Rattle.laws_value.specs.Stored.{stored}
 use Rattle.atomic_table.specs.Seated.{TableId}
 use Rattle.steps.specs.declared.words.Words.{Ghosts}
 use Rattle.model.specs.declared.turn.Kind.TheVariants as kinds
-use Rattle.model.specs.Coding.{Coding, coding_of}
+use Rattle.model.specs.Coding.{Coding, coding_by}
 use Rattle.threaded.specs.Seats.{home_id}
 use Rattle.history.specs.declared.view.View.{View}
 use Rattle.history.specs.History.{IsHistory}
@@ -56,7 +56,7 @@ module _ {T : Type 0} {words : Ghosts T} where
 
   -- how its values are written in words
   abbrev pub code_of : Held T (ValueRule T) words → Coding T
-  code_of t = coding_of words.WORDS words.words_of words.value_of
+  code_of t = coding_by words
 
   -- what each call leaves of a seat: it is of the same value
   pub record IsSame (old new : Held T (ValueRule T) words) : Type 0 where

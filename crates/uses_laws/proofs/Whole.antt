@@ -1,18 +1,22 @@
 -- Two adds leave a history to which alone was added, and that keeps to all that whole copies ask.
 use Rattle.std.proofs.Common.{◌≡◌, ⊎_elim, ℕ, ◌+◌, ◌*◌, ◌≤◌, Bool, true, false, None, Ok, Err, List, [], ◌∷◌, ◌++◌}
-use Rattle.std.proofs.Common.{sum_by, refl, sym, subst, arith}
+use Rattle.std.proofs.Common.{Result, IfOk, IfErr, sum_by, refl, sym, subst, arith}
 use Rattle.steps.specs.Container.Add.{Added}
 use Rattle.steps.specs.declared.container.add.Owned.{Owned}
+use Rattle.steps.specs.declared.container.enums.ContainerAddFailure.{ContainerAddFailure}
 use Rattle.steps.specs.declared.container.enums.ContainerAddFailure.TheVariants as failures
+use Rattle.steps.specs.declared.container.handle.ContainerHandle.{ContainerHandle}
 use Rattle.model.specs.declared.event.Start.{Start}
 use Rattle.model.specs.declared.event.Start.TheVariants.{Container}
 use Rattle.model.specs.declared.families.container.ContainerStart.TheVariants.{Add}
 use Rattle.model.specs.declared.turn.Kind.TheVariants as kinds
 use Rattle.model.specs.Families.Container.Calls.{added}
 use Rattle.history.specs.Container as container
+use Rattle.lock_free_owners.specs.declared.mpmc.container.Container as containers
 use Rattle.lock_free.specs.Container.Resting.{SettledFrom, Settles}
 use Rattle.lock_free.specs.Coding.{Coding}
-use Rattle.lock_free.specs.Container.Contracts.{HasAdded}
+use Rattle.lock_free.specs.Container.Calls.{AddDone, AddRefused}
+use Rattle.lock_free.specs.Container.Contracts.{HasAdded, placed}
 use Rattle.lock_free.specs.Event.{Event}
 use Rattle.lock_free.specs.Event.TheVariants.{Begun, Filled, Hidden, Placed, Finished}
 use Rattle.lock_free.specs.History.{IsHistory}
@@ -29,6 +33,12 @@ pub record Laws : Type 0 where
   pub faithful : (events : List (Event ℕ)) → recoveries events ≡ 0 → IsFaithful events
   pub well_formed : (events : List (Event ℕ)) → removals events ≡ 0 → IsWellFormed events
   pub apart : (events : List (Event ℕ)) → lock_calls events ≡ 0 → LocksApart events
+
+-- an add is a call of the history, whatever it answers
+pub has_added : {T : Type 0} (s : containers.Container T) (given : Owned T) (old new : View T) (r : Result ContainerHandle ContainerAddFailure)
+    → IfOk r (λ key. AddDone s given key old new) → IfErr r (λ failure. AddRefused given failure old new) → HasAdded given (placed r) old new
+has_added s given old new (Ok key) done refused = done.added
+has_added s given old new (Err failure) done refused = refused.added
 
 -- what an add writes
 record IsAdd (es : List (Event ℕ)) : Type 0 where

@@ -14,6 +14,7 @@ pub mod containers;
 pub mod histories;
 pub mod owners;
 pub mod queues;
+pub mod sets;
 pub mod shares;
 pub mod values;
 

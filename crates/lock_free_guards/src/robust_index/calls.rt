@@ -1,12 +1,12 @@
 //! How an index is acquired for an owner, and given back.
-ghost use Rattle.std.specs.Prelude.{◌≡◌, ◌+◌, ◌<◌, true, IfOk, IfErr, OnOk, IsErrAnd};
+ghost use Rattle.std.specs.Prelude.{◌≡◌, ◌+◌, ◌<◌, true, IfOk, IfErr, IsErrAnd};
 ghost use Rattle.steps.specs.declared.indices.enums.UniqueIndexSetAcquireFailure.TheVariants.{IsLocked as Locked};
 ghost use Rattle.model.specs.Coding.{one_word};
 ghost use Rattle.model.specs.Families.Indices.Reading.{is_locked};
 ghost use Rattle.model.specs.declared.turn.Kind.TheVariants as kinds;
 ghost use Rattle.history.specs.History.{Knows};
 ghost use Rattle.history.specs.Steps.{TakesAlone};
-ghost use Rattle.lock_free_owners.specs.Robust.Contracts.{HasGiven, HasReleased, IsRightRelease, WasFreed};
+ghost use Rattle.lock_free_owners.specs.Robust.Calls.{ReleaseDone, ReleaseRefused};
 ghost use Rattle.lock_free_owners.specs.Robust.Steps.{ReleaseTakes};
 ghost use Rattle.lock_free_owners.specs.RobustUniqueIndexSet.{capacity_of, history, made, set_id, view, HasHistory, IsPassOf, SamePass};
 ghost use Rattle.lock_free_guards.specs.Acquired.{HasAcquired, HasFailed};
@@ -96,13 +96,10 @@ impl<'a, R: Wait> RobustIndex<'a, R> {
         mode: ReleaseMode,
     ) -> (Result<ReleaseState, RobustUniqueIndexSetReleaseError>, Pass)
         ensures same { SamePass (index_pass self.entry) result.1 }
-        ensures given { HasGiven (record { index = value_of self.entry; owner = owner_of self.entry; mode = mode }) result.0
-            (index_view self.entry) (view result.1) }
-        ensures freed { OnOk result.0 (WasFreed (value_of self.entry) (owner_of self.entry)
+        ensures released { IfOk result.0 (λ state. ReleaseDone (value_of self.entry) (owner_of self.entry) mode state
             (index_view self.entry) (view result.1)) }
-        ensures answered { IsRightRelease (value_of self.entry) (owner_of self.entry) mode result.0
-            (index_view self.entry) (view result.1) }
-        ensures released { IfOk result.0 (λ s. HasReleased s mode (index_view self.entry) (view result.1)) }
+        ensures refused { IfErr result.0 (λ failure. ReleaseRefused (value_of self.entry) (owner_of self.entry) mode failure
+            (index_view self.entry) (view result.1)) }
         ensures steps { ReleaseTakes (index_set self.entry).capacity mode (index_view self.entry) (view result.1) }
     {
         let RobustIndex {

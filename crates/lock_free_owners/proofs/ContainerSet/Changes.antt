@@ -9,8 +9,8 @@ use Rattle.laws_robust.specs.Open.{IsReachedOpen, open_refusal}
 use Rattle.laws_container.proofs.Allowed.{allowed_open}
 use Rattle.laws_container.proofs.OpenRuns.{reached_open_sound}
 use Rattle.laws_container.proofs.Terms.{Terms}
-use Rattle.laws_turns.specs.Changes.{change_in, changes_of, CountsChanges}
-use Rattle.laws_turns.proofs.Counting as counting
+use Rattle.laws_machine.specs.Changes.{change_in, changes_of, CountsChanges}
+use Rattle.laws_machine.proofs.Counting as counting
 
 -- owners are gone by a recovery's word, and what a run keeps to is not asked
 abbrev pub by_word : Terms

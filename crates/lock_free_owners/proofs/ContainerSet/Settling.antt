@@ -1,15 +1,14 @@
 -- A load with which a call that rests ends, or that leaves what is known, as a seat owes it.
 use Rattle.lock_free_owners.proofs.Names.{◌≡◌, ◌⊎◌, inl, inr, ℕ, ◌<◌, None, [], refl, ap, subst, ◌∙◌, slice_index}
 use Rattle.lock_free_owners.proofs.Names.{set, Coding, View, OwesAsk, IsMachine, IsResting, SettledFrom}
-use Rattle.lock_free_owners.proofs.Names.{container_effects, container_words, containers_owe}
 use Rattle.std.proofs.Common.{set-set}
 use Rattle.atomic_table.specs.Table as table
 use Rattle.atomic_table.proofs.Lists.{set_here}
 use Rattle.steps.specs.declared.ask.Op.TheVariants.{Load}
 use Rattle.model.specs.declared.turn.Kind.TheVariants as kinds
-use Rattle.history.proofs.ContainerRests.{never_late, ends_quiet}
+use Rattle.history.proofs.ContainerRests.{container_hears}
 use Rattle.history.proofs.Known.{within}
-use Rattle.history.proofs.Settling.{view_settled, table_settled, machine_settled, settles}
+use Rattle.history.proofs.Settling.{Rests, view_settled, table_settled, machine_settled, settles}
 use Rattle.lock_free_owners.specs.Container.Bare.{IsCounted}
 use Rattle.lock_free_owners.specs.Container.Idle.{IsIdle}
 use Rattle.lock_free_owners.specs.Container.Settling.{HasSettled}
@@ -33,15 +32,11 @@ module _ {T : Type 0} (code : Coding T) where
   settles_by key words slots id word v below known (inr h) = (
     below,
     λ s r long at small. (
-        let vh : View T =
-        view_settled code kinds.Container tt container_effects (container_words code) (containers_owe code) (never_late code) (ends_quiet code)
-        s v key id r at known h in
+        let rests : Rests (container_hears code) v key id = record { s = s; r = r; at = at; known = known; h = h } in
+        let vh : View T = view_settled (container_hears code) rests in
         let x =
         leaves code key slots id vh word (λ n. n) (λ k. refl) (λ u n w. IsCounted u w) (λ k. counted_one vh)
-        (table_settled code kinds.Container tt container_effects (container_words code) (containers_owe code) (never_late code) (ends_quiet code)
-        s v key id r at known h)
-        (machine_settled code kinds.Container tt container_effects (container_words code) (containers_owe code) (never_late code) (ends_quiet code)
-        s v key id r at known h)
+        (table_settled (container_hears code) rests) (machine_settled (container_hears code) rests)
         long (set_here s.views id vh (within s.views id v at)) small in (
           x.0,
           x.1,
@@ -56,9 +51,7 @@ module _ {T : Type 0} (code : Coding T) where
           (
             record {
               from = vh;
-              settled =
-                  inr (settles code kinds.Container tt container_effects (container_words code) (containers_owe code) (never_late code) (ends_quiet code)
-                  s v key id r at known h);
+              settled = inr (settles (container_hears code) rests);
               counted = x.4.0;
             },
             x.4.1,

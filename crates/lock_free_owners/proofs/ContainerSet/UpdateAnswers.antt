@@ -9,10 +9,10 @@ use Rattle.laws_robust.proofs.OpenRuns.{reached_open_more}
 use Rattle.model.proofs.Reached.{kept_by}
 use Rattle.laws_robust.specs.Open.{IsReachedOpen, open_refusal}
 use Rattle.laws_container.proofs.OpenRuns.{reached_open_sound}
-use Rattle.laws_turns.specs.Changes.{changes_of, CountsChanges, MeetsChanges}
-use Rattle.laws_turns.proofs.UpdateAnswers.{turn_kept, first_known}
-use Rattle.laws_turns.proofs.SeenTurns.{Extra}
-use Rattle.laws_turns.proofs.Taken.{taken_open}
+use Rattle.laws_machine.specs.Changes.{changes_of, CountsChanges, MeetsChanges}
+use Rattle.laws_machine.proofs.UpdateAnswers.{turn_kept, first_known}
+use Rattle.laws_machine.proofs.SeenTurns.{Extra}
+use Rattle.laws_machine.proofs.Taken.{taken_open}
 use Rattle.lock_free_owners.specs.Container.Contracts.{HasMet}
 use Rattle.lock_free_owners.proofs.ContainerSet.Began.{AnsweredBy}
 use Rattle.lock_free_owners.proofs.ContainerSet.Changes.{by_word, Few, fewer, counts_after, counts_first}

@@ -37,7 +37,7 @@ use Rattle.model.specs.Reading.{Each}
 use Rattle.model.specs.World.{Trace}
 use Rattle.laws_robust.specs.Gone.{Word, IsHonest}
 use Rattle.laws_container.specs.Gone.{AsksBy, RecoversBy, AnswersBy, HasRecoveredBy, FilledSinceEachBy}
-use Rattle.laws_turns.specs.Changes.{changes_of, MeetsChanges}
+use Rattle.laws_machine.specs.Changes.{changes_of, MeetsChanges}
 use Rattle.history.specs.declared.view.View.{View}
 use Rattle.history.specs.Container as container
 use Rattle.history.specs.ContainerFind.{HasCopied}

@@ -8,7 +8,7 @@ use Rattle.steps.specs.declared.container.handle.ContainerHandle.{ContainerHandl
 use Rattle.steps.specs.declared.container.state.ContainerState.{ContainerState}
 use Rattle.model.specs.declared.event.Event.{Event}
 use Rattle.model.specs.declared.turn.Kind.TheVariants as kinds
-use Rattle.model.specs.Coding.{Coding, coding_of}
+use Rattle.model.specs.Coding.{Coding, coding_by}
 use Rattle.threaded.specs.Seats.{home_id}
 use Rattle.threaded.specs.Sets.{SetId}
 use Rattle.threaded.specs.declared.share.Share.{Share}
@@ -61,7 +61,7 @@ module _ {T : Type 0} where
 module _ {T : Type 0} {words : Ghosts T} where
   -- how the values of a pass's container are written in words
   abbrev pub code_of : Pass T words → Coding T
-  code_of p = coding_of words.WORDS words.words_of words.value_of
+  code_of p = coding_by words
 
   -- all that a pass knows
   abbrev pub view : Pass T words → View T

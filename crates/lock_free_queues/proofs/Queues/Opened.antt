@@ -71,15 +71,18 @@ module _ {T : Type 0} (code : Coding T) (law : IsCoding code) (r : Ring) (v : Va
   owes : MachineLaws code kind capacity (4 + size * capacity) effects
   owes = machine_laws code kind capacity (4 + size * capacity) (queue_effects code) (ring_owes code capacity r)
 
+  abbrev machine : alone.OneMachine T
+  machine = record { code = code; kind = kind; capacity = capacity; size = 4 + size * capacity; effects = effects; laws = owes }
+
   abbrev Here : List ℕ → List (Turn T) → List (Event T) → Option (Start T × Flight T) → Type 0
-  Here = alone.Here code kind capacity (4 + size * capacity) effects owes
+  Here = alone.Here machine
 
   abbrev maker : List (Turn T) → List (Event T) → View T
-  maker = alone.maker code kind capacity (4 + size * capacity) effects owes
+  maker = alone.maker machine
 
   sums : (words : List ℕ) (ts : List (Turn T)) (es : List (Event T)) → (h : Here words ts es None)
       → (f : Event T → ℕ) → sum_by f es ≡ sum_by (owned same_seat 0 f) h.u.events
-  sums words ts es h = alone.sums code kind capacity (4 + size * capacity) effects owes words ts es None h
+  sums words ts es h = alone.sums machine words ts es None h
 
   -- the positions and the roles, and the cells
   abbrev words_at : ℕ → ℕ → ℕ → ℕ → List ℕ → List ℕ
@@ -88,7 +91,7 @@ module _ {T : Type 0} (code : Coding T) (law : IsCoding code) (r : Ring) (v : Va
   starts : Here (words_at 0 0 1 1 (replicate (size * capacity) 0)) [] [] None
   starts =
       subst (λ zs. Here (zs ++ 0 ∷ []) [] [] None) (opens_with code capacity r)
-      (alone.opens_here code kind capacity (4 + size * capacity) effects owes law (admits code capacity r small))
+      (alone.opens_here machine law (admits code capacity r small))
 
   -- the calls as those of a pass
   abbrev push_call : Calling T (push_calls.Push (Val T (kind_of r))) (Unit {0}) (Unit {0})
@@ -126,7 +129,7 @@ module _ {T : Type 0} (code : Coding T) (law : IsCoding code) (r : Ring) (v : Va
       → slice_set words a.word (written a.op (slice_index words a.word)) ≡ words'
       → GoesOn code capacity flight next (slice_index words a.word) → Here words' (ts ++ Next 0 ∷ []) es (Some (start, next))
   step words ts es start flight next a h low asks finds words' same goes =
-      alone.goes_on code kind capacity (4 + size * capacity) effects owes words ts es start flight h a low asks finds
+      alone.goes_on machine words ts es start flight h a low asks finds
       words' next same goes.comes goes.quiet
 
   module _ (room : 0 < capacity) (n : ℕ) (below_end : n < 2 ^ 64 - 1) (ts : List (Turn T)) (es : List (Event T)) where
@@ -198,7 +201,7 @@ module _ {T : Type 0} (code : Coding T) (law : IsCoding code) (r : Ring) (v : Va
           let ts2 = ts1 ++ Next 0 ∷ [] in
           let ts3 = ts2 ++ Next 0 ∷ [] in
           let a =
-          alone.begins code kind capacity (4 + size * capacity) effects owes push_call (first_push capacity) tt
+          alone.begins machine push_call (first_push capacity) tt
           (now 0) ts es h
           (role_starts code (kind_of r) (maker ts es) push_call (push_of it) (first_push capacity) tt refl
           (λ kept. push_named code capacity r v kept) Producer (λ o p. tt)
@@ -218,7 +221,7 @@ module _ {T : Type 0} (code : Coding T) (law : IsCoding code) (r : Ring) (v : Va
           (push_loads_read code capacity r v n none (not_full n capacity (omega arith) room)) in
           let d = fills ts3 xs (size - 1) 0 (let one = some in omega arith) c in
           let e =
-          alone.ends code kind capacity (4 + size * capacity) effects owes (now size) (then_next ts3 (suc (size - 1))) xs name
+          alone.ends machine (now size) (then_next ts3 (suc (size - 1))) xs name
           (pushing r v capacity (pushes.StoresWrite n)) d
           (record { word = 0; op = Store (after_position n) }) (omega arith)
           (push_wants code capacity r v (pushes.StoresWrite n))
@@ -321,7 +324,7 @@ module _ {T : Type 0} (code : Coding T) (law : IsCoding code) (r : Ring) (v : Va
           let ts2 = ts1 ++ Next 0 ∷ [] in
           let ts3 = ts2 ++ Next 0 ∷ [] in
           let a =
-          alone.begins code kind capacity (4 + size * capacity) effects owes pop_call (first_pop capacity) (fresh r)
+          alone.begins machine pop_call (first_pop capacity) (fresh r)
           then ts es h
           (role_starts code (kind_of r) (maker ts es) pop_call Pop (first_pop capacity) (fresh r) refl
           (λ kept. pop_named code capacity r kept) Consumer (λ o p. tt) (λ roles p is. holds_it roles.consumer p is)
@@ -340,7 +343,7 @@ module _ {T : Type 0} (code : Coding T) (law : IsCoding code) (r : Ring) (v : Va
           (pop_loads_write code capacity r n (n + 1) (room_at 0) none (one_apart n)) in
           let d = loads ts3 xs (size - 1) 0 (let one = some in omega arith) c in
           let e =
-          alone.ends code kind capacity (4 + size * capacity) effects owes then (then_next ts3 (suc (size - 1))) xs (Queues Pop) last_of d
+          alone.ends machine then (then_next ts3 (suc (size - 1))) xs (Queues Pop) last_of d
           (record { word = 1; op = Store (after_position n) }) (omega arith)
           (pop_wants code capacity r (pops.StoresRead n) (room_at size))
           (pop_fresh code capacity r n (pops.StoresRead n) (room_at size))
@@ -460,14 +463,14 @@ module _ {T : Type 0} (code : Coding T) (law : IsCoding code) (r : Ring) (v : Va
   queue_opens position low words same =
       let p = position_at capacity position in
       subst (λ ys. IsMachine code kind capacity (opening ys [] (opened_view size it capacity position))) (sym same)
-      (alone.opens_so code kind capacity (4 + size * capacity) effects owes (words_at p p 1 1 (cells_at position))
+      (alone.opens_so machine (words_at p p 1 1 (cells_at position))
       (opened_turns size it p) (opened (Truth true) it p) (rests position low))
 
   -- and its first pass knows the run that led there
   pub queue_knows : (position : ℕ) → position < 2 ^ 64 → Knows code kind capacity (opened_view size it capacity position)
   queue_knows position low =
       let p = position_at capacity position in
-      alone.knows_so code kind capacity (4 + size * capacity) effects owes (words_at p p 1 1 (cells_at position))
+      alone.knows_so machine (words_at p p 1 1 (cells_at position))
       (opened_turns size it p) (opened (Truth true) it p) (rests position low)
 
 -- at position 0 nothing was done

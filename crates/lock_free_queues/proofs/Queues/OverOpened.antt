@@ -114,15 +114,18 @@ module _ {T : Type 0} (code : Coding T) (law : IsCoding code) (capacity : ℕ) (
   abbrev size : ℕ
   size = 4 + (capacity + 1)
 
+  abbrev machine : alone.OneMachine T
+  machine = record { code = code; kind = kinds.Overflow; capacity = capacity; size = size; effects = over_effects; laws = overflow_owes code capacity }
+
   abbrev Here : List ℕ → List (Turn T) → List (Event T) → Option (Start T × Flight T) → Type 0
-  Here = alone.Here code kinds.Overflow capacity size over_effects (overflow_owes code capacity)
+  Here = alone.Here machine
 
   abbrev maker : List (Turn T) → List (Event T) → View T
-  maker = alone.maker code kinds.Overflow capacity size over_effects (overflow_owes code capacity)
+  maker = alone.maker machine
 
   sums : (words : List ℕ) (ts : List (Turn T)) (es : List (Event T)) → (h : Here words ts es None)
       → (f : Event T → ℕ) → sum_by f es ≡ sum_by (owned same_seat 0 f) h.u.events
-  sums words ts es h = alone.sums code kinds.Overflow capacity size over_effects (overflow_owes code capacity) words ts es None h
+  sums words ts es h = alone.sums machine words ts es None h
 
   -- the positions and the roles, and cells with zeros
   abbrev at : ℕ → ℕ → ℕ → ℕ → List ℕ
@@ -138,7 +141,7 @@ module _ {T : Type 0} (code : Coding T) (law : IsCoding code) (capacity : ℕ) (
   starts =
       let many : 1 * (capacity + 1) ≡ capacity + 1 = omega arith in
       subst (λ n. Here (0 ∷ 0 ∷ 1 ∷ 1 ∷ (replicate n 0 ++ 0 ∷ [])) [] [] None) many
-      (alone.opens_here code kinds.Overflow capacity size over_effects (overflow_owes code capacity) law (rw (most, least) refl))
+      (alone.opens_here machine law (rw (most, least) refl))
 
   quiet_roles : QuietRoles {T = T} over_effects
   quiet_roles x0 = grind arith
@@ -153,7 +156,7 @@ module _ {T : Type 0} (code : Coding T) (law : IsCoding code) (capacity : ℕ) (
       → ((w : World T) → over_effects w 0 flight (slice_index words a.word) ≡ [])
       → Here words' (ts ++ Next 0 ∷ []) es (Some (start, next))
   step words ts es start flight next a h low asks finds words' same comes quiet =
-      alone.goes_on code kinds.Overflow capacity size over_effects (overflow_owes code capacity) words ts es start flight h
+      alone.goes_on machine words ts es start flight h
       a low asks finds words' next same comes (quiet h.u.world)
 
   module _ (room : 0 < capacity) (n : ℕ) (below_end : n < 2 ^ 64 - 1) (ts : List (Turn T)) (es : List (Event T)) where
@@ -196,7 +199,7 @@ module _ {T : Type 0} (code : Coding T) (law : IsCoding code) (capacity : ℕ) (
         let last = not_last n below_end in
         let apart = not_full n capacity (omega arith) room in
         let a₀ =
-        alone.begins code kinds.Overflow capacity size over_effects (overflow_owes code capacity) (pushes_over 0)
+        alone.begins machine (pushes_over 0)
         (first_push capacity) (record { 0 = 0 }) (at n n 0 0) ts es h
         (role_starts code Overflow (maker ts es) (pushes_over 0) (PushIndex 0) (first_push capacity) (record { 0 = 0 })
         refl (λ kept. refl) Producer (λ o p. tt) (λ roles p is. holds_it roles.producer p is) has h.u same_seat 0
@@ -216,7 +219,7 @@ module _ {T : Type 0} (code : Coding T) (law : IsCoding code) (capacity : ℕ) (
         (pushing capacity (pushes.StoresWrite n n)) (record { word = cell; op = Store 0 }) c cell_low
         refl tt (at n n 0 0) (zero_stays n n) refl (λ w. refl) in
         let e =
-        alone.ends code kinds.Overflow capacity size over_effects (overflow_owes code capacity) (at n n 0 0) ts4 xs
+        alone.ends machine (at n n 0 0) ts4 xs
         push_name (pushing capacity (pushes.StoresWrite n n)) d
         (record { word = 0; op = Store (after_position n) }) (omega arith) refl tt (at (n + 1) n 0 0)
         answers.PoppedNone (Published 0 it ∷ Acted 0 push_name answers.PoppedNone ∷ [])
@@ -270,7 +273,7 @@ module _ {T : Type 0} (code : Coding T) (law : IsCoding code) (capacity : ℕ) (
         let apart = one_apart n in
         let equal = same_number n in
         let a₀ =
-        alone.begins code kinds.Overflow capacity size over_effects (overflow_owes code capacity) pops_over
+        alone.begins machine pops_over
         (first_pop capacity) (record { 0 = 0 }) then ts es h
         (role_starts code Overflow (maker ts es) pops_over Pop (first_pop capacity) (record { 0 = 0 }) refl
         (λ kept. refl) Consumer (λ o p. tt) (λ roles p is. holds_it roles.consumer p is) role h.u same_seat 0
@@ -301,7 +304,7 @@ module _ {T : Type 0} (code : Coding T) (law : IsCoding code) (capacity : ℕ) (
               (record { call = at_pop (first_pop capacity) (pops.MovesRead n); given = tt; room = record { 0 = u } }))),
         ))) (zero_there (n + 1) n) d₀ in
         let e =
-        alone.ends code kinds.Overflow capacity size over_effects (overflow_owes code capacity) then ts4 xs pop_name
+        alone.ends machine then ts4 xs pop_name
         (popping capacity (pops.MovesRead n)) d
         (record { word = 1; op = Exchange n (after_position n) }) (omega arith) refl tt (at (n + 1) (n + 1) 0 0)
         (answers.PoppedIndex 0) (HandedOut 0 it ∷ Acted 0 pop_name (answers.PoppedIndex 0) ∷ [])
@@ -365,12 +368,12 @@ module _ {T : Type 0} (code : Coding T) (law : IsCoding code) (capacity : ℕ) (
   over_opens position low words same =
       let p = position_at capacity position in
       subst (λ ys. IsMachine code kinds.Overflow capacity (opening ys [] (over_opened_view capacity position))) (sym same)
-      (alone.opens_so code kinds.Overflow capacity size over_effects (overflow_owes code capacity) (at p p 1 1)
+      (alone.opens_so machine (at p p 1 1)
       (opened_turns 1 it p) (opened answers.PoppedNone it p) (rests position low))
 
   -- and its first pass knows the run that led there
   pub over_knows : (position : ℕ) → position < 2 ^ 64 → Knows code kinds.Overflow capacity (over_opened_view capacity position)
   over_knows position low =
       let p = position_at capacity position in
-      alone.knows_so code kinds.Overflow capacity size over_effects (overflow_owes code capacity) (at p p 1 1)
+      alone.knows_so machine (at p p 1 1)
       (opened_turns 1 it p) (opened answers.PoppedNone it p) (rests position low)

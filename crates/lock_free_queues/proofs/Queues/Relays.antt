@@ -1,7 +1,7 @@
 -- For clients that pass values from one thread to another: each call of a guard, and what the two threads come to.
 use Rattle.lock_free_queues.proofs.Names.{◌≡◌, inl, inr, ℕ, ◌+◌, ◌<◌, ◌≤◌, Bool, true, false, Option, Some, None}
 use Rattle.lock_free_queues.proofs.Names.{List, [], ◌∷◌, ◌++◌, length, map, get_or, take, refl, sym, ap, subst, ◌∙◌, arith}
-use Rattle.lock_free_queues.proofs.Names.{append-nil, append_assoc, Role, Item, QueueKind, Coding, coding_of, machine_kind}
+use Rattle.lock_free_queues.proofs.Names.{append-nil, append_assoc, Role, Item, QueueKind, Coding, coding_by, machine_kind}
 use Rattle.lock_free_queues.proofs.Names.{published, handed_out, Goes, IsHistory, MissesNothing, first_view, IfSome, IfNone}
 use Rattle.std.proofs.Common.{length-append}
 use Rattle.std.proofs.lemmas.List.{take_all, take_more}
@@ -224,15 +224,15 @@ module _ {E T V : Type 0} {kind : kinds.Ghosts E} {words : Ghosts T} {named : V 
       {sent received : List V} (answer : Option V) {emptied : Bool} {role : Role} (n : ℕ) → TellsApart named → IsBounded kind.KIND
       → view first ≡ first_view n → HasSplit (view first) (view left) (view right) → Sent named left sent mine → Received named right received theirs
       → HasJoined (view mine) (view theirs) (view joined) → MissesNothing (view joined)
-      → HasHistory (coding_of words.WORDS words.words_of words.value_of) kind.KIND capacity (view joined) → capacity ≡ n
+      → HasHistory (coding_by words) kind.KIND capacity (view joined) → capacity ≡ n
       → ToConsumer joined taking → HasAcquired role true (view joined) (consumer_view taking) → SameConsumer taking last
-      → HasHistory (coding_of words.WORDS words.words_of words.value_of) kind.KIND (consumer_queue last).capacity (consumer_view last)
+      → HasHistory (coding_by words) kind.KIND (consumer_queue last).capacity (consumer_view last)
       → IfSome answer (λ x. PopDone (named x) (consumer_view taking) (consumer_view last))
       → IfNone answer (PopEmpty (consumer_view taking) (consumer_view last)) → is_some answer ≡ not emptied
       → IsRelayed n sent received emptied
   relayed first left right mine theirs joined taking last {capacity} {sent} {received} answer {emptied} {role}
       n tells bounded opens cut s r h none history sized to acquired same now popped empty is =
-      let code : Coding T = coding_of words.WORDS words.words_of words.value_of in
+      let code : Coding T = coding_by words in
       views_relayed named code kind.KIND n (consumer_queue last).capacity role (view first) (view left) (view right) (view mine) (view theirs) (view joined)
       (consumer_view taking) (consumer_view last) sent received answer emptied tells bounded opens cut s.sent r.received h none
       (subst (λ m. HasHistory code kind.KIND m (view joined)) sized history) to.goes acquired same.goes now

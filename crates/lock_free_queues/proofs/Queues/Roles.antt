@@ -5,7 +5,7 @@ use Rattle.lock_free_queues.proofs.Names.{slice_set, refl, ap, subst, ◌∙◌,
 use Rattle.lock_free_queues.proofs.Names.{Exchange, Role, Producer, Consumer, Truth, Event, Begun, Finished, Queues}
 use Rattle.lock_free_queues.proofs.Names.{Flight, QueueKind, Coding, World, machine_kind, takes_role, gives_role}
 use Rattle.lock_free_queues.proofs.Names.{HasRole, role_word, acquire_start, release_start, same_seat, Here, maker}
-use Rattle.lock_free_queues.proofs.Names.{sums, begins, ends, plain_starts, role_starts, MachineLaws}
+use Rattle.lock_free_queues.proofs.Names.{sums, begins, ends, plain_starts, role_starts, MachineLaws, OneMachine}
 use Rattle.steps.specs.declared.ask.After.TheVariants.{Done}
 use Rattle.model.specs.declared.event.Answer.TheVariants as answers
 use Rattle.model.specs.declared.turn.Turn.{Turn}
@@ -26,8 +26,11 @@ module _ {T : Type 0} (code : Coding T) (kd : QueueKind) (capacity size : ℕ)
     (effects : World T → ℕ → Flight T → ℕ → List (Event T))
     (laws : MachineLaws code (machine_kind kd) capacity size effects) (wide : 4 ≤ size)
     (quiet : QuietRoles effects) where
+  abbrev machine : OneMachine T
+  machine = record { code = code; kind = machine_kind kd; capacity = capacity; size = size; effects = effects; laws = laws }
+
   abbrev Now : List ℕ → List (Turn T) → List (Event T) → Type 0
-  Now words ts es = Here code (machine_kind kd) capacity size effects laws words ts es None
+  Now words ts es = Here machine words ts es None
 
   role_low : (role : Role) → role_word role < size
   role_low Producer = omega arith
@@ -45,14 +48,14 @@ module _ {T : Type 0} (code : Coding T) (kd : QueueKind) (capacity size : ℕ)
     role_taken free same =
         let start = Queues (acquire_start role) in
         let xs = es ++ Begun 0 start ∷ [] in
-        let a = begins code (machine_kind kd) capacity size effects laws (takes_role role) (record { word = role_word role }) tt words ts es h
-        (plain_starts code kd (maker code (machine_kind kd) capacity size effects laws ts es) (takes_role role)
+        let a = begins machine (takes_role role) (record { word = role_word role }) tt words ts es h
+        (plain_starts code kd (maker machine ts es) (takes_role role)
         (acquire_start role) (record { word = role_word role }) tt refl
         (λ kept. acquire_named code capacity kd role kept) (λ o p is. is)
         (λ roles p. acquire_lacks code capacity role roles p) h.u same_seat 0 h.between.run refl refl
-        (sums code (machine_kind kd) capacity size effects laws words ts es None h)) in
+        (sums machine words ts es None h)) in
         let b =
-        ends code (machine_kind kd) capacity size effects laws words (ts ++ Begin 0 start ∷ []) xs start
+        ends machine words (ts ++ Begin 0 start ∷ []) xs start
         ((takes_role role).flight (record { word = role_word role }) tt) a
         (record { word = role_word role; op = Exchange 1 0 }) (role_low role) refl tt words' (Truth true) []
         (ap (λ k. slice_set words (role_word role) (written (Exchange 1 0) k)) free ∙ same)
@@ -63,14 +66,14 @@ module _ {T : Type 0} (code : Coding T) (kd : QueueKind) (capacity size : ℕ)
     role_given has same =
         let start = Queues (release_start role) in
         let xs = es ++ Begun 0 start ∷ [] in
-        let a = begins code (machine_kind kd) capacity size effects laws (gives_role role) (record { word = role_word role }) tt words ts es h
-        (role_starts code kd (maker code (machine_kind kd) capacity size effects laws ts es) (gives_role role)
+        let a = begins machine (gives_role role) (record { word = role_word role }) tt words ts es h
+        (role_starts code kd (maker machine ts es) (gives_role role)
         (release_start role) (record { word = role_word role }) tt refl
         (λ kept. release_named code capacity kd role kept) role (λ o p. tt)
         (λ roles p is. release_lacks code capacity role roles p is) has h.u same_seat 0 h.between.run refl refl
-        (sums code (machine_kind kd) capacity size effects laws words ts es None h)) in
+        (sums machine words ts es None h)) in
         let b =
-        ends code (machine_kind kd) capacity size effects laws words (ts ++ Begin 0 start ∷ []) xs start
+        ends machine words (ts ++ Begin 0 start ∷ []) xs start
         ((gives_role role).flight (record { word = role_word role }) tt) a
         (record { word = role_word role; op = Store 1 }) (role_low role) refl tt words' answers.Done [] same refl
         ((quiet role).1 a.u.world (slice_index words (role_word role))) tt in

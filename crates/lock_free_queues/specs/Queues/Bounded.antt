@@ -1,14 +1,7 @@
 -- The machines of queues, and which of them are bounded.
 use Rattle.model.specs.declared.families.queues.QueueKind.{QueueKind}
 use Rattle.model.specs.declared.families.queues.QueueKind.TheVariants as queues
-use Rattle.model.specs.declared.turn.Kind.{Kind}
-use Rattle.model.specs.declared.turn.Kind.TheVariants as kinds
-
--- the machine that has such a queue
-abbrev pub machine_kind : QueueKind → Kind
-machine_kind queues.IndexQueue = kinds.IndexQueue
-machine_kind queues.Overflow = kinds.Overflow
-machine_kind queues.Queue = kinds.Queue
+pub use Rattle.laws_queues.specs.Kinds.{machine_kind}
 
 -- a push to a full one is refused: those of indices and of values
 abbrev pub IsBounded : QueueKind → Type 0

@@ -3,7 +3,7 @@ use Rattle.std.specs.Prelude.{◌≡◌, ℕ, ◌+◌, ◌<◌, ◌≤◌}
 use Rattle.atomic_table.specs.Seated.{TableId}
 use Rattle.steps.specs.declared.words.Words.{Ghosts}
 use Rattle.model.specs.declared.families.queues.QueueKind.{QueueKind}
-use Rattle.model.specs.Coding.{Coding, coding_of}
+use Rattle.model.specs.Coding.{Coding, coding_by}
 use Rattle.history.specs.declared.view.View.{View}
 use Rattle.history.specs.History.{IsHistory, Knows}
 use Rattle.threaded.specs.Seats.{home_id}
@@ -71,7 +71,7 @@ module _ {E T : Type 0} {kind : kinds.Ghosts E} {words : Ghosts T} where
 
   -- how its values are written in words
   abbrev pub code_of : Held E T (RingRule E T) kind words → Coding T
-  code_of t = coding_of words.WORDS words.words_of words.value_of
+  code_of t = coding_by words
 
   -- what each call leaves of a seat: it is of the same queue, and its view goes on
   pub record IsSameQueue (old new : Held E T (RingRule E T) kind words) : Type 0 where

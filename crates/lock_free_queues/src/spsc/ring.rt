@@ -7,7 +7,7 @@
 ghost use Rattle.std.specs.Prelude.{◌≡◌, ◌<◌, ◌+◌, ◌^◌, [], None};
 ghost use Rattle.steps.specs.declared.queues.roles.Role.TheVariants as roles;
 ghost use Rattle.std.specs.Coded.{Coded-set};
-ghost use Rattle.model.specs.Coding.{coding_of};
+ghost use Rattle.model.specs.Coding.{coding_by};
 ghost use Rattle.history.specs.History.{Knows};
 ghost use Rattle.history.specs.Roles.{HasRole};
 ghost use Rattle.history.proofs.KnownRuns.{knows_prop};
@@ -64,7 +64,7 @@ pub struct Held<E: Kind, T: Words, Q: TableRule<(), View<T>, Origin>> {
     ghost idle: { seated.seat.me.0.going ≡ None },
     ghost alone: { seated.seat.me.0.other ≡ [] },
     ghost some: { (0 < seated.seat.me.0.share.part) × (0 < seated.seat.me.0.share.parts) },
-    ghost knows: { Knows (coding_of T.WORDS T.words_of T.value_of) (machine_kind E.KIND) capacity seated.seat.me.0 } by { knows_prop (Coded-set T.code) (coding_of T.WORDS T.words_of T.value_of) (machine_kind E.KIND) capacity seated.seat.me.0 },
+    ghost knows: { Knows (coding_by T.Words) (machine_kind E.KIND) capacity seated.seat.me.0 } by { knows_prop (Coded-set T.code) (coding_by T.Words) (machine_kind E.KIND) capacity seated.seat.me.0 },
 }
 
 pub type Token<E, T> = Held<E, T, RingRule<E, T>>;

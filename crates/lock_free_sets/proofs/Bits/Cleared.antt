@@ -25,7 +25,7 @@ use Rattle.lock_free_sets.specs.Bits.Callable.{Ascends, Visited, TakesPlaces}
 use Rattle.lock_free_sets.specs.Driven.{HasMade, HasDone, IsIdle}
 use Rattle.lock_free_sets.specs.Sets.Kinds.{Flags}
 use Rattle.lock_free_sets.specs.Sets.Stages.{empties}
-use Rattle.lock_free_sets.specs.Bits.Contracts.{cleared_by, HasCleanedOut, MissedNoPlace}
+use Rattle.lock_free_sets.specs.Bits.Contracts.{cleared_by, HasCleanedOut, MissedNoPlace, ResetAllDone}
 use Rattle.lock_free_sets.proofs.Ends.{before_end, to_end}
 use Rattle.lock_free_sets.proofs.Sets.Emptied.{emptying, Goes, Stepped, stepped, same_capacity, WroteSoFar}
 use Rattle.lock_free_sets.proofs.Sets.Emptied.{first_wrote, words_left, ends_all, wrote_on, wrote_all}
@@ -281,7 +281,7 @@ module _ {F : Type 0} (R : F → ℕ → F → Type 0) (cap : ℕ) (visit : F) w
           )
 
 -- nothing that stood was missed
-pub missed_none : (cap : ℕ) (base w : View ℕ) (wrote : ℕ → List (Event ℕ)) → base.capacity ≡ cap → HasDone kinds.Bits base w
+missed_none : (cap : ℕ) (base w : View ℕ) (wrote : ℕ → List (Event ℕ)) → base.capacity ≡ cap → HasDone kinds.Bits base w
     → HasMade emptying answers.Done wrote base w → MissedNoPlace cap w
 missed_none cap base w wrote size over made =
     let h = over.history in
@@ -293,7 +293,7 @@ missed_none cap base w wrote size over made =
     record { by = made.by; before = before; is = is; cleared = subst (λ n. SinceBegin made.by (HasCleared n) before) (h.run.sized ∙ size) right }
 
 -- where there is no place, nothing is cleared and the closure is not called
-pub cleared_none : {F : Type 0} (R : F → ℕ → F → Type 0) (visit : F) (base w : View ℕ)
+cleared_none : {F : Type 0} (R : F → ℕ → F → Type 0) (visit : F) (base w : View ℕ)
     → HasMade emptying answers.Done (λ by. []) base w → HasCleanedOut R 0 visit visit base w
 cleared_none R visit base w made =
     record {
@@ -302,3 +302,13 @@ cleared_none R visit base w made =
       calls = refl;
       made = made;
     }
+
+module _ {F : Type 0} {R : F → ℕ → F → Type 0} {visit : F} {base w : View ℕ} {capacity : ℕ} (size : base.capacity ≡ capacity)
+    (done : HasDone kinds.Bits base w) where
+  pub reset_all : {cap : ℕ} {visited : F} → cap ≡ capacity → HasCleanedOut R cap visit visited base w → ResetAllDone R capacity visit visited base w
+  reset_all {visited = visited} same made =
+      let all = subst (λ n. HasCleanedOut R n visit visited base w) same made in
+      record { cleared = all; stood = missed_none capacity base w _ size done all.made }
+
+  pub reset_none : 0 ≡ capacity → HasMade emptying answers.Done (λ by. []) base w → ResetAllDone R capacity visit visit base w
+  reset_none none made = reset_all none (cleared_none R visit base w made)

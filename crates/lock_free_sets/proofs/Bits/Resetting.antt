@@ -21,7 +21,7 @@ use Rattle.model.specs.Moments.{HeldSometime}
 use Rattle.history.proofs.Sets.{bits_starts, set_effects, bits_owe}
 use Rattle.lock_free_sets.specs.Driven.{IsIdle}
 use Rattle.lock_free_sets.specs.Bits.Stages.{ResetStands, reset_so_far, reset_wrote, IsPlace, resets_next}
-use Rattle.lock_free_sets.specs.Bits.Contracts.{HasReset, AllClearOnce, CameFromPosition}
+use Rattle.lock_free_sets.specs.Bits.Contracts.{HasReset, AllClearOnce, CameFromPosition, ResetDone, ResetNothing}
 use Rattle.lock_free_sets.proofs.Ends.{has_made, before_end, to_end}
 
 place_below : (cap start passed : ℕ) → start ≤ cap → passed < cap → place_after cap start passed < cap
@@ -131,18 +131,18 @@ pub next_first : (v : View ℕ) (m : Unit {0}) → IsIdle v.capacity v → At on
 next_first x0 x1 x2 = grind (arith, bits_starts, one_word, resets_next, first_reset)
 
 module _ (base w : View ℕ) (o : Option ℕ) (m : Unit {0}) (idle : base.going ≡ None) (ends : Ends one_word kinds.Bits resets_next base o m w) where
-  pub cleared : HasReset o base w
+  cleared : HasReset o base w
   cleared =
       has_made kinds.Bits resets_next base w o m ends idle (λ by. reset_wrote by o) (ends.tells.1 idle)
 
-  pub place_in : IfSome o (λ place. place < base.capacity)
+  place_in : IfSome o (λ place. place < base.capacity)
   place_in = go o ends.tells.0
     where
       go : (x : Option ℕ) → IsPlace base.capacity x → IfSome x (λ place. place < base.capacity)
       go None h = tt
       go (Some place) h = h
 
-  pub all_clear : o ≡ None → AllClearOnce base.capacity w
+  all_clear : o ≡ None → AllClearOnce base.capacity w
   all_clear none =
       let h = ends.history in
       let made : HasReset None base w = subst (λ z. HasReset z base w) none cleared in
@@ -154,7 +154,7 @@ module _ (base w : View ℕ) (o : Option ℕ) (m : Unit {0}) (idle : base.going 
       set.answers before [] (Finished p (Bits ResetNext) ResetNone) (sym h.is ∙ is) in
       record { by = p; before = before; is = is; clear = λ place below. right place (subst (λ n. place < n) (sym h.run.sized) below) }
 
-  pub came_from : (place : ℕ) → o ≡ Some place → CameFromPosition base.capacity place w
+  came_from : (place : ℕ) → o ≡ Some place → CameFromPosition base.capacity place w
   came_from place some =
       let h = ends.history in
       let made : HasReset (Some place) base w = subst (λ z. HasReset z base w) some cleared in
@@ -165,3 +165,17 @@ module _ (base w : View ℕ) (o : Option ℕ) (m : Unit {0}) (idle : base.going 
       let right : CameTo p h.trace.world.capacity place before =
       set.answers before [] (Finished p (Bits ResetNext) (Reset place)) (sym h.is ∙ is) in
       record { by = p; before = before; is = is; came = subst (λ n. CameTo p n place before) h.run.sized right }
+
+  module _ (capacity : ℕ) (size : base.capacity ≡ capacity) where
+    pub found_place : (place : ℕ) → o ≡ Some place → ResetDone capacity place base w
+    found_place place some =
+        subst (λ n. ResetDone n place base w) size
+        (record {
+          place = subst (λ z. IfSome z (λ found. found < base.capacity)) some place_in;
+          cleared = subst (λ z. HasReset z base w) some cleared;
+          came = came_from place some;
+        })
+
+    pub found_nothing : o ≡ None → ResetNothing capacity base w
+    found_nothing none =
+        subst (λ n. ResetNothing n base w) size (record { cleared = subst (λ z. HasReset z base w) none cleared; clear = all_clear none })

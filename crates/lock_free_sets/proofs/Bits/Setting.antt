@@ -15,7 +15,7 @@ use Rattle.model.specs.declared.turn.Kind.TheVariants as kinds
 use Rattle.history.proofs.Sets.{bits_starts, set_effects, bits_owe}
 use Rattle.lock_free_sets.specs.Driven.{IsIdle}
 use Rattle.lock_free_sets.specs.Bits.Stages.{set_wrote, sets_place}
-use Rattle.lock_free_sets.specs.Bits.Contracts.{HasSet, StoodOnce}
+use Rattle.lock_free_sets.specs.Bits.Contracts.{HasSet, StoodOnce, SetDone}
 use Rattle.lock_free_sets.proofs.Ends.{has_made, before_end, to_end}
 
 module _ (place : ℕ) where
@@ -109,11 +109,11 @@ module _ (place : ℕ) where
   set_first x0 x1 x2 x3 = grind (arith, nat_le, nat_tests, bits_starts, one_word, sets_place, first_set)
 
   module _ (base w : View ℕ) (b : Bool) (m : Unit {0}) (idle : base.going ≡ None) (ends : Ends one_word kinds.Bits (sets_place place) base b m w) where
-    pub added : HasSet place b base w
+    added : HasSet place b base w
     added =
         has_made kinds.Bits (sets_place place) base w b m ends idle (λ by. set_wrote by place b) ends.tells
 
-    pub stood : b ≡ false → StoodOnce place w
+    stood : b ≡ false → StoodOnce place w
     stood not =
         let h = ends.history in
         let made : HasSet place false base w = subst (λ z. HasSet place z base w) not added in
@@ -122,3 +122,6 @@ module _ (place : ℕ) where
         let set : IsBitSet h.trace = bits_go_on h.trace h.run.of_kind h.run.reached in
         let right = set.answers before [] (Finished made.by (Bits (Set place)) (Truth false)) (sym h.is ∙ is) in
         record { by = made.by; before = before; is = is; stood = right }
+
+    pub set_done : SetDone place b base w
+    set_done = record { added = added; stood = stood }

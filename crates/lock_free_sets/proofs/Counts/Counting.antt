@@ -12,7 +12,7 @@ use Rattle.model.specs.Families.Bits.Promises.{AnswersCountOn}
 use Rattle.history.proofs.Sets.{counts_starts, set_effects, counts_owe}
 use Rattle.lock_free_sets.specs.Driven.{IsIdle}
 use Rattle.lock_free_sets.specs.Counts.Stages.{counts_place}
-use Rattle.lock_free_sets.specs.Counts.Contracts.{HasCounted, AnswersCount}
+use Rattle.lock_free_sets.specs.Counts.Contracts.{HasCounted, AnswersCount, SetDone}
 use Rattle.lock_free_sets.proofs.Ends.{has_made, before_end, to_end}
 
 module _ (place : ℕ) where
@@ -49,10 +49,10 @@ module _ (place : ℕ) where
 
   module _ (base w : View ℕ) (number : ℕ) (m : Unit {0}) (idle : base.going ≡ None)
       (ends : Ends one_word kinds.Counts (counts_place place) base number m w) where
-    pub counted : HasCounted place number base w
+    counted : HasCounted place number base w
     counted = grind (arith, has_made, counts_place)
 
-    pub answers : AnswersCount place number w
+    answers : AnswersCount place number w
     answers =
         let p = counted.by in
         let h = ends.history in
@@ -62,3 +62,6 @@ module _ (place : ℕ) where
         let set : IsCountingOn h.trace = counts_go_on h.trace h.run.of_kind h.run.reached in
         let right : AnswersCountOn p place number before = set.answers before [] last (sym h.is ∙ whole) in
         record { by = p; before = right.before; is = whole ∙ ap (λ es. es ++ last ∷ []) right.is; count = right.count }
+
+    pub set_done : SetDone place number base w
+    set_done = record { counted = counted; answers = answers }

@@ -12,7 +12,7 @@ use Rattle.history.specs.Steps.{TakesAtMost}
 use Rattle.lock_free_sets.specs.Driven.{HasMade, HasDone, IsIdle}
 use Rattle.lock_free_sets.specs.Sets.Kinds.{Counts}
 use Rattle.lock_free_sets.specs.Sets.Stages.{empties}
-use Rattle.lock_free_sets.specs.Counts.Contracts.{taken_by, HasTakenOut, MissedNoCount}
+use Rattle.lock_free_sets.specs.Counts.Contracts.{taken_by, HasTakenOut, MissedNoCount, ResetAllDone}
 use Rattle.lock_free_sets.proofs.Ends.{before_end, to_end}
 use Rattle.lock_free_sets.proofs.Sets.Emptying.{goes_next}
 use Rattle.lock_free_sets.proofs.Steps.{counts_take}
@@ -87,7 +87,7 @@ module _ {F : Type 0} (R : F → BitState → F → Type 0) (cap : ℕ) (visit :
           )
 
 -- nothing that counted was missed
-pub missed_none : (cap : ℕ) (base w : View ℕ) (wrote : ℕ → List (Event ℕ)) → base.capacity ≡ cap → HasDone kinds.Counts base w
+missed_none : (cap : ℕ) (base w : View ℕ) (wrote : ℕ → List (Event ℕ)) → base.capacity ≡ cap → HasDone kinds.Counts base w
     → HasMade emptying answers.Done wrote base w → MissedNoCount cap w
 missed_none cap base w wrote size over made =
     let h = over.history in
@@ -99,7 +99,7 @@ missed_none cap base w wrote size over made =
     record { by = made.by; before = before; is = is; taken = subst (λ n. SinceBegin made.by (HasTakenOn n) before) (h.run.sized ∙ size) right }
 
 -- where there is no place, nothing is taken and the closure is not called
-pub taken_none : {F : Type 0} (R : F → BitState → F → Type 0) (visit : F) (base w : View ℕ)
+taken_none : {F : Type 0} (R : F → BitState → F → Type 0) (visit : F) (base w : View ℕ)
     → HasMade emptying answers.Done (λ by. []) base w → HasTakenOut R 0 visit visit base w
 taken_none R visit base w made =
     record {
@@ -108,3 +108,13 @@ taken_none R visit base w made =
       calls = refl;
       made = made;
     }
+
+module _ {F : Type 0} {R : F → BitState → F → Type 0} {visit : F} {base w : View ℕ} {capacity : ℕ} (size : base.capacity ≡ capacity)
+    (done : HasDone kinds.Counts base w) where
+  pub reset_all : {cap : ℕ} {visited : F} → cap ≡ capacity → HasTakenOut R cap visit visited base w → ResetAllDone R capacity visit visited base w
+  reset_all {visited = visited} same made =
+      let all = subst (λ n. HasTakenOut R n visit visited base w) same made in
+      record { taken = all; stood = missed_none capacity base w _ size done all.made }
+
+  pub reset_none : 0 ≡ capacity → HasMade emptying answers.Done (λ by. []) base w → ResetAllDone R capacity visit visit base w
+  reset_none none made = reset_all none (taken_none R visit base w made)

@@ -18,7 +18,7 @@ use Rattle.history.specs.Known.{owned}
 use Rattle.history.specs.Stages.{Starts, IsFirst}
 use Rattle.history.proofs.Drives.{NeverPushes}
 use Rattle.history.proofs.Sets.{bits_starts, counts_starts, set_effects, bits_owe, counts_owe}
-use Rattle.history.proofs.Turns.{KindLaws}
+use Rattle.history.proofs.Turns.{KindLaws, LoneMachines}
 use Rattle.lock_free_sets.specs.Driven.{IsIdle}
 use Rattle.lock_free_sets.specs.Sets.Kinds.{SetKind, Flags, Counts, machine_kind, first_word, words_of}
 use Rattle.lock_free_sets.specs.Sets.Stages.{all_words, word_of, flight_at, emptied, empties, empties_none}
@@ -161,6 +161,9 @@ starts Flags = bits_starts one_word
 starts Counts = counts_starts one_word
 
 module _ (kind : SetKind) (v : View ℕ) (idle : IsIdle v.capacity v) where
+  abbrev machines : LoneMachines ℕ
+  machines = record { code = one_word; kind = machine_kind kind; effects = set_effects; size_of = words_of kind; laws = owes kind }
+
   pub first_at : 0 < v.capacity → At one_word (machine_kind kind) (empties kind) v v (all_words kind v.capacity) fresh
   first_at x0 = grind (arith, stands_first, begins, starts, empties, all_words, fresh, may, wrote_first)
 
@@ -174,7 +177,7 @@ module _ (kind : SetKind) (v : View ℕ) (idle : IsIdle v.capacity v) where
       → OwesAsk (λ (z : View ℕ). z.asked) (IsMachine one_word (machine_kind kind) v.capacity) words slots id
       (λ u n w. Ends one_word (machine_kind kind) (empties_none kind) u tt (record { 0 = 0 }) w) word Load (v, [])
   owes_none none =
-      owes_once one_word (machine_kind kind) set_effects (words_of kind) (owes kind) (empties_none kind) v
+      owes_once machines (empties_none kind) v
       (all_words kind v.capacity) fresh fresh tt none_first (asks_none kind) (never kind)
       (ends_so kind) (writes_none kind) (λ p wrote h. h)
     where

@@ -29,8 +29,9 @@ use Rattle.history.proofs.OneHolder.{first_wrote}
 use Rattle.lock_free_sets.specs.Unique.Held.{HoldsNothing, IsSound}
 use Rattle.lock_free_sets.proofs.Ends.{has_made, aside_most}
 use Rattle.lock_free_sets.proofs.Unique.Machine.{holds_right, none_held, held_within}
-use Rattle.lock_free_sets.specs.UniqueIndexSet.{set_of, view, SamePass}
+use Rattle.lock_free_sets.specs.UniqueIndexSet.{SetId, capacity_of, set_of, view, IsPassOf, SamePass}
 use Rattle.lock_free_sets.specs.declared.mpmc.unique_index_set.Pass.{Pass}
+use Rattle.lock_free_sets.specs.declared.mpmc.unique_index_set.UniqueIndexSet.{UniqueIndexSet}
 use Rattle.lock_free_sets.specs.Unique.Contracts.{HasTaken, HasGiven, HasGivenOrLocked, HasCounted, HasLooked, WasFree, Answered}
 
 -- what a pass freed it had claimed, it holds each index once, and none once it has seen the lock
@@ -59,6 +60,9 @@ sound capacity v same h parties =
             let high = both.1 in
             let is = (by i (omega arith)).2 in
             absurd (cc)
+
+pub sound_after : {C M E : Type 0} {call : Calling ℕ C M E} {base w : View ℕ} {e : E} {m : M} → Ends one_word kinds.Indices call base e m w → IsSound w
+sound_after {base = base} {w = w} ends = sound base.capacity w ends.capacity ends.history ends.parties
 
 -- a share makes no difference
 pub sound_same : (v w : View ℕ) → w.capacity ≡ v.capacity → w.seen ≡ v.seen → w.made ≡ v.made → IsSound v → IsSound w
@@ -228,6 +232,10 @@ apart v other w i looks mine theirs =
     ap (sum_by (frees i)) looks.made ∙ sum_by-append (frees i) v.made other.made in
     absurd (omega arith)
 
+-- a pass of a set has its capacity
+pub same_size : (set : UniqueIndexSet) (pass : Pass) → IsPassOf set pass → (view pass).capacity ≡ capacity_of set
+same_size set pass of = pass.known ∙ ap (λ (z : SetId). z.capacity) of
+
 -- a pass that a call has left knows a run
 pub knows_still : {size : ℕ} {base w : View ℕ} → base.capacity ≡ size → Continues one_word kinds.Indices base.capacity base w
     → Knows one_word kinds.Indices size w
@@ -240,7 +248,7 @@ same_pass {old = old} {new = new} set ends =
     record {
       set = set;
       share = ends.share;
-      sound = sound (view old).capacity (view new) ends.capacity ends.history ends.parties;
+      sound = sound_after ends;
       first = ends.ran.first;
       aside = aside_most ends.aside;
       all = λ whole. ends.all (subst IsAll ends.share whole);

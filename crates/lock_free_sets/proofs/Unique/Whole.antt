@@ -3,7 +3,7 @@ use Rattle.lock_free_sets.proofs.Names.{◌≡◌, ℕ, ◌<◌, ◌≤◌, Bool
 use Rattle.lock_free_sets.proofs.Names.{refl, sym, ap, subst, ◌∙◌, arith, fold-append, Acquired, ReleaseState}
 use Rattle.lock_free_sets.proofs.Names.{Locked, Unlocked, UniqueIndexSetAcquireFailure, Answer, NoIndex, State, Number}
 use Rattle.lock_free_sets.proofs.Names.{Truth, Event, Finished, Indices, one_word, IsAll, View, IsBeginning}
-use Rattle.lock_free_sets.proofs.Names.{takes_index, gives_or_locks, counts_out, looks_locked, Ends}
+use Rattle.lock_free_sets.proofs.Names.{takes_index, gives_index, gives_or_locks, counts_out, looks_locked, Ends}
 use Rattle.std.proofs.Common.{IfOk, IfErr}
 use Rattle.std.proofs.Common.{sum_by}
 use Rattle.steps.specs.declared.indices.enums.ReleaseMode.TheVariants as modes
@@ -14,11 +14,12 @@ use Rattle.model.specs.declared.turn.Kind.TheVariants as kinds
 use Rattle.model.specs.Families.Indices.Reading.{is_locked, locked_after, Tally, tally_after, tally_of}
 use Rattle.lock_free_sets.specs.Unique.Held.{HeldBy, HoldsNothing, HoldsAll, HoldsSome, IsSound, IsDone}
 use Rattle.lock_free_sets.specs.Unique.Contracts.{HasTaken, HasGiven, HasGivenOrLocked, HasCounted, HasLooked, Answered, HasAcquired, WasRefused}
+use Rattle.lock_free_sets.specs.Unique.Calls.{AcquireDone, ReleaseDone, ReleaseOrLockDone, BorrowedDone, IsLockedDone}
 use Rattle.lock_free_sets.proofs.Whole.Alone.{still_done}
 use Rattle.history.proofs.Locks.{lock_stays, not_locked}
 use Rattle.lock_free_sets.proofs.Unique.Facts.{taken, taken_answered, free, holds, open_still}
 use Rattle.lock_free_sets.proofs.Unique.Facts.{given_or_locked, locked_answered, counted, counted_answered, looked_answered}
-use Rattle.lock_free_sets.proofs.Unique.Facts.{sound}
+use Rattle.lock_free_sets.proofs.Unique.Facts.{given, unlocked, looked, counted_most, sound_after}
 use Rattle.lock_free_sets.proofs.Unique.Machine.{tally_is, few, none_left, own_few}
 
 -- ---- a call that was begun has ended
@@ -72,7 +73,7 @@ module _ (base w : View ℕ) (m : Unit {0}) (idle : base.going ≡ None) where
   none_is_held : Ends one_word kinds.Indices takes_index base (Err WasLocked) m w → HoldsNothing w.made
   none_is_held ends =
       let a = taken_answered base w m idle (Err WasLocked) ends in
-      (sound base.capacity w ends.capacity ends.history ends.parties).lock (lock_stays (last_of a) a.right)
+      (sound_after ends).lock (lock_stays (last_of a) a.right)
 
   pub refused : (e : UniqueIndexSetAcquireFailure) → Ends one_word kinds.Indices takes_index base (Err e) m w → IsDone base.made → WasRefused e base w
   refused OutOfIndices ends done =
@@ -93,29 +94,26 @@ module _ (base w : View ℕ) (m : Unit {0}) (idle : base.going ≡ None) where
         nothing = λ same. none_is_held ends;
       }
 
-  pub acquired_if : (answer : Acquired) → Ends one_word kinds.Indices takes_index base answer m w → IsSound base → IfOk answer (λ i. HasAcquired i base w)
-  acquired_if (Ok i) ends was = acquired i ends was
-  acquired_if (Err e) ends was = tt
+  pub acquired_if : (answer : Acquired) → Ends one_word kinds.Indices takes_index base answer m w → IsSound base → (capacity : ℕ)
+      → base.capacity ≡ capacity → IfOk answer (λ i. AcquireDone capacity i base w)
+  acquired_if (Ok i) ends was capacity size =
+      record { acquired = acquired i ends was; within = subst (λ n. i < n) (ends.capacity ∙ size) (free base w m idle i ends).within }
+  acquired_if (Err e) ends was capacity size = tt
 
   pub refused_if : (answer : Acquired) → Ends one_word kinds.Indices takes_index base answer m w → IsDone base.made → IfErr answer (λ e. WasRefused e base w)
   refused_if (Ok i) ends done = tt
   refused_if (Err e) ends done = refused e ends done
 
-  pub within_if : (answer : Acquired) → Ends one_word kinds.Indices takes_index base answer m w → (capacity : ℕ)
-      → base.capacity ≡ capacity → IfOk answer (λ i. i < capacity)
-  within_if (Ok i) ends capacity size = subst (λ n. i < n) (ends.capacity ∙ size) (free base w m idle i ends).within
-  within_if (Err e) ends capacity size = tt
-
   -- who locks the set holds none
-  pub locked_nothing : (index : ℕ) (state : ReleaseState)
+  locked_nothing : (index : ℕ) (state : ReleaseState)
       → Ends one_word kinds.Indices (gives_or_locks index) base state m w → state ≡ Locked → HoldsNothing w.made
   locked_nothing index Locked ends =
       λ same. (let a = locked_answered base w m idle index Locked ends in
-      (sound base.capacity w ends.capacity ends.history ends.parties).lock (lock_stays (last_of a) a.right))
+      (sound_after ends).lock (lock_stays (last_of a) a.right))
   locked_nothing index Unlocked ends = λ same. absurd (cc)
 
   -- who does not lock, with the whole share, holds some index
-  pub locked_whole : (index : ℕ) (state : ReleaseState)
+  locked_whole : (index : ℕ) (state : ReleaseState)
       → Ends one_word kinds.Indices (gives_or_locks index) base state m w → IsDone base.made → state ≡ Unlocked
       → HoldsSome w
   locked_whole index Locked ends done = λ same. absurd (cc)
@@ -145,7 +143,7 @@ module _ (base w : View ℕ) (m : Unit {0}) (idle : base.going ≡ None) where
     same_lock = grind (arith, is_locked, fold-append, locked_after)
 
     -- no less than a pass holds are counted
-    pub counted_least : (is : List ℕ) → HeldBy is w.made → length is ≤ n
+    counted_least : (is : List ℕ) → HeldBy is w.made → length is ≤ n
     counted_least is held = go (is_locked a.before) refl
       where
         own : (length is ≤ (tally_of w.seen).held) × (is_locked w.seen ≡ true → length is ≡ 0)
@@ -160,7 +158,7 @@ module _ (base w : View ℕ) (m : Unit {0}) (idle : base.going ≡ None) where
             omega arith
 
     -- with the whole share it is what the pass holds
-    pub counted_whole : IsDone base.made → HoldsAll n w
+    counted_whole : IsDone base.made → HoldsAll n w
     counted_whole done whole is held = go (is_locked a.before) refl
       where
         all : (f : Event ℕ → ℕ) → sum_by f w.seen ≡ sum_by f w.made
@@ -188,9 +186,45 @@ module _ (base w : View ℕ) (m : Unit {0}) (idle : base.going ≡ None) where
     l = looked_answered base w m idle b ends
 
     -- who sees the lock holds none
-    pub looked_nothing : b ≡ true → HoldsNothing w.made
-    looked_nothing t = (sound base.capacity w ends.capacity ends.history ends.parties).lock (lock_stays (last_of l) (sym l.right ∙ t))
+    looked_nothing : b ≡ true → HoldsNothing w.made
+    looked_nothing t = (sound_after ends).lock (lock_stays (last_of l) (sym l.right ∙ t))
 
     -- and who does not had not seen it
-    pub looked_unlocked : b ≡ false → is_locked base.seen ≡ false
+    looked_unlocked : b ≡ false → is_locked base.seen ≡ false
     looked_unlocked t = not_locked l.since (sym l.right ∙ t)
+
+  -- ---- what each answer means
+
+  pub release_done : (index : ℕ) (state : ReleaseState)
+      → Ends one_word kinds.Indices (gives_index index) base state m w → ReleaseDone index state base w
+  release_done index state ends = record { given = given base w m idle index state ends; unlocked = unlocked base w m idle index state ends }
+
+  pub release_or_lock_done : (index : ℕ) (state : ReleaseState)
+      → Ends one_word kinds.Indices (gives_or_locks index) base state m w → IsDone base.made → ReleaseOrLockDone index state base w
+  release_or_lock_done index state ends done =
+      record {
+        given = given_or_locked base w m idle index state ends;
+        answered = locked_answered base w m idle index state ends;
+        nothing = locked_nothing index state ends;
+        whole = locked_whole index state ends done;
+      }
+
+  pub borrowed_done : (n : ℕ) → Ends one_word kinds.Indices counts_out base n m w → IsDone base.made → (capacity : ℕ)
+      → base.capacity ≡ capacity → BorrowedDone capacity n base w
+  borrowed_done n ends done capacity size =
+      record {
+        counted = counted base w m idle n ends;
+        answered = counted_answered base w m idle n ends;
+        least = counted_least n ends;
+        most = subst (λ most. n ≤ most) size (counted_most base w m idle n ends);
+        whole = counted_whole n ends done;
+      }
+
+  pub is_locked_done : (b : Bool) → Ends one_word kinds.Indices looks_locked base b m w → IsLockedDone b base w
+  is_locked_done b ends =
+      record {
+        looked = looked base w m idle b ends;
+        answered = looked_answered base w m idle b ends;
+        nothing = looked_nothing b ends;
+        unlocked = looked_unlocked b ends;
+      }

@@ -1,5 +1,5 @@
 -- What the calls on bit sets add to the history, and what they answer.
-use Rattle.std.specs.Prelude.{◌≡◌, ℕ, ◌<◌, Bool, false, Option, List, [], ◌∷◌, ◌++◌, map}
+use Rattle.std.specs.Prelude.{◌≡◌, ℕ, ◌<◌, Bool, false, IsFalse, Option, Some, None, List, [], ◌∷◌, ◌++◌, map}
 use Rattle.std.specs.List.{FoldsTo}
 use Rattle.model.specs.declared.event.Answer.TheVariants.{Truth, Reset, ResetNone, Done}
 use Rattle.model.specs.declared.event.Event.{Event}
@@ -65,3 +65,24 @@ pub record MissedNoPlace (capacity : ℕ) (new : View ℕ) : Type 0 where
   pub before : List (Event ℕ)
   pub is : new.seen ≡ before ++ Finished by (Bits ResetAll) Done ∷ []
   pub cleared : SinceBegin by (HasCleared capacity) before
+
+-- ---- what each answer means
+
+pub record SetDone (place : ℕ) (answer : Bool) (old new : View ℕ) : Type 0 where
+  pub added : HasSet place answer old new
+  pub stood : IsFalse answer → StoodOnce place new
+
+-- a reset that found a place
+pub record ResetDone (capacity found : ℕ) (old new : View ℕ) : Type 0 where
+  pub place : found < capacity
+  pub cleared : HasReset (Some found) old new
+  pub came : CameFromPosition capacity found new
+
+-- one that found none
+pub record ResetNothing (capacity : ℕ) (old new : View ℕ) : Type 0 where
+  pub cleared : HasReset None old new
+  pub clear : AllClearOnce capacity new
+
+pub record ResetAllDone {F : Type 0} (step : F → ℕ → F → Type 0) (capacity : ℕ) (visit visited : F) (old new : View ℕ) : Type 0 where
+  pub cleared : HasCleanedOut step capacity visit visited old new
+  pub stood : MissedNoPlace capacity new

@@ -46,3 +46,13 @@ pub record MissedNoCount (capacity : ℕ) (new : View ℕ) : Type 0 where
   pub before : List (Event ℕ)
   pub is : new.seen ≡ before ++ Finished by (Bits ResetAll) Done ∷ []
   pub taken : SinceBegin by (HasTakenOn capacity) before
+
+-- ---- what each answer means
+
+pub record SetDone (place number : ℕ) (old new : View ℕ) : Type 0 where
+  pub counted : HasCounted place number old new
+  pub answers : AnswersCount place number new
+
+pub record ResetAllDone {F : Type 0} (step : F → BitState → F → Type 0) (capacity : ℕ) (visit visited : F) (old new : View ℕ) : Type 0 where
+  pub taken : HasTakenOut step capacity visit visited old new
+  pub stood : MissedNoCount capacity new

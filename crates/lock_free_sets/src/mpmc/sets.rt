@@ -2,7 +2,7 @@
 //! the modules `bit_set` and `counting_bit_set` have names for it, and the calls on places.
 ghost use Rattle.std.specs.Prelude.{◌≡◌, ◌<◌, ◌+◌, [], None};
 ghost use Rattle.std.specs.Coded.{Coded-set};
-ghost use Rattle.model.specs.Coding.{coding_of};
+ghost use Rattle.model.specs.Coding.{coding_by};
 ghost use Rattle.threaded.specs.Seats.{key_of};
 ghost use Rattle.history.specs.History.{Knows};
 ghost use Rattle.history.proofs.KnownRuns.{knows_prop};
@@ -65,7 +65,7 @@ pub struct Held<E: Kind, T: Words, Q: TableRule<(), View<T>, u32>> {
     ghost idle: { seated.seat.me.0.going ≡ None },
     ghost alone: { seated.seat.me.0.other ≡ [] },
     ghost some: { (0 < seated.seat.me.0.share.part) × (0 < seated.seat.me.0.share.parts) },
-    ghost knows: { Knows (coding_of T.WORDS T.words_of T.value_of) (machine_kind E.KIND) capacity seated.seat.me.0 } by { knows_prop (Coded-set T.code) (coding_of T.WORDS T.words_of T.value_of) (machine_kind E.KIND) capacity seated.seat.me.0 },
+    ghost knows: { Knows (coding_by T.Words) (machine_kind E.KIND) capacity seated.seat.me.0 } by { knows_prop (Coded-set T.code) (coding_by T.Words) (machine_kind E.KIND) capacity seated.seat.me.0 },
 }
 
 impl<E: Kind, T: Words, Q: TableRule<(), View<T>, u32>> Drop for Held<E, T, Q> {

@@ -6,7 +6,7 @@ ghost use Rattle.std.specs.Prelude.{◌≡◌, ◌<◌, ◌+◌, ◌*◌, [], No
 ghost use Rattle.std.specs.Coded.{Coded-set};
 ghost use Rattle.laws_value.specs.Stored.{stored};
 ghost use Rattle.model.specs.declared.turn.Kind.TheVariants as kinds;
-ghost use Rattle.model.specs.Coding.{coding_of};
+ghost use Rattle.model.specs.Coding.{coding_by};
 ghost use Rattle.history.specs.History.{Knows};
 ghost use Rattle.history.specs.Value.{HasProducer};
 ghost use Rattle.history.proofs.KnownRuns.{knows_prop};
@@ -61,7 +61,7 @@ pub struct Held<T: Words, Q: TableRule<(), View<T>, Origin<T>>> {
     ghost alone: { seated.seat.me.0.other ≡ [] },
     ghost some: { (0 < seated.seat.me.0.share.part) × (0 < seated.seat.me.0.share.parts) },
     ghost begun: { 0 < length (stored seated.seat.me.0.seen) },
-    ghost knows: { Knows (coding_of T.WORDS T.words_of T.value_of) kinds.Atomic 1 seated.seat.me.0 } by { knows_prop (Coded-set T.code) (coding_of T.WORDS T.words_of T.value_of) kinds.Atomic 1 seated.seat.me.0 },
+    ghost knows: { Knows (coding_by T.Words) kinds.Atomic 1 seated.seat.me.0 } by { knows_prop (Coded-set T.code) (coding_by T.Words) kinds.Atomic 1 seated.seat.me.0 },
 }
 
 impl<T: Words, Q: TableRule<(), View<T>, Origin<T>>> Drop for Held<T, Q> {

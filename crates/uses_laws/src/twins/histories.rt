@@ -4,7 +4,7 @@
 //! held elsewhere. What has been seen are the calls of all threads.
 ghost use Rattle.std.specs.Prelude.{◌≡◌, ◌⊎◌, ◌<◌, ◌≤◌, ◌+◌, ◌-◌, ◌*◌, ◌^◌, ◌++◌, ◌∷◌, [], ℕ, Bool, false};
 ghost use Rattle.std.specs.Prelude.{Some, None, is_none, List, length};
-ghost use Rattle.laws_turns.specs.Changes.{changes_of, MeetsChanges};
+ghost use Rattle.laws_machine.specs.Changes.{changes_of, MeetsChanges};
 ghost use Rattle.model.specs.declared.event.Answer.{Answer};
 ghost use Rattle.model.specs.declared.event.Answer.TheVariants.{Truth, Number, Index, Loaded, PoppedNone};
 ghost use Rattle.model.specs.declared.event.Event.{Event};

@@ -1,10 +1,10 @@
 //! The same of a robust index set.
-ghost use Rattle.std.specs.Prelude.{◌≡◌, ◌+◌, false};
+ghost use Rattle.std.specs.Prelude.{◌≡◌, ◌+◌, ◌≤◌, true, false};
 ghost use Rattle.lock_free.specs.CallbackProgression.TheVariants.{Continue};
 ghost use Rattle.lock_free.specs.IndexReading.{is_locked as has_lock};
 ghost use Rattle.lock_free.specs.Robust.Callable.{TakesFreed, TakesQuestions};
-ghost use Rattle.lock_free.specs.Robust.Contracts.{HasLooked, HasRecovered, HasSearched};
-ghost use Rattle.lock_free.specs.Robust.Handles.{knows};
+ghost use Rattle.lock_free.specs.Robust.Contracts.{FoundLock, HasCounted, HasLooked, HasRecovered, HasSearched, IsRightCount, IsRightLook};
+ghost use Rattle.lock_free.specs.Robust.Handles.{knows, set_in};
 ghost use Rattle.lock_free.specs.RobustUniqueIndexSet.{capacity_of, history, IsPassOf, LeavesPass, view};
 ghost use Rattle.threaded.specs.Callable.{TakesPlaces};
 
@@ -13,11 +13,23 @@ use std::sync::Wait;
 use steps::enums::CallbackProgression;
 use steps::indices::enums::{ReleaseMode, ReleaseState};
 
-/// What a look at the lock answers is its answer in the history.
+/// What a look at the lock answers is its answer in the history, and right. It is true if the pass had seen the lock.
 pub fn is_locked(handle: &mut Handle<'_>) -> bool
     ensures looked { HasLooked result (knows handle.old) (knows handle.new) }
+    ensures answered { IsRightLook result (knows handle.old) (knows handle.new) }
+    ensures lock { FoundLock result (knows handle.old) (knows handle.new) }
 {
     handle.is_locked()
+}
+
+/// So is a count of the indices. It is at most the capacity, and 0 if the pass had seen the lock.
+pub fn borrowed_indices(handle: &mut Handle<'_>, rt: &impl Wait) -> usize
+    ensures counted { HasCounted result (knows handle.old) (knows handle.new) }
+    ensures answered { IsRightCount result (knows handle.old) (knows handle.new) }
+    ensures most { result ≤ capacity_of (set_in handle.old) }
+    ensures lock { has_lock (knows handle.old).seen ≡ true → result ≡ 0 }
+{
+    handle.borrowed_indices(rt)
 }
 
 /// A find calls its closure as the history says. It looks at the lock and at each index, and no more.

@@ -22,7 +22,7 @@ recover-state-requires-clause-freed g c free =
 pub returns-clause-recovered : goal.returns-clause-recovered
 returns-clause-recovered g c =
     recovers_owner _ (λ f. (asked.captures f).owner) c.args.owner (λ p o i b q k. search rules) _ c.args.mode c.recover-state.result _ _ _ _
-    (view c.args.pass.now) (view c.recover-state.new.pass) (search rules) c.recover-state.ensures.recovered
+    (view c.args.pass.now) (view c.recover-state.new.pass) (search rules) c.recover-state.ensures.recovered.recovered
 
 pub returns-clause-counted : goal.returns-clause-counted
 returns-clause-counted g c =
@@ -30,10 +30,10 @@ returns-clause-counted g c =
     let w = view c.recover-state.new.pass in
     let more =
     freed_his _ (λ f. (asked.captures f).owner) c.args.owner (λ p o i b q k. search rules) _ c.args.mode c.recover-state.result _ _ _ _ v w
-    (search rules) c.recover-state.ensures.recovered
+    (search rules) c.recover-state.ensures.recovered.recovered
     in
     let all = counted _ (λ f. f.0.ghost_name) (λ f. (told.captures f).freed) (λ s x t k. search rules) _ _ _
-    c.recover-state.ensures.recovered.visited.told in
+    c.recover-state.ensures.recovered.recovered.visited.told in
     let name = all.0 in
     let number = all.1 in
     search (rules, arith)
@@ -44,7 +44,7 @@ returns-clause-others g c =
     let w = view c.recover-state.new.pass in
     freed_no_other c.args.owner c.args.mode c.recover-state.result v w
     (recovers_owner _ (λ f. (asked.captures f).owner) c.args.owner (λ p o i b q k. search rules) _ c.args.mode c.recover-state.result _ _ _ _ v w
-    (search rules) c.recover-state.ensures.recovered)
+    (search rules) c.recover-state.ensures.recovered.recovered)
 
 pub returns-clause-answered : goal.returns-clause-answered
 returns-clause-answered g c =
@@ -52,5 +52,5 @@ returns-clause-answered g c =
     let w = view c.recover-state.new.pass in
     owner_answered c.args.owner c.args.mode c.recover-state.result v w
     (recovers_owner _ (λ f. (asked.captures f).owner) c.args.owner (λ p o i b q k. search rules) _ c.args.mode c.recover-state.result _ _ _ _ v w
-    (search rules) c.recover-state.ensures.recovered)
-    c.recover-state.ensures.answered
+    (search rules) c.recover-state.ensures.recovered.recovered)
+    c.recover-state.ensures.recovered.answered

@@ -1,11 +1,10 @@
 //! The calls of a sender, each an equation on its table.
 ghost use Rattle.std.specs.Prelude.{◌≡◌, ◌↔◌, ◌+◌, ◌*◌, ◌<◌, max, IsTrue};
-ghost use Rattle.std.specs.Prelude.{IfOk, IfErr, IfSome, IfNone, slice_set, map, replicate, count_by};
+ghost use Rattle.std.specs.Prelude.{IfOk, IfErr, IfSome, IfNone, slice_set, replicate};
 ghost use Rattle.lock_free_sets.specs.UniqueIndexSet.{view, made, set_of, capacity_of, IsPassOf};
 ghost use Rattle.steps.specs.declared.indices.enums.ReleaseState.TheVariants.{Unlocked};
 ghost use Rattle.lock_free_sets.specs.Unique.Held.{HoldsNothing};
-ghost use Rattle.lock_free_sets.specs.Unique.Contracts.{HasAcquired, WasRefused, HasGiven};
-ghost use Rattle.model.specs.declared.event.Item.TheVariants.{Index};
+ghost use Rattle.lock_free_sets.specs.Unique.Contracts.{WasRefused, HasGiven};
 ghost use Rattle.model.specs.declared.turn.Kind.TheVariants as kinds;
 ghost use Rattle.model.specs.Coding.{one_word};
 ghost use Rattle.history.specs.History.{IsHistory, Knows};
@@ -14,13 +13,14 @@ ghost use Rattle.history.specs.Steps.{TakesAtMost, TakesAlone};
 ghost use Rattle.lock_free_queues.specs.Queues.Calls as returns;
 ghost use Rattle.lock_free_queues.specs.Queues.Overflowing as sends;
 ghost use Rattle.lock_free_queues.specs.Queues.Overflowing.{PushAdded, PushHandedBack, SameConsumerByCapacity};
-ghost use Rattle.lock_free_queues.specs.Queues.Contracts.{PopDone, PopEmpty};
-ghost use Rattle.lock_free_loans.specs.declared.spsc.loan.places.Place.TheVariants.{Free, Loaned, Sent};
-ghost use Rattle.lock_free_loans.specs.Loan.Places.{is_out, is_sent, place_at, returned, reclaimed, IsBookOf};
+ghost use Rattle.lock_free_loans.specs.declared.spsc.loan.places.Place.TheVariants.{Free, Sent};
+ghost use Rattle.lock_free_loans.specs.Loan.Places.{is_sent, place_at, returned, IsBookOf};
 ghost use Rattle.lock_free_loans.specs.Loan.Sender.{places_of, pass_view, share_of, submission_view, completion_view};
-ghost use Rattle.lock_free_loans.specs.Loan.Sender.{submission_of, completion_of, KeepsQueues, set_of_sender, IsAsideOnce, IsSame};
+ghost use Rattle.lock_free_loans.specs.Loan.Sender.{submission_of, completion_of, KeepsQueues, set_of_sender, IsSame};
 ghost use Rattle.lock_free_loans.specs.Loan.Sender.{IsSenderOf, IsLoaned};
-ghost use Rattle.lock_free_loans.specs.Loan.Contracts.{InTurn, HasFreed, HasEmptied, all_sent, sent_back};
+ghost use Rattle.lock_free_loans.specs.Loan.Contracts.{InTurn, HasFreed, HasEmptied, sent_back};
+ghost use Rattle.lock_free_loans.specs.Loan.Calls.{LoanKeeps, SettleKeeps, SendKeeps, TakeBackKeeps, ReclaimKeeps};
+ghost use Rattle.lock_free_loans.specs.Loan.Calls.{LoanDone, SendDone, SendHandedBack, TakeBackDone, TakeBackNone, ReclaimDone};
 
 use super::places::Place;
 use super::{LoanError, LoanSender};
@@ -115,18 +115,10 @@ impl<'a> LoanSender<'a> {
     /// `IsLocked`, and the table stays. Four atomic steps where nobody else steps in between and no release has fallen
     /// back to a subtraction; else it may try again for as long as others step.
     pub fn loan(&mut self, rt: &impl Wait) -> Result<u32, UniqueIndexSetAcquireFailure>
-        ensures loaned { IfOk result (λ i. (place_at (places_of self.old) i ≡ Free)
-            × (places_of self.new ≡ slice_set (places_of self.old) i Loaned)) }
-        ensures is { IfOk result (λ i. IsLoaned i self.new) }
-        ensures acquired { IfOk result
-            (λ i. HasAcquired i (pass_view self.old) (pass_view self.new)) }
+        ensures same { LoanKeeps self.old self.new }
+        ensures loaned { IfOk result (λ i. LoanDone i self.old self.new) }
         ensures refused { IfErr result (λ e. (places_of self.new ≡ places_of self.old)
             × WasRefused e (pass_view self.old) (pass_view self.new)) }
-        ensures goes { Goes (pass_view self.old) (pass_view self.new) }
-        ensures queues { KeepsQueues self.old self.new }
-        ensures same { IsSame self.old self.new }
-        ensures aside { IsAsideOnce self.old self.new }
-        ensures share { share_of self.new ≡ share_of self.old }
         ensures steps { TakesAlone (4 + (set_of_sender self.old).capacity) (max 2 (set_of_sender self.old).capacity)
             (pass_view self.old) (pass_view self.new) }
     {
@@ -148,13 +140,9 @@ impl<'a> LoanSender<'a> {
     /// Gives a Loaned index back unsent: it is Free. At most 5 atomic steps.
     pub fn give_up(&mut self, index: u32)
         requires { IsLoaned index self.old }
+        ensures same { LoanKeeps self.old self.new }
         ensures places { places_of self.new ≡ slice_set (places_of self.old) index Free }
         ensures given { HasGiven index Unlocked (pass_view self.old) (pass_view self.new) }
-        ensures goes { Goes (pass_view self.old) (pass_view self.new) }
-        ensures queues { KeepsQueues self.old self.new }
-        ensures same { IsSame self.old self.new }
-        ensures aside { IsAsideOnce self.old self.new }
-        ensures share { share_of self.new ≡ share_of self.old }
         ensures steps { TakesAtMost 5 (pass_view self.old) (pass_view self.new) }
     {
         self.places[index as usize] = Place::Free;
@@ -188,12 +176,9 @@ impl<'a> LoanSender<'a> {
     /// Gives an index that came back to the set if it is Sent. Any other value changes nothing. `send` and `take_back` do
     /// so. It is a call of its own for what `send_as` answers. At most 5 atomic steps.
     pub fn settle(&mut self, value: u64)
+        ensures same { SettleKeeps self.old self.new }
         ensures places { places_of self.new ≡ returned value (places_of self.old) }
         ensures freed { InTurn HasFreed (sent_back value (places_of self.old)) (pass_view self.old) (pass_view self.new) }
-        ensures queues { KeepsQueues self.old self.new }
-        ensures same { IsSame self.old self.new }
-        ensures aside { IsAsideOnce self.old self.new }
-        ensures share { share_of self.new ≡ share_of self.old }
         ensures steps { TakesAtMost 5 (pass_view self.old) (pass_view self.new) }
     {
         if value >= self.set.capacity() as u64 {
@@ -210,22 +195,9 @@ impl<'a> LoanSender<'a> {
     /// index that is Sent, while any other value changes nothing. At most 11 atomic steps.
     pub fn send(&mut self, index: u32) -> Option<u64>
         requires { IsLoaned index self.old }
-        ensures sent { IfNone result
-            (places_of self.new ≡ slice_set (places_of self.old) index Sent) }
-        ensures back { IfSome result (λ y. places_of self.new
-            ≡ returned y (slice_set (places_of self.old) index Sent)) }
-        ensures kept { IfNone result (pass_view self.new ≡ pass_view self.old) }
-        ensures freed { IfSome result (λ y. InTurn HasFreed (sent_back y (slice_set (places_of self.old) index Sent))
-            (pass_view self.old) (pass_view self.new)) }
-        ensures goes { 0 < (submission_of self.old).capacity
-            → Goes (submission_view self.old) (submission_view self.new) }
-        ensures added { IfNone result (PushAdded index (submission_view self.old) (submission_view self.new)) }
-        ensures handed_back { IfSome result (λ y. PushHandedBack (submission_of self.old).capacity index y
-            (submission_view self.old) (submission_view self.new)) }
-        ensures completion { completion_view self.new ≡ completion_view self.old }
-        ensures same { IsSame self.old self.new }
-        ensures aside { IsAsideOnce self.old self.new }
-        ensures share { share_of self.new ≡ share_of self.old }
+        ensures same { SendKeeps self.old self.new }
+        ensures sent { IfNone result (SendDone index self.old self.new) }
+        ensures handed_back { IfSome result (λ y. SendHandedBack index y self.old self.new) }
         ensures steps { TakesAtMost 5 (pass_view self.old) (pass_view self.new) }
         ensures queue_steps { TakesAtMost 6 (submission_view self.old) (submission_view self.new) }
     {
@@ -242,16 +214,12 @@ impl<'a> LoanSender<'a> {
     /// steps.
     pub fn send_as(&mut self, index: u32, number: u64) -> Option<u64>
         requires { IsLoaned index self.old }
+        ensures same { SendKeeps self.old self.new }
         ensures sent { places_of self.new ≡ slice_set (places_of self.old) index Sent }
         ensures kept { pass_view self.new ≡ pass_view self.old }
-        ensures goes { 0 < (submission_of self.old).capacity
-            → Goes (submission_view self.old) (submission_view self.new) }
         ensures added { IfNone result (PushAdded number (submission_view self.old) (submission_view self.new)) }
         ensures handed_back { IfSome result (λ y. PushHandedBack (submission_of self.old).capacity number y
             (submission_view self.old) (submission_view self.new)) }
-        ensures completion { completion_view self.new ≡ completion_view self.old }
-        ensures same { IsSame self.old self.new }
-        ensures aside { IsAsideOnce self.old self.new }
         ensures steps { TakesAtMost 6 (submission_view self.old) (submission_view self.new) }
     {
         let answer = self.submission.push(number);
@@ -262,21 +230,9 @@ impl<'a> LoanSender<'a> {
     /// Takes the oldest value that the receiver gave back, and makes the index Free if it is Sent. Any other value
     /// changes nothing. None where nothing waits, and then nothing changes. At most 9 atomic steps.
     pub fn take_back(&mut self) -> Option<u64>
-        ensures back { IfSome result
-            (λ y. places_of self.new ≡ returned y (places_of self.old)) }
-        ensures goes { Goes (completion_view self.old) (completion_view self.new) }
-        ensures popped { IfSome result
-            (λ y. PopDone (Index y) (completion_view self.old) (completion_view self.new)) }
-        ensures freed { IfSome result (λ y. InTurn HasFreed (sent_back y (places_of self.old))
-            (pass_view self.old) (pass_view self.new)) }
-        ensures none { IfNone result (places_of self.new ≡ places_of self.old) }
-        ensures kept { IfNone result (pass_view self.new ≡ pass_view self.old) }
-        ensures empty { IfNone result
-            (PopEmpty (completion_view self.old) (completion_view self.new)) }
-        ensures submission { submission_view self.new ≡ submission_view self.old }
-        ensures same { IsSame self.old self.new }
-        ensures aside { IsAsideOnce self.old self.new }
-        ensures share { share_of self.new ≡ share_of self.old }
+        ensures same { TakeBackKeeps self.old self.new }
+        ensures back { IfSome result (λ y. TakeBackDone y self.old self.new) }
+        ensures none { IfNone result (TakeBackNone self.old self.new) }
         ensures steps { TakesAtMost 5 (pass_view self.old) (pass_view self.new) }
         ensures queue_steps { TakesAtMost 4 (completion_view self.old) (completion_view self.new) }
     {
@@ -293,14 +249,8 @@ impl<'a> LoanSender<'a> {
     /// At most 5 atomic steps for each index that is freed.
     pub fn reclaim(&mut self, rt: &impl Wait, receiver: &mut overflow::Consumer<'_>) -> usize
         requires { sends.consumer_queue receiver.old ≡ submission_of self.old }
-        ensures places { places_of self.new ≡ map reclaimed (places_of self.old) }
-        ensures number { result ≡ count_by is_sent (places_of self.old) }
-        ensures freed { InTurn HasFreed (all_sent (places_of self.old)) (pass_view self.old) (pass_view self.new) }
-        ensures goes { Goes (completion_view self.old) (completion_view self.new) }
-        ensures emptied { HasEmptied (completion_view self.old) (completion_view self.new) }
-        ensures submission { submission_view self.new ≡ submission_view self.old }
-        ensures same { IsSame self.old self.new }
-        ensures share { share_of self.new ≡ share_of self.old }
+        ensures same { ReclaimKeeps self.old self.new }
+        ensures reclaimed { ReclaimDone result self.old self.new }
         ensures receiver { SameConsumerByCapacity receiver.old receiver.new }
         ensures receiver_emptied { 0 < (sends.consumer_queue receiver.old).capacity
             → HasEmptied (sends.consumer_view receiver.old) (sends.consumer_view receiver.new) }

@@ -2,18 +2,13 @@
 //! end of the generation counter nothing is added and nothing locks any more. An add that meets the lock after it has
 //! given the index its owner leaves it that owner and places no value; what an earlier owner's remove has not hidden
 //! yet stands there still.
-ghost use Rattle.std.specs.Prelude.{◌≡◌, ◌+◌, ◌≤◌, true, Err, IfOk, IfErr, OnOk};
+ghost use Rattle.std.specs.Prelude.{◌≡◌, ◌+◌, true, Err, IfOk, IfErr, OnOk};
 ghost use Rattle.steps.specs.declared.container.enums.ContainerAddFailure.TheVariants.{IsLocked as Locked};
-ghost use Rattle.steps.specs.declared.container.enums.ContainerRemoveError.TheVariants.{ContainerHandleNotOwnedByContainer as NotOwned};
-ghost use Rattle.model.specs.Families.Container.Calls.{removed, replaced};
 ghost use Rattle.model.specs.Families.Indices.Reading.{is_locked};
-ghost use Rattle.history.specs.ContainerLooks.{KeepsState};
-ghost use Rattle.lock_free_owners.specs.Robust.Contracts.{WasFilled, WasGranted, WasFreed, HasReleased, FoundLock};
+ghost use Rattle.lock_free_owners.specs.Container.Calls.{KeepsPass, KeepsPassIf, AddDone, AddRefused, RemoveDone, RemoveRefused};
+ghost use Rattle.lock_free_owners.specs.Container.Calls.{ReplaceDone, ReplaceRefused, LenDone, IsEmptyDone, IsLockedDone};
 ghost use Rattle.lock_free_owners.specs.Container.Steps.{TakesFew, ContainerTakes, RemoveTakes};
-ghost use Rattle.lock_free_owners.specs.Container.Contracts.{placed, HasAdded, HasRemoved, HasReplaced, HasCounted};
-ghost use Rattle.lock_free_owners.specs.Container.Contracts.{HasTested, HasLooked, WasNotAdded, IsRightLength};
-ghost use Rattle.lock_free_owners.specs.Container.Contracts.{IsRightLook, IsRightRemove, IsRightReplace, IsRightTest};
-ghost use Rattle.lock_free_owners.specs.Container.Names.{view, history, container_of, capacity_of, IsPassOf, IsHandleFor, IsOwn, SamePass};
+ghost use Rattle.lock_free_owners.specs.Container.Names.{view, history, capacity_of, IsPassOf, IsOwn};
 
 use super::counts::count_all;
 use super::drives::{Adds, HowMany, LooksLocked, Removes, Replaces, WhetherNone};
@@ -43,14 +38,10 @@ impl<T: Words> Container<T> {
         pass: &mut Pass<T>,
     ) -> Result<ContainerHandle, ContainerAddFailure>
         requires { IsPassOf self.now pass.old }
-        ensures same { SamePass pass.old pass.new }
-        ensures keeps { KeepsState (view pass.old) (view pass.new) }
-        ensures handle { IfOk result (IsHandleFor self.now owner) }
-        ensures added { HasAdded (record { value = value; owner = owner }) (placed result)
-            (view pass.old) (view pass.new) }
-        ensures filled { IfOk result (λ h. WasFilled h.index owner (view pass.old) (view pass.new)) }
-        ensures granted { IfOk result (λ h. WasGranted h.index owner (view pass.old) (view pass.new)) }
-        ensures refused { IfErr result (λ e. WasNotAdded value owner e
+        ensures same { KeepsPass pass.old pass.new }
+        ensures added { IfOk result (λ handle. AddDone self.now (record { value = value; owner = owner }) handle
+            (view pass.old) (view pass.new)) }
+        ensures refused { IfErr result (λ failure. AddRefused (record { value = value; owner = owner }) failure
             (view pass.old) (view pass.new)) }
         ensures lock { is_locked (history pass.old) ≡ true → result ≡ Err Locked }
         ensures steps { ContainerTakes (capacity_of self.now + 7 + T.WORDS) (capacity_of self.now + 1)
@@ -87,18 +78,10 @@ impl<T: Words> Container<T> {
         pass: &mut Pass<T>,
     ) -> Result<ReleaseState, ContainerRemoveError>
         requires { IsPassOf self.now pass.old }
-        ensures container { container_of pass.new ≡ container_of pass.old }
-        ensures foreign { (IsOwn self.now handle → ⊥)
-            → (result ≡ Err NotOwned) × (view pass.new ≡ view pass.old) }
-        ensures same { IsOwn self.now handle → SamePass pass.old pass.new }
-        ensures keeps { IsOwn self.now handle → KeepsState (view pass.old) (view pass.new) }
-        ensures own { OnOk result (IsOwn self.now handle) }
-        ensures removed { IsOwn self.now handle → HasRemoved
-            (record { index = handle.index; owner = handle.owner; mode = mode }) result (view pass.old) (view pass.new) }
-        ensures freed { OnOk result (WasFreed handle.index handle.owner (view pass.old) (view pass.new)) }
-        ensures answered { IsOwn self.now handle → IsRightRemove
-            (record { index = handle.index; owner = handle.owner; mode = mode }) result (view pass.old) (view pass.new) }
-        ensures released { IfOk result (λ s. HasReleased s mode (view pass.old) (view pass.new)) }
+        ensures same { KeepsPassIf (IsOwn self.now handle) pass.old pass.new }
+        ensures removed { IfOk result (λ state. RemoveDone self.now handle mode state (view pass.old) (view pass.new)) }
+        ensures refused { IfErr result (λ failure. RemoveRefused self.now handle mode failure
+            (view pass.old) (view pass.new)) }
         ensures steps { IsOwn self.now handle → RemoveTakes (capacity_of self.now) mode
             (view pass.old) (view pass.new) }
     {
@@ -129,17 +112,10 @@ impl<T: Words> Container<T> {
         pass: &mut Pass<T>,
     ) -> Result<(), ContainerRemoveError>
         requires { IsPassOf self.now pass.old }
-        ensures container { container_of pass.new ≡ container_of pass.old }
-        ensures foreign { (IsOwn self.now handle → ⊥)
-            → (result ≡ Err NotOwned) × (view pass.new ≡ view pass.old) }
-        ensures same { IsOwn self.now handle → SamePass pass.old pass.new }
-        ensures keeps { IsOwn self.now handle → KeepsState (view pass.old) (view pass.new) }
-        ensures own { OnOk result (IsOwn self.now handle) }
-        ensures replaced { IsOwn self.now handle → HasReplaced
-            (record { index = handle.index; owner = handle.owner; value = value }) result
-            (view pass.old) (view pass.new) }
-        ensures answered { IsOwn self.now handle → IsRightReplace
-            (record { index = handle.index; owner = handle.owner; value = value }) result (view pass.old) (view pass.new) }
+        ensures same { KeepsPassIf (IsOwn self.now handle) pass.old pass.new }
+        ensures replaced { OnOk result (ReplaceDone self.now handle value (view pass.old) (view pass.new)) }
+        ensures refused { IfErr result (λ failure. ReplaceRefused self.now handle value failure
+            (view pass.old) (view pass.new)) }
         ensures steps { IsOwn self.now handle → TakesFew (5 + T.WORDS) (view pass.old) (view pass.new) }
     {
         if handle.container != self.id || handle.index >= self.capacity {
@@ -163,12 +139,8 @@ impl<T: Words> Container<T> {
     /// Alone at most capacity + 2 atomic steps. After `len` of the Rust crate.
     pub fn len(&self, rt: &impl Wait, pass: &mut Pass<T>) -> usize
         requires { IsPassOf self.now pass.old }
-        ensures same { SamePass pass.old pass.new }
-        ensures keeps { KeepsState (view pass.old) (view pass.new) }
-        ensures counted { HasCounted result (view pass.old) (view pass.new) }
-        ensures answered { IsRightLength result (view pass.old) (view pass.new) }
-        ensures most { result ≤ capacity_of self.now }
-        ensures lock { is_locked (history pass.old) ≡ true → result ≡ 0 }
+        ensures same { KeepsPass pass.old pass.new }
+        ensures counted { LenDone (capacity_of self.now) result (view pass.old) (view pass.new) }
         ensures steps { ContainerTakes (capacity_of self.now + 2)
             (capacity_of self.now + 2) (view pass.old) (view pass.new) }
     {
@@ -179,11 +151,8 @@ impl<T: Words> Container<T> {
     /// Rust crate.
     pub fn is_empty(&self, rt: &impl Wait, pass: &mut Pass<T>) -> bool
         requires { IsPassOf self.now pass.old }
-        ensures same { SamePass pass.old pass.new }
-        ensures keeps { KeepsState (view pass.old) (view pass.new) }
-        ensures tested { HasTested result (view pass.old) (view pass.new) }
-        ensures answered { IsRightTest result (view pass.old) (view pass.new) }
-        ensures lock { is_locked (history pass.old) ≡ true → result ≡ true }
+        ensures same { KeepsPass pass.old pass.new }
+        ensures tested { IsEmptyDone result (view pass.old) (view pass.new) }
         ensures steps { ContainerTakes (capacity_of self.now + 2)
             (capacity_of self.now + 2) (view pass.old) (view pass.new) }
     {
@@ -194,11 +163,8 @@ impl<T: Words> Container<T> {
     /// step. After `is_locked` of the Rust crate.
     pub fn is_locked(&self, pass: &mut Pass<T>) -> bool
         requires { IsPassOf self.now pass.old }
-        ensures same { SamePass pass.old pass.new }
-        ensures keeps { KeepsState (view pass.old) (view pass.new) }
-        ensures looked { HasLooked result (view pass.old) (view pass.new) }
-        ensures answered { IsRightLook result (view pass.old) (view pass.new) }
-        ensures lock { FoundLock result (view pass.old) (view pass.new) }
+        ensures same { KeepsPass pass.old pass.new }
+        ensures looked { IsLockedDone result (view pass.old) (view pass.new) }
         ensures steps { TakesFew 1 (view pass.old) (view pass.new) }
     {
         pass.token

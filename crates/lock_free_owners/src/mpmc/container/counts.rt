@@ -2,7 +2,7 @@
 ghost use Rattle.std.specs.Prelude.{◌≡◌, ℕ};
 ghost use Rattle.steps.specs.Indices.Robust.Looks.{first_borrowed, borrowed_after};
 ghost use Rattle.steps.specs.declared.indices.robust.parts.Count.TheVariants as stages;
-ghost use Rattle.model.specs.Coding.{coding_of};
+ghost use Rattle.model.specs.Coding.{coding_by};
 ghost use Rattle.threaded.specs.Seats.{seen, IsSame};
 ghost use Rattle.lock_free_owners.specs.Container.Turns.{IsBoard, CountAt, CountEnds, CountStands, CountGoes};
 
@@ -22,11 +22,11 @@ fn step_count<T: Words, W: Counting>(
     call: BorrowedIndices,
 ) -> After<BorrowedIndices, usize>
     requires board { IsBoard T.WORDS seat.old }
-    requires at { CountStands (coding_of T.WORDS T.words_of T.value_of) W.which (seen seat.old) call }
+    requires at { CountStands (coding_by T.Words) W.which (seen seat.old) call }
     ensures same { IsSame seat.old seat.new }
     ensures board { IsBoard T.WORDS seat.new }
     ensures after { (k : ℕ) × (result ≡ borrowed_after call k) }
-    ensures goes { CountGoes (coding_of T.WORDS T.words_of T.value_of) W.which (seen seat.old) call result (seen seat.new) }
+    ensures goes { CountGoes (coding_by T.Words) W.which (seen seat.old) call result (seen seat.new) }
 {
     seat.step::<BorrowedIndices, Counts<W>>(call, &(), &mut ())
 }
@@ -41,11 +41,11 @@ fn count_cells<T: Words, W: Counting>(
     filled: usize,
 ) -> After<BorrowedIndices, usize>
     requires board { IsBoard T.WORDS seat.old }
-    requires at { CountStands (coding_of T.WORDS T.words_of T.value_of) W.which (seen seat.old)
+    requires at { CountStands (coding_by T.Words) W.which (seen seat.old)
         (record { capacity = capacity; count = stages.LoadsCell counter first filled }) }
     ensures same { IsSame seat.old seat.new }
     ensures board { IsBoard T.WORDS seat.new }
-    ensures goes { CountGoes (coding_of T.WORDS T.words_of T.value_of) W.which (seen seat.old)
+    ensures goes { CountGoes (coding_by T.Words) W.which (seen seat.old)
         (record { capacity = capacity; count = stages.LoadsCell counter first filled }) result (seen seat.new) }
 {
     let mut cell = first;
@@ -82,10 +82,10 @@ fn count_next<T: Words, W: Counting>(
     call: BorrowedIndices,
 ) -> After<BorrowedIndices, usize>
     requires board { IsBoard T.WORDS seat.old }
-    requires at { CountStands (coding_of T.WORDS T.words_of T.value_of) W.which (seen seat.old) call }
+    requires at { CountStands (coding_by T.Words) W.which (seen seat.old) call }
     ensures same { IsSame seat.old seat.new }
     ensures board { IsBoard T.WORDS seat.new }
-    ensures goes { CountGoes (coding_of T.WORDS T.words_of T.value_of) W.which (seen seat.old) call result (seen seat.new) }
+    ensures goes { CountGoes (coding_by T.Words) W.which (seen seat.old) call result (seen seat.new) }
 {
     let count = call.count;
     match count {
@@ -106,10 +106,10 @@ pub(crate) fn count_all<T: Words, W: Counting>(
     capacity: u32,
 ) -> usize
     requires board { IsBoard T.WORDS seat.old }
-    requires at { CountAt (coding_of T.WORDS T.words_of T.value_of) W.which (seen seat.old) (seen seat.old) (first_borrowed capacity) tt }
+    requires at { CountAt (coding_by T.Words) W.which (seen seat.old) (seen seat.old) (first_borrowed capacity) tt }
     ensures same { IsSame seat.old seat.new }
     ensures board { IsBoard T.WORDS seat.new }
-    ensures ends { CountEnds (coding_of T.WORDS T.words_of T.value_of) W.which (seen seat.old) result tt (seen seat.new) }
+    ensures ends { CountEnds (coding_by T.Words) W.which (seen seat.old) result tt (seen seat.new) }
 {
     // The first turns stand by themselves, so that a compiler sees at each of them the call's stage.
     let first = step_count::<T, W>(seat, BorrowedIndices::new(capacity));

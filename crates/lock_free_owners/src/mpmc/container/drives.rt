@@ -1,6 +1,6 @@
 //! What the calls and the looks say of the views at their steps. These types are for the proofs alone.
 ghost use Rattle.std.specs.Prelude.{[]};
-ghost use Rattle.model.specs.Coding.{coding_of};
+ghost use Rattle.model.specs.Coding.{coding_by};
 ghost use Rattle.model.specs.declared.turn.Kind.TheVariants as kinds;
 
 use history::view::View;
@@ -20,9 +20,9 @@ pub struct Adds;
 impl<T: Words> Drives<View<T>, Add<T>> for Adds {
     ghost use Rattle.lock_free_owners.specs.Container.Turns.{AddAt, AddEnds};
 
-    ghost at = { AddAt (coding_of T.WORDS T.words_of T.value_of) };
+    ghost at = { AddAt (coding_by T.Words) };
 
-    ghost ends = { AddEnds (coding_of T.WORDS T.words_of T.value_of) };
+    ghost ends = { AddEnds (coding_by T.Words) };
 
     #[inline(always)]
     fn repeats(call: Add<T>) -> bool {
@@ -41,9 +41,9 @@ pub struct Removes;
 impl<T: Words> Drives<View<T>, Remove> for Removes {
     ghost use Rattle.lock_free_owners.specs.Container.Turns.{RemoveAt, RemoveEnds};
 
-    ghost at = { RemoveAt (coding_of T.WORDS T.words_of T.value_of) };
+    ghost at = { RemoveAt (coding_by T.Words) };
 
-    ghost ends = { RemoveEnds (coding_of T.WORDS T.words_of T.value_of) };
+    ghost ends = { RemoveEnds (coding_by T.Words) };
 }
 
 /// Replacing a value.
@@ -52,9 +52,9 @@ pub struct Replaces;
 impl<T: Words> Drives<View<T>, Replace<T>> for Replaces {
     ghost use Rattle.lock_free_owners.specs.Container.Turns.{ReplaceAt, ReplaceEnds};
 
-    ghost at = { ReplaceAt (coding_of T.WORDS T.words_of T.value_of) };
+    ghost at = { ReplaceAt (coding_by T.Words) };
 
-    ghost ends = { ReplaceEnds (coding_of T.WORDS T.words_of T.value_of) };
+    ghost ends = { ReplaceEnds (coding_by T.Words) };
 }
 
 /// What a count is for.
@@ -90,9 +90,9 @@ pub struct Counts<W> {
 impl<T: Words, W: Counting> Drives<View<T>, BorrowedIndices> for Counts<W> {
     ghost use Rattle.lock_free_owners.specs.Container.Turns.{CountAt, CountEnds};
 
-    ghost at = { λ given. CountAt (coding_of T.WORDS T.words_of T.value_of) W.which };
+    ghost at = { λ given. CountAt (coding_by T.Words) W.which };
 
-    ghost ends = { λ given. CountEnds (coding_of T.WORDS T.words_of T.value_of) W.which };
+    ghost ends = { λ given. CountEnds (coding_by T.Words) W.which };
 }
 
 /// Looking at the lock.
@@ -101,9 +101,9 @@ pub struct LooksLocked;
 impl<T: Words> Drives<View<T>, IsLocked> for LooksLocked {
     ghost use Rattle.lock_free_owners.specs.Container.Turns.{LockAt, LockEnds};
 
-    ghost at = { λ given. LockAt (coding_of T.WORDS T.words_of T.value_of) };
+    ghost at = { λ given. LockAt (coding_by T.Words) };
 
-    ghost ends = { λ given. LockEnds (coding_of T.WORDS T.words_of T.value_of) };
+    ghost ends = { λ given. LockEnds (coding_by T.Words) };
 }
 
 /// As which call a look begins, from which view, and with what its state shows. Its caller picks it.
@@ -139,9 +139,9 @@ pub struct Looks<B> {
 impl<T: Words, B: Beginning<T>> Drives<View<T>, Look<T>> for Looks<B> {
     ghost use Rattle.lock_free_owners.specs.Container.LookTurns.{LookAt, LookOver};
 
-    ghost at = { λ given base. LookAt (coding_of T.WORDS T.words_of T.value_of) B.which B.from B.shown given };
+    ghost at = { λ given base. LookAt (coding_by T.Words) B.which B.from B.shown given };
 
-    ghost ends = { λ given base. LookOver (coding_of T.WORDS T.words_of T.value_of) B.which B.from B.shown given };
+    ghost ends = { λ given base. LookOver (coding_by T.Words) B.which B.from B.shown given };
 }
 
 /// The same, once a change was found.
@@ -152,9 +152,9 @@ pub struct LooksOn<B> {
 impl<T: Words, B: Beginning<T>> Drives<View<T>, Look<T>> for LooksOn<B> {
     ghost use Rattle.lock_free_owners.specs.Container.LookTurns.{LookOnAt, LookOnOver};
 
-    ghost at = { λ given base. LookOnAt (coding_of T.WORDS T.words_of T.value_of) B.which B.from B.shown given };
+    ghost at = { λ given base. LookOnAt (coding_by T.Words) B.which B.from B.shown given };
 
-    ghost ends = { λ given base. LookOnOver (coding_of T.WORDS T.words_of T.value_of) B.which B.from B.shown given };
+    ghost ends = { λ given base. LookOnOver (coding_by T.Words) B.which B.from B.shown given };
 }
 
 /// The end of a call that rests, or a load that leaves what is known.
@@ -163,7 +163,7 @@ pub struct Settle;
 impl<T: Words> Tells<View<T>> for Settle {
     ghost use Rattle.lock_free_owners.specs.Container.Settling.{HasSettled};
 
-    ghost told = { λ old found new. HasSettled (coding_of T.WORDS T.words_of T.value_of) old new };
+    ghost told = { λ old found new. HasSettled (coding_by T.Words) old new };
 }
 
 /// A look at the whole history.
@@ -173,5 +173,5 @@ impl<T: Words> Tells<View<T>> for Glance {
     ghost use Rattle.history.specs.Views.{LooksOnce};
 
     ghost told = { λ old found new.
-        LooksOnce (coding_of T.WORDS T.words_of T.value_of) kinds.Container old.capacity old new };
+        LooksOnce (coding_by T.Words) kinds.Container old.capacity old new };
 }

@@ -1,7 +1,7 @@
 //! The loops of a look that has found a change. One goes over the elements, one over the words of an element.
 ghost use Rattle.std.specs.Prelude.{◌≡◌, ◌⊎◌, ℕ};
 ghost use Rattle.steps.specs.Container.Look.{look_after};
-ghost use Rattle.model.specs.Coding.{coding_of};
+ghost use Rattle.model.specs.Coding.{coding_by};
 ghost use Rattle.threaded.specs.Seats.{seen, IsSame};
 ghost use Rattle.lock_free_owners.specs.Container.LookTurns.{IsOnHistory, LookOnAt, LookOnOver, LookOnGoes, at_count, at_word};
 ghost use Rattle.lock_free_owners.specs.Container.Turns.{IsBoard};
@@ -24,14 +24,14 @@ fn step_on<T: Words, B: Beginning<T>>(
     room: &mut Shown<T>,
 ) -> After<Look<T>, bool>
     requires board { IsBoard T.WORDS seat.old }
-    requires decided { IsOnHistory (coding_of T.WORDS T.words_of T.value_of) B.which B.from B.shown given.now
-        ⊎ (IsOnHistory (coding_of T.WORDS T.words_of T.value_of) B.which B.from B.shown given.now → ⊥) }
-    requires at { LookOnAt (coding_of T.WORDS T.words_of T.value_of) B.which B.from B.shown given.now (seen seat.old)
+    requires decided { IsOnHistory (coding_by T.Words) B.which B.from B.shown given.now
+        ⊎ (IsOnHistory (coding_by T.Words) B.which B.from B.shown given.now → ⊥) }
+    requires at { LookOnAt (coding_by T.Words) B.which B.from B.shown given.now (seen seat.old)
         call room.old }
     ensures same { IsSame seat.old seat.new }
     ensures board { IsBoard T.WORDS seat.new }
     ensures taken { (n : ℕ) × (result ≡ look_after T.WORDS call given.now n) }
-    ensures goes { LookOnGoes (coding_of T.WORDS T.words_of T.value_of) B.which B.from B.shown given.now result room.new
+    ensures goes { LookOnGoes (coding_by T.Words) B.which B.from B.shown given.now result room.new
         (seen seat.new) }
 {
     seat.step::<Look<T>, LooksOn<B>>(call, given, room)
@@ -48,13 +48,13 @@ fn pass_over<T: Words, B: Beginning<T>>(
     room: &mut Shown<T>,
 ) -> After<Look<T>, bool>
     requires board { IsBoard T.WORDS seat.old }
-    requires decided { IsOnHistory (coding_of T.WORDS T.words_of T.value_of) B.which B.from B.shown given.now
-        ⊎ (IsOnHistory (coding_of T.WORDS T.words_of T.value_of) B.which B.from B.shown given.now → ⊥) }
-    requires at { LookOnAt (coding_of T.WORDS T.words_of T.value_of) B.which B.from B.shown given.now (seen seat.old)
+    requires decided { IsOnHistory (coding_by T.Words) B.which B.from B.shown given.now
+        ⊎ (IsOnHistory (coding_by T.Words) B.which B.from B.shown given.now → ⊥) }
+    requires at { LookOnAt (coding_by T.Words) B.which B.from B.shown given.now (seen seat.old)
         (at_count capacity first) room.old }
     ensures same { IsSame seat.old seat.new }
     ensures board { IsBoard T.WORDS seat.new }
-    ensures goes { LookOnGoes (coding_of T.WORDS T.words_of T.value_of) B.which B.from B.shown given.now result room.new
+    ensures goes { LookOnGoes (coding_by T.Words) B.which B.from B.shown given.now result room.new
         (seen seat.new) }
 {
     let mut index = first;
@@ -83,13 +83,13 @@ fn copy_words<T: Words, B: Beginning<T>>(
     room: &mut Shown<T>,
 ) -> After<Look<T>, bool>
     requires board { IsBoard T.WORDS seat.old }
-    requires decided { IsOnHistory (coding_of T.WORDS T.words_of T.value_of) B.which B.from B.shown given.now
-        ⊎ (IsOnHistory (coding_of T.WORDS T.words_of T.value_of) B.which B.from B.shown given.now → ⊥) }
-    requires at { LookOnAt (coding_of T.WORDS T.words_of T.value_of) B.which B.from B.shown given.now (seen seat.old)
+    requires decided { IsOnHistory (coding_by T.Words) B.which B.from B.shown given.now
+        ⊎ (IsOnHistory (coding_by T.Words) B.which B.from B.shown given.now → ⊥) }
+    requires at { LookOnAt (coding_by T.Words) B.which B.from B.shown given.now (seen seat.old)
         (at_word capacity index count first) room.old }
     ensures same { IsSame seat.old seat.new }
     ensures board { IsBoard T.WORDS seat.new }
-    ensures goes { LookOnGoes (coding_of T.WORDS T.words_of T.value_of) B.which B.from B.shown given.now result room.new
+    ensures goes { LookOnGoes (coding_by T.Words) B.which B.from B.shown given.now result room.new
         (seen seat.new) }
 {
     let mut at = first;
@@ -115,13 +115,13 @@ fn pass_first<T: Words, B: Beginning<T>>(
     room: &mut Shown<T>,
 ) -> After<Look<T>, bool>
     requires board { IsBoard T.WORDS seat.old }
-    requires decided { IsOnHistory (coding_of T.WORDS T.words_of T.value_of) B.which B.from B.shown given.now
-        ⊎ (IsOnHistory (coding_of T.WORDS T.words_of T.value_of) B.which B.from B.shown given.now → ⊥) }
-    requires at { LookOnAt (coding_of T.WORDS T.words_of T.value_of) B.which B.from B.shown given.now (seen seat.old)
+    requires decided { IsOnHistory (coding_by T.Words) B.which B.from B.shown given.now
+        ⊎ (IsOnHistory (coding_by T.Words) B.which B.from B.shown given.now → ⊥) }
+    requires at { LookOnAt (coding_by T.Words) B.which B.from B.shown given.now (seen seat.old)
         call room.old }
     ensures same { IsSame seat.old seat.new }
     ensures board { IsBoard T.WORDS seat.new }
-    ensures goes { LookOnGoes (coding_of T.WORDS T.words_of T.value_of) B.which B.from B.shown given.now result room.new
+    ensures goes { LookOnGoes (coding_by T.Words) B.which B.from B.shown given.now result room.new
         (seen seat.new) }
 {
     match call.stage {
@@ -145,13 +145,13 @@ fn copy_first<T: Words, B: Beginning<T>>(
     room: &mut Shown<T>,
 ) -> After<Look<T>, bool>
     requires board { IsBoard T.WORDS seat.old }
-    requires decided { IsOnHistory (coding_of T.WORDS T.words_of T.value_of) B.which B.from B.shown given.now
-        ⊎ (IsOnHistory (coding_of T.WORDS T.words_of T.value_of) B.which B.from B.shown given.now → ⊥) }
-    requires at { LookOnAt (coding_of T.WORDS T.words_of T.value_of) B.which B.from B.shown given.now (seen seat.old)
+    requires decided { IsOnHistory (coding_by T.Words) B.which B.from B.shown given.now
+        ⊎ (IsOnHistory (coding_by T.Words) B.which B.from B.shown given.now → ⊥) }
+    requires at { LookOnAt (coding_by T.Words) B.which B.from B.shown given.now (seen seat.old)
         call room.old }
     ensures same { IsSame seat.old seat.new }
     ensures board { IsBoard T.WORDS seat.new }
-    ensures goes { LookOnGoes (coding_of T.WORDS T.words_of T.value_of) B.which B.from B.shown given.now result room.new
+    ensures goes { LookOnGoes (coding_by T.Words) B.which B.from B.shown given.now result room.new
         (seen seat.new) }
 {
     match call.stage {
@@ -171,13 +171,13 @@ pub(crate) fn look_on<T: Words, B: Beginning<T>>(
     room: &mut Shown<T>,
 ) -> bool
     requires board { IsBoard T.WORDS seat.old }
-    requires decided { IsOnHistory (coding_of T.WORDS T.words_of T.value_of) B.which B.from B.shown given.now
-        ⊎ (IsOnHistory (coding_of T.WORDS T.words_of T.value_of) B.which B.from B.shown given.now → ⊥) }
-    requires at { LookOnAt (coding_of T.WORDS T.words_of T.value_of) B.which B.from B.shown given.now (seen seat.old)
+    requires decided { IsOnHistory (coding_by T.Words) B.which B.from B.shown given.now
+        ⊎ (IsOnHistory (coding_by T.Words) B.which B.from B.shown given.now → ⊥) }
+    requires at { LookOnAt (coding_by T.Words) B.which B.from B.shown given.now (seen seat.old)
         first room.old }
     ensures same { IsSame seat.old seat.new }
     ensures board { IsBoard T.WORDS seat.new }
-    ensures end { LookOnOver (coding_of T.WORDS T.words_of T.value_of) B.which B.from B.shown given.now result room.new
+    ensures end { LookOnOver (coding_by T.Words) B.which B.from B.shown given.now result room.new
         (seen seat.new) }
 {
     let mut call = first;

@@ -5,16 +5,15 @@
 ghost use Rattle.std.specs.Prelude.{◌≡◌, ◌⊎◌, ◌<◌, ◌↔◌, IsTrue, IsFalse, IfOk, IfErr};
 ghost use Rattle.steps.specs.Container.Look.{first_look};
 ghost use Rattle.steps.specs.declared.ask.After.TheVariants.{Done};
-ghost use Rattle.model.specs.Coding.{coding_of};
+ghost use Rattle.model.specs.Coding.{coding_by};
 ghost use Rattle.model.specs.Families.Container.Calls.{settled_if};
 ghost use Rattle.threaded.specs.Seats.{seen, IsSame};
-ghost use Rattle.history.specs.ContainerLooks.{ShowsCopied};
 ghost use Rattle.lock_free_owners.specs.Container.Bare.{IsCounted};
+ghost use Rattle.lock_free_owners.specs.Container.Calls.{GetStateDone, UpdateDone, UpdateKeeps};
 ghost use Rattle.lock_free_owners.specs.Container.LookTurns.{IsOnHistory, LookAt, LookOver};
 ghost use Rattle.lock_free_owners.specs.Container.Steps.{LookTakes};
 ghost use Rattle.lock_free_owners.specs.Container.Turns.{IsBoard};
-ghost use Rattle.lock_free_owners.specs.Container.Contracts.{HasGotState, HasUpdatedState, HasMet};
-ghost use Rattle.lock_free_owners.specs.Container.Names.{view, code_of, container_of, capacity_of, IsPassOf, IsStateOf, IsLeft, IsLatestState, SamePass};
+ghost use Rattle.lock_free_owners.specs.Container.Names.{view, container_of, capacity_of, IsPassOf, IsStateOf, IsLeft, IsLatestState};
 
 use super::drives::{Beginning, Looks};
 use super::elements::look_on;
@@ -38,13 +37,13 @@ fn bring_up<T: Words, B: Beginning<T>>(
     requires known { (seen seat.old).capacity ≡ capacity }
     requires some { 0 < capacity }
     requires from { B.from ≡ seen seat.old }
-    requires decided { IsOnHistory (coding_of T.WORDS T.words_of T.value_of) B.which B.from B.shown state.old.seen
-        ⊎ (IsOnHistory (coding_of T.WORDS T.words_of T.value_of) B.which B.from B.shown state.old.seen → ⊥) }
-    requires at { LookAt (coding_of T.WORDS T.words_of T.value_of) B.which B.from B.shown state.old.seen
+    requires decided { IsOnHistory (coding_by T.Words) B.which B.from B.shown state.old.seen
+        ⊎ (IsOnHistory (coding_by T.Words) B.which B.from B.shown state.old.seen → ⊥) }
+    requires at { LookAt (coding_by T.Words) B.which B.from B.shown state.old.seen
         (seen seat.old) (first_look capacity) state.old.shown }
     ensures same { IsSame seat.old seat.new }
     ensures board { IsBoard T.WORDS seat.new }
-    ensures over { LookOver (coding_of T.WORDS T.words_of T.value_of) B.which B.from B.shown state.old.seen
+    ensures over { LookOver (coding_by T.Words) B.which B.from B.shown state.old.seen
         result state.new.shown (seen seat.new) }
     ensures state { state.new ≡ settled_if (Done result) (record state.old { shown = state.new.shown }) }
     ensures left { IsFalse result → IsLeft state.old state.new }
@@ -76,13 +75,9 @@ impl<T: Words> Container<T> {
     ) -> Result<ContainerState<T>, ContainerStateError>
         requires { IsPassOf self.now pass.old }
         ensures container { container_of pass.new ≡ container_of pass.old }
-        ensures same { IfOk result (λ s. SamePass pass.old pass.new) }
-        ensures got { IfOk result (λ s. HasGotState s (view pass.old) (view pass.new)) }
-        ensures latest { IfOk result (IsLatestState pass.new) }
-        ensures shows { IfOk result (λ s. ShowsCopied s.shown (view pass.new)) }
-        ensures refused { IfErr result (λ e. view pass.new ≡ view pass.old) }
-        ensures state { IfOk result (IsStateOf self.now) }
-        ensures steps { IfOk result (λ s. LookTakes T.WORDS (capacity_of self.now) (view pass.old) (view pass.new)) }
+        ensures got { IfOk result (λ state. GetStateDone self.now state pass.old pass.new) }
+        ensures refused { IfErr result (λ failure. view pass.new ≡ view pass.old) }
+        ensures steps { IfOk result (λ state. LookTakes T.WORDS (capacity_of self.now) (view pass.old) (view pass.new)) }
     {
         let mut state = ContainerState::new(self.alloc, self.id, self.capacity)?;
         bring_up::<T, Brand>(&mut pass.token.seated, rt, &mut state, pass.token.capacity);
@@ -103,15 +98,9 @@ impl<T: Words> Container<T> {
     ) -> bool
         requires pass { IsPassOf self.now pass.old }
         requires state { IsStateOf self.now state.old }
-        ensures container { container_of pass.new ≡ container_of pass.old }
-        ensures same { IsLatestState pass.old state.old → SamePass pass.old pass.new }
-        ensures updated { IsLatestState pass.old state.old
-            → HasUpdatedState result (view pass.old) (view pass.new) }
-        ensures met { IsLatestState pass.old state.old → HasMet result (view pass.old) (view pass.new) }
-        ensures latest { IsLatestState pass.old state.old → IsLatestState pass.new state.new }
-        ensures shows { IsLatestState pass.old state.old → ShowsCopied state.new.shown (view pass.new) }
+        ensures same { UpdateKeeps self.now pass.old pass.new state.new }
+        ensures updated { IsLatestState pass.old state.old → UpdateDone result state.new pass.old pass.new }
         ensures beside { (IsLatestState pass.old state.old → ⊥) → IsCounted (view pass.old) (view pass.new) }
-        ensures state { IsStateOf self.now state.new }
         ensures left { IsFalse result → IsLeft state.old state.new }
         ensures steps { IsLatestState pass.old state.old
             → LookTakes T.WORDS (capacity_of self.now) (view pass.old) (view pass.new) }

@@ -6,24 +6,21 @@ ghost use Rattle.std.specs.Prelude.{◌≡◌, ◌+◌, ◌<◌, ℕ, false, []}
 ghost use Rattle.steps.specs.Container.Recover.{first_recover};
 ghost use Rattle.steps.specs.Copied.{value_in};
 ghost use Rattle.steps.specs.declared.ask.Op.TheVariants.{Load};
-ghost use Rattle.model.specs.Coding.{coding_of};
+ghost use Rattle.model.specs.Coding.{coding_by};
 ghost use Rattle.model.specs.declared.turn.Kind.TheVariants as kinds;
 ghost use Rattle.model.specs.Families.Indices.Reading.{is_locked};
 ghost use Rattle.model.specs.Families.Queues.Calls.{fresh_cell};
-ghost use Rattle.history.specs.ContainerLooks.{KeepsState};
 ghost use Rattle.history.specs.History.{IsMachine};
 ghost use Rattle.threaded.specs.Driver.{OwesAsk};
 ghost use Rattle.threaded.specs.Seats.{seen, table_of, key_of, IsSame};
-ghost use Rattle.lock_free_owners.specs.Robust.Contracts.{FoundState};
 ghost use Rattle.lock_free_owners.specs.Container.Questions.{TakesValues};
-ghost use Rattle.lock_free_owners.specs.Container.RecoverContract.{HasRecovered};
+ghost use Rattle.lock_free_owners.specs.Container.Calls.{KeepsPass, RecoverDone};
 ghost use Rattle.lock_free_owners.specs.Container.RecoverTurns.{IsRecovered, RecoverAt, RecoverMay, RecoverGoes};
 ghost use Rattle.lock_free_owners.specs.Container.RecoverTurns.{RecoverTells, RecoverTurns, RecoverAsks, RecoverMoves};
 ghost use Rattle.lock_free_owners.specs.Container.RecoverTurns.{at_cell, RecoverPasses, HasPassed, IsWithin, PassesFrom};
 ghost use Rattle.lock_free_owners.specs.Container.Steps.{RecoverTakes};
-ghost use Rattle.lock_free_owners.specs.Container.Contracts.{IsRightRecovery};
 ghost use Rattle.lock_free_owners.specs.Container.Turns.{IsBoard};
-ghost use Rattle.lock_free_owners.specs.Container.Names.{view, history, capacity_of, IsPassOf, SamePass};
+ghost use Rattle.lock_free_owners.specs.Container.Names.{view, history, capacity_of, IsPassOf};
 
 use super::rule::Seat;
 use super::{Container, OwnerId, Pass};
@@ -48,10 +45,10 @@ fn step_recover<T: Words>(
     room: &mut Copied,
 ) -> After<Recover<T, Copied>, ReleaseState>
     requires board { IsBoard T.WORDS seat.old }
-    requires at { RecoverMay (coding_of T.WORDS T.words_of T.value_of) given (seen seat.old) call room.old }
+    requires at { RecoverMay (coding_by T.Words) given (seen seat.old) call room.old }
     ensures same { IsSame seat.old seat.new }
     ensures board { IsBoard T.WORDS seat.new }
-    ensures goes { RecoverGoes (coding_of T.WORDS T.words_of T.value_of) given (seen seat.old) call room.old
+    ensures goes { RecoverGoes (coding_by T.Words) given (seen seat.old) call room.old
         result room.new (seen seat.new) }
 {
     seat.step_telling::<Brand, Recover<T, Copied>>(call, &given, room)
@@ -68,7 +65,7 @@ fn load_for<T: Words, M: Tells<View<T>>>(
     _room: &Copied,
 ) -> u64
     requires owes { OwesAsk (λ (v : View T). v.asked)
-        (IsMachine (coding_of T.WORDS T.words_of T.value_of) kinds.Container (key_of seat.old))
+        (IsMachine (coding_by T.Words) kinds.Container (key_of seat.old))
         (table_of seat.old).words (table_of seat.old).slots seat.old.seat.id M.told (1 + cell) Load seat.old.seat.me }
     requires within { cell < _capacity }
     requires capacity { (v : View T) (n : ℕ) (w : View T) → M.told v n w → w.capacity ≡ v.capacity }
@@ -90,11 +87,11 @@ fn load_cell<T: Words>(
 ) -> u64
     requires board { IsBoard T.WORDS seat.old }
     requires within { cell < capacity }
-    requires at { RecoverMay (coding_of T.WORDS T.words_of T.value_of) given.now (seen seat.old)
+    requires at { RecoverMay (coding_by T.Words) given.now (seen seat.old)
         (at_cell capacity cell) room.now }
     ensures same { IsSame seat.old seat.new }
     ensures board { IsBoard T.WORDS seat.new }
-    ensures goes { RecoverTells (coding_of T.WORDS T.words_of T.value_of) given.now (at_cell capacity cell) room.now
+    ensures goes { RecoverTells (coding_by T.Words) given.now (at_cell capacity cell) room.now
         (seen seat.old) result (seen seat.new) }
 {
     load_for::<T, Brand>(seat, capacity, cell, given, room)
@@ -112,11 +109,11 @@ fn pass_over<T: Words>(
 ) -> Recover<T, Copied>
     requires board { IsBoard T.WORDS seat.old }
     requires within { first < capacity }
-    requires at { RecoverMay (coding_of T.WORDS T.words_of T.value_of) given.now (seen seat.old)
+    requires at { RecoverMay (coding_by T.Words) given.now (seen seat.old)
         (at_cell capacity first) room.now }
     ensures same { IsSame seat.old seat.new }
     ensures board { IsBoard T.WORDS seat.new }
-    ensures goes { RecoverPasses (coding_of T.WORDS T.words_of T.value_of) given.now (seen seat.old)
+    ensures goes { RecoverPasses (coding_by T.Words) given.now (seen seat.old)
         (at_cell capacity first) room.now result (seen seat.new) }
     ensures passed { HasPassed capacity first result }
 {
@@ -144,10 +141,10 @@ fn pass_others<T: Words>(
 ) -> Recover<T, Copied>
     requires board { IsBoard T.WORDS seat.old }
     requires within { IsWithin call.capacity call.stage }
-    requires at { RecoverMay (coding_of T.WORDS T.words_of T.value_of) given.now (seen seat.old) call room.now }
+    requires at { RecoverMay (coding_by T.Words) given.now (seen seat.old) call room.now }
     ensures same { IsSame seat.old seat.new }
     ensures board { IsBoard T.WORDS seat.new }
-    ensures goes { RecoverPasses (coding_of T.WORDS T.words_of T.value_of) given.now (seen seat.old) call room.now result
+    ensures goes { RecoverPasses (coding_by T.Words) given.now (seen seat.old) call room.now result
         (seen seat.new) }
     ensures passed { PassesFrom call call.stage result }
 {
@@ -179,11 +176,11 @@ fn recover_next<T: Words, F: FnMut(T) -> bool>(
     predicate: &mut F,
 ) -> After<Recover<T, Copied>, ReleaseState>
     requires board { IsBoard T.WORDS seat.old }
-    requires at { RecoverMay (coding_of T.WORDS T.words_of T.value_of) given (seen seat.old) call room.old }
+    requires at { RecoverMay (coding_by T.Words) given (seen seat.old) call room.old }
     requires asks { RecoverAsks F.pre call.stage (value_in T.value_of T.WORDS room.old.words) predicate.old }
     ensures same { IsSame seat.old seat.new }
     ensures board { IsBoard T.WORDS seat.new }
-    ensures turns { RecoverTurns (coding_of T.WORDS T.words_of T.value_of) given call.stage (seen seat.old) call
+    ensures turns { RecoverTurns (coding_by T.Words) given call.stage (seen seat.old) call
         room.old result room.new (seen seat.new) }
     ensures moves { RecoverMoves (λ p x b q. F.step p x b q) T.WORDS call given call.stage
         (value_in T.value_of T.WORDS room.old.words) predicate.old result predicate.new }
@@ -227,13 +224,13 @@ fn free_all<T: Words, F: FnMut(T) -> bool>(
 ) -> ReleaseState
     requires board { IsBoard T.WORDS seat.old }
     requires known { (seen seat.old).capacity ≡ capacity }
-    requires at { RecoverAt (coding_of T.WORDS T.words_of T.value_of) (record { owner = owner; mode = mode })
+    requires at { RecoverAt (coding_by T.Words) (record { owner = owner; mode = mode })
         (seen seat.old) (seen seat.old) (first_recover capacity) (fresh_cell, []) }
     requires questions { is_locked (seen seat.old).seen ≡ false → TakesValues F.pre
         (λ p x b q. F.step p x b q) capacity predicate.old }
     ensures same { IsSame seat.old seat.new }
     ensures board { IsBoard T.WORDS seat.new }
-    ensures recovered { IsRecovered (coding_of T.WORDS T.words_of T.value_of) (λ p x b q. F.step p x b q)
+    ensures recovered { IsRecovered (coding_by T.Words) (λ p x b q. F.step p x b q)
         (record { owner = owner; mode = mode }) result capacity predicate.old predicate.new (seen seat.old)
         (seen seat.new) }
 {
@@ -268,14 +265,10 @@ impl<T: Words> Container<T> {
         requires pass { IsPassOf self.now pass.old }
         requires questions { is_locked (history pass.old) ≡ false → TakesValues F.pre
             (λ p x b q. F.step p x b q) (capacity_of self.now) predicate.old }
-        ensures same { SamePass pass.old pass.new }
-        ensures keeps { KeepsState (view pass.old) (view pass.new) }
-        ensures recovered { HasRecovered (λ p x b q. F.step p x b q)
+        ensures same { KeepsPass pass.old pass.new }
+        ensures recovered { RecoverDone (λ p x b q. F.step p x b q)
             (record { owner = owner; mode = mode }) result (capacity_of self.now) predicate.old predicate.new
             (view pass.old) (view pass.new) }
-        ensures answered { IsRightRecovery (record { owner = owner; mode = mode }) result
-            (view pass.old) (view pass.new) }
-        ensures lock { FoundState result (view pass.old) (view pass.new) }
         ensures steps { RecoverTakes T.WORDS (capacity_of self.now) mode (view pass.old) (view pass.new) }
     {
         free_all(

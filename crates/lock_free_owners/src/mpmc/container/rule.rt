@@ -1,5 +1,5 @@
 //! The rule of a container's table: it is a machine of its kind, and one word more.
-ghost use Rattle.model.specs.Coding.{coding_of};
+ghost use Rattle.model.specs.Coding.{coding_by};
 ghost use Rattle.model.specs.declared.turn.Kind.TheVariants as kinds;
 
 use atomic_table::TableRule;
@@ -18,7 +18,7 @@ impl<T: Words> TableRule<(), View<T>, u64> for ContainerRule<T> {
     ghost use Rattle.history.specs.History.{IsMachine};
     ghost use Rattle.history.specs.Views.{first_view};
 
-    ghost holds = { λ capacity. IsMachine (coding_of T.WORDS T.words_of T.value_of) kinds.Container capacity };
+    ghost holds = { λ capacity. IsMachine (coding_by T.Words) kinds.Container capacity };
 
     ghost first = { first_view };
 }

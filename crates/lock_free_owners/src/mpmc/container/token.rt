@@ -3,7 +3,7 @@ ghost use Rattle.std.specs.Prelude.{◌≡◌, ◌<◌, ◌+◌, []};
 ghost use Rattle.steps.specs.Container.Layout.{total_words};
 ghost use Rattle.std.specs.Coded.{Coded-set};
 ghost use Rattle.model.specs.declared.turn.Kind.TheVariants as kinds;
-ghost use Rattle.model.specs.Coding.{coding_of};
+ghost use Rattle.model.specs.Coding.{coding_by};
 ghost use Rattle.threaded.specs.Seats.{key_of};
 ghost use Rattle.history.specs.History.{Knows};
 ghost use Rattle.history.proofs.KnownRuns.{knows_prop};
@@ -28,7 +28,7 @@ pub struct Held<T: Words, Q: TableRule<(), View<T>, u64>> {
     ghost idle: { IsIdle seated.seat.me.0 },
     ghost alone: { seated.seat.me.0.other ≡ [] },
     ghost some: { (0 < seated.seat.me.0.share.part) × (0 < seated.seat.me.0.share.parts) },
-    ghost knows: { Knows (coding_of T.WORDS T.words_of T.value_of) kinds.Container capacity seated.seat.me.0 } by { knows_prop (Coded-set T.code) (coding_of T.WORDS T.words_of T.value_of) kinds.Container capacity seated.seat.me.0 },
+    ghost knows: { Knows (coding_by T.Words) kinds.Container capacity seated.seat.me.0 } by { knows_prop (Coded-set T.code) (coding_by T.Words) kinds.Container capacity seated.seat.me.0 },
 }
 
 pub type Token<T> = Held<T, ContainerRule<T>>;

@@ -6,23 +6,22 @@ ghost use Rattle.std.specs.Prelude.{◌≡◌, ◌+◌, ◌<◌, ℕ, List, []};
 ghost use Rattle.steps.specs.Container.Find.{first_find};
 ghost use Rattle.steps.specs.Copied.{value_in};
 ghost use Rattle.steps.specs.declared.ask.Op.TheVariants.{Load};
-ghost use Rattle.model.specs.Coding.{coding_of};
+ghost use Rattle.model.specs.Coding.{coding_by};
 ghost use Rattle.model.specs.Families.Queues.Calls.{fresh_cell};
 ghost use Rattle.model.specs.declared.turn.Kind.TheVariants as kinds;
 ghost use Rattle.threaded.specs.Driver.{OwesAsk};
 ghost use Rattle.threaded.specs.Seats.{seen, table_of, key_of, IsSame};
-ghost use Rattle.history.specs.ContainerLooks.{KeepsState};
 ghost use Rattle.history.specs.History.{IsMachine};
-ghost use Rattle.history.specs.Passes.{Goes};
 ghost use Rattle.history.specs.Steps.{TakesAtMost};
 ghost use Rattle.lock_free_owners.specs.Container.Callable.{Visit, TakesVisits, HasFound};
+ghost use Rattle.lock_free_owners.specs.Container.Calls.{FindKeepsPass};
 ghost use Rattle.lock_free_owners.specs.Container.FindContract.{HasSearched, IsSearched};
 ghost use Rattle.lock_free_owners.specs.Container.FindTurns.{FindAt, FindMay, FindTells, FindGoes, FindTurns, IsAtWord};
 ghost use Rattle.lock_free_owners.specs.Container.FindTurns.{at_cell, FindPasses, HasPassed, IsWithin, PassesFrom};
-ghost use Rattle.lock_free_owners.specs.Container.Steps.{FewAside, FindTakes};
+ghost use Rattle.lock_free_owners.specs.Container.Steps.{FindTakes};
 ghost use Rattle.lock_free_owners.specs.Container.Turns.{IsBoard};
 ghost use Rattle.lock_free_owners.specs.Container.Visits.{IsNamed, FindAsks, FindMoves};
-ghost use Rattle.lock_free_owners.specs.Container.Names.{view, code_of, container_of, capacity_of, IsPassOf, IsHandleFor};
+ghost use Rattle.lock_free_owners.specs.Container.Names.{view, capacity_of, IsPassOf, IsHandleFor};
 
 use super::rule::Seat;
 use super::{CallbackProgression, Container, ContainerHandle, OwnerId, Pass};
@@ -45,11 +44,11 @@ fn step_find<T: Words>(
     room: &mut Copied,
 ) -> After<Find<T, Copied>, usize>
     requires board { IsBoard T.WORDS seat.old }
-    requires at { FindMay (coding_of T.WORDS T.words_of T.value_of) owner (seen seat.old) call room.old }
+    requires at { FindMay (coding_by T.Words) owner (seen seat.old) call room.old }
     requires word { IsAtWord call.stage }
     ensures same { IsSame seat.old seat.new }
     ensures board { IsBoard T.WORDS seat.new }
-    ensures goes { FindGoes (coding_of T.WORDS T.words_of T.value_of) owner (seen seat.old) call room.old
+    ensures goes { FindGoes (coding_by T.Words) owner (seen seat.old) call room.old
         result room.new (seen seat.new) }
 {
     seat.step_telling::<Brand, Find<T, Copied>>(call, &owner, room)
@@ -67,7 +66,7 @@ fn load_for<T: Words, M: Tells<View<T>>>(
     _room: &Copied,
 ) -> u64
     requires owes { OwesAsk (λ (v : View T). v.asked)
-        (IsMachine (coding_of T.WORDS T.words_of T.value_of) kinds.Container (key_of seat.old))
+        (IsMachine (coding_by T.Words) kinds.Container (key_of seat.old))
         (table_of seat.old).words (table_of seat.old).slots seat.old.seat.id M.told (1 + cell) Load seat.old.seat.me }
     requires within { cell < _capacity }
     requires capacity { (v : View T) (n : ℕ) (w : View T) → M.told v n w → w.capacity ≡ v.capacity }
@@ -90,11 +89,11 @@ fn load_cell<T: Words>(
 ) -> u64
     requires board { IsBoard T.WORDS seat.old }
     requires within { cell < capacity }
-    requires at { FindMay (coding_of T.WORDS T.words_of T.value_of) owner (seen seat.old)
+    requires at { FindMay (coding_by T.Words) owner (seen seat.old)
         (at_cell capacity cell found) room.now }
     ensures same { IsSame seat.old seat.new }
     ensures board { IsBoard T.WORDS seat.new }
-    ensures goes { FindTells (coding_of T.WORDS T.words_of T.value_of) owner (at_cell capacity cell found) room.now
+    ensures goes { FindTells (coding_by T.Words) owner (at_cell capacity cell found) room.now
         (seen seat.old) result (seen seat.new) }
     ensures steps { TakesAtMost 1 (seen seat.old) (seen seat.new) }
 {
@@ -126,11 +125,11 @@ fn pass_over<T: Words>(
 ) -> After<Find<T, Copied>, usize>
     requires board { IsBoard T.WORDS seat.old }
     requires within { first < capacity }
-    requires at { FindMay (coding_of T.WORDS T.words_of T.value_of) owner (seen seat.old)
+    requires at { FindMay (coding_by T.Words) owner (seen seat.old)
         (at_cell capacity first found) room.now }
     ensures same { IsSame seat.old seat.new }
     ensures board { IsBoard T.WORDS seat.new }
-    ensures goes { FindPasses (coding_of T.WORDS T.words_of T.value_of) owner (seen seat.old)
+    ensures goes { FindPasses (coding_by T.Words) owner (seen seat.old)
         (at_cell capacity first found) room.now result (seen seat.new) }
     ensures passed { HasPassed capacity first found result (seen seat.old) (seen seat.new) }
 {
@@ -164,10 +163,10 @@ fn pass_others<T: Words>(
 ) -> After<Find<T, Copied>, usize>
     requires board { IsBoard T.WORDS seat.old }
     requires within { IsWithin call.capacity call.stage }
-    requires at { FindMay (coding_of T.WORDS T.words_of T.value_of) owner (seen seat.old) call room.now }
+    requires at { FindMay (coding_by T.Words) owner (seen seat.old) call room.now }
     ensures same { IsSame seat.old seat.new }
     ensures board { IsBoard T.WORDS seat.new }
-    ensures goes { FindPasses (coding_of T.WORDS T.words_of T.value_of) owner (seen seat.old) call room.now result
+    ensures goes { FindPasses (coding_by T.Words) owner (seen seat.old) call room.now result
         (seen seat.new) }
     ensures passed { PassesFrom call call.stage result (seen seat.old) (seen seat.new) }
 {
@@ -190,11 +189,11 @@ fn find_next<T: Words, F: FnMut(T, ContainerHandle) -> CallbackProgression>(
     visit: &mut F,
 ) -> After<Find<T, Copied>, usize>
     requires board { IsBoard T.WORDS seat.old }
-    requires at { FindMay (coding_of T.WORDS T.words_of T.value_of) owner (seen seat.old) call room.old }
+    requires at { FindMay (coding_by T.Words) owner (seen seat.old) call room.old }
     requires asks { FindAsks F.pre owner id call.stage (value_in T.value_of T.WORDS room.old.words) visit.old }
     ensures same { IsSame seat.old seat.new }
     ensures board { IsBoard T.WORDS seat.new }
-    ensures turns { FindTurns (coding_of T.WORDS T.words_of T.value_of) owner call.stage (seen seat.old) call
+    ensures turns { FindTurns (coding_by T.Words) owner call.stage (seen seat.old) call
         room.old result room.new (seen seat.new) }
     ensures moves { FindMoves (λ p x h a q. F.step p x h a q) T.WORDS id call owner call.stage
         (value_in T.value_of T.WORDS room.old.words) visit.old result visit.new }
@@ -230,13 +229,13 @@ fn find_all<T: Words, F: FnMut(T, ContainerHandle) -> CallbackProgression>(
     requires board { IsBoard T.WORDS seat.old }
     requires known { (seen seat.old).capacity ≡ capacity }
     requires places { 0 < capacity }
-    requires at { FindAt (coding_of T.WORDS T.words_of T.value_of) owner (seen seat.old) (seen seat.old)
+    requires at { FindAt (coding_by T.Words) owner (seen seat.old) (seen seat.old)
         (first_find capacity) (fresh_cell, []) }
     requires visits { TakesVisits F.pre (λ p x h a q. F.step p x h a q)
         (IsNamed capacity owner id) visit.old }
     ensures same { IsSame seat.old seat.new }
     ensures board { IsBoard T.WORDS seat.new }
-    ensures searched { IsSearched (coding_of T.WORDS T.words_of T.value_of) (λ p x h a q. F.step p x h a q) capacity owner
+    ensures searched { IsSearched (coding_by T.Words) (λ p x h a q. F.step p x h a q) capacity owner
         id result visit.old (seen seat.old) (seen seat.new) visit.new }
 {
     let mut room = Copied { words: [0; 128] };
@@ -270,10 +269,7 @@ impl<T: Words> Container<T> {
         requires pass { IsPassOf self.now pass.old }
         requires visits { TakesVisits F.pre (λ p x h a q. F.step p x h a q)
             (IsHandleFor self.now owner) visit.old }
-        ensures container { container_of pass.new ≡ container_of pass.old }
-        ensures goes { Goes (view pass.old) (view pass.new) }
-        ensures aside { FewAside (view pass.old) (view pass.new) }
-        ensures keeps { KeepsState (view pass.old) (view pass.new) }
+        ensures same { FindKeepsPass pass.old pass.new }
         ensures found { (visits : List (Visit T)) × (bound : ℕ)
             × HasSearched (capacity_of self.now) owner result bound visits
             (view pass.old) (view pass.new)

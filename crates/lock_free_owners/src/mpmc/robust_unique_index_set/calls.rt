@@ -1,11 +1,10 @@
 //! The calls on a set by a pass that ask nothing of their caller. No contract says that an index taken is the lowest.
-ghost use Rattle.std.specs.Prelude.{◌≡◌, ◌+◌, ◌<◌, ◌≤◌, true, Ok, Err, IfOk, IfErr, OnOk};
+ghost use Rattle.std.specs.Prelude.{◌≡◌, ◌+◌, ◌<◌, true, Err, IfOk, IfErr};
 ghost use Rattle.steps.specs.declared.indices.enums.UniqueIndexSetAcquireFailure.TheVariants.{IsLocked as Locked};
 ghost use Rattle.model.specs.Families.Indices.Reading.{is_locked};
 ghost use Rattle.history.specs.Steps.{TakesAtMost, TakesAlone};
+ghost use Rattle.lock_free_owners.specs.Robust.Calls.{AcquireDone, AcquireRefused, ReleaseDone, ReleaseRefused, BorrowedDone, IsLockedDone};
 ghost use Rattle.lock_free_owners.specs.Robust.Steps.{ReleaseTakes};
-ghost use Rattle.lock_free_owners.specs.Robust.Contracts.{HasTaken, HasGiven, HasCounted, HasLooked, WasFilled, WasGranted};
-ghost use Rattle.lock_free_owners.specs.Robust.Contracts.{WasFreed, WasRefused, HasReleased, FoundLock, IsRightCount, IsRightLook, IsRightRelease};
 ghost use Rattle.lock_free_owners.specs.RobustUniqueIndexSet.{view, history, capacity_of, IsPassOf, SamePass};
 
 use super::acquires::acquire_all;
@@ -34,11 +33,8 @@ impl RobustUniqueIndexSet {
     ) -> Result<usize, UniqueIndexSetAcquireFailure>
         requires { IsPassOf self.now pass.old }
         ensures same { SamePass pass.old pass.new }
-        ensures taken { HasTaken owner result (view pass.old) (view pass.new) }
-        ensures within { IfOk result (λ index. index < capacity_of self.now) }
-        ensures filled { IfOk result (λ index. WasFilled index owner (view pass.old) (view pass.new)) }
-        ensures granted { IfOk result (λ index. WasGranted index owner (view pass.old) (view pass.new)) }
-        ensures refused { IfErr result (λ e. WasRefused owner e (view pass.old) (view pass.new)) }
+        ensures acquired { IfOk result (λ index. AcquireDone (capacity_of self.now) owner index (view pass.old) (view pass.new)) }
+        ensures refused { IfErr result (λ failure. AcquireRefused owner failure (view pass.old) (view pass.new)) }
         ensures lock { is_locked (history pass.old) ≡ true → result ≡ Err Locked }
         ensures steps { TakesAlone (capacity_of self.now + 3) (capacity_of self.now + 1)
             (view pass.old) (view pass.new) }
@@ -67,12 +63,8 @@ impl RobustUniqueIndexSet {
         requires pass { IsPassOf self.now pass.old }
         requires index { index < capacity_of self.now }
         ensures same { SamePass pass.old pass.new }
-        ensures given { HasGiven (record { index = index; owner = owner; mode = mode }) result
-            (view pass.old) (view pass.new) }
-        ensures freed { OnOk result (WasFreed index owner (view pass.old) (view pass.new)) }
-        ensures answered { IsRightRelease index owner mode result
-            (view pass.old) (view pass.new) }
-        ensures released { IfOk result (λ s. HasReleased s mode (view pass.old) (view pass.new)) }
+        ensures released { IfOk result (λ state. ReleaseDone index owner mode state (view pass.old) (view pass.new)) }
+        ensures refused { IfErr result (λ failure. ReleaseRefused index owner mode failure (view pass.old) (view pass.new)) }
         ensures steps { ReleaseTakes (capacity_of self.now) mode (view pass.old) (view pass.new) }
     {
         let call = Release::new(pass.capacity);
@@ -93,10 +85,7 @@ impl RobustUniqueIndexSet {
     pub fn borrowed_indices(&self, rt: &impl Wait, pass: &mut Pass) -> usize
         requires { IsPassOf self.now pass.old }
         ensures same { SamePass pass.old pass.new }
-        ensures counted { HasCounted result (view pass.old) (view pass.new) }
-        ensures answered { IsRightCount result (view pass.old) (view pass.new) }
-        ensures most { result ≤ capacity_of self.now }
-        ensures lock { is_locked (history pass.old) ≡ true → result ≡ 0 }
+        ensures counted { BorrowedDone (capacity_of self.now) result (view pass.old) (view pass.new) }
         ensures steps { TakesAlone (capacity_of self.now + 2) (capacity_of self.now + 2)
             (view pass.old) (view pass.new) }
     {
@@ -108,9 +97,7 @@ impl RobustUniqueIndexSet {
     pub fn is_locked(&self, pass: &mut Pass) -> bool
         requires { IsPassOf self.now pass.old }
         ensures same { SamePass pass.old pass.new }
-        ensures looked { HasLooked result (view pass.old) (view pass.new) }
-        ensures answered { IsRightLook result (view pass.old) (view pass.new) }
-        ensures lock { FoundLock result (view pass.old) (view pass.new) }
+        ensures looked { IsLockedDone result (view pass.old) (view pass.new) }
         ensures steps { TakesAtMost 1 (view pass.old) (view pass.new) }
     {
         pass.seated

@@ -10,7 +10,7 @@ ghost use Rattle.threaded.specs.Seats.{seen, IsSame};
 ghost use Rattle.lock_free_owners.specs.Robust.Callable.{TakesQuestions, TakesFreed, HasVisited};
 ghost use Rattle.lock_free_owners.specs.Robust.Stages.{LooksAgain, RecoverAsks, RecoverMoves, has_freed};
 ghost use Rattle.lock_free_owners.specs.Robust.Steps.{RecoverTakes};
-ghost use Rattle.lock_free_owners.specs.Robust.Contracts.{HasRecovered, FoundState, IsRightRecovery};
+ghost use Rattle.lock_free_owners.specs.Robust.Calls.{RecoverDone};
 ghost use Rattle.lock_free_owners.specs.Robust.Turns.{IsBoard, RecoverAt, RecoverEnds, RecoverStands, RecoverGoes, RecoverSteps};
 ghost use Rattle.lock_free_owners.specs.RobustUniqueIndexSet.{view, history, capacity_of, IsPassOf, SamePass};
 
@@ -205,10 +205,8 @@ impl RobustUniqueIndexSet {
             (λ p o i b q. F.step p o i b q) S.pre (λ s o i t. S.step s o i tt t)
             (capacity_of self.now) predicate.old recover_success.old }
         ensures same { SamePass pass.old pass.new }
-        ensures recovered { HasRecovered (λ p o i b q. F.step p o i b q) (λ s o i t. S.step s o i tt t) mode result
+        ensures recovered { RecoverDone (λ p o i b q. F.step p o i b q) (λ s o i t. S.step s o i tt t) mode result
             predicate.old recover_success.old predicate.new recover_success.new (view pass.old) (view pass.new) }
-        ensures answered { IsRightRecovery mode result (view pass.old) (view pass.new) }
-        ensures lock { FoundState result (view pass.old) (view pass.new) }
         ensures steps { RecoverTakes (capacity_of self.now) mode (view pass.old) (view pass.new) }
     {
         recover_all(

@@ -1,5 +1,5 @@
 //! What a push and a pop say of the views at their steps. These types are for the proofs alone.
-ghost use Rattle.model.specs.Coding.{coding_of};
+ghost use Rattle.model.specs.Coding.{coding_by};
 ghost use Rattle.model.specs.declared.turn.Kind.TheVariants as kinds;
 
 use history::view::View;
@@ -18,11 +18,11 @@ impl<T: Words + Drop> Drives<View<T>, Push<T>> for Pushes<T> {
     ghost use Rattle.history.specs.Stages.{At, Over};
     ghost use Rattle.history.specs.ValueQueue.{pushes_value};
 
-    ghost at = { λ value. At (coding_of T.WORDS T.words_of T.value_of) kinds.Queue
-        (pushes_value (coding_of T.WORDS T.words_of T.value_of) value) };
+    ghost at = { λ value. At (coding_by T.Words) kinds.Queue
+        (pushes_value (coding_by T.Words) value) };
 
-    ghost ends = { λ value. Over (coding_of T.WORDS T.words_of T.value_of) kinds.Queue
-        (pushes_value (coding_of T.WORDS T.words_of T.value_of) value) };
+    ghost ends = { λ value. Over (coding_by T.Words) kinds.Queue
+        (pushes_value (coding_by T.Words) value) };
 }
 
 /// Popping a value by way of a room R.
@@ -34,9 +34,9 @@ impl<T: Words, R: Room<T> + Drop> Drives<View<T>, Pop<T, R>> for Pops<T, R> {
     ghost use Rattle.history.specs.Stages.{At, Ends};
     ghost use Rattle.history.specs.ValueQueue.{pops_value};
 
-    ghost at = { λ given. At (coding_of T.WORDS T.words_of T.value_of) kinds.Queue
-        (pops_value (coding_of T.WORDS T.words_of T.value_of) R.words_in) };
+    ghost at = { λ given. At (coding_by T.Words) kinds.Queue
+        (pops_value (coding_by T.Words) R.words_in) };
 
-    ghost ends = { λ given. Ends (coding_of T.WORDS T.words_of T.value_of) kinds.Queue
-        (pops_value (coding_of T.WORDS T.words_of T.value_of) R.words_in) };
+    ghost ends = { λ given. Ends (coding_by T.Words) kinds.Queue
+        (pops_value (coding_by T.Words) R.words_in) };
 }

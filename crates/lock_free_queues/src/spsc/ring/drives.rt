@@ -1,6 +1,6 @@
 //! What the calls that all queues have say of the views at their steps. These types are for the proofs alone.
 ghost use Rattle.std.specs.Prelude.{◌≡◌, ℕ, ◌+◌, [], refl};
-ghost use Rattle.model.specs.Coding.{coding_of};
+ghost use Rattle.model.specs.Coding.{coding_by};
 ghost use Rattle.steps.specs.declared.queues.roles.Role.{Role};
 ghost use Rattle.steps.specs.declared.queues.roles.Role.TheVariants as roles;
 ghost use Rattle.model.specs.declared.families.queues.calls.LengthOf.{LengthOf};
@@ -64,9 +64,9 @@ impl<E: Kind, R: Side, T: Words> Drives<View<T>, AcquireRole> for Takes<E, R> {
     ghost use Rattle.history.specs.Stages.{At, Ends};
     ghost use Rattle.history.specs.Queues.{takes_role};
 
-    ghost at = { λ given. At (coding_of T.WORDS T.words_of T.value_of) (machine_kind E.KIND) (takes_role R.ROLE) };
+    ghost at = { λ given. At (coding_by T.Words) (machine_kind E.KIND) (takes_role R.ROLE) };
 
-    ghost ends = { λ given. Ends (coding_of T.WORDS T.words_of T.value_of) (machine_kind E.KIND) (takes_role R.ROLE) };
+    ghost ends = { λ given. Ends (coding_by T.Words) (machine_kind E.KIND) (takes_role R.ROLE) };
 }
 
 /// Giving a role back.
@@ -78,9 +78,9 @@ impl<E: Kind, R: Side, T: Words> Drives<View<T>, ReleaseRole> for Leaves<E, R> {
     ghost use Rattle.history.specs.Stages.{At, Ends};
     ghost use Rattle.history.specs.Queues.{gives_role};
 
-    ghost at = { λ given. At (coding_of T.WORDS T.words_of T.value_of) (machine_kind E.KIND) (gives_role R.ROLE) };
+    ghost at = { λ given. At (coding_by T.Words) (machine_kind E.KIND) (gives_role R.ROLE) };
 
-    ghost ends = { λ given. Ends (coding_of T.WORDS T.words_of T.value_of) (machine_kind E.KIND) (gives_role R.ROLE) };
+    ghost ends = { λ given. Ends (coding_by T.Words) (machine_kind E.KIND) (gives_role R.ROLE) };
 }
 
 /// What is asked of how many values wait, as a type.
@@ -118,9 +118,9 @@ impl<E: Kind, W: Measure, T: Words> Drives<View<T>, Len> for Measures<E, W> {
     ghost use Rattle.history.specs.Stages.{At, Ends};
     ghost use Rattle.history.specs.Queues.{counts_waiting};
 
-    ghost at = { λ given base. At (coding_of T.WORDS T.words_of T.value_of) (machine_kind E.KIND)
+    ghost at = { λ given base. At (coding_by T.Words) (machine_kind E.KIND)
         (counts_waiting W.WHICH base.capacity) base };
 
-    ghost ends = { λ given base. Ends (coding_of T.WORDS T.words_of T.value_of) (machine_kind E.KIND)
+    ghost ends = { λ given base. Ends (coding_by T.Words) (machine_kind E.KIND)
         (counts_waiting W.WHICH base.capacity) base };
 }

@@ -3,7 +3,7 @@ ghost use Rattle.std.specs.Prelude.{◌≡◌, ◌⊎◌, ◌+◌, ◌-◌, ◌^
 ghost use Rattle.atomic_table.specs.Table.{opening};
 ghost use Rattle.steps.specs.Enums.{capacity_refusal};
 ghost use Rattle.steps.specs.declared.enums.UniqueIndexCreationError.TheVariants.{NoMemory};
-ghost use Rattle.model.specs.Coding.{coding_of, one_word};
+ghost use Rattle.model.specs.Coding.{coding_by, one_word};
 ghost use Rattle.history.specs.History.{IsMachine, Knows};
 ghost use Rattle.history.specs.Views.{first_view};
 ghost use Rattle.lock_free_queues.specs.Queues.Bounded.{machine_kind};
@@ -29,12 +29,12 @@ impl<E: Kind, T: Words> Ring<E, T> {
         position: u64,
     ) -> Result<(Ring<E, T>, Pass<E, T>), AllocError>
         requires long { length words.items ≡ 4 + words_in_cells T.WORDS E.KIND capacity + 1 }
-        requires opens { IsMachine (coding_of T.WORDS T.words_of T.value_of) (machine_kind E.KIND) capacity
-            (opening words.items [] (opened_by (coding_of T.WORDS T.words_of T.value_of) E.KIND capacity position)) }
-        requires knows { Knows (coding_of T.WORDS T.words_of T.value_of) (machine_kind E.KIND) capacity
-            (opened_by (coding_of T.WORDS T.words_of T.value_of) E.KIND capacity position) }
+        requires opens { IsMachine (coding_by T.Words) (machine_kind E.KIND) capacity
+            (opening words.items [] (opened_by (coding_by T.Words) E.KIND capacity position)) }
+        requires knows { Knows (coding_by T.Words) (machine_kind E.KIND) capacity
+            (opened_by (coding_by T.Words) E.KIND capacity position) }
         ensures pass { IfOk result (λ r. IsPassOf r.0 r.1
-            × (view r.1 ≡ opened_by (coding_of T.WORDS T.words_of T.value_of) E.KIND capacity position)) }
+            × (view r.1 ≡ opened_by (coding_by T.Words) E.KIND capacity position)) }
         ensures capacity { IfOk result (λ r. capacity_of r.0 ≡ capacity) }
     {
         let origin = Origin {

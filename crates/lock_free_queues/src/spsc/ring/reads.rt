@@ -1,7 +1,7 @@
 //! How all words of a queue are read, while others may still step.
 ghost use Rattle.std.specs.Prelude.{◌≡◌, ◌+◌, ◌<◌, ◌^◌, length, IfOk, IfErr};
 ghost use Rattle.steps.specs.declared.enums.UniqueIndexCreationError.TheVariants.{NoMemory};
-ghost use Rattle.model.specs.Coding.{coding_of};
+ghost use Rattle.model.specs.Coding.{coding_by};
 ghost use Rattle.lock_free_queues.specs.Queues.Bounded.{machine_kind};
 ghost use Rattle.lock_free_queues.specs.Queues.Kinds.{words_in_cells};
 ghost use Rattle.lock_free_queues.specs.Queues.Rings.{capacity_of, token_queue, token_view, IsPassOf, MissesNothing};
@@ -22,10 +22,10 @@ impl<E: Kind, T: Words> Held<E, T, RingRule<E, T>> {
         ensures queue { token_queue self.new ≡ token_queue self.old }
         ensures fits { result < 2 ^ 64 }
         ensures read { HasRead (token_view self.old) (token_view self.new) }
-        ensures found { WasRead (coding_of T.WORDS T.words_of T.value_of) (machine_kind E.KIND)
+        ensures found { WasRead (coding_by T.Words) (machine_kind E.KIND)
             (token_queue self.old).capacity
             (token_view self.old) (token_view self.new) word result }
-        ensures last { WasRead (coding_of T.WORDS T.words_of T.value_of) (machine_kind E.KIND)
+        ensures last { WasRead (coding_by T.Words) (machine_kind E.KIND)
             (token_queue self.old).capacity
             (token_view self.new) (token_view self.new) word result }
     {
@@ -39,7 +39,7 @@ impl<E: Kind, T: Words> Held<E, T, RingRule<E, T>> {
         ensures queue { token_queue self.new ≡ token_queue self.old }
         ensures read { HasRead (token_view self.old) (token_view self.new) }
         ensures long { length words.new.items ≡ length words.old.items }
-        ensures cells { CellsRead (coding_of T.WORDS T.words_of T.value_of) (machine_kind E.KIND)
+        ensures cells { CellsRead (coding_by T.Words) (machine_kind E.KIND)
             (token_queue self.old).capacity
             (token_view self.old) (token_view self.new) words.new.items }
     {

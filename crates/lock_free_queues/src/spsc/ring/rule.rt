@@ -1,5 +1,5 @@
 //! The rule of a queue's table: it is a machine of its kind, and one word more.
-ghost use Rattle.model.specs.Coding.{coding_of};
+ghost use Rattle.model.specs.Coding.{coding_by};
 ghost use Rattle.model.specs.declared.families.queues.QueueKind.{QueueKind};
 ghost use Rattle.model.specs.declared.families.queues.QueueKind.TheVariants as queues;
 
@@ -52,9 +52,9 @@ impl<E: Kind, T: Words> TableRule<(), View<T>, Origin> for RingRule<E, T> {
     ghost use Rattle.lock_free_queues.specs.Queues.Bounded.{machine_kind};
     ghost use Rattle.lock_free_queues.specs.Queues.Kinds.{opened_by};
 
-    ghost holds = { λ key. IsMachine (coding_of T.WORDS T.words_of T.value_of) (machine_kind E.KIND) key.capacity };
+    ghost holds = { λ key. IsMachine (coding_by T.Words) (machine_kind E.KIND) key.capacity };
 
-    ghost first = { λ key. opened_by (coding_of T.WORDS T.words_of T.value_of) E.KIND key.capacity key.position };
+    ghost first = { λ key. opened_by (coding_by T.Words) E.KIND key.capacity key.position };
 }
 
 impl<E: Kind, T: Words> Rule<View<T>, Origin> for RingRule<E, T> {

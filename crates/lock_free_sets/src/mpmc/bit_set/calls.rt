@@ -2,7 +2,7 @@
 //! place, and then from 0 on. The position is 0 at first, and a call that resets a place stores the one after it, as
 //! its last step: if two calls overlap, the later store stands, whichever place it is of. A call that returns None
 //! leaves the position.
-ghost use Rattle.std.specs.Prelude.{◌≡◌, ◌+◌, ◌<◌, ◌^◌, ℕ, None, IfSome, IsTrue, IsFalse};
+ghost use Rattle.std.specs.Prelude.{◌≡◌, ◌+◌, ◌<◌, ◌^◌, ℕ, IfSome, IfNone, IsTrue, IsFalse};
 ghost use Rattle.steps.specs.Bits.Words.{elements, has_flag as flag_of};
 ghost use Rattle.model.specs.declared.turn.Kind.TheVariants as kinds;
 ghost use Rattle.threaded.specs.Seats.{seen, IsSame, IsAt};
@@ -10,8 +10,7 @@ ghost use Rattle.history.specs.declared.view.View.{View as Views};
 ghost use Rattle.lock_free_sets.specs.Driven.{IsIdle, HasDone};
 ghost use Rattle.lock_free_sets.specs.Sets.Calls.{capacity_of, IsPassOf, view, SamePass};
 ghost use Rattle.lock_free_sets.specs.Bits.Callable.{TakesPlaces, Visited};
-ghost use Rattle.lock_free_sets.specs.Bits.Contracts.{HasSet, StoodOnce, HasReset, CameFromPosition, AllClearOnce};
-ghost use Rattle.lock_free_sets.specs.Bits.Contracts.{HasCleanedOut, MissedNoPlace};
+ghost use Rattle.lock_free_sets.specs.Bits.Contracts.{HasCleanedOut, SetDone, ResetDone, ResetNothing, ResetAllDone};
 ghost use Rattle.history.specs.Steps.{TakesAtMost, TakesAlone};
 
 use super::drives::{ResetsNext, SetsPlace};
@@ -97,8 +96,7 @@ impl BitSet {
         requires pass { IsPassOf self.now pass.old }
         requires place { id < capacity_of self.now }
         ensures same { SamePass pass.old pass.new }
-        ensures added { HasSet id result (view pass.old) (view pass.new) }
-        ensures stood { IsFalse result → StoodOnce id (view pass.new) }
+        ensures added { SetDone id result (view pass.old) (view pass.new) }
         ensures steps { TakesAlone 2 1 (view pass.old) (view pass.new) }
     {
         let place = id as u64;
@@ -115,10 +113,8 @@ impl BitSet {
     pub fn reset_next(&self, rt: &impl Wait, pass: &mut Pass) -> Option<usize>
         requires { IsPassOf self.now pass.old }
         ensures same { SamePass pass.old pass.new }
-        ensures place { IfSome result (λ place. place < capacity_of self.now) }
-        ensures cleared { HasReset result (view pass.old) (view pass.new) }
-        ensures came { IfSome result (λ place. CameFromPosition (capacity_of self.now) place (view pass.new)) }
-        ensures clear { result ≡ None → AllClearOnce (capacity_of self.now) (view pass.new) }
+        ensures cleared { IfSome result (λ place. ResetDone (capacity_of self.now) place (view pass.old) (view pass.new)) }
+        ensures clear { IfNone result (ResetNothing (capacity_of self.now) (view pass.old) (view pass.new)) }
         ensures steps { TakesAlone (3 + capacity_of self.now) 1 (view pass.old) (view pass.new) }
     {
         let call = ResetNext::new(pass.capacity);
@@ -142,9 +138,8 @@ impl BitSet {
         requires places { TakesPlaces F.pre (λ p x q. F.step p x tt q)
             (capacity_of self.now) visit.old }
         ensures same { SamePass pass.old pass.new }
-        ensures cleared { HasCleanedOut (λ p x q. F.step p x tt q) (capacity_of self.now) visit.old visit.new
+        ensures cleared { ResetAllDone (λ p x q. F.step p x tt q) (capacity_of self.now) visit.old visit.new
             (view pass.old) (view pass.new) }
-        ensures stood { MissedNoPlace (capacity_of self.now) (view pass.new) }
         ensures steps { 0 < capacity_of self.now
             → TakesAtMost (elements (capacity_of self.now)) (view pass.old) (view pass.new) }
         ensures one_step { capacity_of self.now ≡ 0 → TakesAtMost 1 (view pass.old) (view pass.new) }

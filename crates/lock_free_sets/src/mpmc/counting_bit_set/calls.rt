@@ -5,7 +5,7 @@ ghost use Rattle.threaded.specs.Seats.{seen, IsSame, IsAt};
 ghost use Rattle.history.specs.declared.view.View.{View as Views};
 ghost use Rattle.lock_free_sets.specs.Sets.Calls.{capacity_of, IsPassOf, view, SamePass};
 ghost use Rattle.lock_free_sets.specs.Counts.Callable.{TakesCounts};
-ghost use Rattle.lock_free_sets.specs.Counts.Contracts.{HasCounted, AnswersCount, HasTakenOut, MissedNoCount};
+ghost use Rattle.lock_free_sets.specs.Counts.Contracts.{HasTakenOut, SetDone, ResetAllDone};
 ghost use Rattle.lock_free_sets.specs.Driven.{IsIdle, HasDone};
 ghost use Rattle.history.specs.Steps.{TakesAtMost};
 
@@ -80,8 +80,7 @@ impl CountingBitSet {
         requires pass { IsPassOf self.now pass.old }
         requires place { id < capacity_of self.now }
         ensures same { SamePass pass.old pass.new }
-        ensures counted { HasCounted id result (view pass.old) (view pass.new) }
-        ensures answers { AnswersCount id result (view pass.new) }
+        ensures counted { SetDone id result (view pass.old) (view pass.new) }
         ensures steps { TakesAtMost 1 (view pass.old) (view pass.new) }
     {
         let place = id as u64;
@@ -100,9 +99,8 @@ impl CountingBitSet {
         requires states { TakesCounts F.pre (λ p x q. F.step p x tt q)
             (capacity_of self.now) visit.old }
         ensures same { SamePass pass.old pass.new }
-        ensures taken { HasTakenOut (λ p x q. F.step p x tt q) (capacity_of self.now) visit.old visit.new
+        ensures taken { ResetAllDone (λ p x q. F.step p x tt q) (capacity_of self.now) visit.old visit.new
             (view pass.old) (view pass.new) }
-        ensures stood { MissedNoCount (capacity_of self.now) (view pass.new) }
         ensures steps { 0 < capacity_of self.now → TakesAtMost (capacity_of self.now) (view pass.old) (view pass.new) }
         ensures one_step { capacity_of self.now ≡ 0 → TakesAtMost 1 (view pass.old) (view pass.new) }
     {

@@ -1,14 +1,9 @@
 //! The calls on a set by a pass: the calls of `steps`, driven.
-ghost use Rattle.std.specs.Prelude.{◌≡◌, ◌+◌, ◌<◌, ◌≤◌, ℕ, max, false, List, length, IsTrue, IsFalse, IfOk, IfErr};
-ghost use Rattle.steps.specs.declared.indices.enums.ReleaseMode.TheVariants as modes;
-ghost use Rattle.steps.specs.declared.indices.enums.ReleaseState.TheVariants.{Locked, Unlocked};
-ghost use Rattle.model.specs.declared.event.Answer.TheVariants.{State, Number, Truth};
-ghost use Rattle.model.specs.declared.families.indices.IndexStart.TheVariants as starts;
-ghost use Rattle.model.specs.Families.Indices.Reading.{is_locked};
+ghost use Rattle.std.specs.Prelude.{◌≡◌, ◌+◌, max, IfOk, IfErr};
 ghost use Rattle.history.specs.Held.{Holds};
-ghost use Rattle.lock_free_sets.specs.Unique.Held.{HeldBy, HoldsNothing, HoldsAll, HoldsSome};
-ghost use Rattle.lock_free_sets.specs.Unique.Contracts.{HasAcquired, WasRefused, HasGiven, HasGivenOrLocked, HasCounted, HasLooked, Answered};
-ghost use Rattle.lock_free_sets.specs.UniqueIndexSet.{capacity_of, IsPassOf, view, history, made, SamePass, value_of, index_pass, index_view};
+ghost use Rattle.lock_free_sets.specs.Unique.Calls.{AcquireDone, ReleaseDone, ReleaseOrLockDone, BorrowedDone, IsLockedDone};
+ghost use Rattle.lock_free_sets.specs.Unique.Contracts.{HasAcquired, WasRefused};
+ghost use Rattle.lock_free_sets.specs.UniqueIndexSet.{capacity_of, IsPassOf, view, made, SamePass, value_of, index_pass, index_view};
 ghost use Rattle.history.specs.Steps.{TakesAtMost, TakesAlone};
 
 use super::drives::{CountsOut, Gives, GivesOrLocks, LooksLocked, Takes};
@@ -60,8 +55,7 @@ impl UniqueIndexSet {
     ) -> Result<u32, UniqueIndexSetAcquireFailure>
         requires { IsPassOf self.now pass.old }
         ensures same { SamePass pass.old pass.new }
-        ensures acquired { IfOk result (λ i. HasAcquired i (view pass.old) (view pass.new)) }
-        ensures within { IfOk result (λ i. i < capacity_of self.now) }
+        ensures acquired { IfOk result (λ i. AcquireDone (capacity_of self.now) i (view pass.old) (view pass.new)) }
         ensures refused { IfErr result (λ e. WasRefused e (view pass.old) (view pass.new)) }
         ensures steps { TakesAlone (4 + capacity_of self.now) (max 2 (capacity_of self.now)) (view pass.old) (view pass.new) }
     {
@@ -76,8 +70,7 @@ impl UniqueIndexSet {
         requires pass { IsPassOf self.now pass.old }
         requires held { Holds index (made pass.old) }
         ensures same { SamePass pass.old pass.new }
-        ensures given { HasGiven index result (view pass.old) (view pass.new) }
-        ensures unlocked { result ≡ Unlocked }
+        ensures given { ReleaseDone index result (view pass.old) (view pass.new) }
         ensures steps { TakesAtMost 5 (view pass.old) (view pass.new) }
     {
         let call = Release::<DefaultMode>::new(self.capacity);
@@ -93,11 +86,7 @@ impl UniqueIndexSet {
         requires pass { IsPassOf self.now pass.old }
         requires held { Holds index (made pass.old) }
         ensures same { SamePass pass.old pass.new }
-        ensures given { HasGivenOrLocked index result (view pass.old) (view pass.new) }
-        ensures answered { Answered (starts.Release index modes.LockIfLastIndex) (State result)
-            (view pass.old) (view pass.new) }
-        ensures nothing { result ≡ Locked → HoldsNothing (made pass.new) }
-        ensures whole { result ≡ Unlocked → HoldsSome (view pass.new) }
+        ensures given { ReleaseOrLockDone index result (view pass.old) (view pass.new) }
         ensures steps { TakesAlone 4 2 (view pass.old) (view pass.new) }
     {
         let call = Release::<LockMode>::new(self.capacity);
@@ -111,11 +100,7 @@ impl UniqueIndexSet {
     pub fn borrowed_indices(&self, pass: &mut Pass) -> usize
         requires { IsPassOf self.now pass.old }
         ensures same { SamePass pass.old pass.new }
-        ensures counted { HasCounted result (view pass.old) (view pass.new) }
-        ensures answered { Answered starts.BorrowedIndices (Number result) (view pass.old) (view pass.new) }
-        ensures least { (is : List ℕ) → HeldBy is (made pass.new) → length is ≤ result }
-        ensures most { result ≤ capacity_of self.now }
-        ensures whole { HoldsAll result (view pass.new) }
+        ensures counted { BorrowedDone (capacity_of self.now) result (view pass.old) (view pass.new) }
         ensures steps { TakesAtMost 1 (view pass.old) (view pass.new) }
     {
         pass.seated
@@ -126,10 +111,7 @@ impl UniqueIndexSet {
     pub fn is_locked(&self, pass: &mut Pass) -> bool
         requires { IsPassOf self.now pass.old }
         ensures same { SamePass pass.old pass.new }
-        ensures looked { HasLooked result (view pass.old) (view pass.new) }
-        ensures answered { Answered starts.IsLocked (Truth result) (view pass.old) (view pass.new) }
-        ensures nothing { IsTrue result → HoldsNothing (made pass.new) }
-        ensures unlocked { IsFalse result → is_locked (history pass.old) ≡ false }
+        ensures looked { IsLockedDone result (view pass.old) (view pass.new) }
         ensures steps { TakesAtMost 1 (view pass.old) (view pass.new) }
     {
         pass.seated

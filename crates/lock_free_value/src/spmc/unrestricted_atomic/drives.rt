@@ -1,5 +1,5 @@
 //! What the calls say of the views at their steps. These types are for the proofs alone.
-ghost use Rattle.model.specs.Coding.{coding_of};
+ghost use Rattle.model.specs.Coding.{coding_by};
 ghost use Rattle.model.specs.declared.turn.Kind.TheVariants as kinds;
 
 use history::view::View;
@@ -17,9 +17,9 @@ impl<T: Words> Drives<View<T>, AcquireRole> for TakesProducer {
     ghost use Rattle.history.specs.Stages.{At, Ends};
     ghost use Rattle.history.specs.Value.{acquires_producer};
 
-    ghost at = { λ given. At (coding_of T.WORDS T.words_of T.value_of) kinds.Atomic acquires_producer };
+    ghost at = { λ given. At (coding_by T.Words) kinds.Atomic acquires_producer };
 
-    ghost ends = { λ given. Ends (coding_of T.WORDS T.words_of T.value_of) kinds.Atomic acquires_producer };
+    ghost ends = { λ given. Ends (coding_by T.Words) kinds.Atomic acquires_producer };
 }
 
 /// Giving the producer's role back.
@@ -29,9 +29,9 @@ impl<T: Words> Drives<View<T>, ReleaseRole> for LeavesProducer {
     ghost use Rattle.history.specs.Stages.{At, Ends};
     ghost use Rattle.history.specs.Value.{releases_producer};
 
-    ghost at = { λ given. At (coding_of T.WORDS T.words_of T.value_of) kinds.Atomic releases_producer };
+    ghost at = { λ given. At (coding_by T.Words) kinds.Atomic releases_producer };
 
-    ghost ends = { λ given. Ends (coding_of T.WORDS T.words_of T.value_of) kinds.Atomic releases_producer };
+    ghost ends = { λ given. Ends (coding_by T.Words) kinds.Atomic releases_producer };
 }
 
 /// Storing a value.
@@ -43,11 +43,11 @@ impl<T: Words + Drop> Drives<View<T>, Store<T>> for Stores<T> {
     ghost use Rattle.history.specs.Stages.{At, Over};
     ghost use Rattle.history.specs.Value.{stores_value};
 
-    ghost at = { λ value. At (coding_of T.WORDS T.words_of T.value_of) kinds.Atomic
-        (stores_value (coding_of T.WORDS T.words_of T.value_of) value) };
+    ghost at = { λ value. At (coding_by T.Words) kinds.Atomic
+        (stores_value (coding_by T.Words) value) };
 
-    ghost ends = { λ value. Over (coding_of T.WORDS T.words_of T.value_of) kinds.Atomic
-        (stores_value (coding_of T.WORDS T.words_of T.value_of) value) };
+    ghost ends = { λ value. Over (coding_by T.Words) kinds.Atomic
+        (stores_value (coding_by T.Words) value) };
 }
 
 /// Loading a value by way of a room R.
@@ -59,11 +59,11 @@ impl<T: Words, R: Room<T> + Drop> Drives<View<T>, Load<T, R>> for Loads<T, R> {
     ghost use Rattle.history.specs.Stages.{At, Ends};
     ghost use Rattle.history.specs.Value.{loads_value};
 
-    ghost at = { λ given. At (coding_of T.WORDS T.words_of T.value_of) kinds.Atomic
-        (loads_value (coding_of T.WORDS T.words_of T.value_of) R.words_in) };
+    ghost at = { λ given. At (coding_by T.Words) kinds.Atomic
+        (loads_value (coding_by T.Words) R.words_in) };
 
-    ghost ends = { λ given. Ends (coding_of T.WORDS T.words_of T.value_of) kinds.Atomic
-        (loads_value (coding_of T.WORDS T.words_of T.value_of) R.words_in) };
+    ghost ends = { λ given. Ends (coding_by T.Words) kinds.Atomic
+        (loads_value (coding_by T.Words) R.words_in) };
 }
 
 /// A look at the whole history.
@@ -72,5 +72,5 @@ pub struct Look;
 impl<T: Words> Tells<View<T>> for Look {
     ghost use Rattle.history.specs.Views.{LooksOnce};
 
-    ghost told = { λ old found new. LooksOnce (coding_of T.WORDS T.words_of T.value_of) kinds.Atomic 1 old new };
+    ghost told = { λ old found new. LooksOnce (coding_by T.Words) kinds.Atomic 1 old new };
 }

@@ -3,7 +3,7 @@ ghost use Rattle.std.specs.Prelude.{◌≡◌, ◌≤◌, ◌+◌, ℕ, replicat
 ghost use Rattle.history.specs.Steps.{TakesAlone};
 ghost use Rattle.steps.specs.Atomic.{at_load, first_load, load_after};
 ghost use Rattle.steps.specs.declared.atomic.LoadStage.TheVariants as stages;
-ghost use Rattle.model.specs.Coding.{coding_of};
+ghost use Rattle.model.specs.Coding.{coding_by};
 ghost use Rattle.threaded.specs.Seats as seats;
 ghost use Rattle.lock_free_value.specs.Calls.{seen, IsSame};
 ghost use Rattle.lock_free_value.specs.Loads.{IsBoard, LoadAt, LoadEnds, LoadNext};
@@ -33,13 +33,13 @@ fn step_load<T: Words, R: Room<T> + Drop>(
     room: &mut R,
 ) -> After<Load<T, R>, ()>
     requires board { IsBoard T.WORDS seat.old }
-    requires at { (base : View T) × LoadAt (coding_of T.WORDS T.words_of T.value_of) R.words_in base (seats.seen seat.old) call room.old }
+    requires at { (base : View T) × LoadAt (coding_by T.Words) R.words_in base (seats.seen seat.old) call room.old }
     ensures same { seats.IsSame seat.old seat.new }
     ensures board { IsBoard T.WORDS seat.new }
     ensures after { (k : ℕ) × (result ≡ load_after T.WORDS call k) }
     ensures goes { (base : View T)
-        → LoadAt (coding_of T.WORDS T.words_of T.value_of) R.words_in base (seats.seen seat.old) call room.old
-        → LoadNext (coding_of T.WORDS T.words_of T.value_of) R.words_in base result room.new (seats.seen seat.new) }
+        → LoadAt (coding_by T.Words) R.words_in base (seats.seen seat.old) call room.old
+        → LoadNext (coding_by T.Words) R.words_in base result room.new (seats.seen seat.new) }
 {
     seat.step::<Load<T, R>, Loads<T, R>>(call, &(), room)
 }
@@ -54,14 +54,14 @@ fn copy_words<T: Words, R: Room<T> + Drop>(
     room: &mut R,
 ) -> After<Load<T, R>, ()>
     requires board { IsBoard T.WORDS seat.old }
-    requires at { (base : View T) × LoadAt (coding_of T.WORDS T.words_of T.value_of) R.words_in base (seats.seen seat.old)
+    requires at { (base : View T) × LoadAt (coding_by T.Words) R.words_in base (seats.seen seat.old)
         (at_load first_load (stages.LoadsCell version cell first)) room.old }
     ensures same { seats.IsSame seat.old seat.new }
     ensures board { IsBoard T.WORDS seat.new }
     ensures goes { (base : View T)
-        → LoadAt (coding_of T.WORDS T.words_of T.value_of) R.words_in base (seats.seen seat.old)
+        → LoadAt (coding_by T.Words) R.words_in base (seats.seen seat.old)
         (at_load first_load (stages.LoadsCell version cell first)) room.old
-        → LoadNext (coding_of T.WORDS T.words_of T.value_of) R.words_in base result room.new (seats.seen seat.new) }
+        → LoadNext (coding_by T.Words) R.words_in base result room.new (seats.seen seat.new) }
 {
     let mut of = version;
     let mut start = cell;
@@ -100,12 +100,12 @@ fn load_next<T: Words, R: Room<T> + Drop>(
     room: &mut R,
 ) -> After<Load<T, R>, ()>
     requires board { IsBoard T.WORDS seat.old }
-    requires at { (base : View T) × LoadAt (coding_of T.WORDS T.words_of T.value_of) R.words_in base (seats.seen seat.old) call room.old }
+    requires at { (base : View T) × LoadAt (coding_by T.Words) R.words_in base (seats.seen seat.old) call room.old }
     ensures same { seats.IsSame seat.old seat.new }
     ensures board { IsBoard T.WORDS seat.new }
     ensures goes { (base : View T)
-        → LoadAt (coding_of T.WORDS T.words_of T.value_of) R.words_in base (seats.seen seat.old) call room.old
-        → LoadNext (coding_of T.WORDS T.words_of T.value_of) R.words_in base result room.new (seats.seen seat.new) }
+        → LoadAt (coding_by T.Words) R.words_in base (seats.seen seat.old) call room.old
+        → LoadNext (coding_by T.Words) R.words_in base result room.new (seats.seen seat.new) }
 {
     let stage = call.stage;
     match stage {
@@ -118,11 +118,11 @@ fn load_next<T: Words, R: Room<T> + Drop>(
 #[inline(always)]
 fn load_all<T: Words, R: Room<T> + Drop>(seat: &mut Seat<T>, rt: &impl Wait, room: &mut R) -> ()
     requires board { IsBoard T.WORDS seat.old }
-    requires at { LoadAt (coding_of T.WORDS T.words_of T.value_of) R.words_in (seats.seen seat.old) (seats.seen seat.old)
+    requires at { LoadAt (coding_by T.Words) R.words_in (seats.seen seat.old) (seats.seen seat.old)
         first_load room.old }
     ensures same { seats.IsSame seat.old seat.new }
     ensures board { IsBoard T.WORDS seat.new }
-    ensures ends { LoadEnds (coding_of T.WORDS T.words_of T.value_of) R.words_in (seats.seen seat.old) result room.new (seats.seen seat.new) }
+    ensures ends { LoadEnds (coding_by T.Words) R.words_in (seats.seen seat.old) result room.new (seats.seen seat.new) }
 {
     let mut call = Load::new();
     for _ in rt.forever() {

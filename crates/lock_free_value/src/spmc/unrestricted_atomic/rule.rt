@@ -1,5 +1,5 @@
 //! The rule of a value's table: it is a machine of its kind, and one word more.
-ghost use Rattle.model.specs.Coding.{coding_of};
+ghost use Rattle.model.specs.Coding.{coding_by};
 ghost use Rattle.model.specs.declared.turn.Kind.TheVariants as kinds;
 
 use atomic_table::TableRule;
@@ -24,7 +24,7 @@ impl<T: Words> TableRule<(), View<T>, Origin<T>> for ValueRule<T> {
     ghost use Rattle.history.specs.History.{IsMachine};
     ghost use Rattle.history.specs.ValueOpened.{opened_view};
 
-    ghost holds = { λ origin. IsMachine (coding_of T.WORDS T.words_of T.value_of) kinds.Atomic 1 };
+    ghost holds = { λ origin. IsMachine (coding_by T.Words) kinds.Atomic 1 };
 
     ghost first = { λ origin. opened_view origin.value T.WORDS origin.version };
 }

@@ -24,8 +24,8 @@ returns g c =
     let between = view c.set-one.new.pass in
     let pass = c.set-two.new.pass in
     let new = view pass in
-    let one = c.set-one.ensures.added in
-    let two = c.set-two.ensures.added in
+    let one = c.set-one.ensures.added.added in
+    let two = c.set-two.ensures.added.added in
     let since = seen_begins two.by (Bits (Set second)) (Truth c.set-two.result) (set_wrote two.by second c.set-two.result) between new two.called in
     let x =
     c.calls_stand.ensures one.by (Bits (Set first)) (Truth c.set-one.result) (set_wrote one.by first c.set-one.result) old between one.called

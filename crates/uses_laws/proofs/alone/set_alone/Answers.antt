@@ -19,7 +19,7 @@ set_inside p place false = tt
 
 pub returns-clause-whole : goal.returns-clause-whole
 returns-clause-whole g c =
-    let one = c.set-was_clear.ensures.added in
+    let one = c.set-was_clear.ensures.added.added in
     c.wholes_stay.ensures.call one.by (Bits (Set c.args.place)) (Truth c.set-was_clear.result)
     (set_wrote one.by c.args.place c.set-was_clear.result) (view c.args.pass.now)
     (view c.set-was_clear.new.pass) one.called c.requires.whole
@@ -28,7 +28,7 @@ returns-clause-whole g c =
 
 pub returns-clause-steps : goal.returns-clause-steps
 returns-clause-steps g c =
-    let one = c.set-was_clear.ensures.added in
+    let one = c.set-was_clear.ensures.added.added in
     let calls : CallsWhole (view c.args.pass.now) (view c.set-was_clear.new.pass) =
     record {
       had = c.requires.whole;

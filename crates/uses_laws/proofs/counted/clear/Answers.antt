@@ -18,8 +18,8 @@ reset_all-requires-clause-places c =
 pub returns : goal.returns
 returns c =
     let all = counted _ (λ f. f.0.ghost_name) (λ f. (closure.captures f).number) (λ p x q k. search rules) _ _ _
-    c.reset_all.ensures.cleared.calls in
+    c.reset_all.ensures.cleared.cleared.calls in
     let name = all.0 in
     let number = all.1 in
-    let more = clears_more (view c.args.pass.now) (view c.reset_all.new.pass) _ _ _ _ c.reset_all.ensures.cleared in
+    let more = clears_more (view c.args.pass.now) (view c.reset_all.new.pass) _ _ _ _ c.reset_all.ensures.cleared.cleared in
     search (rules, arith)

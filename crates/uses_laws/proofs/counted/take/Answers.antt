@@ -20,8 +20,8 @@ reset_all-requires c =
 pub returns : goal.returns
 returns c =
     let all = added _ (λ f. f.0.ghost_name) (λ f. (closure.captures f).sum) (λ (s : BitState). s.count) (λ p x q k. search rules) _ _ _
-    c.reset_all.ensures.taken.calls in
+    c.reset_all.ensures.taken.taken.calls in
     let name = all.0 in
     let sum = all.1 in
-    let more = takes_more (knows c.args.counts.now) (knows c.reset_all.new.self) _ _ _ _ c.reset_all.ensures.taken in
+    let more = takes_more (knows c.args.counts.now) (knows c.reset_all.new.self) _ _ _ _ c.reset_all.ensures.taken.taken in
     search (rules, arith)

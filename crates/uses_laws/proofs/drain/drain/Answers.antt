@@ -10,7 +10,7 @@ returns c place low few =
     let old = c.args.pass.now in
     let new = c.reset_all.new.pass in
     let whole : IsAll (share new) = subst IsAll (sym c.reset_all.ensures.same.share) c.requires.whole in
-    drained _ _ _ _ (view old) (view new) c.reset_all.ensures.taken c.reset_all.ensures.stood (c.requires.all c.requires.whole)
+    drained _ _ _ _ (view old) (view new) c.reset_all.ensures.taken.taken c.reset_all.ensures.taken.stood (c.requires.all c.requires.whole)
     (c.reset_all.ensures.same.all whole)
     (c.counts_are_taken_whole.ensures one_word (set_of new).capacity (history new) c.history.ensures.history)
     (c.counts_are_conserved.ensures.conserved one_word (set_of new).capacity (history new) c.history.ensures.history)

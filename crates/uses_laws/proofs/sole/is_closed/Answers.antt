@@ -9,7 +9,7 @@ pub returns-clause-held : goal.returns-clause-held
 returns-clause-held c locked index =
     let after = c.is_locked-locked.new.pass in
     let events = history after in
-    let told = c.is_locked-locked.ensures.answered in
+    let told = c.is_locked-locked.ensures.looked.answered in
     let at : is_locked told.before ≡ true = sym told.right ∙ locked in
     let now : is_locked events ≡ true = ap is_locked told.is ∙ locked_later told.before _ at in
     c.locks_are_final.ensures.held one_word (set_of after).capacity events events [] c.history.ensures.history

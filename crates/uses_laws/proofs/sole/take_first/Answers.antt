@@ -2,8 +2,9 @@ use Rattle.std.proofs.Common.{◌≡◌, ◌<◌, IfOk, None, false, ap, subst, 
 use Rattle.lock_free.specs.Coding.{one_word}
 use Rattle.lock_free.specs.Event.TheVariants.{Claimed}
 use Rattle.lock_free.specs.IndexReading.{holder_of, is_locked}
+use Rattle.lock_free.specs.Unique.Calls.{AcquireDone}
 use Rattle.lock_free.specs.Unique.Contracts.{HasAcquired}
-use Rattle.lock_free.specs.UniqueIndexSet.{SetId, history, set_of, view}
+use Rattle.lock_free.specs.UniqueIndexSet.{SetId, capacity_of, history, set_of, view}
 use Rattle.uses_laws.proofs.Firsts.{holds_first}
 use Rattle.uses_laws.proofs.sole.take_first.Goals as goal
 
@@ -13,7 +14,7 @@ returns-clause-sole g c index is =
     let after = c.acquire_raw_index-taken.new.pass in
     let new = view after in
     let got : HasAcquired index old new =
-    subst (λ r. IfOk r (λ i. HasAcquired i old new)) is c.acquire_raw_index-taken.ensures.acquired in
+    (subst (λ r. IfOk r (λ i. AcquireDone (capacity_of c.args.set.now) i old new)) is c.acquire_raw_index-taken.ensures.acquired).acquired in
     let by = got.taken.by in (
       by,
       got.taken.mine,

@@ -14,7 +14,7 @@ overflow_add-result c =
     let so = c.counts_are_conserved.ensures.conserved one_word (set_of old).capacity (history old) c.history.ensures.history place in
     let sum =
     all_counted (view old) (view new) place c.set-left.result (c.requires.all c.requires.whole) (c.set-left.ensures.same.all whole)
-    c.set-left.ensures.counted c.set-left.ensures.answers so c.requires.few in
+    c.set-left.ensures.counted.counted c.set-left.ensures.counted.answers so c.requires.few in
     let out = c.requires.out in
     let few = c.requires.few in
     omega arith
@@ -28,6 +28,6 @@ returns c =
     let so = c.counts_are_conserved.ensures.conserved one_word (set_of old).capacity (history old) c.history.ensures.history place in
     let sum =
     all_counted (view old) (view new) place c.set-left.result (c.requires.all c.requires.whole) (c.set-left.ensures.same.all whole)
-    c.set-left.ensures.counted c.set-left.ensures.answers so c.requires.few in
+    c.set-left.ensures.counted.counted c.set-left.ensures.counted.answers so c.requires.few in
     let out = c.requires.out in
     omega arith

@@ -12,9 +12,9 @@ returns g c both =
     let between = c.set.new.pass in
     let new = c.set-again.new.pass in
     let one : HasSet place true (view old) (view between) =
-    subst (λ b. HasSet place b (view old) (view between)) c.if-not-set.false c.set.ensures.added in
+    subst (λ b. HasSet place b (view old) (view between)) c.if-not-set.false c.set.ensures.added.added in
     let two : HasSet place true (view between) (view new) =
-    subst (λ b. HasSet place b (view between) (view new)) both c.set-again.ensures.added in
+    subst (λ b. HasSet place b (view between) (view new)) both c.set-again.ensures.added.added in
     cleared_since place (view old) (view between) (view new) one two
     (c.bits_are_conserved.ensures.conserved one_word (set_of old).capacity (history old) c.history.ensures.history place)
     (c.bits_are_conserved.ensures.conserved one_word (set_of new).capacity (history new) c.history-2.ensures.history place)

@@ -24,7 +24,7 @@ loop-preserved g c =
       same_share = c.reset_next.ensures.same.share ∙ c.loop.invariant.same_share;
       misses = c.reset_next.ensures.same.all;
       heard = hears [] c.loop.heard.items c.push.new.self.items c.in-Some-reset_next.bell (made c.args.pass)
-          (view c.loop.pass) (view c.reset_next.new.pass) c.in-Some-reset_next.ensures.cleared items c.loop.invariant.heard;
+          (view c.loop.pass) (view c.reset_next.new.pass) c.in-Some-reset_next.ensures.cleared.cleared items c.loop.invariant.heard;
     }
 
 pub returns-in-None-reset_next : goal.returns-in-None-reset_next
@@ -37,6 +37,6 @@ returns-in-None-reset_next g c bell =
     none_left (view old) (view new) (set_of new).capacity c.history.ensures.history
     (c.loop.invariant.misses whole)
     (c.reset_next.ensures.same.all (subst IsAll (sym c.reset_next.ensures.same.share) whole))
-    c.in-None-reset_next.ensures.cleared
-    (subst (λ n. AllClearOnce n (view new)) (sym same) (c.in-None-reset_next.ensures.clear refl)) bell in
-    rest_heard c.loop.heard.items (made c.args.pass) (view old) (view new) bell c.loop.invariant.heard c.in-None-reset_next.ensures.cleared none
+    c.in-None-reset_next.ensures.clear.cleared
+    (subst (λ n. AllClearOnce n (view new)) (sym same) c.in-None-reset_next.ensures.clear.clear) bell in
+    rest_heard c.loop.heard.items (made c.args.pass) (view old) (view new) bell c.loop.invariant.heard c.in-None-reset_next.ensures.clear.cleared none

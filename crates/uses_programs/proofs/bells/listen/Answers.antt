@@ -14,12 +14,12 @@ loop-preserved g c =
       c.reset_next.ensures.same.set ∙ c.loop.invariant.0,
       c.reset_next.ensures.same.share ∙ c.loop.invariant.1,
       hears [] c.loop.heard.items c.push.new.self.items c.in-Some.bell (made c.args.pass) (view c.loop.pass)
-          (view c.reset_next.new.pass) c.in-Some.ensures.cleared items c.loop.invariant.2,
+          (view c.reset_next.new.pass) c.in-Some.ensures.cleared.cleared items c.loop.invariant.2,
     )
 
 pub loop-preserved-in-None : goal.loop-preserved-in-None
 loop-preserved-in-None g c = (
   c.reset_next.ensures.same.set ∙ c.loop.invariant.0,
   c.reset_next.ensures.same.share ∙ c.loop.invariant.1,
-  hears_none [] c.loop.heard.items (made c.args.pass) (view c.loop.pass) (view c.reset_next.new.pass) c.in-None.ensures.cleared c.loop.invariant.2,
+  hears_none [] c.loop.heard.items (made c.args.pass) (view c.loop.pass) (view c.reset_next.new.pass) c.in-None.ensures.clear.cleared c.loop.invariant.2,
 )

@@ -26,8 +26,8 @@ loop-at-preserved g c =
       end = search rules;
       same_set = c.set.ensures.same.set ∙ l.invariant.same_set;
       same_share = c.set.ensures.same.share ∙ l.invariant.same_share;
-      rung = rings l.rung.items c.push.new.self.items _ c.set.result old new c.if-not-set.false c.set.ensures.added items l.invariant.rung;
-      were_set = rang_on c.args.bells.now l.at _ c.set.result old new lt refl c.set.ensures.added c.set.ensures.stood l.invariant.were_set;
+      rung = rings l.rung.items c.push.new.self.items _ c.set.result old new c.if-not-set.false c.set.ensures.added.added items l.invariant.rung;
+      were_set = rang_on c.args.bells.now l.at _ c.set.result old new lt refl c.set.ensures.added.added c.set.ensures.added.stood l.invariant.were_set;
     }
 
 pub loop-at-preserved-then-not-set : goal.loop-at-preserved-then-not-set
@@ -40,8 +40,8 @@ loop-at-preserved-then-not-set g c =
       end = search rules;
       same_set = c.set.ensures.same.set ∙ l.invariant.same_set;
       same_share = c.set.ensures.same.share ∙ l.invariant.same_share;
-      rung = rings_again l.rung.items _ c.set.result old new c.if-not-set.true c.set.ensures.added l.invariant.rung;
-      were_set = rang_on c.args.bells.now l.at _ c.set.result old new lt refl c.set.ensures.added c.set.ensures.stood l.invariant.were_set;
+      rung = rings_again l.rung.items _ c.set.result old new c.if-not-set.true c.set.ensures.added.added l.invariant.rung;
+      were_set = rang_on c.args.bells.now l.at _ c.set.result old new lt refl c.set.ensures.added.added c.set.ensures.added.stood l.invariant.were_set;
     }
 
 pub returns-clause-all : goal.returns-clause-all

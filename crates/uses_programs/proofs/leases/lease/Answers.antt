@@ -1,7 +1,7 @@
-use Rattle.std.proofs.Common.{rules, ◌≡◌, ◌<◌, Ok, [], ◌∷◌, ◌++◌, refl, sym, subst, ◌∙◌}
+use Rattle.std.proofs.Common.{rules, ◌≡◌, ◌<◌, Ok, IfOk, [], ◌∷◌, ◌++◌, refl, sym, subst, ◌∙◌}
 use Rattle.uses_programs.proofs.Names.{All, All-nil, All-push}
 use Rattle.lock_free.specs.RobustUniqueIndexSet.{view, made, capacity_of}
-use Rattle.lock_free.specs.Robust.Contracts.{HasTaken}
+use Rattle.lock_free.specs.Robust.Calls.{AcquireDone}
 use Rattle.uses_programs.specs.Leases.{HasLeased}
 use Rattle.uses_programs.proofs.Leased.{leased_none, leased_more}
 use Rattle.uses_programs.proofs.leases.lease.Goals as goal
@@ -21,13 +21,14 @@ loop-preserved g c =
     let index = c.in_ok-index.index in
     let was = c.loop.invariant in
     let items : c.push.new.self.items ≡ c.loop.indices.items ++ index ∷ [] = search rules in
-    let low : index < capacity_of c.args.pool.now = search rules in
-    let taken : HasTaken c.args.owner (Ok index) (view c.loop.pass) (view c.acquire.new.pass) = search rules in
+    let got : c.acquire.result ≡ Ok index = search rules in
+    let done = subst (λ r. IfOk r (λ i. AcquireDone (capacity_of c.args.pool.now) c.args.owner i (view c.loop.pass) (view c.acquire.new.pass))) got
+    c.acquire.ensures.acquired in
     record {
       same_set = c.acquire.ensures.same.set ∙ was.same_set;
       same_share = c.acquire.ensures.same.goes.share ∙ was.same_share;
       within = subst (All (λ i. i < capacity_of c.args.pool.now)) (sym items)
-          (All-push (λ i. i < capacity_of c.args.pool.now) c.loop.indices.items index was.within low);
+          (All-push (λ i. i < capacity_of c.args.pool.now) c.loop.indices.items index was.within done.within);
       leased = subst (λ xs. HasLeased xs (made c.acquire.new.pass)) (sym items)
-          (leased_more (view c.loop.pass) (view c.acquire.new.pass) c.loop.indices.items index c.args.owner was.leased taken);
+          (leased_more (view c.loop.pass) (view c.acquire.new.pass) c.loop.indices.items index c.args.owner was.leased done.taken);
     }

@@ -8,7 +8,7 @@ release_raw_index-requires-clause-held c =
 pub loop-at-preserved : goal.loop-at-preserved
 loop-at-preserved c =
     let gave = c.release_raw_index.ensures in
-    (refl, holds_rest c.args.indices.now c.loop-at.at c.loop-at.invariant.1 c.loop-at-test.true gave.same gave.given, gave.same.sound)
+    (refl, holds_rest c.args.indices.now c.loop-at.at c.loop-at.invariant.1 c.loop-at-test.true gave.same gave.given.given, gave.same.sound)
 
 pub returns : goal.returns
 returns c = holds_last c.args.indices.now c.loop-at.at c.loop-at.invariant.1 (let past = c.loop-at-test.false in omega arith)

@@ -7,4 +7,5 @@ returns-clause-apart g c = search (rules, holds_apart)
 pub returns-clause-none : goal.returns-clause-none
 returns-clause-none g c =
     let left = c.borrowed_indices-left.ensures in
-    none_out c.in-Ok.pass c.in_ok-held.held c.in_ok-held.indices.items (search rules) (search rules) c.give_back.ensures left.same left.counted left.whole
+    none_out c.in-Ok.pass c.in_ok-held.held c.in_ok-held.indices.items (search rules) (search rules)
+    c.give_back.ensures left.same left.counted.counted left.counted.whole

@@ -6,5 +6,5 @@ loop-init g c = holds_none c.requires.none c.new-indices.ensures.items
 
 pub loop-preserved : goal.loop-preserved
 loop-preserved g c =
-    holds_more c.push.new.self.items c.in-Ok.index c.loop.invariant c.acquire_raw_index.ensures.same c.in-Ok.ensures.acquired
+    holds_more c.push.new.self.items c.in-Ok.index c.loop.invariant c.acquire_raw_index.ensures.same c.in-Ok.ensures.acquired.acquired
     (first_of (search rules, grind (arith, common_steps)))

@@ -23,12 +23,12 @@ loop-bell-preserved c =
     let old = c.loop-bell.pass in
     let new = c.set-count.new.pass in
     let bell = c.loop-bell.bell in
-    let counted = c.set-count.ensures.counted in
+    let counted = c.set-count.ensures.counted.counted in
     let inv = c.loop-bell.invariant in
     let items : c.push.new.self.items ≡ c.loop-bell.read.items ++ c.set-count.result ∷ [] = grind (arith, common_steps) in
     let whole = subst IsAll (sym (c.set-count.ensures.same.share ∙ inv.same_share)) c.requires.whole in
     let here : c.set-count.result ≡ (counts bell (made c.args.pass.now) - takes bell (made c.args.pass.now)) % 2 ^ 64 =
-    answers_count (view old) (view new) bell c.set-count.result (c.set-count.ensures.same.all whole) counted c.set-count.ensures.answers
+    answers_count (view old) (view new) bell c.set-count.result (c.set-count.ensures.same.all whole) counted c.set-count.ensures.counted.answers
     ∙ ap (λ (z : ℕ × ℕ). (z.0 - z.1) % 2 ^ 64) (λ i. (inv.ahead bell (omega arith) i, inv.took bell i)) in
     let before : (b : ℕ) → bell + 1 ≤ b → counts b (made new) ≡ counts b (made c.args.pass.now) =
     λ b le. (

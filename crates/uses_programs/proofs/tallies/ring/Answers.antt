@@ -20,7 +20,7 @@ loop-at-preserved c =
       same_set = c.set.ensures.same.set ∙ c.loop-at.invariant.same_set;
       same_share = c.set.ensures.same.share ∙ c.loop-at.invariant.same_share;
       counted = counts_on c.args.bells.now c.loop-at.at _ c.set.result (view c.loop-at.pass) (view c.set.new.pass)
-          (let e = c.loop-at.invariant.end in let t = c.loop-at-test.true in omega arith) refl c.set.ensures.counted
+          (let e = c.loop-at.invariant.end in let t = c.loop-at-test.true in omega arith) refl c.set.ensures.counted.counted
           c.loop-at.invariant.counted;
     }
 

@@ -12,7 +12,7 @@ loop-preserved c = (
   c.reset_all.ensures.same.share ∙ c.loop.invariant.1,
   record {
     counted =
-        λ bell. (take_adds (view c.loop.pass) (view c.reset_all.new.pass) _ _ _ c.reset_all.ensures.taken bell).0
+        λ bell. (take_adds (view c.loop.pass) (view c.reset_all.new.pass) _ _ _ c.reset_all.ensures.taken.taken bell).0
         ∙ c.loop.invariant.2.counted bell;
   },
 )

@@ -4,5 +4,5 @@ use Rattle.lock_free_guards.proofs.robust_index.RobustIndex.acquire.Goals as goa
 
 pub returns-in-Ok-clause-acquired : goal.returns-in-Ok-clause-acquired
 returns-in-Ok-clause-acquired g c =
-    let took = c.in-Ok.ensures in
+    let took = c.in-Ok.ensures.acquired in
     acquired c.args.owner c.in-Ok.index (view c.args.pass) (view c.acquire.new.pass) took.taken took.filled took.granted

@@ -1,22 +1,18 @@
 //! The calls by a handle: those of its container.
-ghost use Rattle.std.specs.Prelude.{◌≡◌, ◌+◌, ◌≤◌, true, None, Err, IfSome, IfNone, IfOk, IfErr, OnOk};
+ghost use Rattle.std.specs.Prelude.{◌≡◌, ◌+◌, true, None, Err, IfSome, IfNone, IfOk, IfErr, OnOk};
 ghost use Rattle.steps.specs.declared.container.enums.ContainerAddFailure.TheVariants.{IsLocked as Locked};
-ghost use Rattle.steps.specs.declared.container.enums.ContainerRemoveError.TheVariants.{ContainerHandleNotOwnedByContainer as NotOwned};
-ghost use Rattle.model.specs.Families.Container.Calls.{removed, replaced};
 ghost use Rattle.model.specs.Families.Indices.Reading.{is_locked};
-ghost use Rattle.lock_free_owners.specs.Robust.Contracts.{WasFilled, WasGranted, WasFreed, HasReleased, FoundLock};
+ghost use Rattle.lock_free_owners.specs.Container.Calls.{KeepsPass, KeepsPassIf, AddDone, AddRefused, RemoveDone, RemoveRefused};
+ghost use Rattle.lock_free_owners.specs.Container.Calls.{ReplaceDone, ReplaceRefused, LenDone, IsEmptyDone, IsLockedDone};
 ghost use Rattle.lock_free_owners.specs.Container.Steps.{TakesFew, ContainerTakes, RemoveTakes};
-ghost use Rattle.lock_free_owners.specs.Container.Contracts.{placed, HasAdded, HasRemoved, HasReplaced, HasCounted};
-ghost use Rattle.lock_free_owners.specs.Container.Contracts.{HasTested, HasLooked, WasNotAdded, IsRightLength};
-ghost use Rattle.lock_free_owners.specs.Container.Contracts.{IsRightLook, IsRightRemove, IsRightReplace, IsRightTest};
 ghost use Rattle.lock_free_owners.specs.Container.Idle.{IsIdle};
-ghost use Rattle.lock_free_owners.specs.Container.Names.{history, code_of, capacity_of, container_of, HasHistory, IsPassOf, IsHandleFor, IsOwn, SamePass};
+ghost use Rattle.lock_free_owners.specs.Container.Names.{history, code_of, capacity_of, container_of, HasHistory, IsPassOf, IsOwn};
 ghost use Rattle.model.specs.declared.turn.Kind.TheVariants as kinds;
 ghost use Rattle.history.specs.ContainerLooks.{KeepsState};
 ghost use Rattle.history.specs.History.{Knows};
 ghost use Rattle.history.specs.Passes.{HasSplit};
 ghost use Rattle.history.specs.Steps.{TakesAtMost};
-ghost use Rattle.lock_free_owners.specs.Container.Handles.{container_in, pass_in, knows};
+ghost use Rattle.lock_free_owners.specs.Container.Handles.{container_in, pass_in, knows, KeepsHandle};
 
 use super::Handle;
 use crate::mpmc::container::{
@@ -91,16 +87,10 @@ impl<'a, T: Words> Handle<'a, T> {
         value: T,
         owner: OwnerId,
     ) -> Result<ContainerHandle, ContainerAddFailure>
-        ensures container { container_in self.new ≡ container_in self.old }
-        ensures same { SamePass (pass_in self.old) (pass_in self.new) }
-        ensures keeps { KeepsState (knows self.old) (knows self.new) }
-        ensures handle { IfOk result (IsHandleFor (container_in self.old) owner) }
-        ensures added { HasAdded (record { value = value; owner = owner }) (placed
-            result)
-            (knows self.old) (knows self.new) }
-        ensures filled { IfOk result (λ h. WasFilled h.index owner (knows self.old) (knows self.new)) }
-        ensures granted { IfOk result (λ h. WasGranted h.index owner (knows self.old) (knows self.new)) }
-        ensures refused { IfErr result (λ e. WasNotAdded value owner e
+        ensures same { KeepsHandle KeepsPass self.old self.new }
+        ensures added { IfOk result (λ handle. AddDone (container_in self.old) (record { value = value; owner = owner }) handle
+            (knows self.old) (knows self.new)) }
+        ensures refused { IfErr result (λ failure. AddRefused (record { value = value; owner = owner }) failure
             (knows self.old) (knows self.new)) }
         ensures lock { is_locked (history (pass_in self.old)) ≡ true → result ≡ Err Locked }
         ensures steps { ContainerTakes (capacity_of (container_in self.old) + 7 + T.WORDS) (capacity_of (container_in self.old) + 1)
@@ -116,19 +106,11 @@ impl<'a, T: Words> Handle<'a, T> {
         handle: ContainerHandle,
         mode: ReleaseMode,
     ) -> Result<ReleaseState, ContainerRemoveError>
-        ensures container { container_in self.new ≡ container_in self.old }
-        ensures foreign { (IsOwn (container_in self.old) handle → ⊥)
-            → (result ≡ Err NotOwned) × (knows self.new ≡ knows self.old) }
-        ensures same { IsOwn (container_in self.old) handle → SamePass (pass_in self.old) (pass_in self.new) }
-        ensures keeps { IsOwn (container_in self.old) handle → KeepsState (knows self.old) (knows self.new) }
-        ensures own { OnOk result (IsOwn (container_in self.old) handle) }
-        ensures removed { IsOwn (container_in self.old) handle → HasRemoved
-            (record { index = handle.index; owner = handle.owner; mode = mode }) result
-            (knows self.old) (knows self.new) }
-        ensures freed { OnOk result (WasFreed handle.index handle.owner (knows self.old) (knows self.new)) }
-        ensures answered { IsOwn (container_in self.old) handle → IsRightRemove
-            (record { index = handle.index; owner = handle.owner; mode = mode }) result (knows self.old) (knows self.new) }
-        ensures released { IfOk result (λ s. HasReleased s mode (knows self.old) (knows self.new)) }
+        ensures same { KeepsHandle (KeepsPassIf (IsOwn (container_in self.old) handle)) self.old self.new }
+        ensures removed { IfOk result (λ state. RemoveDone (container_in self.old) handle mode state
+            (knows self.old) (knows self.new)) }
+        ensures refused { IfErr result (λ failure. RemoveRefused (container_in self.old) handle mode failure
+            (knows self.old) (knows self.new)) }
         ensures steps { IsOwn (container_in self.old) handle → RemoveTakes (capacity_of (container_in self.old)) mode (knows self.old) (knows self.new) }
     {
         self.container.remove(rt, handle, mode, &mut self.pass)
@@ -136,17 +118,10 @@ impl<'a, T: Words> Handle<'a, T> {
 
     /// Calls `Container::replace`, with its pass.
     pub fn replace(&mut self, handle: ContainerHandle, value: T) -> Result<(), ContainerRemoveError>
-        ensures container { container_in self.new ≡ container_in self.old }
-        ensures foreign { (IsOwn (container_in self.old) handle → ⊥)
-            → (result ≡ Err NotOwned) × (knows self.new ≡ knows self.old) }
-        ensures same { IsOwn (container_in self.old) handle → SamePass (pass_in self.old) (pass_in self.new) }
-        ensures keeps { IsOwn (container_in self.old) handle → KeepsState (knows self.old) (knows self.new) }
-        ensures own { OnOk result (IsOwn (container_in self.old) handle) }
-        ensures replaced { IsOwn (container_in self.old) handle → HasReplaced
-            (record { index = handle.index; owner = handle.owner; value = value }) result
-            (knows self.old) (knows self.new) }
-        ensures answered { IsOwn (container_in self.old) handle → IsRightReplace
-            (record { index = handle.index; owner = handle.owner; value = value }) result (knows self.old) (knows self.new) }
+        ensures same { KeepsHandle (KeepsPassIf (IsOwn (container_in self.old) handle)) self.old self.new }
+        ensures replaced { OnOk result (ReplaceDone (container_in self.old) handle value (knows self.old) (knows self.new)) }
+        ensures refused { IfErr result (λ failure. ReplaceRefused (container_in self.old) handle value failure
+            (knows self.old) (knows self.new)) }
         ensures steps { IsOwn (container_in self.old) handle → TakesFew (5 + T.WORDS) (knows self.old) (knows self.new) }
     {
         self.container.replace(handle, value, &mut self.pass)
@@ -154,14 +129,8 @@ impl<'a, T: Words> Handle<'a, T> {
 
     /// Calls `Container::len`, with its pass.
     pub fn len(&mut self, rt: &impl Wait) -> usize
-        ensures container { container_in self.new ≡ container_in self.old }
-        ensures same { SamePass (pass_in self.old) (pass_in self.new) }
-        ensures keeps { KeepsState (knows self.old) (knows self.new) }
-        ensures counted { HasCounted result (knows self.old) (knows self.new) }
-        ensures answered { IsRightLength result
-            (knows self.old) (knows self.new) }
-        ensures most { result ≤ capacity_of (container_in self.old) }
-        ensures lock { is_locked (history (pass_in self.old)) ≡ true → result ≡ 0 }
+        ensures same { KeepsHandle KeepsPass self.old self.new }
+        ensures counted { LenDone (capacity_of (container_in self.old)) result (knows self.old) (knows self.new) }
         ensures steps { ContainerTakes (capacity_of (container_in self.old) + 2) (capacity_of (container_in self.old) + 2) (knows self.old) (knows self.new) }
     {
         self.container.len(rt, &mut self.pass)
@@ -169,13 +138,8 @@ impl<'a, T: Words> Handle<'a, T> {
 
     /// Calls `Container::is_empty`, with its pass.
     pub fn is_empty(&mut self, rt: &impl Wait) -> bool
-        ensures container { container_in self.new ≡ container_in self.old }
-        ensures same { SamePass (pass_in self.old) (pass_in self.new) }
-        ensures keeps { KeepsState (knows self.old) (knows self.new) }
-        ensures tested { HasTested result (knows self.old) (knows self.new) }
-        ensures answered { IsRightTest result
-            (knows self.old) (knows self.new) }
-        ensures lock { is_locked (history (pass_in self.old)) ≡ true → result ≡ true }
+        ensures same { KeepsHandle KeepsPass self.old self.new }
+        ensures tested { IsEmptyDone result (knows self.old) (knows self.new) }
         ensures steps { ContainerTakes (capacity_of (container_in self.old) + 2) (capacity_of (container_in self.old) + 2) (knows self.old) (knows self.new) }
     {
         self.container.is_empty(rt, &mut self.pass)
@@ -183,13 +147,8 @@ impl<'a, T: Words> Handle<'a, T> {
 
     /// Calls `Container::is_locked`, with its pass.
     pub fn is_locked(&mut self) -> bool
-        ensures container { container_in self.new ≡ container_in self.old }
-        ensures same { SamePass (pass_in self.old) (pass_in self.new) }
-        ensures keeps { KeepsState (knows self.old) (knows self.new) }
-        ensures looked { HasLooked result (knows self.old) (knows self.new) }
-        ensures answered { IsRightLook result
-            (knows self.old) (knows self.new) }
-        ensures lock { FoundLock result (knows self.old) (knows self.new) }
+        ensures same { KeepsHandle KeepsPass self.old self.new }
+        ensures looked { IsLockedDone result (knows self.old) (knows self.new) }
         ensures steps { TakesFew 1 (knows self.old) (knows self.new) }
     {
         self.container.is_locked(&mut self.pass)

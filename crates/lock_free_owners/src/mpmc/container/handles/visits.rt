@@ -1,17 +1,13 @@
 //! The calls by a handle that come to the values of an owner.
 ghost use Rattle.std.specs.Prelude.{◌≡◌, ℕ, false, List};
 ghost use Rattle.model.specs.Families.Indices.Reading.{is_locked};
-ghost use Rattle.history.specs.ContainerLooks.{KeepsState};
-ghost use Rattle.history.specs.Passes.{Goes};
-ghost use Rattle.lock_free_owners.specs.Robust.Contracts.{FoundState};
 ghost use Rattle.lock_free_owners.specs.Container.Callable.{Visit, TakesVisits, HasFound};
+ghost use Rattle.lock_free_owners.specs.Container.Calls.{FindKeepsPass, KeepsPass, RecoverDone};
 ghost use Rattle.lock_free_owners.specs.Container.FindContract.{HasSearched};
 ghost use Rattle.lock_free_owners.specs.Container.Questions.{TakesValues};
-ghost use Rattle.lock_free_owners.specs.Container.RecoverContract.{HasRecovered};
-ghost use Rattle.lock_free_owners.specs.Container.Steps.{FewAside, FindTakes, RecoverTakes};
-ghost use Rattle.lock_free_owners.specs.Container.Contracts.{IsRightRecovery};
-ghost use Rattle.lock_free_owners.specs.Container.Names.{history, capacity_of, IsHandleFor, SamePass};
-ghost use Rattle.lock_free_owners.specs.Container.Handles.{container_in, pass_in, knows};
+ghost use Rattle.lock_free_owners.specs.Container.Steps.{FindTakes, RecoverTakes};
+ghost use Rattle.lock_free_owners.specs.Container.Names.{history, capacity_of, IsHandleFor};
+ghost use Rattle.lock_free_owners.specs.Container.Handles.{container_in, pass_in, knows, KeepsHandle};
 
 use super::Handle;
 use crate::mpmc::container::{CallbackProgression, ContainerHandle, OwnerId};
@@ -28,10 +24,7 @@ impl<'a, T: Words> Handle<'a, T> {
     ) -> usize
         requires { TakesVisits F.pre (λ p x h a q. F.step p x h a q)
             (IsHandleFor (container_in self.old) owner) visit.old }
-        ensures container { container_in self.new ≡ container_in self.old }
-        ensures goes { Goes (knows self.old) (knows self.new) }
-        ensures aside { FewAside (knows self.old) (knows self.new) }
-        ensures keeps { KeepsState (knows self.old) (knows self.new) }
+        ensures same { KeepsHandle FindKeepsPass self.old self.new }
         ensures found { (visits : List (Visit T)) × (bound : ℕ)
             × HasSearched (capacity_of (container_in self.old)) owner result
             bound visits (knows self.old) (knows self.new)
@@ -52,15 +45,10 @@ impl<'a, T: Words> Handle<'a, T> {
     ) -> ReleaseState
         requires { is_locked (history (pass_in self.old)) ≡ false → TakesValues F.pre
             (λ p x b q. F.step p x b q) (capacity_of (container_in self.old)) predicate.old }
-        ensures container { container_in self.new ≡ container_in self.old }
-        ensures same { SamePass (pass_in self.old) (pass_in self.new) }
-        ensures keeps { KeepsState (knows self.old) (knows self.new) }
-        ensures recovered { HasRecovered (λ p x b q. F.step p x b q)
+        ensures same { KeepsHandle KeepsPass self.old self.new }
+        ensures recovered { RecoverDone (λ p x b q. F.step p x b q)
             (record { owner = owner; mode = mode }) result (capacity_of (container_in self.old)) predicate.old
             predicate.new (knows self.old) (knows self.new) }
-        ensures answered { IsRightRecovery (record { owner = owner; mode = mode }) result
-            (knows self.old) (knows self.new) }
-        ensures lock { FoundState result (knows self.old) (knows self.new) }
         ensures steps { RecoverTakes T.WORDS (capacity_of (container_in self.old)) mode
             (knows self.old) (knows self.new) }
     {

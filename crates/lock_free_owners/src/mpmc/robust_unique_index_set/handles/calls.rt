@@ -1,5 +1,5 @@
 //! The calls by a handle: those of its set.
-ghost use Rattle.std.specs.Prelude.{◌≡◌, ◌+◌, ◌<◌, ◌≤◌, true, Err, IfSome, IfNone, IfOk, IfErr, OnOk};
+ghost use Rattle.std.specs.Prelude.{◌≡◌, ◌+◌, ◌<◌, true, Err, IfSome, IfNone, IfOk, IfErr};
 ghost use Rattle.steps.specs.declared.indices.enums.UniqueIndexSetAcquireFailure.TheVariants.{IsLocked as Locked};
 ghost use Rattle.model.specs.Families.Indices.Reading.{is_locked};
 ghost use Rattle.model.specs.declared.turn.Kind.TheVariants as kinds;
@@ -7,11 +7,10 @@ ghost use Rattle.model.specs.Coding.{one_word};
 ghost use Rattle.history.specs.History.{Knows};
 ghost use Rattle.history.specs.Passes.{HasSplit};
 ghost use Rattle.history.specs.Steps.{TakesAtMost, TakesAlone};
+ghost use Rattle.lock_free_owners.specs.Robust.Calls.{AcquireDone, AcquireRefused, ReleaseDone, ReleaseRefused, BorrowedDone, IsLockedDone};
 ghost use Rattle.lock_free_owners.specs.Robust.Steps.{ReleaseTakes};
-ghost use Rattle.lock_free_owners.specs.Robust.Contracts.{HasTaken, HasGiven, HasCounted, HasLooked, WasFilled, WasGranted};
-ghost use Rattle.lock_free_owners.specs.Robust.Contracts.{WasFreed, WasRefused, HasReleased, FoundLock, IsRightCount, IsRightLook, IsRightRelease};
-ghost use Rattle.lock_free_owners.specs.RobustUniqueIndexSet.{capacity_of, set_of, IsPassOf, HasHistory, SamePass, history};
-ghost use Rattle.lock_free_owners.specs.Robust.Handles.{set_in, pass_in, knows};
+ghost use Rattle.lock_free_owners.specs.RobustUniqueIndexSet.{capacity_of, set_of, IsPassOf, HasHistory, history};
+ghost use Rattle.lock_free_owners.specs.Robust.Handles.{set_in, pass_in, knows, SameHandle};
 
 use super::Handle;
 use crate::mpmc::robust_unique_index_set::{
@@ -76,13 +75,9 @@ impl<'a> Handle<'a> {
         rt: &impl Wait,
         owner: OwnerId,
     ) -> Result<usize, UniqueIndexSetAcquireFailure>
-        ensures set { set_in self.new ≡ set_in self.old }
-        ensures same { SamePass (pass_in self.old) (pass_in self.new) }
-        ensures taken { HasTaken owner result (knows self.old) (knows self.new) }
-        ensures within { IfOk result (λ index. index < capacity_of (set_in self.old)) }
-        ensures filled { IfOk result (λ index. WasFilled index owner (knows self.old) (knows self.new)) }
-        ensures granted { IfOk result (λ index. WasGranted index owner (knows self.old) (knows self.new)) }
-        ensures refused { IfErr result (λ e. WasRefused owner e (knows self.old) (knows self.new)) }
+        ensures same { SameHandle self.old self.new }
+        ensures acquired { IfOk result (λ index. AcquireDone (capacity_of (set_in self.old)) owner index (knows self.old) (knows self.new)) }
+        ensures refused { IfErr result (λ failure. AcquireRefused owner failure (knows self.old) (knows self.new)) }
         ensures lock { is_locked (history (pass_in self.old)) ≡ true → result ≡ Err Locked }
         ensures steps { TakesAlone (capacity_of (set_in self.old) + 3)
             (capacity_of (set_in self.old) + 1) (knows self.old) (knows self.new) }
@@ -99,14 +94,9 @@ impl<'a> Handle<'a> {
         mode: ReleaseMode,
     ) -> Result<ReleaseState, RobustUniqueIndexSetReleaseError>
         requires { index < capacity_of (set_in self.old) }
-        ensures set { set_in self.new ≡ set_in self.old }
-        ensures same { SamePass (pass_in self.old) (pass_in self.new) }
-        ensures given { HasGiven (record { index = index; owner = owner; mode = mode }) result
-            (knows self.old) (knows self.new) }
-        ensures freed { OnOk result (WasFreed index owner (knows self.old) (knows self.new)) }
-        ensures answered { IsRightRelease index owner mode result
-            (knows self.old) (knows self.new) }
-        ensures released { IfOk result (λ s. HasReleased s mode (knows self.old) (knows self.new)) }
+        ensures same { SameHandle self.old self.new }
+        ensures released { IfOk result (λ state. ReleaseDone index owner mode state (knows self.old) (knows self.new)) }
+        ensures refused { IfErr result (λ failure. ReleaseRefused index owner mode failure (knows self.old) (knows self.new)) }
         ensures steps { ReleaseTakes (capacity_of (set_in self.old)) mode (knows self.old) (knows self.new) }
     {
         self.set.release(rt, index, owner, mode, &mut self.pass)
@@ -114,11 +104,8 @@ impl<'a> Handle<'a> {
 
     /// Calls `RobustUniqueIndexSet::is_locked`, with its pass.
     pub fn is_locked(&mut self) -> bool
-        ensures set { set_in self.new ≡ set_in self.old }
-        ensures same { SamePass (pass_in self.old) (pass_in self.new) }
-        ensures looked { HasLooked result (knows self.old) (knows self.new) }
-        ensures answered { IsRightLook result (knows self.old) (knows self.new) }
-        ensures lock { FoundLock result (knows self.old) (knows self.new) }
+        ensures same { SameHandle self.old self.new }
+        ensures looked { IsLockedDone result (knows self.old) (knows self.new) }
         ensures steps { TakesAtMost 1 (knows self.old) (knows self.new) }
     {
         self.set.is_locked(&mut self.pass)
@@ -126,12 +113,8 @@ impl<'a> Handle<'a> {
 
     /// Calls `RobustUniqueIndexSet::borrowed_indices`, with its pass.
     pub fn borrowed_indices(&mut self, rt: &impl Wait) -> usize
-        ensures set { set_in self.new ≡ set_in self.old }
-        ensures same { SamePass (pass_in self.old) (pass_in self.new) }
-        ensures counted { HasCounted result (knows self.old) (knows self.new) }
-        ensures answered { IsRightCount result (knows self.old) (knows self.new) }
-        ensures most { result ≤ capacity_of (set_in self.old) }
-        ensures lock { is_locked (history (pass_in self.old)) ≡ true → result ≡ 0 }
+        ensures same { SameHandle self.old self.new }
+        ensures counted { BorrowedDone (capacity_of (set_in self.old)) result (knows self.old) (knows self.new) }
         ensures steps { TakesAlone (capacity_of (set_in self.old) + 2)
             (capacity_of (set_in self.old) + 2) (knows self.old) (knows self.new) }
     {

@@ -5,10 +5,11 @@ ghost use Rattle.model.specs.Families.Indices.Reading.{is_locked};
 ghost use Rattle.history.specs.Steps.{TakesAtMost};
 ghost use Rattle.threaded.specs.Callable.{TakesPlaces};
 ghost use Rattle.lock_free_owners.specs.Robust.Callable.{TakesQuestions, TakesFreed};
+ghost use Rattle.lock_free_owners.specs.Robust.Calls.{RecoverDone};
 ghost use Rattle.lock_free_owners.specs.Robust.Steps.{RecoverTakes};
-ghost use Rattle.lock_free_owners.specs.Robust.Contracts.{HasRecovered, HasSearched, FoundState, IsRightRecovery};
-ghost use Rattle.lock_free_owners.specs.RobustUniqueIndexSet.{capacity_of, history, LeavesPass, SamePass};
-ghost use Rattle.lock_free_owners.specs.Robust.Handles.{set_in, pass_in, knows};
+ghost use Rattle.lock_free_owners.specs.Robust.Contracts.{HasSearched};
+ghost use Rattle.lock_free_owners.specs.RobustUniqueIndexSet.{capacity_of, history};
+ghost use Rattle.lock_free_owners.specs.Robust.Handles.{set_in, pass_in, knows, FindKeepsHandle, SameHandle};
 
 use super::Handle;
 use crate::mpmc::robust_unique_index_set::{CallbackProgression, OwnerId};
@@ -23,8 +24,7 @@ impl<'a> Handle<'a> {
         visit: &mut F,
     ) -> usize
         requires { TakesPlaces F.pre (λ p x q. F.step p x Continue q) (capacity_of (set_in self.old)) visit.old }
-        ensures set { set_in self.new ≡ set_in self.old }
-        ensures same { LeavesPass (capacity_of (set_in self.old) + 1) (pass_in self.old) (pass_in self.new) }
+        ensures same { FindKeepsHandle self.old self.new }
         ensures found { HasSearched (λ p x a q. F.step p x a q) (capacity_of (set_in self.old)) owner
             visit.old result visit.new (knows self.old) (knows self.new) }
         ensures steps { TakesAtMost (capacity_of (set_in self.old) + 1) (knows self.old) (knows self.new) }
@@ -45,12 +45,9 @@ impl<'a> Handle<'a> {
         requires freed { is_locked (history (pass_in self.old)) ≡ false → TakesFreed
             (λ p o i b q. F.step p o i b q) S.pre (λ s o i t. S.step s o i tt t)
             (capacity_of (set_in self.old)) predicate.old recover_success.old }
-        ensures set { set_in self.new ≡ set_in self.old }
-        ensures same { SamePass (pass_in self.old) (pass_in self.new) }
-        ensures recovered { HasRecovered (λ p o i b q. F.step p o i b q) (λ s o i t. S.step s o i tt t) mode result
+        ensures same { SameHandle self.old self.new }
+        ensures recovered { RecoverDone (λ p o i b q. F.step p o i b q) (λ s o i t. S.step s o i tt t) mode result
             predicate.old recover_success.old predicate.new recover_success.new (knows self.old) (knows self.new) }
-        ensures answered { IsRightRecovery mode result (knows self.old) (knows self.new) }
-        ensures lock { FoundState result (knows self.old) (knows self.new) }
         ensures steps { RecoverTakes (capacity_of (set_in self.old)) mode (knows self.old) (knows self.new) }
     {
         self.set

@@ -1,15 +1,12 @@
 //! The calls by a handle: those of its set.
-ghost use Rattle.std.specs.Prelude.{◌≡◌, ◌+◌, ◌≤◌, ℕ, max, false, List, length};
-ghost use Rattle.std.specs.Prelude.{IfSome, IfNone, IfOk, IfErr, IsTrue, IsFalse};
-ghost use Rattle.model.specs.declared.event.Answer.TheVariants.{Number, Truth};
-ghost use Rattle.model.specs.declared.families.indices.IndexStart.TheVariants as starts;
-ghost use Rattle.model.specs.Families.Indices.Reading.{is_locked};
-ghost use Rattle.lock_free_sets.specs.Unique.Held.{HeldBy, HoldsNothing, HoldsAll};
-ghost use Rattle.lock_free_sets.specs.Unique.Contracts.{HasAcquired, WasRefused, HasCounted, HasLooked, Answered};
-ghost use Rattle.lock_free_sets.specs.UniqueIndexSet.{capacity_of, set_of, IsPassOf, HasHistory, history, made, value_of, index_pass, index_view, SamePass};
+ghost use Rattle.std.specs.Prelude.{◌≡◌, ◌+◌, max};
+ghost use Rattle.std.specs.Prelude.{IfSome, IfNone, IfOk, IfErr};
+ghost use Rattle.lock_free_sets.specs.Unique.Calls.{BorrowedDone, IsLockedDone};
+ghost use Rattle.lock_free_sets.specs.Unique.Contracts.{HasAcquired, WasRefused};
+ghost use Rattle.lock_free_sets.specs.UniqueIndexSet.{capacity_of, set_of, IsPassOf, HasHistory, value_of, index_pass, index_view, SamePass};
 ghost use Rattle.history.specs.History.{Knows};
 ghost use Rattle.history.specs.Passes.{HasSplit};
-ghost use Rattle.lock_free_sets.specs.Unique.Handles.{set_in, pass_in, knows};
+ghost use Rattle.lock_free_sets.specs.Unique.Handles.{set_in, pass_in, knows, SameHandle};
 ghost use Rattle.model.specs.declared.turn.Kind.TheVariants as kinds;
 ghost use Rattle.model.specs.Coding.{one_word};
 ghost use Rattle.history.specs.Steps.{TakesAtMost, TakesAlone};
@@ -93,13 +90,8 @@ impl<'a> Handle<'a> {
 
     /// Calls `UniqueIndexSet::borrowed_indices`, with its pass.
     pub fn borrowed_indices(&mut self) -> usize
-        ensures set { set_in self.new ≡ set_in self.old }
-        ensures same { SamePass (pass_in self.old) (pass_in self.new) }
-        ensures counted { HasCounted result (knows self.old) (knows self.new) }
-        ensures answered { Answered starts.BorrowedIndices (Number result) (knows self.old) (knows self.new) }
-        ensures least { (is : List ℕ) → HeldBy is (made (pass_in self.new)) → length is ≤ result }
-        ensures most { result ≤ capacity_of (set_in self.old) }
-        ensures whole { HoldsAll result (knows self.new) }
+        ensures same { SameHandle self.old self.new }
+        ensures counted { BorrowedDone (capacity_of (set_in self.old)) result (knows self.old) (knows self.new) }
         ensures steps { TakesAtMost 1 (knows self.old) (knows self.new) }
     {
         self.set.borrowed_indices(&mut self.pass)
@@ -107,12 +99,8 @@ impl<'a> Handle<'a> {
 
     /// Calls `UniqueIndexSet::is_locked`, with its pass.
     pub fn is_locked(&mut self) -> bool
-        ensures set { set_in self.new ≡ set_in self.old }
-        ensures same { SamePass (pass_in self.old) (pass_in self.new) }
-        ensures looked { HasLooked result (knows self.old) (knows self.new) }
-        ensures answered { Answered starts.IsLocked (Truth result) (knows self.old) (knows self.new) }
-        ensures nothing { IsTrue result → HoldsNothing (made (pass_in self.new)) }
-        ensures unlocked { IsFalse result → is_locked (history (pass_in self.old)) ≡ false }
+        ensures same { SameHandle self.old self.new }
+        ensures looked { IsLockedDone result (knows self.old) (knows self.new) }
         ensures steps { TakesAtMost 1 (knows self.old) (knows self.new) }
     {
         self.set.is_locked(&mut self.pass)

@@ -1,12 +1,8 @@
 //! How a held index is given back, for a handle.
-ghost use Rattle.std.specs.Prelude.{◌≡◌};
-ghost use Rattle.steps.specs.declared.indices.enums.ReleaseMode.TheVariants as modes;
-ghost use Rattle.steps.specs.declared.indices.enums.ReleaseState.TheVariants.{Locked, Unlocked};
-ghost use Rattle.model.specs.declared.event.Answer.TheVariants.{State};
-ghost use Rattle.model.specs.declared.families.indices.IndexStart.TheVariants as starts;
-ghost use Rattle.lock_free_sets.specs.Unique.Held.{HoldsNothing, HoldsSome};
-ghost use Rattle.lock_free_sets.specs.Unique.Contracts.{HasGiven, HasGivenOrLocked, Answered};
-ghost use Rattle.lock_free_sets.specs.UniqueIndexSet.{made, value_of, index_pass, index_view, SamePass};
+ghost use Rattle.steps.specs.declared.indices.enums.ReleaseState.TheVariants.{Unlocked};
+ghost use Rattle.lock_free_sets.specs.Unique.Calls.{ReleaseOrLockDone};
+ghost use Rattle.lock_free_sets.specs.Unique.Contracts.{HasGiven};
+ghost use Rattle.lock_free_sets.specs.UniqueIndexSet.{value_of, index_pass, index_view, SamePass};
 ghost use Rattle.lock_free_sets.specs.Unique.Handles.{pass_in, knows};
 ghost use Rattle.history.specs.Steps.{TakesAtMost, TakesAlone};
 
@@ -35,11 +31,7 @@ impl<'a> UniqueIndex<'a> {
     /// project's own.
     pub fn give_back_or_lock(self, rt: &impl Wait) -> (ReleaseState, Handle<'a>)
         ensures same { SamePass (index_pass self.entry) (pass_in result.1) }
-        ensures given { HasGivenOrLocked (value_of self.entry) result.0 (index_view self.entry) (knows result.1) }
-        ensures answered { Answered (starts.Release (value_of self.entry) modes.LockIfLastIndex) (State result.0)
-            (index_view self.entry) (knows result.1) }
-        ensures nothing { result.0 ≡ Locked → HoldsNothing (made (pass_in result.1)) }
-        ensures whole { result.0 ≡ Unlocked → HoldsSome (knows result.1) }
+        ensures given { ReleaseOrLockDone (value_of self.entry) result.0 (index_view self.entry) (knows result.1) }
         ensures steps { TakesAlone 4 2 (index_view self.entry) (knows result.1) }
     {
         let UniqueIndex {

@@ -17,7 +17,7 @@ pub returns-clause-handed_back : goal.returns-clause-handed_back
 returns-clause-handed_back g c =
     inl (
       c.parts-number.ensures.within,
-      handed_back _ c.word-word.result _ c.in_ok-back.back _ _ _ _ (search rules) c.parts-number.ensures.is c.settle.ensures.queues.0
+      handed_back _ c.word-word.result _ c.in_ok-back.back _ _ _ _ (search rules) c.parts-number.ensures.is c.settle.ensures.same.queues.0
           c.in_ok-back.ensures.handed_back,
     )
 
@@ -28,4 +28,4 @@ returns-clause-sends g c has =
     c.parts-number.ensures.is
     (subst
     (λ v. PushHandedBack (sends_queue c.args.self.now).capacity c.word-word.result c.in_ok-back.back (sends_view c.args.self.now) v)
-    (sym c.settle.ensures.queues.0) c.in_ok-back.ensures.handed_back)
+    (sym c.settle.ensures.same.queues.0) c.in_ok-back.ensures.handed_back)

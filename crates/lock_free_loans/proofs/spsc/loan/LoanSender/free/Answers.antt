@@ -13,10 +13,10 @@ invariant_of-self-clause-book c =
     let now = c.release_raw_index.new.pass in
     is_freed mine.book c.args.sent _ _ (sent_out _ c.requires)
     (now.known ∙ (ap (λ (z : SetId). z.capacity) c.release_raw_index.ensures.same.set ∙ sym mine.pass.known))
-    c.release_raw_index.ensures.given
+    c.release_raw_index.ensures.given.given
 
 pub returns-clause-freed : goal.returns-clause-freed
 returns-clause-freed c =
     let released = c.release_raw_index in
     has_freed c.args.self.now.pass released.new.pass c.args.sent released.result
-    released.ensures.same released.ensures.unlocked released.ensures.given
+    released.ensures.same released.ensures.given.unlocked released.ensures.given.given

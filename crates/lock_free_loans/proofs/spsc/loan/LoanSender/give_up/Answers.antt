@@ -1,4 +1,4 @@
-use Rattle.lock_free_sets.proofs.Names.{ap, sym, ◌∙◌}
+use Rattle.lock_free_sets.proofs.Names.{ap, arith, rules, sym, ◌∙◌}
 use Rattle.lock_free_sets.specs.UniqueIndexSet.{SetId, view}
 use Rattle.lock_free_loans.specs.Loan.Places.{is_out}
 use Rattle.lock_free_loans.proofs.Loan.Books.{out_held, is_freed}
@@ -14,10 +14,16 @@ invariant_of-self-clause-book c =
     let now = c.release_raw_index.new.pass in
     is_freed mine.book c.args.index _ _ (ap is_out c.requires)
     (now.known ∙ (ap (λ (z : SetId). z.capacity) c.release_raw_index.ensures.same.set ∙ sym mine.pass.known))
-    c.release_raw_index.ensures.given
+    c.release_raw_index.ensures.given.given
 
-pub returns-clause-goes : goal.returns-clause-goes
-returns-clause-goes c =
+pub returns-clause-same : goal.returns-clause-same
+returns-clause-same c =
     let released = c.release_raw_index in
-    set_goes c.args.self.now.pass released.new.pass released.ensures.same
-    (begins_before _ _ _ _ (view c.args.self.now.pass) (view released.new.pass) released.ensures.given.called)
+    record {
+      goes = set_goes c.args.self.now.pass released.new.pass released.ensures.same
+          (begins_before _ _ _ _ (view c.args.self.now.pass) (view released.new.pass) released.ensures.given.given.called);
+      queues = search rules;
+      same = search rules;
+      aside = search (rules, arith);
+      share = search rules;
+    }

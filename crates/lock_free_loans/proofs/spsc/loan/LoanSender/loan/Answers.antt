@@ -1,4 +1,4 @@
-use Rattle.lock_free_sets.proofs.Names.{◌+◌, ◌<◌, ℕ, rules, refl, sym, ap, subst, ◌∙◌, View}
+use Rattle.lock_free_sets.proofs.Names.{◌+◌, ◌<◌, ℕ, arith, rules, refl, sym, ap, subst, ◌∙◌, View}
 use Rattle.std.proofs.Common.{max}
 use Rattle.history.specs.Steps.{TakesAlone}
 use Rattle.lock_free_sets.specs.UniqueIndexSet.{SetId, view}
@@ -13,10 +13,15 @@ invariant_of-self-2-clause-book g c =
     let now = c.acquire_raw_index.new.pass in
     let size = mine.pass.known ∙ ap (λ (z : SetId). z.capacity) mine.of in
     let same = now.known ∙ (ap (λ (z : SetId). z.capacity) c.acquire_raw_index.ensures.same.set ∙ sym mine.pass.known) in
-    is_loaned mine.book called.index _ same (subst (λ n. called.index < n) (sym size) called.ensures.within) called.ensures.acquired
+    is_loaned mine.book called.index _ same (subst (λ n. called.index < n) (sym size) called.ensures.acquired.within) called.ensures.acquired.acquired
 
 pub returns-clause-loaned : goal.returns-clause-loaned
-returns-clause-loaned g c = (is_free _ (was_free c.args.self.now.book c.in_ok-index.index _ c.in_ok-index.ensures.acquired), refl)
+returns-clause-loaned g c =
+    record {
+      loaned = (is_free _ (was_free c.args.self.now.book c.in_ok-index.index _ c.in_ok-index.ensures.acquired.acquired), refl);
+      is = search rules;
+      acquired = c.in_ok-index.ensures.acquired.acquired;
+    }
 
 pub invariant_of-self : goal.invariant_of-self
 invariant_of-self g c =
@@ -25,17 +30,29 @@ invariant_of-self g c =
     let same = now.known ∙ (ap (λ (z : SetId). z.capacity) c.acquire_raw_index.ensures.same.set ∙ sym mine.pass.known) in
     record { of = search rules; book = is_refused mine.book _ _ same c.in_err-index.ensures.refused }
 
-pub returns-clause-goes : goal.returns-clause-goes
-returns-clause-goes g c =
+pub returns-clause-same : goal.returns-clause-same
+returns-clause-same g c =
     let acquired = c.acquire_raw_index in
-    set_goes c.args.self.now.pass acquired.new.pass acquired.ensures.same
-    (begins_before _ _ _ _ (view c.args.self.now.pass) (view acquired.new.pass) c.in_ok-index.ensures.acquired.taken.called)
+    record {
+      goes = set_goes c.args.self.now.pass acquired.new.pass acquired.ensures.same
+          (begins_before _ _ _ _ (view c.args.self.now.pass) (view acquired.new.pass) c.in_ok-index.ensures.acquired.acquired.taken.called);
+      queues = search rules;
+      same = search rules;
+      aside = search (rules, arith);
+      share = search rules;
+    }
 
-pub returns-in_err-index-clause-goes : goal.returns-in_err-index-clause-goes
-returns-in_err-index-clause-goes g c =
+pub returns-in_err-index-clause-same : goal.returns-in_err-index-clause-same
+returns-in_err-index-clause-same g c =
     let acquired = c.acquire_raw_index in
-    set_goes c.args.self.now.pass acquired.new.pass acquired.ensures.same
-    (begins_before _ _ _ _ (view c.args.self.now.pass) (view acquired.new.pass) c.in_err-index.ensures.refused.taken.called)
+    record {
+      goes = set_goes c.args.self.now.pass acquired.new.pass acquired.ensures.same
+          (begins_before _ _ _ _ (view c.args.self.now.pass) (view acquired.new.pass) c.in_err-index.ensures.refused.taken.called);
+      queues = search rules;
+      same = search rules;
+      aside = search (rules, arith);
+      share = search rules;
+    }
 
 abbrev Steps : ℕ → View ℕ → View ℕ → Type 0
 Steps capacity old new = TakesAlone (4 + capacity) (max 2 capacity) old new

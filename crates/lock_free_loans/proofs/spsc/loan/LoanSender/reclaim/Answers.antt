@@ -1,8 +1,10 @@
-use Rattle.lock_free_sets.proofs.Names.{rules, arith, ap, subst, sym, ◌∙◌, ◌+◌, ◌<◌, ◌≡◌, true, false, length}
+use Rattle.lock_free_sets.proofs.Names.{rules, arith, ap, subst, sym, ◌∙◌, ◌+◌, ◌<◌, ◌≤◌, ◌≡◌, true, false, length}
+use Rattle.std.proofs.Common.{count_by}
+use Rattle.std.proofs.lemmas.List.{take_all}
 use Rattle.lock_free_loans.specs.Loan.Places.{is_sent, place_at}
 use Rattle.lock_free_loans.specs.Loan.Sender.{places_of, pass_view}
 use Rattle.lock_free_loans.specs.Loan.Contracts.{InTurn, HasFreed}
-use Rattle.lock_free_loans.proofs.Loan.Books.{not_reached, sent_step, other_step}
+use Rattle.lock_free_loans.proofs.Loan.Books.{not_reached, sent_step, other_step, so_far, so_far_all}
 use Rattle.lock_free_loans.proofs.Loan.Contracts.{sent_below, freed_more, freed_same}
 use Rattle.lock_free_loans.proofs.spsc.loan.LoanSender.reclaim.Goals as goal
 use Rattle.lock_free_loans.proofs.spsc.loan.LoanSender.reclaim.Goals.{then-has_sent, else-has_sent}
@@ -60,10 +62,17 @@ loop-index-preserved g c =
           }
     ]
 
-pub returns-clause-freed : goal.returns-clause-freed
-returns-clause-freed g c =
+pub returns-clause-reclaimed : goal.returns-clause-reclaimed
+returns-clause-reclaimed g c =
     let ps = places_of c.args.self.now in
-    let end = c.loop-index.invariant.long in
+    let was = c.loop-index.invariant in
+    let end = was.long in
     let past = c.loop-index-test.false in
     let all : c.loop-index.index ≡ length ps = omega arith in
-    subst (λ n. InTurn HasFreed (sent_below n ps) (pass_view c.args.self.now) (pass_view c.loop-index.self)) all c.loop-index.invariant.freed
+    let whole : length ps ≤ c.loop-index.index = omega arith in
+    record {
+      places = was.places ∙ (ap (λ n. so_far n ps) all ∙ so_far_all ps);
+      number = was.number ∙ ap (count_by is_sent) (take_all c.loop-index.index ps whole);
+      freed = subst (λ n. InTurn HasFreed (sent_below n ps) (pass_view c.args.self.now) (pass_view c.loop-index.self)) all was.freed;
+      emptied = search rules;
+    }

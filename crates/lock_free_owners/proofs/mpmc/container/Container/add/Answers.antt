@@ -1,5 +1,5 @@
 use Rattle.lock_free_owners.proofs.Names.{◌≡◌, ◌<◌, Ok, Err, rules, refl, sym, ap, subst, ◌∙◌, true≢false, first_add}
-use Rattle.lock_free_owners.proofs.Names.{Owned, Coding, IsCoding, coding_of, seen, SetId, adds_value}
+use Rattle.lock_free_owners.proofs.Names.{Owned, Coding, IsCoding, coding_by, seen, SetId, adds_value}
 use Rattle.steps.specs.declared.container.enums.ContainerAddFailure.TheVariants as failures
 use Rattle.lock_free_owners.specs.Container.Turns.{BeginsAdd, AddAt, AddEnds}
 use Rattle.lock_free_owners.proofs.ContainerSet.Begins.{add_keeps, add_begins}
@@ -13,14 +13,14 @@ use Rattle.lock_free_owners.proofs.mpmc.container.Container.add.Goals as goal
 pub drive_on-end-requires-clause-rule : goal.drive_on-end-requires-clause-rule
 drive_on-end-requires-clause-rule g c =
     let met = g.met.T.Words in
-    let code : Coding g.row.T.Denot = coding_of g.T.Words.WORDS g.T.Words.words_of g.T.Words.value_of in
+    let code : Coding g.row.T.Denot = coding_by g.T.Words in
     let law : IsCoding code = record { some = met.some; few = met.few; sized = met.sized; given_back = met.given_back } in
     add_keeps code law (record { value = c.args.value; owner = c.args.owner })
 
 pub drive_on-end-requires-clause-at : goal.drive_on-end-requires-clause-at
 drive_on-end-requires-clause-at g c =
     let met = g.met.T.Words in
-    let code : Coding g.row.T.Denot = coding_of g.T.Words.WORDS g.T.Words.words_of g.T.Words.value_of in
+    let code : Coding g.row.T.Denot = coding_by g.T.Words in
     let law : IsCoding code = record { some = met.some; few = met.few; sized = met.sized; given_back = met.given_back } in
     let mine = c.args.pass.now.token in
     let v = seen mine.seated in
@@ -30,7 +30,7 @@ drive_on-end-requires-clause-at g c =
 
 pub returns-in-Ok-clause-same : goal.returns-in-Ok-clause-same
 returns-in-Ok-clause-same g c =
-    let code : Coding g.row.T.Denot = coding_of g.T.Words.WORDS g.T.Words.words_of g.T.Words.value_of in
+    let code : Coding g.row.T.Denot = coding_by g.T.Words in
     let v = seen c.args.pass.now.token.seated in
     let w = seen c.drive_on-end.new.self in
     let given : Owned g.row.T.Denot = record { value = c.args.value; owner = c.args.owner } in
@@ -39,11 +39,12 @@ returns-in-Ok-clause-same g c =
       idle = c.drive_on-end.ensures.end.over.idle;
       goes = (goes code (BeginsAdd given) (adds_value g.T.Words.WORDS given) v w c.drive_on-end.result c.drive_on-end.ensures.end);
       aside = (few_aside code (BeginsAdd given) (adds_value g.T.Words.WORDS given) v w c.drive_on-end.result c.drive_on-end.ensures.end);
+      keeps = add_leaves code v w given c.drive_on-end.result c.drive_on-end.ensures.end;
     }
 
 pub returns-in-Err-clause-same : goal.returns-in-Err-clause-same
 returns-in-Err-clause-same g c =
-    let code : Coding g.row.T.Denot = coding_of g.T.Words.WORDS g.T.Words.words_of g.T.Words.value_of in
+    let code : Coding g.row.T.Denot = coding_by g.T.Words in
     let v = seen c.args.pass.now.token.seated in
     let w = seen c.drive_on-end.new.self in
     let given : Owned g.row.T.Denot = record { value = c.args.value; owner = c.args.owner } in
@@ -52,20 +53,27 @@ returns-in-Err-clause-same g c =
       idle = c.drive_on-end.ensures.end.over.idle;
       goes = (goes code (BeginsAdd given) (adds_value g.T.Words.WORDS given) v w c.drive_on-end.result c.drive_on-end.ensures.end);
       aside = (few_aside code (BeginsAdd given) (adds_value g.T.Words.WORDS given) v w c.drive_on-end.result c.drive_on-end.ensures.end);
+      keeps = add_leaves code v w given c.drive_on-end.result c.drive_on-end.ensures.end;
     }
 
 pub returns-in-Ok-clause-added : goal.returns-in-Ok-clause-added
 returns-in-Ok-clause-added g c =
-    let code : Coding g.row.T.Denot = coding_of g.T.Words.WORDS g.T.Words.words_of g.T.Words.value_of in
+    let code : Coding g.row.T.Denot = coding_by g.T.Words in
     let v = seen c.args.pass.now.token.seated in
     let w = seen c.drive_on-end.new.self in
     let given : Owned g.row.T.Denot = record { value = c.args.value; owner = c.args.owner } in
     let ends = subst (λ z. AddEnds code given v z tt w) c.in-Ok.is c.drive_on-end.ensures.end in
-    has_added code v w given (Ok c.in-Ok.index) ends
+    let size = c.args.pass.now.token.known ∙ ap (λ (z : SetId). z.capacity) c.requires in
+    record {
+      handle = ((refl, subst (λ n. c.in-Ok.index < n) size (within_so code v w given c.in-Ok.index ends)), refl);
+      added = has_added code v w given (Ok c.in-Ok.index) ends;
+      filled = filled_so code v w given c.in-Ok.index ends;
+      granted = granted_so code v w given c.in-Ok.index ends;
+    }
 
 pub returns-in-Ok-clause-lock : goal.returns-in-Ok-clause-lock
 returns-in-Ok-clause-lock g c locked =
-    let code : Coding g.row.T.Denot = coding_of g.T.Words.WORDS g.T.Words.words_of g.T.Words.value_of in
+    let code : Coding g.row.T.Denot = coding_by g.T.Words in
     let v = seen c.args.pass.now.token.seated in
     let w = seen c.drive_on-end.new.self in
     let given : Owned g.row.T.Denot = record { value = c.args.value; owner = c.args.owner } in
@@ -73,46 +81,9 @@ returns-in-Ok-clause-lock g c locked =
     let free = open_so code v w given c.in-Ok.index ends in
     absurd (true≢false (sym locked ∙ free))
 
-pub returns-in-Ok-clause-filled : goal.returns-in-Ok-clause-filled
-returns-in-Ok-clause-filled g c =
-    let code : Coding g.row.T.Denot = coding_of g.T.Words.WORDS g.T.Words.words_of g.T.Words.value_of in
-    let v = seen c.args.pass.now.token.seated in
-    let w = seen c.drive_on-end.new.self in
-    let given : Owned g.row.T.Denot = record { value = c.args.value; owner = c.args.owner } in
-    let ends = subst (λ z. AddEnds code given v z tt w) c.in-Ok.is c.drive_on-end.ensures.end in
-    filled_so code v w given c.in-Ok.index ends
-
-pub returns-in-Ok-clause-granted : goal.returns-in-Ok-clause-granted
-returns-in-Ok-clause-granted g c =
-    let code : Coding g.row.T.Denot = coding_of g.T.Words.WORDS g.T.Words.words_of g.T.Words.value_of in
-    let v = seen c.args.pass.now.token.seated in
-    let w = seen c.drive_on-end.new.self in
-    let given : Owned g.row.T.Denot = record { value = c.args.value; owner = c.args.owner } in
-    let ends = subst (λ z. AddEnds code given v z tt w) c.in-Ok.is c.drive_on-end.ensures.end in
-    granted_so code v w given c.in-Ok.index ends
-
-pub returns-in-Ok-clause-handle : goal.returns-in-Ok-clause-handle
-returns-in-Ok-clause-handle g c =
-    let code : Coding g.row.T.Denot = coding_of g.T.Words.WORDS g.T.Words.words_of g.T.Words.value_of in
-    let v = seen c.args.pass.now.token.seated in
-    let w = seen c.drive_on-end.new.self in
-    let given : Owned g.row.T.Denot = record { value = c.args.value; owner = c.args.owner } in
-    let ends = subst (λ z. AddEnds code given v z tt w) c.in-Ok.is c.drive_on-end.ensures.end in
-    let size = c.args.pass.now.token.known ∙ ap (λ (z : SetId). z.capacity) c.requires in
-    ((refl, subst (λ n. c.in-Ok.index < n) size (within_so code v w given c.in-Ok.index ends)), refl)
-
-pub returns-in-Err-clause-added : goal.returns-in-Err-clause-added
-returns-in-Err-clause-added g c =
-    let code : Coding g.row.T.Denot = coding_of g.T.Words.WORDS g.T.Words.words_of g.T.Words.value_of in
-    let v = seen c.args.pass.now.token.seated in
-    let w = seen c.drive_on-end.new.self in
-    let given : Owned g.row.T.Denot = record { value = c.args.value; owner = c.args.owner } in
-    let ends = subst (λ z. AddEnds code given v z tt w) c.in-Err.is c.drive_on-end.ensures.end in
-    has_added code v w given (Err c.in-Err.failure) ends
-
 pub returns-in-Err-clause-lock : goal.returns-in-Err-clause-lock
 returns-in-Err-clause-lock g c locked =
-    let code : Coding g.row.T.Denot = coding_of g.T.Words.WORDS g.T.Words.words_of g.T.Words.value_of in
+    let code : Coding g.row.T.Denot = coding_by g.T.Words in
     let v = seen c.args.pass.now.token.seated in
     let w = seen c.drive_on-end.new.self in
     let given : Owned g.row.T.Denot = record { value = c.args.value; owner = c.args.owner } in
@@ -123,26 +94,19 @@ returns-in-Err-clause-lock g c locked =
 
 pub returns-in-Err-clause-refused : goal.returns-in-Err-clause-refused
 returns-in-Err-clause-refused g c =
-    let code : Coding g.row.T.Denot = coding_of g.T.Words.WORDS g.T.Words.words_of g.T.Words.value_of in
+    let code : Coding g.row.T.Denot = coding_by g.T.Words in
     let v = seen c.args.pass.now.token.seated in
     let w = seen c.drive_on-end.new.self in
     let given : Owned g.row.T.Denot = record { value = c.args.value; owner = c.args.owner } in
     let ends = subst (λ z. AddEnds code given v z tt w) c.in-Err.is c.drive_on-end.ensures.end in
-    refused_so code v w given c.in-Err.failure ends
-
-pub returns-in-Ok-clause-keeps : goal.returns-in-Ok-clause-keeps
-returns-in-Ok-clause-keeps g c =
-    add_leaves (coding_of g.T.Words.WORDS g.T.Words.words_of g.T.Words.value_of) (seen c.args.pass.now.token.seated) (seen c.drive_on-end.new.self)
-    (record { value = c.args.value; owner = c.args.owner }) c.drive_on-end.result c.drive_on-end.ensures.end
-
-pub returns-in-Err-clause-keeps : goal.returns-in-Err-clause-keeps
-returns-in-Err-clause-keeps g c =
-    add_leaves (coding_of g.T.Words.WORDS g.T.Words.words_of g.T.Words.value_of) (seen c.args.pass.now.token.seated) (seen c.drive_on-end.new.self)
-    (record { value = c.args.value; owner = c.args.owner }) c.drive_on-end.result c.drive_on-end.ensures.end
+    record {
+      added = has_added code v w given (Err c.in-Err.failure) ends;
+      refused = refused_so code v w given c.in-Err.failure ends;
+    }
 
 pub returns-in-Ok-clause-steps : goal.returns-in-Ok-clause-steps
 returns-in-Ok-clause-steps g c =
-    let code : Coding g.row.T.Denot = coding_of g.T.Words.WORDS g.T.Words.words_of g.T.Words.value_of in
+    let code : Coding g.row.T.Denot = coding_by g.T.Words in
     let v = seen c.args.pass.now.token.seated in
     let w = seen c.drive_on-end.new.self in
     subst (λ n. ContainerTakes (n + 7 + g.T.Words.WORDS) (n + 1) v w) (c.args.pass.now.token.known ∙ ap (λ (z : SetId). z.capacity) c.requires)
@@ -150,7 +114,7 @@ returns-in-Ok-clause-steps g c =
 
 pub returns-in-Err-clause-steps : goal.returns-in-Err-clause-steps
 returns-in-Err-clause-steps g c =
-    let code : Coding g.row.T.Denot = coding_of g.T.Words.WORDS g.T.Words.words_of g.T.Words.value_of in
+    let code : Coding g.row.T.Denot = coding_by g.T.Words in
     let v = seen c.args.pass.now.token.seated in
     let w = seen c.drive_on-end.new.self in
     subst (λ n. ContainerTakes (n + 7 + g.T.Words.WORDS) (n + 1) v w) (c.args.pass.now.token.known ∙ ap (λ (z : SetId). z.capacity) c.requires)

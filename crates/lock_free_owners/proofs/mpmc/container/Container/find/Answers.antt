@@ -1,4 +1,4 @@
-use Rattle.lock_free_owners.proofs.Names.{◌<◌, [], rules, sym, ap, subst, Coding, IsCoding, coding_of, fresh_cell}
+use Rattle.lock_free_owners.proofs.Names.{◌<◌, [], rules, sym, ap, subst, Coding, IsCoding, coding_by, fresh_cell}
 use Rattle.lock_free_owners.proofs.Names.{seen, SetId}
 use Rattle.steps.specs.Container.Find.{first_find}
 use Rattle.lock_free_owners.specs.Container.Callable.{TakesVisits, HasFound}
@@ -14,7 +14,7 @@ use Rattle.lock_free_owners.proofs.mpmc.container.Container.find.Given as given
 pub find_all-requires-clause-at : goal.find_all-requires-clause-at
 find_all-requires-clause-at g c =
     let met = g.met.T.Words in
-    let code : Coding g.row.T.Denot = coding_of g.T.Words.WORDS g.T.Words.words_of g.T.Words.value_of in
+    let code : Coding g.row.T.Denot = coding_by g.T.Words in
     let law : IsCoding code = record { some = met.some; few = met.few; sized = met.sized; given_back = met.given_back } in
     let mine = c.args.pass.now.token in
     let v = seen mine.seated in
@@ -27,17 +27,14 @@ find_all-requires-clause-visits g c =
     subst (λ n. TakesVisits (given.F-pre g) (λ p x h a q. given.F-step g p x h a q) (IsNamed n c.args.owner (number_of c.args.self.now)) c.args.visit.now)
     (sym (ap (λ (z : SetId). z.capacity) c.requires.pass)) c.requires.visits
 
-pub returns-clause-goes : goal.returns-clause-goes
-returns-clause-goes g c =
-    let code : Coding g.row.T.Denot = coding_of g.T.Words.WORDS g.T.Words.words_of g.T.Words.value_of in
-    c.find_all.ensures.searched.left.goes
-
-pub returns-clause-aside : goal.returns-clause-aside
-returns-clause-aside g c = c.find_all.ensures.searched.left.aside
+pub returns-clause-same : goal.returns-clause-same
+returns-clause-same g c =
+    let left = c.find_all.ensures.searched.left in
+    record { container = search rules; goes = left.goes; aside = left.aside; keeps = left.keeps }
 
 pub returns-clause-found : goal.returns-clause-found
 returns-clause-found g c =
-    let code : Coding g.row.T.Denot = coding_of g.T.Words.WORDS g.T.Words.words_of g.T.Words.value_of in
+    let code : Coding g.row.T.Denot = coding_by g.T.Words in
     let searched = c.find_all.ensures.searched in
     let size = ap (λ (z : SetId). z.capacity) c.requires.pass in (
       searched.visits,
@@ -49,11 +46,8 @@ returns-clause-found g c =
           size searched.found,
     )
 
-pub returns-clause-keeps : goal.returns-clause-keeps
-returns-clause-keeps g c = c.find_all.ensures.searched.left.keeps
-
 pub returns-clause-steps : goal.returns-clause-steps
 returns-clause-steps g c =
-    let code : Coding g.row.T.Denot = coding_of g.T.Words.WORDS g.T.Words.words_of g.T.Words.value_of in
+    let code : Coding g.row.T.Denot = coding_by g.T.Words in
     subst (λ n. FindTakes code.size n (seen c.args.pass.now.token.seated) (seen c.find_all.new.seat)) (ap (λ (z : SetId). z.capacity) c.requires.pass)
     c.find_all.ensures.searched.steps

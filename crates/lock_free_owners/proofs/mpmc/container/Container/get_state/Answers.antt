@@ -1,5 +1,5 @@
 use Rattle.lock_free_owners.proofs.Names.{◌≡◌, ℕ, rules, sym, ap, subst, ◌∙◌, first_look, no_numbers, shows_nothing}
-use Rattle.lock_free_owners.proofs.Names.{shown_number, Coding, IsCoding, coding_of, Number, GetState, seen, SetId}
+use Rattle.lock_free_owners.proofs.Names.{shown_number, Coding, IsCoding, coding_by, Number, GetState, seen, SetId}
 use Rattle.lock_free_owners.proofs.Names.{HasCopied, HasLookedAll}
 use Rattle.model.specs.declared.families.container.ContainerStart.TheVariants as starts
 use Rattle.lock_free_owners.specs.Container.LookTurns.{IsOnHistory, LookAt}
@@ -11,7 +11,7 @@ use Rattle.lock_free_owners.proofs.mpmc.container.Container.get_state.Goals as g
 pub bring_up-requires-clause-at : goal.bring_up-requires-clause-at
 bring_up-requires-clause-at g c =
     let met = g.met.T.Words in
-    let code : Coding g.row.T.Denot = coding_of g.T.Words.WORDS g.T.Words.words_of g.T.Words.value_of in
+    let code : Coding g.row.T.Denot = coding_by g.T.Words in
     let law : IsCoding code = record { some = met.some; few = met.few; sized = met.sized; given_back = met.given_back } in
     let mine = c.args.pass.now.token in
     let v = seen mine.seated in
@@ -19,30 +19,9 @@ bring_up-requires-clause-at g c =
     subst (λ (n : ℕ). LookAt code GetState v state.shown state.seen v (first_look n) state.shown) mine.known
     (look_begins code law GetState v state.shown state.seen mine.idle mine.alone mine.some.0)
 
-pub returns-clause-same : goal.returns-clause-same
-returns-clause-same g c =
-    let code : Coding g.row.T.Denot = coding_of g.T.Words.WORDS g.T.Words.words_of g.T.Words.value_of in
-    let mine = c.args.pass.now.token in
-    let v = seen mine.seated in
-    let w = seen c.bring_up.new.seat in
-    let state = c.in_ok-state.state in
-    let size = mine.known ∙ ap (λ (z : SetId). z.capacity) c.requires in
-    let on : IsOnHistory code GetState v state.shown state.seen = (
-      subst (λ (n : ℕ). state.seen ≡ no_numbers n) (sym size) c.in_ok-state.ensures.seen,
-      subst (λ (n : ℕ). state.shown ≡ shows_nothing g.T.Words.value_of g.T.Words.WORDS n) (sym size) c.in_ok-state.ensures.shown,
-    )
-    in
-    let ends = c.bring_up.ensures.over.0 on in
-    record {
-      container = search rules;
-      idle = look_idle code GetState v w state.seen c.bring_up.result c.bring_up.new.state.shown ends;
-      goes = (look_goes code GetState v w state.seen c.bring_up.result c.bring_up.new.state.shown ends);
-      aside = (look_aside code GetState v w state.seen c.bring_up.result c.bring_up.new.state.shown ends);
-    }
-
 pub returns-clause-got : goal.returns-clause-got
 returns-clause-got g c =
-    let code : Coding g.row.T.Denot = coding_of g.T.Words.WORDS g.T.Words.words_of g.T.Words.value_of in
+    let code : Coding g.row.T.Denot = coding_by g.T.Words in
     let mine = c.args.pass.now.token in
     let v = seen mine.seated in
     let w = seen c.bring_up.new.seat in
@@ -54,43 +33,26 @@ returns-clause-got g c =
       subst (λ (n : ℕ). state.shown ≡ shows_nothing g.T.Words.value_of g.T.Words.WORDS n) (sym size) c.in_ok-state.ensures.shown,
     )
     in
-    made_as starts.GetState (Number (shown_number m.elements)) (λ by es. HasLookedAll v.capacity by c.bring_up.result es)
-    (λ by es. HasCopied by 0 v.capacity es) v w (λ by es h. some_copied g.row.T.Denot v.capacity by c.bring_up.result es h)
-    (look_made code GetState v w state.seen c.bring_up.result m (c.bring_up.ensures.over.0 on))
-
-pub returns-clause-latest : goal.returns-clause-latest
-returns-clause-latest g c =
-    let code : Coding g.row.T.Denot = coding_of g.T.Words.WORDS g.T.Words.words_of g.T.Words.value_of in
-    let mine = c.args.pass.now.token in
-    let v = seen mine.seated in
-    let w = seen c.bring_up.new.seat in
-    let state = c.in_ok-state.state in
-    let size = mine.known ∙ ap (λ (z : SetId). z.capacity) c.requires in
-    let on : IsOnHistory code GetState v state.shown state.seen = (
-      subst (λ (n : ℕ). state.seen ≡ no_numbers n) (sym size) c.in_ok-state.ensures.seen,
-      subst (λ (n : ℕ). state.shown ≡ shows_nothing g.T.Words.value_of g.T.Words.WORDS n) (sym size) c.in_ok-state.ensures.shown,
-    )
-    in
-    latest_so code v GetState w c.bring_up.result state c.bring_up.new.state (c.in_ok-state.ensures.capacity ∙ sym size) c.bring_up.ensures.state
-    (c.bring_up.ensures.over.0 on)
-
-pub returns-clause-shows : goal.returns-clause-shows
-returns-clause-shows g c =
-    let code : Coding g.row.T.Denot = coding_of g.T.Words.WORDS g.T.Words.words_of g.T.Words.value_of in
-    let mine = c.args.pass.now.token in
-    let v = seen mine.seated in
-    let state = c.in_ok-state.state in
-    let size = mine.known ∙ ap (λ (z : SetId). z.capacity) c.requires in
-    let on : IsOnHistory code GetState v state.shown state.seen = (
-      subst (λ (n : ℕ). state.seen ≡ no_numbers n) (sym size) c.in_ok-state.ensures.seen,
-      subst (λ (n : ℕ). state.shown ≡ shows_nothing g.T.Words.value_of g.T.Words.WORDS n) (sym size) c.in_ok-state.ensures.shown,
-    )
-    in
-    (c.bring_up.ensures.over.0 on).over.2
+    let ends = c.bring_up.ensures.over.0 on in
+    record {
+      same = record {
+        container = search rules;
+        idle = look_idle code GetState v w state.seen c.bring_up.result m ends;
+        goes = look_goes code GetState v w state.seen c.bring_up.result m ends;
+        aside = look_aside code GetState v w state.seen c.bring_up.result m ends;
+      };
+      got = made_as starts.GetState (Number (shown_number m.elements)) (λ by es. HasLookedAll v.capacity by c.bring_up.result es)
+          (λ by es. HasCopied by 0 v.capacity es) v w (λ by es h. some_copied g.row.T.Denot v.capacity by c.bring_up.result es h)
+          (look_made code GetState v w state.seen c.bring_up.result m ends);
+      latest = latest_so code v GetState w c.bring_up.result state c.bring_up.new.state (c.in_ok-state.ensures.capacity ∙ sym size)
+          c.bring_up.ensures.state ends;
+      shows = ends.over.2;
+      state = search rules;
+    }
 
 pub returns-clause-steps : goal.returns-clause-steps
 returns-clause-steps g c =
-    let code : Coding g.row.T.Denot = coding_of g.T.Words.WORDS g.T.Words.words_of g.T.Words.value_of in
+    let code : Coding g.row.T.Denot = coding_by g.T.Words in
     let mine = c.args.pass.now.token in
     let v = seen mine.seated in
     let state = c.in_ok-state.state in

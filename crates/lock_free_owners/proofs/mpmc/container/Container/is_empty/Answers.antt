@@ -1,4 +1,4 @@
-use Rattle.lock_free_owners.proofs.Names.{rules, subst, first_borrowed, Coding, coding_of, seen, counts_values}
+use Rattle.lock_free_owners.proofs.Names.{rules, subst, first_borrowed, Coding, coding_by, seen, counts_values}
 use Rattle.model.specs.declared.families.container.calls.CountOf.TheVariants as counts
 use Rattle.lock_free_owners.specs.Container.Turns.{BeginsCount, CountAt}
 use Rattle.lock_free_owners.proofs.ContainerSet.Begins.{count_begins}
@@ -12,13 +12,13 @@ use Rattle.lock_free_owners.proofs.mpmc.container.Container.is_empty.Goals as go
 pub count_all-requires-clause-at : goal.count_all-requires-clause-at
 count_all-requires-clause-at g c =
     let mine = c.args.pass.now.token in
-    let code : Coding g.row.T.Denot = coding_of g.T.Words.WORDS g.T.Words.words_of g.T.Words.value_of in
+    let code : Coding g.row.T.Denot = coding_by g.T.Words in
     let v = seen mine.seated in
     subst (λ n. CountAt code counts.IsEmpty v v (first_borrowed n) tt) mine.known (count_begins code counts.IsEmpty v mine.idle mine.alone mine.some.0)
 
 pub returns-clause-same : goal.returns-clause-same
 returns-clause-same g c =
-    let code : Coding g.row.T.Denot = coding_of g.T.Words.WORDS g.T.Words.words_of g.T.Words.value_of in
+    let code : Coding g.row.T.Denot = coding_by g.T.Words in
     let v = seen c.args.pass.now.token.seated in
     let w = seen c.count_all.new.seat in
     record {
@@ -26,32 +26,25 @@ returns-clause-same g c =
       idle = c.count_all.ensures.ends.over.idle;
       goes = (goes code BeginsCount (counts_values counts.IsEmpty) v w c.count_all.result c.count_all.ensures.ends);
       aside = (few_aside code BeginsCount (counts_values counts.IsEmpty) v w c.count_all.result c.count_all.ensures.ends);
+      keeps = count_leaves code v w counts.IsEmpty c.count_all.result c.count_all.ensures.ends;
     }
 
 pub returns-clause-tested : goal.returns-clause-tested
 returns-clause-tested g c =
-    tested (coding_of g.T.Words.WORDS g.T.Words.words_of g.T.Words.value_of) (seen c.args.pass.now.token.seated) (seen c.count_all.new.seat)
-    c.count_all.result c.count_all.ensures.ends
-
-pub returns-clause-answered : goal.returns-clause-answered
-returns-clause-answered g c =
-    tested_answered (coding_of g.T.Words.WORDS g.T.Words.words_of g.T.Words.value_of) (seen c.args.pass.now.token.seated) (seen c.count_all.new.seat)
-    c.count_all.result c.count_all.ensures.ends
-
-pub returns-clause-lock : goal.returns-clause-lock
-returns-clause-lock g c locked =
-    tested_none (coding_of g.T.Words.WORDS g.T.Words.words_of g.T.Words.value_of) (seen c.args.pass.now.token.seated) (seen c.count_all.new.seat)
-    c.count_all.result c.count_all.ensures.ends locked
-
-pub returns-clause-keeps : goal.returns-clause-keeps
-returns-clause-keeps g c =
-    count_leaves (coding_of g.T.Words.WORDS g.T.Words.words_of g.T.Words.value_of)
-    (seen c.args.pass.now.token.seated) (seen c.count_all.new.seat) counts.IsEmpty c.count_all.result
-    c.count_all.ensures.ends
+    let code : Coding g.row.T.Denot = coding_by g.T.Words in
+    let v = seen c.args.pass.now.token.seated in
+    let w = seen c.count_all.new.seat in
+    let n = c.count_all.result in
+    let ends = c.count_all.ensures.ends in
+    record {
+      tested = tested code v w n ends;
+      answered = tested_answered code v w n ends;
+      lock = λ locked. tested_none code v w n ends locked;
+    }
 
 pub returns-clause-steps : goal.returns-clause-steps
 returns-clause-steps g c =
-    let code : Coding g.row.T.Denot = coding_of g.T.Words.WORDS g.T.Words.words_of g.T.Words.value_of in
+    let code : Coding g.row.T.Denot = coding_by g.T.Words in
     let v = seen c.args.pass.now.token.seated in
     let w = seen c.count_all.new.seat in
     subst (λ n. ContainerTakes (n + 2) (n + 2) v w) (c.args.pass.now.token.known ∙ ap (λ (z : SetId). z.capacity) c.requires)

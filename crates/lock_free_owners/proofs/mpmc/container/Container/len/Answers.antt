@@ -1,4 +1,4 @@
-use Rattle.lock_free_owners.proofs.Names.{◌≤◌, rules, ap, subst, ◌∙◌, first_borrowed, Coding, coding_of, seen, SetId}
+use Rattle.lock_free_owners.proofs.Names.{◌≤◌, rules, ap, subst, ◌∙◌, first_borrowed, Coding, coding_by, seen, SetId}
 use Rattle.lock_free_owners.proofs.Names.{counts_values}
 use Rattle.model.specs.declared.families.container.calls.CountOf.TheVariants as counts
 use Rattle.lock_free_owners.specs.Container.Turns.{BeginsCount, CountAt}
@@ -13,13 +13,13 @@ use Rattle.lock_free_owners.proofs.mpmc.container.Container.len.Goals as goal
 pub count_all-requires-clause-at : goal.count_all-requires-clause-at
 count_all-requires-clause-at g c =
     let mine = c.args.pass.now.token in
-    let code : Coding g.row.T.Denot = coding_of g.T.Words.WORDS g.T.Words.words_of g.T.Words.value_of in
+    let code : Coding g.row.T.Denot = coding_by g.T.Words in
     let v = seen mine.seated in
     subst (λ n. CountAt code counts.Len v v (first_borrowed n) tt) mine.known (count_begins code counts.Len v mine.idle mine.alone mine.some.0)
 
 pub returns-clause-same : goal.returns-clause-same
 returns-clause-same g c =
-    let code : Coding g.row.T.Denot = coding_of g.T.Words.WORDS g.T.Words.words_of g.T.Words.value_of in
+    let code : Coding g.row.T.Denot = coding_by g.T.Words in
     let v = seen c.args.pass.now.token.seated in
     let w = seen c.count_all.new.seat in
     record {
@@ -27,39 +27,27 @@ returns-clause-same g c =
       idle = c.count_all.ensures.ends.over.idle;
       goes = (goes code BeginsCount (counts_values counts.Len) v w c.count_all.result c.count_all.ensures.ends);
       aside = (few_aside code BeginsCount (counts_values counts.Len) v w c.count_all.result c.count_all.ensures.ends);
+      keeps = count_leaves code v w counts.Len c.count_all.result c.count_all.ensures.ends;
     }
 
 pub returns-clause-counted : goal.returns-clause-counted
 returns-clause-counted g c =
-    counted (coding_of g.T.Words.WORDS g.T.Words.words_of g.T.Words.value_of) (seen c.args.pass.now.token.seated) (seen c.count_all.new.seat)
-    c.count_all.result c.count_all.ensures.ends
-
-pub returns-clause-answered : goal.returns-clause-answered
-returns-clause-answered g c =
-    counted_answered (coding_of g.T.Words.WORDS g.T.Words.words_of g.T.Words.value_of) (seen c.args.pass.now.token.seated) (seen c.count_all.new.seat)
-    c.count_all.result c.count_all.ensures.ends
-
-pub returns-clause-most : goal.returns-clause-most
-returns-clause-most g c =
+    let code : Coding g.row.T.Denot = coding_by g.T.Words in
+    let v = seen c.args.pass.now.token.seated in
+    let w = seen c.count_all.new.seat in
+    let n = c.count_all.result in
+    let ends = c.count_all.ensures.ends in
     let size = c.args.pass.now.token.known ∙ ap (λ (z : SetId). z.capacity) c.requires in
-    subst (λ n. c.count_all.result ≤ n) size
-    (counted_most (coding_of g.T.Words.WORDS g.T.Words.words_of g.T.Words.value_of) (seen c.args.pass.now.token.seated) (seen c.count_all.new.seat)
-    c.count_all.result c.count_all.ensures.ends)
-
-pub returns-clause-lock : goal.returns-clause-lock
-returns-clause-lock g c locked =
-    counted_none (coding_of g.T.Words.WORDS g.T.Words.words_of g.T.Words.value_of) (seen c.args.pass.now.token.seated) (seen c.count_all.new.seat)
-    c.count_all.result c.count_all.ensures.ends locked
-
-pub returns-clause-keeps : goal.returns-clause-keeps
-returns-clause-keeps g c =
-    count_leaves (coding_of g.T.Words.WORDS g.T.Words.words_of g.T.Words.value_of)
-    (seen c.args.pass.now.token.seated) (seen c.count_all.new.seat) counts.Len c.count_all.result
-    c.count_all.ensures.ends
+    record {
+      counted = counted code v w n ends;
+      answered = counted_answered code v w n ends;
+      most = subst (λ capacity. n ≤ capacity) size (counted_most code v w n ends);
+      lock = λ locked. counted_none code v w n ends locked;
+    }
 
 pub returns-clause-steps : goal.returns-clause-steps
 returns-clause-steps g c =
-    let code : Coding g.row.T.Denot = coding_of g.T.Words.WORDS g.T.Words.words_of g.T.Words.value_of in
+    let code : Coding g.row.T.Denot = coding_by g.T.Words in
     let v = seen c.args.pass.now.token.seated in
     let w = seen c.count_all.new.seat in
     subst (λ n. ContainerTakes (n + 2) (n + 2) v w) (c.args.pass.now.token.known ∙ ap (λ (z : SetId). z.capacity) c.requires)

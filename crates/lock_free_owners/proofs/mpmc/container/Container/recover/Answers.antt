@@ -1,4 +1,4 @@
-use Rattle.lock_free_owners.proofs.Names.{[], rules, sym, ap, subst, DeadOwner, Coding, IsCoding, coding_of}
+use Rattle.lock_free_owners.proofs.Names.{[], rules, sym, ap, subst, DeadOwner, Coding, IsCoding, coding_by}
 use Rattle.lock_free_owners.proofs.Names.{fresh_cell, seen, SetId}
 use Rattle.steps.specs.Container.Recover.{first_recover}
 use Rattle.lock_free_owners.specs.Container.Questions.{TakesValues}
@@ -15,7 +15,7 @@ use Rattle.lock_free_owners.proofs.mpmc.container.Container.recover.Given as giv
 pub free_all-requires-clause-at : goal.free_all-requires-clause-at
 free_all-requires-clause-at g c =
     let met = g.met.T.Words in
-    let code : Coding g.row.T.Denot = coding_of g.T.Words.WORDS g.T.Words.words_of g.T.Words.value_of in
+    let code : Coding g.row.T.Denot = coding_by g.T.Words in
     let law : IsCoding code = record { some = met.some; few = met.few; sized = met.sized; given_back = met.given_back } in
     let mine = c.args.pass.now.token in
     let v = seen mine.seated in
@@ -31,7 +31,7 @@ free_all-requires-clause-questions g c free =
 pub returns-clause-same : goal.returns-clause-same
 returns-clause-same g c =
     let met = g.met.T.Words in
-    let code : Coding g.row.T.Denot = coding_of g.T.Words.WORDS g.T.Words.words_of g.T.Words.value_of in
+    let code : Coding g.row.T.Denot = coding_by g.T.Words in
     let law : IsCoding code = record { some = met.some; few = met.few; sized = met.sized; given_back = met.given_back } in
     let dead : DeadOwner = record { owner = c.args.owner; mode = c.args.mode } in
     let v = seen c.args.pass.now.token.seated in
@@ -42,40 +42,29 @@ returns-clause-same g c =
       idle = ends.1.over.idle;
       goes = (recovered_goes code law dead v w c.free_all.result ends.0 ends.1);
       aside = (recovered_aside code law dead v w c.free_all.result ends.0 ends.1);
+      keeps = recover_leaves code v w dead c.free_all.result ends.0 ends.1;
     }
 
 pub returns-clause-recovered : goal.returns-clause-recovered
 returns-clause-recovered g c =
-    let code : Coding g.row.T.Denot = coding_of g.T.Words.WORDS g.T.Words.words_of g.T.Words.value_of in
+    let met = g.met.T.Words in
+    let code : Coding g.row.T.Denot = coding_by g.T.Words in
+    let law : IsCoding code = record { some = met.some; few = met.few; sized = met.sized; given_back = met.given_back } in
     let dead : DeadOwner = record { owner = c.args.owner; mode = c.args.mode } in
-    subst (λ n. HasRecovered (λ p x b q. given.F-step g p x b q) dead c.free_all.result n c.args.predicate.now c.free_all.new.predicate
-    (seen c.args.pass.now.token.seated) (seen c.free_all.new.seat))
-    (ap (λ (z : SetId). z.capacity) c.requires.pass) c.free_all.ensures.recovered.did
-
-pub returns-clause-answered : goal.returns-clause-answered
-returns-clause-answered g c =
-    let met = g.met.T.Words in
-    let code : Coding g.row.T.Denot = coding_of g.T.Words.WORDS g.T.Words.words_of g.T.Words.value_of in
-    let law : IsCoding code = record { some = met.some; few = met.few; sized = met.sized; given_back = met.given_back } in
-    recovered_answered code law (record { owner = c.args.owner; mode = c.args.mode }) (seen c.args.pass.now.token.seated) (seen c.free_all.new.seat)
-    c.free_all.result c.free_all.ensures.recovered.ends.0 c.free_all.ensures.recovered.ends.1
-
-pub returns-clause-lock : goal.returns-clause-lock
-returns-clause-lock g c =
-    let met = g.met.T.Words in
-    let code : Coding g.row.T.Denot = coding_of g.T.Words.WORDS g.T.Words.words_of g.T.Words.value_of in
-    let law : IsCoding code = record { some = met.some; few = met.few; sized = met.sized; given_back = met.given_back } in
-    recovered_lock code law (record { owner = c.args.owner; mode = c.args.mode }) (seen c.args.pass.now.token.seated) (seen c.free_all.new.seat)
-    c.free_all.result c.free_all.ensures.recovered.ends.0 c.free_all.ensures.recovered.ends.1
-
-pub returns-clause-keeps : goal.returns-clause-keeps
-returns-clause-keeps g c =
-    recover_leaves (coding_of g.T.Words.WORDS g.T.Words.words_of g.T.Words.value_of) (seen c.args.pass.now.token.seated) (seen c.free_all.new.seat)
-    (record { owner = c.args.owner; mode = c.args.mode }) c.free_all.result c.free_all.ensures.recovered.ends.0 c.free_all.ensures.recovered.ends.1
+    let v = seen c.args.pass.now.token.seated in
+    let w = seen c.free_all.new.seat in
+    let ends = c.free_all.ensures.recovered.ends in
+    record {
+      recovered = subst (λ n. HasRecovered (λ p x b q. given.F-step g p x b q) dead c.free_all.result n c.args.predicate.now
+          c.free_all.new.predicate v w)
+          (ap (λ (z : SetId). z.capacity) c.requires.pass) c.free_all.ensures.recovered.did;
+      answered = recovered_answered code law dead v w c.free_all.result ends.0 ends.1;
+      lock = recovered_lock code law dead v w c.free_all.result ends.0 ends.1;
+    }
 
 pub returns-clause-steps : goal.returns-clause-steps
 returns-clause-steps g c =
-    let code : Coding g.row.T.Denot = coding_of g.T.Words.WORDS g.T.Words.words_of g.T.Words.value_of in
+    let code : Coding g.row.T.Denot = coding_by g.T.Words in
     let v = seen c.args.pass.now.token.seated in
     let w = seen c.free_all.new.seat in
     subst (λ n. RecoverTakes code.size n c.args.mode v w) (c.args.pass.now.token.known ∙ ap (λ (z : SetId). z.capacity) c.requires.pass)

@@ -1,21 +1,23 @@
 use Rattle.lock_free_owners.proofs.Names.{◌<◌, rules, sym, ap, subst, ◌∙◌, arith, first_remove, GiveBack, Coding}
-use Rattle.lock_free_owners.proofs.Names.{coding_of, seen, SetId, removes_value}
+use Rattle.lock_free_owners.proofs.Names.{coding_by, seen, SetId, removes_value}
 use Rattle.lock_free_owners.specs.Container.Turns.{BeginsRemove, RemoveAt}
 use Rattle.lock_free_owners.proofs.ContainerSet.Begins.{remove_keeps, remove_begins}
-use Rattle.lock_free_owners.proofs.ContainerSet.Facts.{goes, few_aside, has_removed, removed_right, freed, released}
+use Rattle.lock_free_owners.proofs.ContainerSet.Facts.{goes, few_aside}
 use Rattle.lock_free_owners.proofs.ContainerSet.States.{remove_leaves}
+use Rattle.lock_free_owners.specs.Container.Names.{IsOwn}
 use Rattle.lock_free_owners.specs.Container.Steps.{RemoveTakes}
+use Rattle.lock_free_owners.proofs.ContainerSet.CallAnswers.{remove_done, remove_refused}
 use Rattle.lock_free_owners.proofs.ContainerSet.Steps.{remove_takes}
 use Rattle.lock_free_owners.proofs.mpmc.container.Container.remove.Goals as goal
 
 pub drive_on-requires-clause-rule : goal.drive_on-requires-clause-rule
 drive_on-requires-clause-rule g c =
-    remove_keeps (coding_of g.T.Words.WORDS g.T.Words.words_of g.T.Words.value_of)
+    remove_keeps (coding_by g.T.Words)
     (record { index = c.args.handle.index; owner = c.args.handle.owner; mode = c.args.mode })
 
 pub drive_on-requires-clause-at : goal.drive_on-requires-clause-at
 drive_on-requires-clause-at g c =
-    let code : Coding g.row.T.Denot = coding_of g.T.Words.WORDS g.T.Words.words_of g.T.Words.value_of in
+    let code : Coding g.row.T.Denot = coding_by g.T.Words in
     let mine = c.args.pass.now.token in
     let v = seen mine.seated in
     let given : GiveBack = record { index = c.args.handle.index; owner = c.args.handle.owner; mode = c.args.mode } in
@@ -26,46 +28,39 @@ drive_on-requires-clause-at g c =
     (remove_begins code given v low (search rules) mine.idle mine.alone mine.some.0)
 
 pub returns-clause-same : goal.returns-clause-same
-returns-clause-same g c own =
-    let code : Coding g.row.T.Denot = coding_of g.T.Words.WORDS g.T.Words.words_of g.T.Words.value_of in
+returns-clause-same g c =
+    let code : Coding g.row.T.Denot = coding_by g.T.Words in
     let v = seen c.args.pass.now.token.seated in
     let w = seen c.drive_on.new.self in
     let given : GiveBack = record { index = c.args.handle.index; owner = c.args.handle.owner; mode = c.args.mode } in
+    let own : IsOwn c.args.self.now c.args.handle = (search rules, omega arith) in
     record {
       container = search rules;
-      idle = c.drive_on.ensures.end.over.idle;
-      goes = (goes code (BeginsRemove given) (removes_value given) v w c.drive_on.result c.drive_on.ensures.end);
-      aside = (few_aside code (BeginsRemove given) (removes_value given) v w c.drive_on.result c.drive_on.ensures.end);
+      keeps = λ is_own. record {
+        container = search rules;
+        idle = c.drive_on.ensures.end.over.idle;
+        goes = goes code (BeginsRemove given) (removes_value given) v w c.drive_on.result c.drive_on.ensures.end;
+        aside = few_aside code (BeginsRemove given) (removes_value given) v w c.drive_on.result c.drive_on.ensures.end;
+        keeps = remove_leaves code v w given c.drive_on.result c.drive_on.ensures.end;
+      };
+      foreign = λ other. absurd (other own);
     }
 
 pub returns-clause-removed : goal.returns-clause-removed
-returns-clause-removed g c own =
-    has_removed (coding_of g.T.Words.WORDS g.T.Words.words_of g.T.Words.value_of) (seen c.args.pass.now.token.seated) (seen c.drive_on.new.self)
-    (record { index = c.args.handle.index; owner = c.args.handle.owner; mode = c.args.mode }) c.drive_on.result c.drive_on.ensures.end
+returns-clause-removed g c =
+    remove_done (coding_by g.T.Words) c.args.self.now
+    (seen c.args.pass.now.token.seated) (seen c.drive_on.new.self) c.args.handle
+    (search rules, omega arith) c.args.mode c.drive_on.result c.drive_on.ensures.end
 
-pub returns-clause-freed : goal.returns-clause-freed
-returns-clause-freed g c =
-    freed (coding_of g.T.Words.WORDS g.T.Words.words_of g.T.Words.value_of) (seen c.args.pass.now.token.seated) (seen c.drive_on.new.self)
-    (record { index = c.args.handle.index; owner = c.args.handle.owner; mode = c.args.mode }) c.drive_on.result c.drive_on.ensures.end
-
-pub returns-clause-answered : goal.returns-clause-answered
-returns-clause-answered g c own =
-    removed_right (coding_of g.T.Words.WORDS g.T.Words.words_of g.T.Words.value_of) (seen c.args.pass.now.token.seated) (seen c.drive_on.new.self)
-    (record { index = c.args.handle.index; owner = c.args.handle.owner; mode = c.args.mode }) c.drive_on.result c.drive_on.ensures.end
-
-pub returns-clause-released : goal.returns-clause-released
-returns-clause-released g c =
-    released (coding_of g.T.Words.WORDS g.T.Words.words_of g.T.Words.value_of) (seen c.args.pass.now.token.seated) (seen c.drive_on.new.self)
-    c.args.handle.index c.args.handle.owner c.args.mode c.drive_on.result c.drive_on.ensures.end
-
-pub returns-clause-keeps : goal.returns-clause-keeps
-returns-clause-keeps g c own =
-    remove_leaves (coding_of g.T.Words.WORDS g.T.Words.words_of g.T.Words.value_of) (seen c.args.pass.now.token.seated) (seen c.drive_on.new.self)
-    (record { index = c.args.handle.index; owner = c.args.handle.owner; mode = c.args.mode }) c.drive_on.result c.drive_on.ensures.end
+pub returns-clause-refused : goal.returns-clause-refused
+returns-clause-refused g c =
+    remove_refused (coding_by g.T.Words) c.args.self.now
+    (seen c.args.pass.now.token.seated) (seen c.drive_on.new.self) c.args.handle
+    c.args.mode c.drive_on.result c.drive_on.ensures.end
 
 pub returns-clause-steps : goal.returns-clause-steps
 returns-clause-steps g c own =
-    let code : Coding g.row.T.Denot = coding_of g.T.Words.WORDS g.T.Words.words_of g.T.Words.value_of in
+    let code : Coding g.row.T.Denot = coding_by g.T.Words in
     let v = seen c.args.pass.now.token.seated in
     let w = seen c.drive_on.new.self in
     subst (λ n. RemoveTakes n c.args.mode v w) (c.args.pass.now.token.known ∙ ap (λ (z : SetId). z.capacity) c.requires)

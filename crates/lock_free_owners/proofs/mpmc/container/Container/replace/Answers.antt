@@ -1,23 +1,25 @@
 use Rattle.lock_free_owners.proofs.Names.{◌<◌, rules, sym, ap, subst, ◌∙◌, arith, first_replace, Replacement, Coding}
-use Rattle.lock_free_owners.proofs.Names.{IsCoding, coding_of, seen, SetId, replaces_value}
+use Rattle.lock_free_owners.proofs.Names.{IsCoding, coding_by, seen, SetId, replaces_value}
 use Rattle.lock_free_owners.specs.Container.Turns.{BeginsReplace, ReplaceAt}
 use Rattle.lock_free_owners.proofs.ContainerSet.Begins.{replace_keeps, replace_begins}
-use Rattle.lock_free_owners.proofs.ContainerSet.Facts.{goes, few_aside, has_replaced, replaced_answered}
+use Rattle.lock_free_owners.proofs.ContainerSet.Facts.{goes, few_aside}
 use Rattle.lock_free_owners.proofs.ContainerSet.States.{replace_leaves}
+use Rattle.lock_free_owners.specs.Container.Names.{IsOwn}
+use Rattle.lock_free_owners.proofs.ContainerSet.CallAnswers.{replace_done, replace_refused}
 use Rattle.lock_free_owners.proofs.ContainerSet.Steps.{replace_takes}
 use Rattle.lock_free_owners.proofs.mpmc.container.Container.replace.Goals as goal
 
 pub drive-requires-clause-rule : goal.drive-requires-clause-rule
 drive-requires-clause-rule g c =
     let met = g.met.T.Words in
-    let code : Coding g.row.T.Denot = coding_of g.T.Words.WORDS g.T.Words.words_of g.T.Words.value_of in
+    let code : Coding g.row.T.Denot = coding_by g.T.Words in
     let law : IsCoding code = record { some = met.some; few = met.few; sized = met.sized; given_back = met.given_back } in
     replace_keeps code law (record { index = c.args.handle.index; owner = c.args.handle.owner; value = c.args.value })
 
 pub drive-requires-clause-at : goal.drive-requires-clause-at
 drive-requires-clause-at g c =
     let met = g.met.T.Words in
-    let code : Coding g.row.T.Denot = coding_of g.T.Words.WORDS g.T.Words.words_of g.T.Words.value_of in
+    let code : Coding g.row.T.Denot = coding_by g.T.Words in
     let law : IsCoding code = record { some = met.some; few = met.few; sized = met.sized; given_back = met.given_back } in
     let mine = c.args.pass.now.token in
     let v = seen mine.seated in
@@ -29,35 +31,38 @@ drive-requires-clause-at g c =
     (replace_begins code law given v low (search rules) mine.idle mine.alone mine.some.0)
 
 pub returns-clause-same : goal.returns-clause-same
-returns-clause-same g c own =
-    let code : Coding g.row.T.Denot = coding_of g.T.Words.WORDS g.T.Words.words_of g.T.Words.value_of in
+returns-clause-same g c =
+    let code : Coding g.row.T.Denot = coding_by g.T.Words in
     let v = seen c.args.pass.now.token.seated in
     let w = seen c.drive.new.self in
     let given : Replacement g.row.T.Denot = record { index = c.args.handle.index; owner = c.args.handle.owner; value = c.args.value } in
+    let own : IsOwn c.args.self.now c.args.handle = (search rules, omega arith) in
     record {
       container = search rules;
-      idle = c.drive.ensures.end.over.idle;
-      goes = (goes code (BeginsReplace given) (replaces_value g.T.Words.WORDS given) v w c.drive.result c.drive.ensures.end);
-      aside = (few_aside code (BeginsReplace given) (replaces_value g.T.Words.WORDS given) v w c.drive.result c.drive.ensures.end);
+      keeps = λ is_own. record {
+        container = search rules;
+        idle = c.drive.ensures.end.over.idle;
+        goes = goes code (BeginsReplace given) (replaces_value g.T.Words.WORDS given) v w c.drive.result c.drive.ensures.end;
+        aside = few_aside code (BeginsReplace given) (replaces_value g.T.Words.WORDS given) v w c.drive.result c.drive.ensures.end;
+        keeps = replace_leaves code v w given c.drive.result c.drive.ensures.end;
+      };
+      foreign = λ other. absurd (other own);
     }
 
 pub returns-clause-replaced : goal.returns-clause-replaced
-returns-clause-replaced g c own =
-    has_replaced (coding_of g.T.Words.WORDS g.T.Words.words_of g.T.Words.value_of) (seen c.args.pass.now.token.seated) (seen c.drive.new.self)
-    (record { index = c.args.handle.index; owner = c.args.handle.owner; value = c.args.value }) c.drive.result c.drive.ensures.end
+returns-clause-replaced g c =
+    replace_done (coding_by g.T.Words) c.args.self.now
+    (seen c.args.pass.now.token.seated) (seen c.drive.new.self) c.args.handle
+    (search rules, omega arith) c.args.value c.drive.result c.drive.ensures.end
 
-pub returns-clause-answered : goal.returns-clause-answered
-returns-clause-answered g c own =
-    replaced_answered (coding_of g.T.Words.WORDS g.T.Words.words_of g.T.Words.value_of) (seen c.args.pass.now.token.seated) (seen c.drive.new.self)
-    (record { index = c.args.handle.index; owner = c.args.handle.owner; value = c.args.value }) c.drive.result c.drive.ensures.end
-
-pub returns-clause-keeps : goal.returns-clause-keeps
-returns-clause-keeps g c own =
-    replace_leaves (coding_of g.T.Words.WORDS g.T.Words.words_of g.T.Words.value_of) (seen c.args.pass.now.token.seated) (seen c.drive.new.self)
-    (record { index = c.args.handle.index; owner = c.args.handle.owner; value = c.args.value }) c.drive.result c.drive.ensures.end
+pub returns-clause-refused : goal.returns-clause-refused
+returns-clause-refused g c =
+    replace_refused (coding_by g.T.Words) c.args.self.now
+    (seen c.args.pass.now.token.seated) (seen c.drive.new.self) c.args.handle
+    c.args.value c.drive.result c.drive.ensures.end
 
 pub returns-clause-steps : goal.returns-clause-steps
 returns-clause-steps g c own =
-    let code : Coding g.row.T.Denot = coding_of g.T.Words.WORDS g.T.Words.words_of g.T.Words.value_of in
+    let code : Coding g.row.T.Denot = coding_by g.T.Words in
     replace_takes code (seen c.args.pass.now.token.seated) (seen c.drive.new.self)
     (record { index = c.args.handle.index; owner = c.args.handle.owner; value = c.args.value }) c.drive.result c.drive.ensures.end

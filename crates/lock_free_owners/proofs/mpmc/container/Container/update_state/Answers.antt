@@ -1,4 +1,4 @@
-use Rattle.lock_free_owners.proofs.Names.{◌<◌, ℕ, rules, sym, ap, subst, ◌∙◌, first_look, Coding, IsCoding, coding_of}
+use Rattle.lock_free_owners.proofs.Names.{◌<◌, ℕ, rules, sym, ap, subst, ◌∙◌, first_look, Coding, IsCoding, coding_by}
 use Rattle.lock_free_owners.proofs.Names.{UpdateState, seen, SetId, looking}
 use Rattle.model.specs.declared.turn.Kind.TheVariants as kinds
 use Rattle.threaded.specs.declared.share.Share.{Share}
@@ -16,7 +16,7 @@ use Rattle.lock_free_owners.proofs.mpmc.container.Container.update_state.Goals a
 pub bring_up-requires-clause-decided : goal.bring_up-requires-clause-decided
 bring_up-requires-clause-decided g c =
     let met = g.met.T.Words in
-    let code : Coding g.row.T.Denot = coding_of g.T.Words.WORDS g.T.Words.words_of g.T.Words.value_of in
+    let code : Coding g.row.T.Denot = coding_by g.T.Words in
     let law : IsCoding code = record { some = met.some; few = met.few; sized = met.sized; given_back = met.given_back } in
     let v = seen c.args.pass.now.token.seated in
     decide code law v v.capacity c.args.state.now.seen c.args.state.now.shown
@@ -24,7 +24,7 @@ bring_up-requires-clause-decided g c =
 pub bring_up-requires-clause-at : goal.bring_up-requires-clause-at
 bring_up-requires-clause-at g c =
     let met = g.met.T.Words in
-    let code : Coding g.row.T.Denot = coding_of g.T.Words.WORDS g.T.Words.words_of g.T.Words.value_of in
+    let code : Coding g.row.T.Denot = coding_by g.T.Words in
     let law : IsCoding code = record { some = met.some; few = met.few; sized = met.sized; given_back = met.given_back } in
     let mine = c.args.pass.now.token in
     let v = seen mine.seated in
@@ -35,7 +35,7 @@ bring_up-requires-clause-at g c =
 pub invariant_of-pass-clause-known : goal.invariant_of-pass-clause-known
 invariant_of-pass-clause-known g c =
     let met = g.met.T.Words in
-    let code : Coding g.row.T.Denot = coding_of g.T.Words.WORDS g.T.Words.words_of g.T.Words.value_of in
+    let code : Coding g.row.T.Denot = coding_by g.T.Words in
     let law : IsCoding code = record { some = met.some; few = met.few; sized = met.sized; given_back = met.given_back } in
     let mine = c.args.pass.now.token in
     let v = seen mine.seated in
@@ -47,7 +47,7 @@ invariant_of-pass-clause-known g c =
 pub invariant_of-pass-clause-idle : goal.invariant_of-pass-clause-idle
 invariant_of-pass-clause-idle g c =
     let met = g.met.T.Words in
-    let code : Coding g.row.T.Denot = coding_of g.T.Words.WORDS g.T.Words.words_of g.T.Words.value_of in
+    let code : Coding g.row.T.Denot = coding_by g.T.Words in
     let law : IsCoding code = record { some = met.some; few = met.few; sized = met.sized; given_back = met.given_back } in
     let mine = c.args.pass.now.token in
     let v = seen mine.seated in
@@ -58,7 +58,7 @@ invariant_of-pass-clause-idle g c =
 pub invariant_of-pass-clause-alone : goal.invariant_of-pass-clause-alone
 invariant_of-pass-clause-alone g c =
     let met = g.met.T.Words in
-    let code : Coding g.row.T.Denot = coding_of g.T.Words.WORDS g.T.Words.words_of g.T.Words.value_of in
+    let code : Coding g.row.T.Denot = coding_by g.T.Words in
     let law : IsCoding code = record { some = met.some; few = met.few; sized = met.sized; given_back = met.given_back } in
     let mine = c.args.pass.now.token in
     let v = seen mine.seated in
@@ -69,7 +69,7 @@ invariant_of-pass-clause-alone g c =
 pub invariant_of-pass-clause-some : goal.invariant_of-pass-clause-some
 invariant_of-pass-clause-some g c =
     let met = g.met.T.Words in
-    let code : Coding g.row.T.Denot = coding_of g.T.Words.WORDS g.T.Words.words_of g.T.Words.value_of in
+    let code : Coding g.row.T.Denot = coding_by g.T.Words in
     let law : IsCoding code = record { some = met.some; few = met.few; sized = met.sized; given_back = met.given_back } in
     let mine = c.args.pass.now.token in
     let v = seen mine.seated in
@@ -82,7 +82,7 @@ invariant_of-pass-clause-some g c =
 pub invariant_of-pass-clause-knows : goal.invariant_of-pass-clause-knows
 invariant_of-pass-clause-knows g c =
     let met = g.met.T.Words in
-    let code : Coding g.row.T.Denot = coding_of g.T.Words.WORDS g.T.Words.words_of g.T.Words.value_of in
+    let code : Coding g.row.T.Denot = coding_by g.T.Words in
     let law : IsCoding code = record { some = met.some; few = met.few; sized = met.sized; given_back = met.given_back } in
     let mine = c.args.pass.now.token in
     let v = seen mine.seated in
@@ -92,76 +92,43 @@ invariant_of-pass-clause-knows g c =
     (decide code law v v.capacity state.seen state.shown)
     (subst (λ n. Knows code kinds.Container n v) (sym mine.known) mine.knows) c.bring_up.ensures.over)
 
-pub returns-clause-same : goal.returns-clause-same
-returns-clause-same g c latest =
-    let code : Coding g.row.T.Denot = coding_of g.T.Words.WORDS g.T.Words.words_of g.T.Words.value_of in
+pub returns-clause-updated : goal.returns-clause-updated
+returns-clause-updated g c latest =
+    let code : Coding g.row.T.Denot = coding_by g.T.Words in
     let mine = c.args.pass.now.token in
     let v = seen mine.seated in
     let w = seen c.bring_up.new.seat in
     let state = c.args.state.now in
-    let size = mine.known ∙ ap (λ (z : SetId). z.capacity) c.requires.pass in
-    let ends = c.bring_up.ensures.over.0 (on_history code v state (c.requires.state.1 ∙ sym size) latest) in
-    record {
-      container = search rules;
-      idle = look_idle code UpdateState v w state.seen c.bring_up.result c.bring_up.new.state.shown ends;
-      goes = look_goes code UpdateState v w state.seen c.bring_up.result c.bring_up.new.state.shown ends;
-      aside = look_aside code UpdateState v w state.seen c.bring_up.result c.bring_up.new.state.shown ends;
-    }
-
-pub returns-clause-updated : goal.returns-clause-updated
-returns-clause-updated g c latest =
-    let code : Coding g.row.T.Denot = coding_of g.T.Words.WORDS g.T.Words.words_of g.T.Words.value_of in
-    let mine = c.args.pass.now.token in
-    let v = seen mine.seated in
-    let state = c.args.state.now in
-    let size = mine.known ∙ ap (λ (z : SetId). z.capacity) c.requires.pass in
-    look_made code UpdateState v (seen c.bring_up.new.seat) state.seen c.bring_up.result c.bring_up.new.state.shown
-    (c.bring_up.ensures.over.0 (on_history code v state (c.requires.state.1 ∙ sym size) latest))
-
-pub returns-clause-latest : goal.returns-clause-latest
-returns-clause-latest g c latest =
-    let code : Coding g.row.T.Denot = coding_of g.T.Words.WORDS g.T.Words.words_of g.T.Words.value_of in
-    let mine = c.args.pass.now.token in
-    let v = seen mine.seated in
-    let state = c.args.state.now in
+    let m = c.bring_up.new.state.shown in
     let size = mine.known ∙ ap (λ (z : SetId). z.capacity) c.requires.pass in
     let e = c.requires.state.1 ∙ sym size in
-    latest_so code v UpdateState (seen c.bring_up.new.seat) c.bring_up.result state c.bring_up.new.state e c.bring_up.ensures.state
-    (c.bring_up.ensures.over.0 (on_history code v state e latest))
+    let ends = c.bring_up.ensures.over.0 (on_history code v state e latest) in
+    record {
+      same = record {
+        container = search rules;
+        idle = look_idle code UpdateState v w state.seen c.bring_up.result m ends;
+        goes = look_goes code UpdateState v w state.seen c.bring_up.result m ends;
+        aside = look_aside code UpdateState v w state.seen c.bring_up.result m ends;
+      };
+      updated = look_made code UpdateState v w state.seen c.bring_up.result m ends;
+      met = has_met code c.bring_up.result v w (look_answered code UpdateState v w state.seen c.bring_up.result m ends)
+          (history_of code v ends.from ends.settled (looking code UpdateState v.capacity state.seen) w c.bring_up.result m ends.over.0);
+      latest = latest_so code v UpdateState w c.bring_up.result state c.bring_up.new.state e c.bring_up.ensures.state ends;
+      shows = ends.over.2;
+    }
 
 pub returns-clause-beside : goal.returns-clause-beside
 returns-clause-beside g c other =
-    let code : Coding g.row.T.Denot = coding_of g.T.Words.WORDS g.T.Words.words_of g.T.Words.value_of in
+    let code : Coding g.row.T.Denot = coding_by g.T.Words in
     let mine = c.args.pass.now.token in
     let v = seen mine.seated in
     let state = c.args.state.now in
     let size = mine.known ∙ ap (λ (z : SetId). z.capacity) c.requires.pass in
     c.bring_up.ensures.over.1 (λ on. other (of_history code v state (c.requires.state.1 ∙ sym size) on))
 
-pub returns-clause-shows : goal.returns-clause-shows
-returns-clause-shows g c latest =
-    let code : Coding g.row.T.Denot = coding_of g.T.Words.WORDS g.T.Words.words_of g.T.Words.value_of in
-    let mine = c.args.pass.now.token in
-    let v = seen mine.seated in
-    let state = c.args.state.now in
-    let size = mine.known ∙ ap (λ (z : SetId). z.capacity) c.requires.pass in
-    (c.bring_up.ensures.over.0 (on_history code v state (c.requires.state.1 ∙ sym size) latest)).over.2
-
-pub returns-clause-met : goal.returns-clause-met
-returns-clause-met g c latest =
-    let code : Coding g.row.T.Denot = coding_of g.T.Words.WORDS g.T.Words.words_of g.T.Words.value_of in
-    let mine = c.args.pass.now.token in
-    let v = seen mine.seated in
-    let w = seen c.bring_up.new.seat in
-    let state = c.args.state.now in
-    let size = mine.known ∙ ap (λ (z : SetId). z.capacity) c.requires.pass in
-    let ends = c.bring_up.ensures.over.0 (on_history code v state (c.requires.state.1 ∙ sym size) latest) in
-    has_met code c.bring_up.result v w (look_answered code UpdateState v w state.seen c.bring_up.result c.bring_up.new.state.shown ends)
-    (history_of code v ends.from ends.settled (looking code UpdateState v.capacity state.seen) w c.bring_up.result c.bring_up.new.state.shown ends.over.0)
-
 pub returns-clause-steps : goal.returns-clause-steps
 returns-clause-steps g c latest =
-    let code : Coding g.row.T.Denot = coding_of g.T.Words.WORDS g.T.Words.words_of g.T.Words.value_of in
+    let code : Coding g.row.T.Denot = coding_by g.T.Words in
     let mine = c.args.pass.now.token in
     let v = seen mine.seated in
     let w = seen c.bring_up.new.seat in

@@ -1,5 +1,5 @@
 use Rattle.lock_free_owners.proofs.Names.{◌≡◌, ◌<◌, ◌⊎◌, ◌++◌, ℕ, List, [], rules, sym, ap, subst, ◌∙◌, arith, TableId, OwesAsk}
-use Rattle.lock_free_owners.proofs.Names.{Coding, coding_of, View, IsAll, IsBeginning, IsMachine, seen, table_of, key_of}
+use Rattle.lock_free_owners.proofs.Names.{Coding, coding_by, View, IsAll, IsBeginning, IsMachine, seen, table_of, key_of}
 use Rattle.lock_free_owners.proofs.Names.{joined_view, Looks, positive, joins}
 use Rattle.steps.specs.declared.ask.Op.TheVariants.{Load}
 use Rattle.model.specs.declared.turn.Kind.TheVariants as kinds
@@ -25,7 +25,7 @@ Settles {T} code key words slots id v xs =
 
 pub look-requires-clause-owes : goal.look-requires-clause-owes
 look-requires-clause-owes g c =
-    let code : Coding g.row.T.Denot = coding_of g.T.Words.WORDS g.T.Words.words_of g.T.Words.value_of in
+    let code : Coding g.row.T.Denot = coding_by g.T.Words in
     let other = c.args.other.token in
     let s = other.seated in
     let below : 0 < (table_of s).words = (let size = other.sized in omega arith) in
@@ -35,11 +35,11 @@ look-requires-clause-owes g c =
 
 pub look-requires-clause-capacity : goal.look-requires-clause-capacity
 look-requires-clause-capacity g c v n w told =
-    settled_capacity (coding_of g.T.Words.WORDS g.T.Words.words_of g.T.Words.value_of) v w told
+    settled_capacity (coding_by g.T.Words) v w told
 
 pub join-requires-clause-joins : goal.join-requires-clause-joins
 join-requires-clause-joins g c =
-    let code : Coding g.row.T.Denot = coding_of g.T.Words.WORDS g.T.Words.words_of g.T.Words.value_of in
+    let code : Coding g.row.T.Denot = coding_by g.T.Words in
     let mine = c.args.self.now.token in
     let other = c.args.other.token in
     let x = c.look.new.self.seat.me.0 in
@@ -54,7 +54,7 @@ Owed {T} code key words slots id v xs =
 
 pub look-requires-2-clause-owes : goal.look-requires-2-clause-owes
 look-requires-2-clause-owes g c =
-    let code : Coding g.row.T.Denot = coding_of g.T.Words.WORDS g.T.Words.words_of g.T.Words.value_of in
+    let code : Coding g.row.T.Denot = coding_by g.T.Words in
     let mine = c.args.self.now.token in
     let other = c.args.other.token in
     let x = c.look.new.self.seat.me.0 in
@@ -78,7 +78,7 @@ look-requires-2-clause-owes g c =
 
 pub returns-clause-same : goal.returns-clause-same
 returns-clause-same g c =
-    let code : Coding g.row.T.Denot = coding_of g.T.Words.WORDS g.T.Words.words_of g.T.Words.value_of in
+    let code : Coding g.row.T.Denot = coding_by g.T.Words in
     let h = c.look.ensures.told in
     let seat = c.args.self.now.token in
     let mine = seat.seated.seat.me.0 in
@@ -109,7 +109,7 @@ returns-clause-same g c =
 
 pub invariant_of-self-clause-knows : goal.invariant_of-self-clause-knows
 invariant_of-self-clause-knows g c =
-    let code : Coding g.row.T.Denot = coding_of g.T.Words.WORDS g.T.Words.words_of g.T.Words.value_of in
+    let code : Coding g.row.T.Denot = coding_by g.T.Words in
     let seat = c.args.self.now.token in
     let new = c.look-2.new.self.seat.me.0 in
     let looked =

@@ -1,8 +1,8 @@
-use Rattle.lock_free_owners.proofs.Names.{coding_of, splits}
+use Rattle.lock_free_owners.proofs.Names.{coding_by, splits}
 use Rattle.model.specs.declared.turn.Kind.TheVariants as kinds
 use Rattle.lock_free_owners.proofs.mpmc.container.Pass.split.Goals as goal
 
 pub split-requires-clause-splits : goal.split-requires-clause-splits
 split-requires-clause-splits g c =
     let mine = c.args.self.now.token in
-    splits (coding_of g.T.Words.WORDS g.T.Words.words_of g.T.Words.value_of) kinds.Container _ mine.seated.seat.id mine.seated.seat.me.0
+    splits (coding_by g.T.Words) kinds.Container _ mine.seated.seat.id mine.seated.seat.me.0

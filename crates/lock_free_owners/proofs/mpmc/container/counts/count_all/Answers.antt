@@ -1,17 +1,17 @@
-use Rattle.lock_free_owners.proofs.Names.{◌∙◌, sym, subst, Coding, coding_of, seen}
+use Rattle.lock_free_owners.proofs.Names.{◌∙◌, sym, subst, Coding, coding_by, seen}
 use Rattle.lock_free_owners.specs.Container.Turns.{CountAt, CountEnds}
 use Rattle.lock_free_owners.proofs.RobustSet.Turns.{gone_on, has_ended}
 use Rattle.lock_free_owners.proofs.mpmc.container.counts.count_all.Goals as goal
 
 pub step_count-first-requires-clause-at : goal.step_count-first-requires-clause-at
 step_count-first-requires-clause-at g c =
-    let code : Coding g.row.T.Denot = coding_of g.T.Words.WORDS g.T.Words.words_of g.T.Words.value_of in
+    let code : Coding g.row.T.Denot = coding_by g.T.Words in
     let base = seen c.args.seat.now in
     (base, subst (λ d. CountAt code g.W.Counting.which base base d tt) (sym c.new.ensures) c.requires.at)
 
 pub returns-in-Done-clause-ends : goal.returns-in-Done-clause-ends
 returns-in-Done-clause-ends g c =
-    let code : Coding g.row.T.Denot = coding_of g.T.Words.WORDS g.T.Words.words_of g.T.Words.value_of in
+    let code : Coding g.row.T.Denot = coding_by g.T.Words in
     let at_all = CountAt code g.W.Counting.which in
     let over_all = CountEnds code g.W.Counting.which in
     let base = seen c.args.seat.now in
@@ -21,7 +21,7 @@ returns-in-Done-clause-ends g c =
 
 pub count_next-cells-requires-clause-at : goal.count_next-cells-requires-clause-at
 count_next-cells-requires-clause-at g c =
-    let code : Coding g.row.T.Denot = coding_of g.T.Words.WORDS g.T.Words.words_of g.T.Words.value_of in
+    let code : Coding g.row.T.Denot = coding_by g.T.Words in
     let at_all = CountAt code g.W.Counting.which in
     let over_all = CountEnds code g.W.Counting.which in
     let base = seen c.args.seat.now in (
@@ -33,7 +33,7 @@ count_next-cells-requires-clause-at g c =
 
 pub returns-in-Done-cells-clause-ends : goal.returns-in-Done-cells-clause-ends
 returns-in-Done-cells-clause-ends g c =
-    let code : Coding g.row.T.Denot = coding_of g.T.Words.WORDS g.T.Words.words_of g.T.Words.value_of in
+    let code : Coding g.row.T.Denot = coding_by g.T.Words in
     let at_all = CountAt code g.W.Counting.which in
     let over_all = CountEnds code g.W.Counting.which in
     let base = seen c.args.seat.now in
@@ -46,7 +46,7 @@ returns-in-Done-cells-clause-ends g c =
 
 pub loop-init : goal.loop-init
 loop-init g c =
-    let code : Coding g.row.T.Denot = coding_of g.T.Words.WORDS g.T.Words.words_of g.T.Words.value_of in
+    let code : Coding g.row.T.Denot = coding_by g.T.Words in
     let at_all = CountAt code g.W.Counting.which in
     let over_all = CountEnds code g.W.Counting.which in
     let base = seen c.args.seat.now in
@@ -64,7 +64,7 @@ loop-init g c =
 
 pub loop-preserved : goal.loop-preserved
 loop-preserved g c =
-    let code : Coding g.row.T.Denot = coding_of g.T.Words.WORDS g.T.Words.words_of g.T.Words.value_of in
+    let code : Coding g.row.T.Denot = coding_by g.T.Words in
     let at_all = CountAt code g.W.Counting.which in
     let over_all = CountEnds code g.W.Counting.which in
     let base = seen c.args.seat.now in
@@ -79,7 +79,7 @@ loop-preserved g c =
 
 pub returns-in-Done-after-clause-ends : goal.returns-in-Done-after-clause-ends
 returns-in-Done-after-clause-ends g c =
-    let code : Coding g.row.T.Denot = coding_of g.T.Words.WORDS g.T.Words.words_of g.T.Words.value_of in
+    let code : Coding g.row.T.Denot = coding_by g.T.Words in
     let at_all = CountAt code g.W.Counting.which in
     let over_all = CountEnds code g.W.Counting.which in
     let base = seen c.args.seat.now in

@@ -1,4 +1,4 @@
-use Rattle.lock_free_owners.proofs.Names.{◌∙◌, sym, subst, Coding, coding_of, seen}
+use Rattle.lock_free_owners.proofs.Names.{◌∙◌, sym, subst, Coding, coding_by, seen}
 use Rattle.steps.specs.declared.indices.robust.looks.BorrowedIndices.{BorrowedIndices}
 use Rattle.lock_free_owners.specs.Container.Turns.{CountAt, CountEnds}
 use Rattle.lock_free_owners.proofs.RobustSet.Turns.{gone_on, has_ended, loads_next, loads}
@@ -9,7 +9,7 @@ step_count-requires g c = record { board = c.cells.invariant.1; at = (c.requires
 
 pub cells-preserved : goal.cells-preserved
 cells-preserved g c =
-    let code : Coding g.row.T.Denot = coding_of g.T.Words.WORDS g.T.Words.words_of g.T.Words.value_of in
+    let code : Coding g.row.T.Denot = coding_by g.T.Words in
     let at_all = CountAt code g.W.Counting.which in
     let over_all = CountEnds code g.W.Counting.which in
     let so_far = c.cells.invariant in
@@ -27,7 +27,7 @@ cells-preserved g c =
 
 pub returns-in_default-clause-goes : goal.returns-in_default-clause-goes
 returns-in_default-clause-goes g c base at =
-    let code : Coding g.row.T.Denot = coding_of g.T.Words.WORDS g.T.Words.words_of g.T.Words.value_of in
+    let code : Coding g.row.T.Denot = coding_by g.T.Words in
     let at_all = CountAt code g.W.Counting.which in
     let over_all = CountEnds code g.W.Counting.which in
     let called = c.step_count in
@@ -37,7 +37,7 @@ returns-in_default-clause-goes g c base at =
 
 pub returns-in-Done-clause-goes : goal.returns-in-Done-clause-goes
 returns-in-Done-clause-goes g c base at =
-    let code : Coding g.row.T.Denot = coding_of g.T.Words.WORDS g.T.Words.words_of g.T.Words.value_of in
+    let code : Coding g.row.T.Denot = coding_by g.T.Words in
     let at_all = CountAt code g.W.Counting.which in
     let over_all = CountEnds code g.W.Counting.which in
     let called = c.step_count in

@@ -1,4 +1,4 @@
-use Rattle.lock_free_owners.proofs.Names.{◌-◌, View, coding_of, seen, IsSame}
+use Rattle.lock_free_owners.proofs.Names.{◌-◌, View, coding_by, seen, IsSame}
 use Rattle.steps.specs.declared.indices.robust.parts.Count.TheVariants as stages
 use Rattle.lock_free_owners.specs.Container.Turns.{IsBoard, CountAt}
 use Rattle.lock_free_owners.proofs.mpmc.container.counts.count_cells.Given as given
@@ -8,9 +8,9 @@ abbrev pub invariant-cells : given.invariant-cells
 invariant-cells g l =
     IsSame l.fn.seat l.seat × IsBoard g.T.Words.WORDS l.seat
     × ((base : View g.row.T.Denot)
-    → CountAt (coding_of g.T.Words.WORDS g.T.Words.words_of g.T.Words.value_of) g.W.Counting.which base (seen l.fn.seat)
+    → CountAt (coding_by g.T.Words) g.W.Counting.which base (seen l.fn.seat)
     (record { capacity = l.fn.capacity; count = stages.LoadsCell l.fn.counter l.fn.first l.fn.filled }) tt
-    → CountAt (coding_of g.T.Words.WORDS g.T.Words.words_of g.T.Words.value_of) g.W.Counting.which base (seen l.seat)
+    → CountAt (coding_by g.T.Words) g.W.Counting.which base (seen l.seat)
     (record { capacity = l.fn.capacity; count = stages.LoadsCell l.fn.counter l.cell l.found }) tt)
 
 abbrev pub decreases-cells : given.decreases-cells

@@ -1,4 +1,4 @@
-use Rattle.lock_free_owners.proofs.Names.{subst, coding_of, seen}
+use Rattle.lock_free_owners.proofs.Names.{subst, coding_by, seen}
 use Rattle.lock_free_owners.specs.Container.Turns.{CountAt}
 use Rattle.lock_free_owners.proofs.mpmc.container.counts.count_next.Goals as goal
 
@@ -6,6 +6,6 @@ pub count_cells-requires-clause-at : goal.count_cells-requires-clause-at
 count_cells-requires-clause-at g c =
     let base = c.requires.at.0 in (
       base,
-      subst (λ n. CountAt (coding_of g.T.Words.WORDS g.T.Words.words_of g.T.Words.value_of) g.W.Counting.which base (seen c.args.seat.now)
+      subst (λ n. CountAt (coding_by g.T.Words) g.W.Counting.which base (seen c.args.seat.now)
           (record { capacity = c.args.call.capacity; count = n }) tt) c.in-LoadsCell.is c.requires.at.1,
     )

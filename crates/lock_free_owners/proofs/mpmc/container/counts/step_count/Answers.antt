@@ -1,6 +1,6 @@
-use Rattle.lock_free_owners.proofs.Names.{coding_of}
+use Rattle.lock_free_owners.proofs.Names.{coding_by}
 use Rattle.lock_free_owners.proofs.ContainerSet.Begins.{count_keeps}
 use Rattle.lock_free_owners.proofs.mpmc.container.counts.step_count.Goals as goal
 
 pub step-requires-clause-rule : goal.step-requires-clause-rule
-step-requires-clause-rule g c = count_keeps (coding_of g.T.Words.WORDS g.T.Words.words_of g.T.Words.value_of) g.W.Counting.which
+step-requires-clause-rule g c = count_keeps (coding_by g.T.Words) g.W.Counting.which

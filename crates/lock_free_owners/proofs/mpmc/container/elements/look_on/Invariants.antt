@@ -1,4 +1,4 @@
-use Rattle.lock_free_owners.proofs.Names.{coding_of, seen, IsSame}
+use Rattle.lock_free_owners.proofs.Names.{coding_by, seen, IsSame}
 use Rattle.lock_free_owners.specs.Container.LookTurns.{LookOnAt}
 use Rattle.lock_free_owners.specs.Container.Turns.{IsBoard}
 use Rattle.lock_free_owners.proofs.mpmc.container.elements.look_on.Given as given
@@ -8,6 +8,6 @@ invariant-loop g l =
     record {
       same : IsSame l.fn.seat l.seat;
       board : IsBoard g.T.Words.WORDS l.seat;
-      at : LookOnAt (coding_of g.T.Words.WORDS g.T.Words.words_of g.T.Words.value_of) g.B.Beginning.which g.B.Beginning.from
+      at : LookOnAt (coding_by g.T.Words) g.B.Beginning.which g.B.Beginning.from
           g.B.Beginning.shown l.fn.given (seen l.seat) l.call l.room;
     }

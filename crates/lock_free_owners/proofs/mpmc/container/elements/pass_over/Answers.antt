@@ -1,4 +1,4 @@
-use Rattle.lock_free_owners.proofs.Names.{◌≡◌, ◌∙◌, sym, ap, subst, look_after, GoOn, Coding, coding_of, seen}
+use Rattle.lock_free_owners.proofs.Names.{◌≡◌, ◌∙◌, sym, ap, subst, look_after, GoOn, Coding, coding_by, seen}
 use Rattle.steps.specs.declared.container.look.Look.{Look}
 use Rattle.lock_free_owners.specs.Container.LookTurns.{LookOnAt, at_count}
 use Rattle.lock_free_owners.proofs.ContainerSet.LookElements.{counts_next, gone_on}
@@ -6,7 +6,7 @@ use Rattle.lock_free_owners.proofs.mpmc.container.elements.pass_over.Goals as go
 
 pub elements-preserved : goal.elements-preserved
 elements-preserved g c =
-    let code : Coding g.row.T.Denot = coding_of g.T.Words.WORDS g.T.Words.words_of g.T.Words.value_of in
+    let code : Coding g.row.T.Denot = coding_by g.T.Words in
     let b = g.B.Beginning in
     let so_far = c.elements.invariant in
     let after = c.step_on-after in

@@ -1,11 +1,11 @@
-use Rattle.lock_free_owners.proofs.Names.{Coding, IsCoding, coding_of}
+use Rattle.lock_free_owners.proofs.Names.{Coding, IsCoding, coding_by}
 use Rattle.lock_free_owners.proofs.ContainerSet.Looks.{look_on_keeps}
 use Rattle.lock_free_owners.proofs.mpmc.container.elements.step_on.Goals as goal
 
 pub step-requires-clause-rule : goal.step-requires-clause-rule
 step-requires-clause-rule g c =
     let met = g.met.T.Words in
-    let code : Coding g.row.T.Denot = coding_of g.T.Words.WORDS g.T.Words.words_of g.T.Words.value_of in
+    let code : Coding g.row.T.Denot = coding_by g.T.Words in
     let law : IsCoding code = record { some = met.some; few = met.few; sized = met.sized; given_back = met.given_back } in
     look_on_keeps code law g.B.Beginning.which g.B.Beginning.from g.B.Beginning.shown c.args.given.now c.requires.decided
 

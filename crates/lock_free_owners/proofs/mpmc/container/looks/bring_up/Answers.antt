@@ -1,4 +1,4 @@
-use Rattle.lock_free_owners.proofs.Names.{◌≡◌, false, sym, ap, subst, ◌∙◌, look_after, Coding, IsCoding, coding_of}
+use Rattle.lock_free_owners.proofs.Names.{◌≡◌, false, sym, ap, subst, ◌∙◌, look_after, Coding, IsCoding, coding_by}
 use Rattle.lock_free_owners.proofs.Names.{seen}
 use Rattle.lock_free_owners.specs.Container.LookTurns.{LookAt, LookOver}
 use Rattle.lock_free_owners.proofs.ContainerSet.Looks.{look_keeps, first_leads, goes_from, ends_from, past_from, false_from}
@@ -7,13 +7,13 @@ use Rattle.lock_free_owners.proofs.mpmc.container.looks.bring_up.Goals as goal
 pub step-after-requires-clause-rule : goal.step-after-requires-clause-rule
 step-after-requires-clause-rule g c =
     let met = g.met.T.Words in
-    let code : Coding g.row.T.Denot = coding_of g.T.Words.WORDS g.T.Words.words_of g.T.Words.value_of in
+    let code : Coding g.row.T.Denot = coding_by g.T.Words in
     let law : IsCoding code = record { some = met.some; few = met.few; sized = met.sized; given_back = met.given_back } in
     look_keeps code law g.B.Beginning.which g.B.Beginning.from g.B.Beginning.shown c.args.state.now.seen c.requires.decided
 
 pub step-after-requires-clause-at : goal.step-after-requires-clause-at
 step-after-requires-clause-at g c =
-    let code : Coding g.row.T.Denot = coding_of g.T.Words.WORDS g.T.Words.words_of g.T.Words.value_of in
+    let code : Coding g.row.T.Denot = coding_by g.T.Words in
     let v = seen c.args.seat.now in
     let state = c.args.state.now in
     let b = g.B.Beginning in
@@ -22,7 +22,7 @@ step-after-requires-clause-at g c =
 pub look_on-requires-clause-at : goal.look_on-requires-clause-at
 look_on-requires-clause-at g c =
     let met = g.met.T.Words in
-    let code : Coding g.row.T.Denot = coding_of g.T.Words.WORDS g.T.Words.words_of g.T.Words.value_of in
+    let code : Coding g.row.T.Denot = coding_by g.T.Words in
     let law : IsCoding code = record { some = met.some; few = met.few; sized = met.sized; given_back = met.given_back } in
     let v = seen c.args.seat.now in
     let state = c.args.state.now in
@@ -40,7 +40,7 @@ look_on-requires-clause-at g c =
 pub returns-in-Done-clause-over : goal.returns-in-Done-clause-over
 returns-in-Done-clause-over g c =
     let met = g.met.T.Words in
-    let code : Coding g.row.T.Denot = coding_of g.T.Words.WORDS g.T.Words.words_of g.T.Words.value_of in
+    let code : Coding g.row.T.Denot = coding_by g.T.Words in
     let law : IsCoding code = record { some = met.some; few = met.few; sized = met.sized; given_back = met.given_back } in
     let v = seen c.args.seat.now in
     let w = seen c.step-after.new.self in

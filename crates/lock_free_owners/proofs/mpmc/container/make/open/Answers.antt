@@ -1,6 +1,6 @@
 use Rattle.lock_free_owners.proofs.Names.{◌≡◌, ◌+◌, ◌*◌, ◌-◌, [], ◌∷◌, ◌++◌, take, length, rules, ap, ◌∙◌, arith}
 use Rattle.lock_free_owners.proofs.Names.{take_all, length-replicate, vec_len, total_words, empty, Coding, IsCoding}
-use Rattle.lock_free_owners.proofs.Names.{coding_of}
+use Rattle.lock_free_owners.proofs.Names.{coding_by}
 use Rattle.std.specs.Prelude.{replicate}
 use Rattle.lock_free_owners.proofs.ContainerSet.Opens.{container_opens, filled}
 use Rattle.lock_free_owners.proofs.mpmc.container.make.open.Goals as goal
@@ -8,7 +8,7 @@ use Rattle.lock_free_owners.proofs.mpmc.container.make.open.Goals as goal
 pub open-requires : goal.open-requires
 open-requires g c =
     let met = g.met.T.Words in
-    let code : Coding g.row.T.Denot = coding_of g.T.Words.WORDS g.T.Words.words_of g.T.Words.value_of in
+    let code : Coding g.row.T.Denot = coding_by g.T.Words in
     let law : IsCoding code = record { some = met.some; few = met.few; sized = met.sized; given_back = met.given_back } in
     let capacity = c.args.capacity in
     let size = g.T.Words.WORDS in

@@ -1,11 +1,11 @@
-use Rattle.lock_free_owners.proofs.Names.{refl, subst, ◌∙◌, Coding, IsCoding, coding_of, fresh_cell, seen}
+use Rattle.lock_free_owners.proofs.Names.{refl, subst, ◌∙◌, Coding, IsCoding, coding_by, fresh_cell, seen}
 use Rattle.lock_free_owners.proofs.ContainerSet.Recoveries.{Standing, Further, starts, further, may_go, may_pass, passed_on}
 use Rattle.lock_free_owners.proofs.mpmc.container.recovery.free_all.Goals as goal
 use Rattle.lock_free_owners.proofs.mpmc.container.recovery.free_all.Given as given
 
 pub loop-init : goal.loop-init
 loop-init g c =
-    let code : Coding g.row.T.Denot = coding_of g.T.Words.WORDS g.T.Words.words_of g.T.Words.value_of in (
+    let code : Coding g.row.T.Denot = coding_by g.T.Words in (
       (refl, refl, refl),
       c.requires.board,
       starts code (λ p x b q. given.F-step g p x b q) c.args.capacity (record { owner = c.args.owner; mode = c.args.mode })
@@ -15,7 +15,7 @@ loop-init g c =
 
 pub pass_others-passed-requires-clause-within : goal.pass_others-passed-requires-clause-within
 pass_others-passed-requires-clause-within g c =
-    let code : Coding g.row.T.Denot = coding_of g.T.Words.WORDS g.T.Words.words_of g.T.Words.value_of in
+    let code : Coding g.row.T.Denot = coding_by g.T.Words in
     may_pass code (λ p x b q. given.F-step g p x b q) c.args.capacity (record { owner = c.args.owner; mode = c.args.mode })
     (seen c.args.seat.now) c.args.predicate.now
     (seen c.loop.seat) c.loop.call c.loop.room c.loop.predicate c.loop.invariant.2
@@ -25,7 +25,7 @@ pass_others-passed-requires-clause-at g c = (seen c.args.seat.now, c.loop.invari
 
 pub recover_next-after-requires-clause-at : goal.recover_next-after-requires-clause-at
 recover_next-after-requires-clause-at g c =
-    let code : Coding g.row.T.Denot = coding_of g.T.Words.WORDS g.T.Words.words_of g.T.Words.value_of in
+    let code : Coding g.row.T.Denot = coding_by g.T.Words in
     let passed = c.pass_others-passed in
     let there : Standing code (λ p x b q. given.F-step g p x b q) c.args.capacity (record { owner = c.args.owner; mode = c.args.mode })
     (seen c.args.seat.now) c.args.predicate.now
@@ -39,7 +39,7 @@ recover_next-after-requires-clause-at g c =
 pub recover_next-after-requires-clause-asks : goal.recover_next-after-requires-clause-asks
 recover_next-after-requires-clause-asks g c =
     let met = g.met.T.Words in
-    let code : Coding g.row.T.Denot = coding_of g.T.Words.WORDS g.T.Words.words_of g.T.Words.value_of in
+    let code : Coding g.row.T.Denot = coding_by g.T.Words in
     let law : IsCoding code = record { some = met.some; few = met.few; sized = met.sized; given_back = met.given_back } in
     let passed = c.pass_others-passed in
     let there : Standing code (λ p x b q. given.F-step g p x b q) c.args.capacity (record { owner = c.args.owner; mode = c.args.mode })
@@ -56,7 +56,7 @@ recover_next-after-requires-clause-asks g c =
 pub loop-preserved : goal.loop-preserved
 loop-preserved g c =
     let met = g.met.T.Words in
-    let code : Coding g.row.T.Denot = coding_of g.T.Words.WORDS g.T.Words.words_of g.T.Words.value_of in
+    let code : Coding g.row.T.Denot = coding_by g.T.Words in
     let law : IsCoding code = record { some = met.some; few = met.few; sized = met.sized; given_back = met.given_back } in
     let passed = c.pass_others-passed in
     let there : Standing code (λ p x b q. given.F-step g p x b q) c.args.capacity (record { owner = c.args.owner; mode = c.args.mode })
@@ -86,7 +86,7 @@ loop-preserved g c =
 pub returns-in-Done-clause-recovered : goal.returns-in-Done-clause-recovered
 returns-in-Done-clause-recovered g c =
     let met = g.met.T.Words in
-    let code : Coding g.row.T.Denot = coding_of g.T.Words.WORDS g.T.Words.words_of g.T.Words.value_of in
+    let code : Coding g.row.T.Denot = coding_by g.T.Words in
     let law : IsCoding code = record { some = met.some; few = met.few; sized = met.sized; given_back = met.given_back } in
     let passed = c.pass_others-passed in
     let there : Standing code (λ p x b q. given.F-step g p x b q) c.args.capacity (record { owner = c.args.owner; mode = c.args.mode })

@@ -1,5 +1,5 @@
 use Rattle.lock_free_owners.proofs.Names.{◌≡◌, ℕ, ◌+◌, List, [], sym, ap, subst, ◌∙◌, total_words, Coding, IsCoding}
-use Rattle.lock_free_owners.proofs.Names.{coding_of, OwesAsk, seen, table_of, key_of, weaker_owes, View, IsMachine}
+use Rattle.lock_free_owners.proofs.Names.{coding_by, OwesAsk, seen, table_of, key_of, weaker_owes, View, IsMachine}
 use Rattle.steps.specs.Container.Recover.{recover_want}
 use Rattle.steps.specs.declared.ask.Op.TheVariants.{Load}
 use Rattle.steps.specs.declared.container.recover.Recover.{Recover}
@@ -13,7 +13,7 @@ use Rattle.lock_free_owners.proofs.mpmc.container.recovery.load_cell.Goals as go
 pub load_for-requires-clause-owes : goal.load_for-requires-clause-owes
 load_for-requires-clause-owes g c =
     let met = g.met.T.Words in
-    let code : Coding g.row.T.Denot = coding_of g.T.Words.WORDS g.T.Words.words_of g.T.Words.value_of in
+    let code : Coding g.row.T.Denot = coding_by g.T.Words in
     let law : IsCoding code = record { some = met.some; few = met.few; sized = met.sized; given_back = met.given_back } in
     let s = c.args.seat.now in
     let at = c.requires.at in

@@ -1,17 +1,17 @@
-use Rattle.lock_free_owners.proofs.Names.{sym, subst, Coding, coding_of, seen}
+use Rattle.lock_free_owners.proofs.Names.{sym, subst, Coding, coding_by, seen}
 use Rattle.steps.specs.declared.container.recover.RecoverStage.{RecoverStage}
 use Rattle.lock_free_owners.specs.Container.RecoverTurns.{RecoverMay, RecoverPasses}
 use Rattle.lock_free_owners.proofs.mpmc.container.recovery.pass_others.Goals as goal
 
 pub pass_over-requires-clause-at : goal.pass_over-requires-clause-at
 pass_over-requires-clause-at g c =
-    let code : Coding g.row.T.Denot = coding_of g.T.Words.WORDS g.T.Words.words_of g.T.Words.value_of in
+    let code : Coding g.row.T.Denot = coding_by g.T.Words in
     subst (λ (stage : RecoverStage). RecoverMay code c.args.given.now (seen c.args.seat.now) (record c.args.call { stage = stage }) c.args.room.now)
     c.in-LoadsCell.is c.requires.at
 
 pub returns-in-LoadsCell-clause-goes : goal.returns-in-LoadsCell-clause-goes
 returns-in-LoadsCell-clause-goes g c =
-    let code : Coding g.row.T.Denot = coding_of g.T.Words.WORDS g.T.Words.words_of g.T.Words.value_of in
+    let code : Coding g.row.T.Denot = coding_by g.T.Words in
     subst (λ (stage : RecoverStage). RecoverPasses code c.args.given.now (seen c.args.seat.now) (record c.args.call { stage = stage })
     c.args.room.now c.pass_over.result (seen c.pass_over.new.seat))
     (sym c.in-LoadsCell.is) c.pass_over.ensures.goes

@@ -1,4 +1,4 @@
-use Rattle.lock_free_owners.proofs.Names.{◌∙◌, sym, subst, arith, Coding, coding_of, seen, Buffer}
+use Rattle.lock_free_owners.proofs.Names.{◌∙◌, sym, subst, arith, Coding, coding_by, seen, Buffer}
 use Rattle.steps.specs.declared.container.recover.Recover.{Recover}
 use Rattle.lock_free_owners.specs.Container.RecoverTurns.{RecoverAt}
 use Rattle.lock_free_owners.proofs.ContainerSet.RecoverCells.{comes_own, comes_next, comes_past}
@@ -11,7 +11,7 @@ load_cell-found-requires-clause-at g c =
 
 pub returns-then-found-owner-clause-goes : goal.returns-then-found-owner-clause-goes
 returns-then-found-owner-clause-goes g c base visits began =
-    let code : Coding g.row.T.Denot = coding_of g.T.Words.WORDS g.T.Words.words_of g.T.Words.value_of in
+    let code : Coding g.row.T.Denot = coding_by g.T.Words in
     let found = c.load_cell-found in
     let given = c.args.given.now in
     let room = c.args.room.now in
@@ -22,7 +22,7 @@ returns-then-found-owner-clause-goes g c base visits began =
 
 pub returns-then-cell-capacity-clause-goes : goal.returns-then-cell-capacity-clause-goes
 returns-then-cell-capacity-clause-goes g c base visits began =
-    let code : Coding g.row.T.Denot = coding_of g.T.Words.WORDS g.T.Words.words_of g.T.Words.value_of in
+    let code : Coding g.row.T.Denot = coding_by g.T.Words in
     let found = c.load_cell-found in
     let given = c.args.given.now in
     let room = c.args.room.now in
@@ -35,7 +35,7 @@ returns-then-cell-capacity-clause-goes g c base visits began =
 
 pub cells-preserved : goal.cells-preserved
 cells-preserved g c =
-    let code : Coding g.row.T.Denot = coding_of g.T.Words.WORDS g.T.Words.words_of g.T.Words.value_of in
+    let code : Coding g.row.T.Denot = coding_by g.T.Words in
     let so_far = c.cells.invariant in
     let found = c.load_cell-found in
     let inside = c.if-cell-capacity.false in

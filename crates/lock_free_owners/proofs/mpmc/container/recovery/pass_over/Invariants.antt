@@ -1,4 +1,4 @@
-use Rattle.lock_free_owners.proofs.Names.{◌-◌, ◌<◌, ◌≤◌, coding_of, seen, IsSame}
+use Rattle.lock_free_owners.proofs.Names.{◌-◌, ◌<◌, ◌≤◌, coding_by, seen, IsSame}
 use Rattle.lock_free_owners.specs.Container.Turns.{IsBoard}
 use Rattle.lock_free_owners.specs.Container.RecoverTurns.{at_cell, RecoverPasses}
 use Rattle.lock_free_owners.proofs.mpmc.container.recovery.pass_over.Given as given
@@ -10,7 +10,7 @@ invariant-cells g l =
       board : IsBoard g.T.Words.WORDS l.seat;
       within : l.cell < l.fn.capacity;
       onward : l.fn.first ≤ l.cell;
-      goes : RecoverPasses (coding_of g.T.Words.WORDS g.T.Words.words_of g.T.Words.value_of) l.fn.given
+      goes : RecoverPasses (coding_by g.T.Words) l.fn.given
           (seen l.fn.seat) (at_cell l.fn.capacity l.fn.first) l.fn.room (at_cell l.fn.capacity l.cell) (seen l.seat);
     }
 

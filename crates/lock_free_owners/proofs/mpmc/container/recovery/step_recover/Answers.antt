@@ -1,5 +1,5 @@
 use Rattle.lock_free_owners.proofs.Names.{◌≡◌, ℕ, ◌+◌, List, [], sym, ap, subst, ◌∙◌, total_words, Coding, IsCoding}
-use Rattle.lock_free_owners.proofs.Names.{coding_of, Owes, seen, table_of, key_of, weaker_owes, View, IsMachine}
+use Rattle.lock_free_owners.proofs.Names.{coding_by, Owes, seen, table_of, key_of, weaker_owes, View, IsMachine}
 use Rattle.steps.specs.Container.Recover.{recover_want}
 use Rattle.model.specs.declared.turn.Kind.TheVariants as kinds
 use Rattle.threaded.specs.Driver.{Told}
@@ -10,7 +10,7 @@ use Rattle.lock_free_owners.proofs.mpmc.container.recovery.step_recover.Goals as
 pub step_telling-requires-clause-owes : goal.step_telling-requires-clause-owes
 step_telling-requires-clause-owes g c =
     let met = g.met.T.Words in
-    let code : Coding g.row.T.Denot = coding_of g.T.Words.WORDS g.T.Words.words_of g.T.Words.value_of in
+    let code : Coding g.row.T.Denot = coding_by g.T.Words in
     let law : IsCoding code = record { some = met.some; few = met.few; sized = met.sized; given_back = met.given_back } in
     let s = c.args.seat.now in
     let at = c.requires.at in

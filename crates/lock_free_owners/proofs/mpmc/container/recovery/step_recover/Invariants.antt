@@ -1,4 +1,4 @@
-use Rattle.lock_free_owners.proofs.Names.{◌≡◌, coding_of}
+use Rattle.lock_free_owners.proofs.Names.{◌≡◌, coding_by}
 use Rattle.lock_free_owners.specs.Container.RecoverTurns.{RecoverTells}
 use Rattle.lock_free_owners.proofs.mpmc.container.recovery.step_recover.Given as given
 
@@ -7,5 +7,5 @@ abbrev pub ghosts-step_telling : given.ghosts-step_telling
 ghosts-step_telling g a =
     record {
       told = λ v n w. (w.capacity ≡ v.capacity)
-          × RecoverTells (coding_of g.T.Words.WORDS g.T.Words.words_of g.T.Words.value_of) a.given.now a.call a.room.now v n w;
+          × RecoverTells (coding_by g.T.Words) a.given.now a.call a.room.now v n w;
     }

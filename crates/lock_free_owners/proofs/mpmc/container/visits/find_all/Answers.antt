@@ -1,4 +1,4 @@
-use Rattle.lock_free_owners.proofs.Names.{◌<◌, ◌^◌, rules, refl, sym, subst, ◌∙◌, Coding, IsCoding, coding_of}
+use Rattle.lock_free_owners.proofs.Names.{◌<◌, ◌^◌, rules, refl, sym, subst, ◌∙◌, Coding, IsCoding, coding_by}
 use Rattle.lock_free_owners.proofs.Names.{GoOn, Done, fresh_cell, seen}
 use Rattle.lock_free_owners.proofs.ContainerSet.Finds.{Further, starts, further, may_go, may_pass, passed_on, goes_lower}
 use Rattle.lock_free_owners.proofs.mpmc.container.visits.find_all.Goals as goal
@@ -6,7 +6,7 @@ use Rattle.lock_free_owners.proofs.mpmc.container.visits.find_all.Given as given
 
 pub loop-next-init : goal.loop-next-init
 loop-next-init g c =
-    let code : Coding g.row.T.Denot = coding_of g.T.Words.WORDS g.T.Words.words_of g.T.Words.value_of in (
+    let code : Coding g.row.T.Denot = coding_by g.T.Words in (
       (refl, refl, refl),
       c.requires.board,
       starts code (λ p x h a q. given.F-step g p x h a q) c.args.capacity c.args.owner c.args.id
@@ -17,7 +17,7 @@ loop-next-init g c =
 pub pass_others-passed-requires-clause-within : goal.pass_others-passed-requires-clause-within
 pass_others-passed-requires-clause-within g c =
     let met = g.met.T.Words in
-    let code : Coding g.row.T.Denot = coding_of g.T.Words.WORDS g.T.Words.words_of g.T.Words.value_of in
+    let code : Coding g.row.T.Denot = coding_by g.T.Words in
     let law : IsCoding code = record { some = met.some; few = met.few; sized = met.sized; given_back = met.given_back } in
     let small : c.args.capacity < 2 ^ 32 = search rules in
     may_pass code (λ p x h a q. given.F-step g p x h a q) c.args.capacity c.args.owner c.args.id
@@ -30,7 +30,7 @@ pass_others-passed-requires-clause-at g c = (seen c.args.seat.now, c.loop-next.i
 pub find_next-after-requires-clause-at : goal.find_next-after-requires-clause-at
 find_next-after-requires-clause-at g c =
     let met = g.met.T.Words in
-    let code : Coding g.row.T.Denot = coding_of g.T.Words.WORDS g.T.Words.words_of g.T.Words.value_of in
+    let code : Coding g.row.T.Denot = coding_by g.T.Words in
     let law : IsCoding code = record { some = met.some; few = met.few; sized = met.sized; given_back = met.given_back } in
     let small : c.args.capacity < 2 ^ 32 = search rules in
     let passed = c.pass_others-passed in
@@ -44,7 +44,7 @@ find_next-after-requires-clause-at g c =
 pub find_next-after-requires-clause-asks : goal.find_next-after-requires-clause-asks
 find_next-after-requires-clause-asks g c =
     let met = g.met.T.Words in
-    let code : Coding g.row.T.Denot = coding_of g.T.Words.WORDS g.T.Words.words_of g.T.Words.value_of in
+    let code : Coding g.row.T.Denot = coding_by g.T.Words in
     let law : IsCoding code = record { some = met.some; few = met.few; sized = met.sized; given_back = met.given_back } in
     let small : c.args.capacity < 2 ^ 32 = search rules in
     let passed = c.pass_others-passed in
@@ -59,7 +59,7 @@ find_next-after-requires-clause-asks g c =
 
 pub loop-next-smaller : goal.loop-next-smaller
 loop-next-smaller g c =
-    let code : Coding g.row.T.Denot = coding_of g.T.Words.WORDS g.T.Words.words_of g.T.Words.value_of in
+    let code : Coding g.row.T.Denot = coding_by g.T.Words in
     let passed = c.pass_others-passed in
     let called = c.find_next-after in
     goes_lower code g.met.T.Words.few (λ p x h a q. given.F-step g p x h a q) c.args.owner c.args.id
@@ -70,7 +70,7 @@ loop-next-smaller g c =
 pub loop-next-preserved : goal.loop-next-preserved
 loop-next-preserved g c =
     let met = g.met.T.Words in
-    let code : Coding g.row.T.Denot = coding_of g.T.Words.WORDS g.T.Words.words_of g.T.Words.value_of in
+    let code : Coding g.row.T.Denot = coding_by g.T.Words in
     let law : IsCoding code = record { some = met.some; few = met.few; sized = met.sized; given_back = met.given_back } in
     let small : c.args.capacity < 2 ^ 32 = search rules in
     let passed = c.pass_others-passed in
@@ -98,7 +98,7 @@ loop-next-preserved g c =
 pub returns-in-Done-after-clause-searched : goal.returns-in-Done-after-clause-searched
 returns-in-Done-after-clause-searched g c =
     let met = g.met.T.Words in
-    let code : Coding g.row.T.Denot = coding_of g.T.Words.WORDS g.T.Words.words_of g.T.Words.value_of in
+    let code : Coding g.row.T.Denot = coding_by g.T.Words in
     let law : IsCoding code = record { some = met.some; few = met.few; sized = met.sized; given_back = met.given_back } in
     let small : c.args.capacity < 2 ^ 32 = search rules in
     let passed = c.pass_others-passed in
@@ -118,7 +118,7 @@ returns-in-Done-after-clause-searched g c =
 pub returns-in-Done-clause-searched : goal.returns-in-Done-clause-searched
 returns-in-Done-clause-searched g c =
     let met = g.met.T.Words in
-    let code : Coding g.row.T.Denot = coding_of g.T.Words.WORDS g.T.Words.words_of g.T.Words.value_of in
+    let code : Coding g.row.T.Denot = coding_by g.T.Words in
     let law : IsCoding code = record { some = met.some; few = met.few; sized = met.sized; given_back = met.given_back } in
     let small : c.args.capacity < 2 ^ 32 = search rules in
     let passed = c.pass_others-passed in

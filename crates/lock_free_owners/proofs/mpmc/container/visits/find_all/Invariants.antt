@@ -1,4 +1,4 @@
-use Rattle.lock_free_owners.proofs.Names.{coding_of, seen, IsSame}
+use Rattle.lock_free_owners.proofs.Names.{coding_by, seen, IsSame}
 use Rattle.steps.specs.Container.Find.{find_left}
 use Rattle.lock_free_owners.specs.Container.Turns.{IsBoard}
 use Rattle.lock_free_owners.proofs.ContainerSet.Finds.{Searching}
@@ -7,7 +7,7 @@ use Rattle.lock_free_owners.proofs.mpmc.container.visits.find_all.Given as given
 abbrev pub invariant-loop-next : given.invariant-loop-next
 invariant-loop-next g l =
     IsSame l.fn.seat l.seat × IsBoard g.T.Words.WORDS l.seat
-    × Searching (coding_of g.T.Words.WORDS g.T.Words.words_of g.T.Words.value_of)
+    × Searching (coding_by g.T.Words)
     (λ p x h a q. given.F-step g p x h a q) l.fn.capacity l.fn.owner l.fn.id (seen l.fn.seat)
     l.fn.visit (seen l.seat) l.call l.room l.visit
 

@@ -1,5 +1,5 @@
 use Rattle.lock_free_owners.proofs.Names.{◌≡◌, ℕ, ◌+◌, List, [], sym, ap, subst, ◌∙◌, find_want, total_words, Coding}
-use Rattle.lock_free_owners.proofs.Names.{IsCoding, coding_of, OwesAsk, seen, table_of, key_of, weaker_owes, View}
+use Rattle.lock_free_owners.proofs.Names.{IsCoding, coding_by, OwesAsk, seen, table_of, key_of, weaker_owes, View}
 use Rattle.lock_free_owners.proofs.Names.{IsMachine, Buffer}
 use Rattle.steps.specs.declared.ask.Op.TheVariants.{Load}
 use Rattle.steps.specs.declared.container.find.Find.{Find}
@@ -14,7 +14,7 @@ use Rattle.lock_free_owners.proofs.mpmc.container.visits.load_cell.Goals as goal
 pub load_for-requires-clause-owes : goal.load_for-requires-clause-owes
 load_for-requires-clause-owes g c =
     let met = g.met.T.Words in
-    let code : Coding g.row.T.Denot = coding_of g.T.Words.WORDS g.T.Words.words_of g.T.Words.value_of in
+    let code : Coding g.row.T.Denot = coding_by g.T.Words in
     let law : IsCoding code = record { some = met.some; few = met.few; sized = met.sized; given_back = met.given_back } in
     let s = c.args.seat.now in
     let at = c.requires.at in

@@ -1,4 +1,4 @@
-use Rattle.lock_free_owners.proofs.Names.{◌∙◌, refl, sym, subst, arith, Coding, GoOn, coding_of, seen, Buffer}
+use Rattle.lock_free_owners.proofs.Names.{◌∙◌, refl, sym, subst, arith, Coding, GoOn, coding_by, seen, Buffer}
 use Rattle.steps.specs.declared.container.find.Find.{Find}
 use Rattle.lock_free_owners.specs.Container.FindTurns.{FindAt, HasPassed}
 use Rattle.lock_free_owners.proofs.ContainerSet.FindCells.{comes_own, comes_next, comes_past}
@@ -11,7 +11,7 @@ load_cell-stands-requires-clause-at g c =
 
 pub returns-then-stands-number-clause-goes : goal.returns-then-stands-number-clause-goes
 returns-then-stands-number-clause-goes g c base copies began =
-    let code : Coding g.row.T.Denot = coding_of g.T.Words.WORDS g.T.Words.words_of g.T.Words.value_of in
+    let code : Coding g.row.T.Denot = coding_by g.T.Words in
     let stands = c.load_cell-stands in
     let room = c.args.room.now in
     subst (λ (d : Find g.row.T.Denot (Buffer 128)). FindAt code c.args.owner base (seen stands.new.seat) d (room, copies)) (sym c.at_stage.ensures)
@@ -31,7 +31,7 @@ returns-then-stands-number-clause-passed g c =
 
 pub returns-then-cell-capacity-clause-goes : goal.returns-then-cell-capacity-clause-goes
 returns-then-cell-capacity-clause-goes g c base copies began =
-    let code : Coding g.row.T.Denot = coding_of g.T.Words.WORDS g.T.Words.words_of g.T.Words.value_of in
+    let code : Coding g.row.T.Denot = coding_by g.T.Words in
     let stands = c.load_cell-stands in
     let past = c.if-cell-capacity.true in
     comes_past code c.args.owner c.args.capacity c.cells.cell c.args.found base (seen stands.new.seat) c.args.room.now copies stands.result
@@ -50,7 +50,7 @@ returns-then-cell-capacity-clause-passed g c =
 
 pub cells-preserved : goal.cells-preserved
 cells-preserved g c =
-    let code : Coding g.row.T.Denot = coding_of g.T.Words.WORDS g.T.Words.words_of g.T.Words.value_of in
+    let code : Coding g.row.T.Denot = coding_by g.T.Words in
     let so_far = c.cells.invariant in
     let stands = c.load_cell-stands in
     let inside = c.if-cell-capacity.false in

@@ -1,4 +1,4 @@
-use Rattle.lock_free_owners.proofs.Names.{◌-◌, ◌<◌, ◌≤◌, coding_of, GoOn, seen, IsSame}
+use Rattle.lock_free_owners.proofs.Names.{◌-◌, ◌<◌, ◌≤◌, coding_by, GoOn, seen, IsSame}
 use Rattle.history.specs.Steps.{TakesAtMost}
 use Rattle.lock_free_owners.specs.Container.FindTurns.{at_cell, FindPasses}
 use Rattle.lock_free_owners.specs.Container.Turns.{IsBoard}
@@ -11,7 +11,7 @@ invariant-cells g l =
       board : IsBoard g.T.Words.WORDS l.seat;
       within : l.cell < l.fn.capacity;
       onward : l.fn.first ≤ l.cell;
-      goes : FindPasses (coding_of g.T.Words.WORDS g.T.Words.words_of g.T.Words.value_of) l.fn.owner
+      goes : FindPasses (coding_by g.T.Words) l.fn.owner
           (seen l.fn.seat) (at_cell l.fn.capacity l.fn.first l.fn.found) l.fn.room (GoOn (at_cell l.fn.capacity l.cell l.fn.found)) (seen l.seat);
       steps : TakesAtMost (l.cell - l.fn.first) (seen l.fn.seat) (seen l.seat);
     }

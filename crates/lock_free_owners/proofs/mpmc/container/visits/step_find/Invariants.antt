@@ -1,4 +1,4 @@
-use Rattle.lock_free_owners.proofs.Names.{◌≡◌, coding_of}
+use Rattle.lock_free_owners.proofs.Names.{◌≡◌, coding_by}
 use Rattle.history.specs.Steps.{TakesAtMost}
 use Rattle.lock_free_owners.specs.Container.FindTurns.{FindTells}
 use Rattle.lock_free_owners.proofs.mpmc.container.visits.step_find.Given as given
@@ -8,6 +8,6 @@ abbrev pub ghosts-step_telling : given.ghosts-step_telling
 ghosts-step_telling g a =
     record {
       told = λ v n w. (w.capacity ≡ v.capacity)
-          × FindTells (coding_of g.T.Words.WORDS g.T.Words.words_of g.T.Words.value_of) a.given.now a.call a.room.now v n w
+          × FindTells (coding_by g.T.Words) a.given.now a.call a.room.now v n w
           × TakesAtMost 1 v w;
     }

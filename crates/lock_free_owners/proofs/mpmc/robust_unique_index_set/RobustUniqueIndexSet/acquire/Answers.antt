@@ -3,9 +3,11 @@ use Rattle.lock_free_owners.proofs.Names.{◌∙◌, ap, SetId, ◌+◌}
 use Rattle.lock_free_owners.proofs.Names.{seen, acquire_first}
 use Rattle.lock_free_owners.specs.Robust.Turns.{AcquireAt}
 use Rattle.steps.specs.declared.indices.enums.UniqueIndexSetAcquireFailure.TheVariants.{IsLocked as Locked}
-use Rattle.lock_free_owners.specs.Robust.Contracts.{WasFilled, WasGranted, WasRefused}
+use Rattle.lock_free_owners.specs.Robust.Calls.{AcquireDone, AcquireRefused}
+use Rattle.lock_free_owners.specs.RobustUniqueIndexSet.{capacity_of}
 use Rattle.history.specs.Steps.{TakesAlone}
-use Rattle.lock_free_owners.proofs.RobustSet.Facts.{same_pass, filled, granted, refused, shut, acquire_takes}
+use Rattle.lock_free_owners.proofs.RobustSet.Facts.{same_pass, shut, acquire_takes}
+use Rattle.lock_free_owners.proofs.RobustSet.CallAnswers.{acquire_done, acquire_refused}
 use Rattle.lock_free_owners.proofs.mpmc.robust_unique_index_set.RobustUniqueIndexSet.acquire.Goals as goal
 
 pub acquire_all-requires-clause-at : goal.acquire_all-requires-clause-at
@@ -21,19 +23,13 @@ returns-in-Ok-clause-same g c = same_pass (search rules) c.acquire_all.ensures.e
 pub returns-in-Err-clause-same : goal.returns-in-Err-clause-same
 returns-in-Err-clause-same g c = same_pass (search rules) c.acquire_all.ensures.ends
 
-pub returns-in-Ok-clause-filled : goal.returns-in-Ok-clause-filled
-returns-in-Ok-clause-filled g c =
+pub returns-in-Ok-clause-acquired : goal.returns-in-Ok-clause-acquired
+returns-in-Ok-clause-acquired g c =
     let v = seen c.args.pass.now.seated in
     let w = seen c.acquire_all.new.seat in
-    subst (λ (a : Acquired). IfOk a (λ index. WasFilled index c.args.owner v w)) c.in-Ok.is
-    (filled v w tt c.args.pass.now.idle c.args.owner c.acquire_all.result c.acquire_all.ensures.ends)
-
-pub returns-in-Ok-clause-granted : goal.returns-in-Ok-clause-granted
-returns-in-Ok-clause-granted g c =
-    let v = seen c.args.pass.now.seated in
-    let w = seen c.acquire_all.new.seat in
-    subst (λ (a : Acquired). IfOk a (λ index. WasGranted index c.args.owner v w)) c.in-Ok.is
-    (granted v w tt c.args.pass.now.idle c.args.owner c.acquire_all.result c.acquire_all.ensures.ends)
+    let size = c.args.pass.now.known ∙ ap (λ (z : SetId). z.capacity) c.requires in
+    subst (λ (a : Acquired). IfOk a (λ index. AcquireDone (capacity_of c.args.self.now) c.args.owner index v w)) c.in-Ok.is
+    (acquire_done v w c.args.pass.now.idle c.args.owner (capacity_of c.args.self.now) size c.acquire_all.result c.acquire_all.ensures.ends)
 
 pub returns-in-Ok-clause-lock : goal.returns-in-Ok-clause-lock
 returns-in-Ok-clause-lock g c locked =
@@ -45,8 +41,8 @@ pub returns-in-Err-clause-refused : goal.returns-in-Err-clause-refused
 returns-in-Err-clause-refused g c =
     let v = seen c.args.pass.now.seated in
     let w = seen c.acquire_all.new.seat in
-    subst (λ (a : Acquired). IfErr a (λ e. WasRefused c.args.owner e v w)) c.in-Err.is
-    (refused v w tt c.args.pass.now.idle c.args.owner c.acquire_all.result c.acquire_all.ensures.ends)
+    subst (λ (a : Acquired). IfErr a (λ e. AcquireRefused c.args.owner e v w)) c.in-Err.is
+    (acquire_refused v w c.args.pass.now.idle c.args.owner c.acquire_all.result c.acquire_all.ensures.ends)
 
 pub returns-in-Err-clause-lock : goal.returns-in-Err-clause-lock
 returns-in-Err-clause-lock g c locked =

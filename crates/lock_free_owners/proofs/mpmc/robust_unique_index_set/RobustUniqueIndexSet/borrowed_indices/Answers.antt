@@ -16,21 +16,18 @@ pub returns-clause-same : goal.returns-clause-same
 returns-clause-same g c = same_pass (search rules) c.count_all.ensures.ends
 
 pub returns-clause-counted : goal.returns-clause-counted
-returns-clause-counted g c = counted (seen c.args.pass.now.seated)
-    (seen c.count_all.new.seat) tt c.args.pass.now.idle c.count_all.result c.count_all.ensures.ends
-
-pub returns-clause-answered : goal.returns-clause-answered
-returns-clause-answered g c = counted_answered (seen c.args.pass.now.seated)
-    (seen c.count_all.new.seat) tt c.args.pass.now.idle c.count_all.result c.count_all.ensures.ends
-
-pub returns-clause-most : goal.returns-clause-most
-returns-clause-most g c =
-    subst (λ n. c.count_all.result ≤ n) (c.args.pass.now.known ∙ ap (λ (z : SetId). z.capacity) c.requires)
-    (counted_most (seen c.args.pass.now.seated) (seen c.count_all.new.seat) tt c.args.pass.now.idle c.count_all.result c.count_all.ensures.ends)
-
-pub returns-clause-lock : goal.returns-clause-lock
-returns-clause-lock g c = counted_none (seen c.args.pass.now.seated)
-    (seen c.count_all.new.seat) tt c.args.pass.now.idle c.count_all.result c.count_all.ensures.ends
+returns-clause-counted g c =
+    let v = seen c.args.pass.now.seated in
+    let w = seen c.count_all.new.seat in
+    let idle = c.args.pass.now.idle in
+    let n = c.count_all.result in
+    let ends = c.count_all.ensures.ends in
+    record {
+      counted = counted v w tt idle n ends;
+      answered = counted_answered v w tt idle n ends;
+      most = subst (λ capacity. n ≤ capacity) (c.args.pass.now.known ∙ ap (λ (z : SetId). z.capacity) c.requires) (counted_most v w tt idle n ends);
+      lock = λ locked. counted_none v w tt idle n ends locked;
+    }
 
 pub returns-clause-steps : goal.returns-clause-steps
 returns-clause-steps g c =

@@ -32,7 +32,7 @@ returns-clause-found g c =
     record {
       locked = c.is_locked.result;
       begun = seen c.is_locked.new.pass.seated;
-      begins = c.is_locked.ensures.looked;
+      begins = c.is_locked.ensures.looked.looked;
       looks = only_looked c.args.pass.now.capacity (seen c.is_locked.new.pass.seated) (seen c.find_all.new.seat)
           (subst (λ n. Looks one_word kinds.Robust n (seen c.is_locked.new.pass.seated) (seen c.find_all.new.seat))
           (ap (λ (z : SetId). z.capacity) c.is_locked.ensures.same.set) c.find_all.ensures.looked);

@@ -14,13 +14,15 @@ pub returns-clause-same : goal.returns-clause-same
 returns-clause-same c = same_pass (search rules) c.drive.ensures.end
 
 pub returns-clause-looked : goal.returns-clause-looked
-returns-clause-looked c = looked (seen c.args.pass.now.seated) (seen c.drive.new.self) tt c.args.pass.now.idle c.drive.result c.drive.ensures.end
-
-pub returns-clause-answered : goal.returns-clause-answered
-returns-clause-answered c = looked_answered (seen c.args.pass.now.seated) (seen c.drive.new.self) tt c.args.pass.now.idle c.drive.result c.drive.ensures.end
-
-pub returns-clause-lock : goal.returns-clause-lock
-returns-clause-lock c = looked_lock (seen c.args.pass.now.seated) (seen c.drive.new.self) tt c.args.pass.now.idle c.drive.result c.drive.ensures.end
+returns-clause-looked c =
+    let v = seen c.args.pass.now.seated in
+    let w = seen c.drive.new.self in
+    let idle = c.args.pass.now.idle in
+    record {
+      looked = looked v w tt idle c.drive.result c.drive.ensures.end;
+      answered = looked_answered v w tt idle c.drive.result c.drive.ensures.end;
+      lock = looked_lock v w tt idle c.drive.result c.drive.ensures.end;
+    }
 
 pub returns-clause-steps : goal.returns-clause-steps
 returns-clause-steps c = look_takes (seen c.args.pass.now.seated) (seen c.drive.new.self) c.args.pass.now.idle c.drive.result tt c.drive.ensures.end

@@ -27,22 +27,17 @@ returns-clause-same g c = same_pass (search rules) c.recover_all.ensures.ends.1
 pub returns-clause-recovered : goal.returns-clause-recovered
 returns-clause-recovered g c =
     let called = c.recover_all in
+    let v = seen c.args.pass.now.seated in
+    let w = seen called.new.seat in
+    let idle = c.args.pass.now.idle in
     let ends = called.ensures.ends in
-    recovered (seen c.args.pass.now.seated) (seen called.new.seat) c.args.pass.now.idle c.args.mode called.result ends.0 ends.1
-    (λ p o i b q. given.F-step g p o i b q) (λ s o i t. given.S-step g s o i tt t) c.args.predicate.now called.new.predicate
-    c.args.recover_success.now called.new.recovered ends.2
-
-pub returns-clause-answered : goal.returns-clause-answered
-returns-clause-answered g c =
-    let ends = c.recover_all.ensures.ends in
-    recovered_answered (seen c.args.pass.now.seated) (seen c.recover_all.new.seat) c.args.pass.now.idle c.args.mode c.recover_all.result
-    ends.0 ends.1
-
-pub returns-clause-lock : goal.returns-clause-lock
-returns-clause-lock g c =
-    let ends = c.recover_all.ensures.ends in
-    recovered_lock (seen c.args.pass.now.seated) (seen c.recover_all.new.seat) c.args.pass.now.idle c.args.mode c.recover_all.result
-    ends.0 ends.1
+    record {
+      recovered = recovered v w idle c.args.mode called.result ends.0 ends.1
+          (λ p o i b q. given.F-step g p o i b q) (λ s o i t. given.S-step g s o i tt t) c.args.predicate.now called.new.predicate
+          c.args.recover_success.now called.new.recovered ends.2;
+      answered = recovered_answered v w idle c.args.mode called.result ends.0 ends.1;
+      lock = recovered_lock v w idle c.args.mode called.result ends.0 ends.1;
+    }
 
 pub returns-clause-steps : goal.returns-clause-steps
 returns-clause-steps g c =

@@ -2,7 +2,8 @@ use Rattle.lock_free_owners.proofs.Names.{◌<◌, rules, sym, ap, subst, ◌∙
 use Rattle.lock_free_owners.proofs.Names.{SetId, gives_owned, At, release_keeps, release_first}
 use Rattle.model.specs.declared.turn.Kind.TheVariants as kinds
 use Rattle.lock_free_owners.specs.Robust.Steps.{ReleaseTakes}
-use Rattle.lock_free_owners.proofs.RobustSet.Facts.{same_pass, given, given_of, given_right, freed, released, release_takes}
+use Rattle.lock_free_owners.proofs.RobustSet.Facts.{same_pass, given_of, release_takes}
+use Rattle.lock_free_owners.proofs.RobustSet.CallAnswers.{release_done, release_refused}
 use Rattle.lock_free_owners.proofs.mpmc.robust_unique_index_set.RobustUniqueIndexSet.release.Goals as goal
 
 pub drive_on-requires-clause-rule : goal.drive_on-requires-clause-rule
@@ -21,21 +22,13 @@ drive_on-requires-clause-at g c =
 pub returns-clause-same : goal.returns-clause-same
 returns-clause-same g c = same_pass (search rules) c.drive_on.ensures.end
 
-pub returns-clause-given : goal.returns-clause-given
-returns-clause-given g c = given (seen c.args.pass.now.seated)
-    (seen c.drive_on.new.self) tt c.args.pass.now.idle c.args.index c.args.owner c.args.mode c.drive_on.result c.drive_on.ensures.end
-
-pub returns-clause-freed : goal.returns-clause-freed
-returns-clause-freed g c = freed (seen c.args.pass.now.seated)
-    (seen c.drive_on.new.self) tt c.args.pass.now.idle c.args.index c.args.owner c.args.mode c.drive_on.result c.drive_on.ensures.end
-
-pub returns-clause-answered : goal.returns-clause-answered
-returns-clause-answered g c = given_right (seen c.args.pass.now.seated)
-    (seen c.drive_on.new.self) tt c.args.pass.now.idle c.args.index c.args.owner c.args.mode c.drive_on.result c.drive_on.ensures.end
-
 pub returns-clause-released : goal.returns-clause-released
-returns-clause-released g c = released (seen c.args.pass.now.seated)
-    (seen c.drive_on.new.self) tt c.args.pass.now.idle c.args.index c.args.owner c.args.mode c.drive_on.result c.drive_on.ensures.end
+returns-clause-released g c = release_done (seen c.args.pass.now.seated)
+    (seen c.drive_on.new.self) c.args.pass.now.idle c.args.index c.args.owner c.args.mode c.drive_on.result c.drive_on.ensures.end
+
+pub returns-clause-refused : goal.returns-clause-refused
+returns-clause-refused g c = release_refused (seen c.args.pass.now.seated)
+    (seen c.drive_on.new.self) c.args.pass.now.idle c.args.index c.args.owner c.args.mode c.drive_on.result c.drive_on.ensures.end
 
 pub returns-clause-steps : goal.returns-clause-steps
 returns-clause-steps g c =

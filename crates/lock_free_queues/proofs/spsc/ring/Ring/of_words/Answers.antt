@@ -1,4 +1,4 @@
-use Rattle.lock_free_queues.proofs.Names.{rules, ◌≡◌, [], sym, subst, opening, Coding, coding_of, Producer, Consumer}
+use Rattle.lock_free_queues.proofs.Names.{rules, ◌≡◌, [], sym, subst, opening, Coding, coding_by, Producer, Consumer}
 use Rattle.lock_free_queues.proofs.Names.{IsMachine}
 use Rattle.lock_free_queues.specs.Queues.Bounded.{machine_kind}
 use Rattle.lock_free_queues.specs.Queues.Kinds.{opened_by}
@@ -8,14 +8,14 @@ use Rattle.lock_free_queues.proofs.spsc.ring.Ring.of_words.Goals as goal
 
 pub open-requires : goal.open-requires
 open-requires g c =
-    let code : Coding g.row.T.Denot = coding_of g.T.Words.WORDS g.T.Words.words_of g.T.Words.value_of in
+    let code : Coding g.row.T.Denot = coding_by g.T.Words in
     let kind = g.E.Kind.KIND in
     subst (λ ws. IsMachine code (machine_kind kind) c.args.capacity (opening ws [] (opened_by code kind c.args.capacity c.args.position)))
     (sym c.as_slice.ensures.value) c.requires.opens
 
 pub invariant_of-result : goal.invariant_of-result
 invariant_of-result g c =
-    let code : Coding g.row.T.Denot = coding_of g.T.Words.WORDS g.T.Words.words_of g.T.Words.value_of in
+    let code : Coding g.row.T.Denot = coding_by g.T.Words in
     let kind = g.E.Kind.KIND in
     let none = opens_bare code kind c.args.capacity c.args.position in
     let made : c.in_ok-home.seated.seat.me.0.made ≡ (opened_by code kind c.args.capacity c.args.position).made = search rules in

@@ -1,9 +1,8 @@
-use Rattle.lock_free_sets.proofs.Names.{rules, sym, ap, subst, ◌∙◌, first_release, one_word, seen, At, gives_index, arith}
+use Rattle.lock_free_sets.proofs.Names.{rules, arith, sym, ap, subst, ◌∙◌, first_release, one_word, seen, At, gives_index}
 use Rattle.model.specs.declared.turn.Kind.TheVariants as kinds
 use Rattle.history.proofs.IndexCalls.{release_keeps, release_first}
-use Rattle.lock_free_sets.specs.UniqueIndexSet.{SetId}
-use Rattle.lock_free_sets.proofs.Unique.Facts.{given, sound, unlocked, same_pass, knows_still}
-use Rattle.lock_free_sets.proofs.Unique.Whole.{given_done}
+use Rattle.lock_free_sets.proofs.Unique.Facts.{given, knows_still, same_pass, same_size, sound_after}
+use Rattle.lock_free_sets.proofs.Unique.Whole.{given_done, release_done}
 use Rattle.lock_free_sets.proofs.Steps.{indices_take}
 use Rattle.lock_free_sets.proofs.mpmc.unique_index_set.UniqueIndexSet.release_raw_index.Goals as goal
 
@@ -14,38 +13,34 @@ pub drive-requires-clause-at : goal.drive-requires-clause-at
 drive-requires-clause-at c =
     let mine = c.args.pass.now in
     let v = seen mine.seated in
-    let size = mine.known ∙ ap (λ (z : SetId). z.capacity) c.requires.pass in
+    let size = same_size c.args.self.now mine c.requires.pass in
     subst (λ call. At one_word kinds.Indices (gives_index c.args.index) v v call tt)
     (ap first_release size ∙ sym c.new-call.ensures)
     (release_first one_word c.args.index v tt mine.idle mine.alone mine.some.0
     (mine.sound.within c.args.index c.requires.held) c.requires.held)
 
 pub invariant_of-pass-clause-sound : goal.invariant_of-pass-clause-sound
-invariant_of-pass-clause-sound c =
-    sound (seen c.args.pass.now.seated).capacity (seen c.drive.new.self) c.drive.ensures.end.capacity
-    c.drive.ensures.end.history c.drive.ensures.end.parties
+invariant_of-pass-clause-sound c = sound_after c.drive.ensures.end
+
+pub invariant_of-pass-clause-done : goal.invariant_of-pass-clause-done
+invariant_of-pass-clause-done c =
+    let mine = c.args.pass.now in
+    given_done (seen mine.seated) (seen c.drive.new.self) c.args.index c.drive.result
+    (given (seen mine.seated) (seen c.drive.new.self) tt mine.idle c.args.index c.drive.result c.drive.ensures.end) mine.done
+
+pub invariant_of-pass-clause-knows : goal.invariant_of-pass-clause-knows
+invariant_of-pass-clause-knows c = knows_still c.args.pass.now.known c.drive.ensures.end.ran
 
 pub returns-clause-same : goal.returns-clause-same
 returns-clause-same c = same_pass (search rules) c.drive.ensures.end
 
 pub returns-clause-given : goal.returns-clause-given
-returns-clause-given c = given (seen c.args.pass.now.seated) (seen c.drive.new.self) tt c.args.pass.now.idle c.args.index c.drive.result c.drive.ensures.end
-
-pub returns-clause-unlocked : goal.returns-clause-unlocked
-returns-clause-unlocked c =
-    unlocked (seen c.args.pass.now.seated) (seen c.drive.new.self) tt c.args.pass.now.idle c.args.index c.drive.result c.drive.ensures.end
-
-pub invariant_of-pass-clause-done : goal.invariant_of-pass-clause-done
-invariant_of-pass-clause-done c =
-    let v = seen c.args.pass.now.seated in
-    let w = seen c.drive.new.self in
-    given_done v w c.args.index c.drive.result (given v w tt c.args.pass.now.idle c.args.index c.drive.result c.drive.ensures.end) c.args.pass.now.done
+returns-clause-given c =
+    let mine = c.args.pass.now in
+    release_done (seen mine.seated) (seen c.drive.new.self) tt mine.idle c.args.index c.drive.result c.drive.ensures.end
 
 pub returns-clause-steps : goal.returns-clause-steps
 returns-clause-steps c =
     let mine = c.args.pass.now in
     indices_take (gives_index c.args.index) (seen mine.seated) (seen c.drive.new.self) c.drive.result tt mine.idle _
-    (mine.known ∙ ap (λ (z : SetId). z.capacity) c.requires.pass) (omega arith) c.drive.ensures.end
-
-pub invariant_of-pass-clause-knows : goal.invariant_of-pass-clause-knows
-invariant_of-pass-clause-knows c = knows_still c.args.pass.now.known c.drive.ensures.end.ran
+    (same_size c.args.self.now mine c.requires.pass) (omega arith) c.drive.ensures.end

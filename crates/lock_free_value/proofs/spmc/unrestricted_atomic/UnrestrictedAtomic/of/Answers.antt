@@ -1,5 +1,5 @@
 use Rattle.std.proofs.Common.{rules, ◌≡◌, ◌<◌, ◌+◌, ◌*◌, length, replicate, slice_set, refl, sym, ap, subst, ◌∙◌, arith}
-use Rattle.lock_free_value.proofs.Names.{Coding, IsCoding, coding_of, stored, View}
+use Rattle.lock_free_value.proofs.Names.{Coding, IsCoding, coding_by, stored, View}
 use Rattle.history.specs.ValueOpened.{first_stores, opened_view}
 use Rattle.history.specs.History.{Knows}
 use Rattle.history.proofs.ValueOpened.{value_opens, value_knows}
@@ -11,7 +11,7 @@ use Rattle.lock_free_value.proofs.spmc.unrestricted_atomic.UnrestrictedAtomic.of
 pub loop-at-init : goal.loop-at-init
 loop-at-init g c =
     let met = g.met.T.Words in
-    let code : Coding g.row.T.Denot = coding_of g.T.Words.WORDS g.T.Words.words_of g.T.Words.value_of in
+    let code : Coding g.row.T.Denot = coding_by g.T.Words in
     let law : IsCoding code = record { some = met.some; few = met.few; sized = met.sized; given_back = met.given_back } in
     let v = c.args.version in
     let first : c.opening_version.result ≡ first_stores v + 1 = c.opening_version.ensures ∙ first_is v in
@@ -29,7 +29,7 @@ loop-at-init g c =
 pub loop-at-preserved : goal.loop-at-preserved
 loop-at-preserved g c =
     let met = g.met.T.Words in
-    let code : Coding g.row.T.Denot = coding_of g.T.Words.WORDS g.T.Words.words_of g.T.Words.value_of in
+    let code : Coding g.row.T.Denot = coding_by g.T.Words in
     let law : IsCoding code = record { some = met.some; few = met.few; sized = met.sized; given_back = met.given_back } in
     let inv = c.loop-at.invariant in
     let last = inv.end in
@@ -47,7 +47,7 @@ loop-at-preserved g c =
 pub open-requires : goal.open-requires
 open-requires g c =
     let met = g.met.T.Words in
-    let code : Coding g.row.T.Denot = coding_of g.T.Words.WORDS g.T.Words.words_of g.T.Words.value_of in
+    let code : Coding g.row.T.Denot = coding_by g.T.Words in
     let law : IsCoding code = record { some = met.some; few = met.few; sized = met.sized; given_back = met.given_back } in
     let v = c.args.version in
     let x = c.args.value in
@@ -67,7 +67,7 @@ invariant_of-token-clause-begun g c =
 pub invariant_of-token-clause-knows : goal.invariant_of-token-clause-knows
 invariant_of-token-clause-knows g c =
     let met = g.met.T.Words in
-    let code : Coding g.row.T.Denot = coding_of g.T.Words.WORDS g.T.Words.words_of g.T.Words.value_of in
+    let code : Coding g.row.T.Denot = coding_by g.T.Words in
     let law : IsCoding code = record { some = met.some; few = met.few; sized = met.sized; given_back = met.given_back } in
     let me : c.in_ok-home.seated.seat.me.0 ≡ opened_view c.args.value g.T.Words.WORDS c.args.version = search rules in
     subst (λ (w : View g.row.T.Denot). Knows code kinds.Atomic 1 w) (sym me)

@@ -1,5 +1,5 @@
 use Rattle.std.proofs.Common.{◌≡◌, ◌+◌}
-use Rattle.lock_free_value.proofs.Names.{coding_of}
+use Rattle.lock_free_value.proofs.Names.{coding_by}
 use Rattle.lock_free_value.proofs.Opens.{filling}
 use Rattle.lock_free_value.proofs.spmc.unrestricted_atomic.UnrestrictedAtomic.of.Given as given
 
@@ -10,5 +10,5 @@ invariant-loop-at g l =
       value : l.value ≡ l.fn.value;
       end : l.at-end ≡ g.T.Words.WORDS;
       second_cell : l.second_cell ≡ 2 + g.T.Words.WORDS;
-      words : l.words.items ≡ filling (coding_of g.T.Words.WORDS g.T.Words.words_of g.T.Words.value_of) l.fn.value l.fn.version l.at;
+      words : l.words.items ≡ filling (coding_by g.T.Words) l.fn.value l.fn.version l.at;
     }

@@ -1,5 +1,5 @@
 use Rattle.std.proofs.Common.{◌∙◌, subst}
-use Rattle.lock_free_value.proofs.Names.{at_load, first_load, After, Coding, coding_of}
+use Rattle.lock_free_value.proofs.Names.{at_load, first_load, After, Coding, coding_by}
 use Rattle.steps.specs.declared.atomic.Load.{Load}
 use Rattle.steps.specs.declared.atomic.LoadStage.{LoadStage}
 use Rattle.threaded.specs.Seats.{seen}
@@ -13,7 +13,7 @@ pub words-preserved : goal.words-preserved
 words-preserved g c =
     let so_far = c.words.invariant in
     let called = c.step_load in
-    let code : Coding g.row.T.Denot = coding_of g.T.Words.WORDS g.T.Words.words_of g.T.Words.value_of in (
+    let code : Coding g.row.T.Denot = coding_by g.T.Words in (
       (called.ensures.same.0 ∙ so_far.0.0, called.ensures.same.1 ∙ so_far.0.1, called.ensures.same.2 ∙ so_far.0.2),
       called.ensures.board,
       λ base at. subst (λ (s : LoadStage). LoadAt code g.R.Room.words_in base (seen called.new.seat) (at_load first_load s) called.new.room) c.in-LoadsCell.is
@@ -26,7 +26,7 @@ words-preserved g c =
 pub returns-in_default-clause-goes : goal.returns-in_default-clause-goes
 returns-in_default-clause-goes g c base at =
     let called = c.step_load in
-    let code : Coding g.row.T.Denot = coding_of g.T.Words.WORDS g.T.Words.words_of g.T.Words.value_of in
+    let code : Coding g.row.T.Denot = coding_by g.T.Words in
     subst (λ (a : After (Load g.row.T.Denot g.row.R.Denot) (Unit {0})). LoadNext code g.R.Room.words_in base a
     called.new.room (seen called.new.seat))
     c.in-GoOn.is

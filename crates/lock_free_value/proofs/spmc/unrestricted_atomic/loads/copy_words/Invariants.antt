@@ -1,5 +1,5 @@
 use Rattle.std.proofs.Common.{◌-◌}
-use Rattle.lock_free_value.proofs.Names.{at_load, first_load, coding_of, View}
+use Rattle.lock_free_value.proofs.Names.{at_load, first_load, coding_by, View}
 use Rattle.steps.specs.declared.atomic.LoadStage.TheVariants as stages
 use Rattle.threaded.specs.Seats.{seen, IsSame}
 use Rattle.lock_free_value.specs.Loads.{IsBoard, LoadAt}
@@ -10,9 +10,9 @@ abbrev pub invariant-words : given.invariant-words
 invariant-words g l =
     IsSame l.fn.seat l.seat × IsBoard g.T.Words.WORDS l.seat
     × ((base : View g.row.T.Denot)
-    → LoadAt (coding_of g.T.Words.WORDS g.T.Words.words_of g.T.Words.value_of) g.R.Room.words_in base
+    → LoadAt (coding_by g.T.Words) g.R.Room.words_in base
     (seen l.fn.seat) (at_load first_load (stages.LoadsCell l.fn.version l.fn.cell l.fn.first)) l.fn.room
-    → LoadAt (coding_of g.T.Words.WORDS g.T.Words.words_of g.T.Words.value_of) g.R.Room.words_in base (seen l.seat)
+    → LoadAt (coding_by g.T.Words) g.R.Room.words_in base (seen l.seat)
     (at_load first_load (stages.LoadsCell l.of l.start l.place)) l.room)
 
 abbrev pub decreases-words : given.decreases-words

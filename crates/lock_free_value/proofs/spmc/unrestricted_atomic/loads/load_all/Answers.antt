@@ -1,5 +1,5 @@
 use Rattle.std.proofs.Common.{◌∙◌, subst}
-use Rattle.lock_free_value.proofs.Names.{After, Coding, coding_of}
+use Rattle.lock_free_value.proofs.Names.{After, Coding, coding_by}
 use Rattle.steps.specs.declared.atomic.Load.{Load}
 use Rattle.threaded.specs.Seats.{seen}
 use Rattle.lock_free_value.specs.Loads.{LoadNext}
@@ -10,7 +10,7 @@ loop-preserved g c =
     let so_far = c.loop.invariant in
     let called = c.load_next in
     let base = seen c.args.seat.now in
-    let code : Coding g.row.T.Denot = coding_of g.T.Words.WORDS g.T.Words.words_of g.T.Words.value_of in (
+    let code : Coding g.row.T.Denot = coding_by g.T.Words in (
       (called.ensures.same.0 ∙ so_far.0.0, called.ensures.same.1 ∙ so_far.0.1, called.ensures.same.2 ∙ so_far.0.2),
       called.ensures.board,
       subst (λ (a : After (Load g.row.T.Denot g.row.R.Denot) (Unit {0})). LoadNext code g.R.Room.words_in base a
@@ -22,7 +22,7 @@ loop-preserved g c =
 pub returns-in-Done-clause-ends : goal.returns-in-Done-clause-ends
 returns-in-Done-clause-ends g c =
     let called = c.load_next in
-    let code : Coding g.row.T.Denot = coding_of g.T.Words.WORDS g.T.Words.words_of g.T.Words.value_of in
+    let code : Coding g.row.T.Denot = coding_by g.T.Words in
     subst (λ (a : After (Load g.row.T.Denot g.row.R.Denot) (Unit {0})). LoadNext code g.R.Room.words_in
     (seen c.args.seat.now) a called.new.room (seen called.new.seat))
     c.in-Done.is

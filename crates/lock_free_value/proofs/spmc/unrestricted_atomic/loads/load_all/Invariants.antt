@@ -1,4 +1,4 @@
-use Rattle.lock_free_value.proofs.Names.{coding_of}
+use Rattle.lock_free_value.proofs.Names.{coding_by}
 use Rattle.threaded.specs.Seats.{seen, IsSame}
 use Rattle.lock_free_value.specs.Loads.{IsBoard, LoadAt}
 use Rattle.lock_free_value.proofs.spmc.unrestricted_atomic.loads.load_all.Given as given
@@ -6,4 +6,4 @@ use Rattle.lock_free_value.proofs.spmc.unrestricted_atomic.loads.load_all.Given 
 abbrev pub invariant-loop : given.invariant-loop
 invariant-loop g l =
     IsSame l.fn.seat l.seat × IsBoard g.T.Words.WORDS l.seat
-    × LoadAt (coding_of g.T.Words.WORDS g.T.Words.words_of g.T.Words.value_of) g.R.Room.words_in (seen l.fn.seat) (seen l.seat) l.call l.room
+    × LoadAt (coding_by g.T.Words) g.R.Room.words_in (seen l.fn.seat) (seen l.seat) l.call l.room

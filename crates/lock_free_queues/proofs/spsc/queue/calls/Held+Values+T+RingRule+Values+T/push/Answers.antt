@@ -1,5 +1,5 @@
 use Rattle.lock_free_queues.proofs.Names.{rules, ◌≡◌, ◌<◌, ◌^◌, ◌⊎◌, false, sym, ap, subst, ◌∙◌, Coding, IsCoding}
-use Rattle.lock_free_queues.proofs.Names.{coding_of, Value, of_values, At, pushes_value, value_push_keeps}
+use Rattle.lock_free_queues.proofs.Names.{coding_by, Value, of_values, At, pushes_value, value_push_keeps}
 use Rattle.lock_free_queues.proofs.Names.{value_push_first}
 use Rattle.steps.specs.Queues.Ring.{first_push}
 use Rattle.model.specs.declared.turn.Kind.TheVariants as kinds
@@ -14,7 +14,7 @@ use Rattle.lock_free_queues.proofs.spsc.queue.calls.Held+Values+T+RingRule+Value
 pub drive-end-requires-clause-rule : goal.drive-end-requires-clause-rule
 drive-end-requires-clause-rule g c base v call m key =
     let met = g.met.T.Words in
-    let code : Coding g.row.T.Denot = coding_of g.T.Words.WORDS g.T.Words.words_of g.T.Words.value_of in
+    let code : Coding g.row.T.Denot = coding_by g.T.Words in
     let law : IsCoding code = record { some = met.some; few = met.few; sized = met.sized; given_back = met.given_back } in
     value_push_keeps code law c.args.value.now base v call m key.capacity
 
@@ -23,7 +23,7 @@ drive-end-requires-clause-at g c =
     let mine = c.args.self.now in
     let v = token_view mine in
     let met = g.met.T.Words in
-    let code : Coding g.row.T.Denot = coding_of g.T.Words.WORDS g.T.Words.words_of g.T.Words.value_of in
+    let code : Coding g.row.T.Denot = coding_by g.T.Words in
     let law : IsCoding code = record { some = met.some; few = met.few; sized = met.sized; given_back = met.given_back } in
     let x = c.args.value.now in
     subst (λ call. At code kinds.Queue (pushes_value code x) v v call tt)
@@ -33,7 +33,7 @@ drive-end-requires-clause-at g c =
 pub returns-clause-full : goal.returns-clause-full
 returns-clause-full g c is =
     let mine = c.args.self.now in
-    let code : Coding g.row.T.Denot = coding_of g.T.Words.WORDS g.T.Words.words_of g.T.Words.value_of in
+    let code : Coding g.row.T.Denot = coding_by g.T.Words in
     let v = c.args.value.now in
     let x = token_view mine in
     let w = c.drive-end.new.self.seat.me.0 in
@@ -44,7 +44,7 @@ returns-clause-full g c is =
 pub returns-clause-published : goal.returns-clause-published
 returns-clause-published g c is =
     let mine = c.args.self.now in
-    let code : Coding g.row.T.Denot = coding_of g.T.Words.WORDS g.T.Words.words_of g.T.Words.value_of in
+    let code : Coding g.row.T.Denot = coding_by g.T.Words in
     let v = c.args.value.now in
     published_if code of_values (token_view mine) c.drive-end.new.self.seat.me.0 mine.idle (Value v)
     (pushes_value code v) (value_push code v) mine.alone mine.some.0 c.requires c.drive-end.result tt
@@ -53,7 +53,7 @@ returns-clause-published g c is =
 pub returns-clause-pushed : goal.returns-clause-pushed
 returns-clause-pushed g c =
     let mine = c.args.self.now in
-    let code : Coding g.row.T.Denot = coding_of g.T.Words.WORDS g.T.Words.words_of g.T.Words.value_of in
+    let code : Coding g.row.T.Denot = coding_by g.T.Words in
     let v = c.args.value.now in
     let x = token_view mine in
     let w = c.drive-end.new.self.seat.me.0 in
@@ -64,7 +64,7 @@ returns-clause-pushed g c =
 pub returns-clause-same : goal.returns-clause-same
 returns-clause-same g c =
     let mine = c.args.self.now in
-    let code : Coding g.row.T.Denot = coding_of g.T.Words.WORDS g.T.Words.words_of g.T.Words.value_of in
+    let code : Coding g.row.T.Denot = coding_by g.T.Words in
     let v = token_view mine in
     let w = c.drive-end.new.self.seat.me.0 in
     record {
@@ -78,5 +78,5 @@ returns-clause-same g c =
 pub returns-clause-steps : goal.returns-clause-steps
 returns-clause-steps g c =
     let mine = c.args.self.now in
-    value_push_takes (coding_of g.T.Words.WORDS g.T.Words.words_of g.T.Words.value_of) (token_view mine)
+    value_push_takes (coding_by g.T.Words) (token_view mine)
     c.drive-end.new.self.seat.me.0 mine.idle c.args.value.now c.drive-end.result tt c.drive-end.ensures.end

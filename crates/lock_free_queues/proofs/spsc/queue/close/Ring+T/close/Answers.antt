@@ -1,4 +1,4 @@
-use Rattle.lock_free_queues.proofs.Names.{refl, sym, subst, Value, Queue, Coding, IsCoding, coding_of}
+use Rattle.lock_free_queues.proofs.Names.{refl, sym, subst, Value, Queue, Coding, IsCoding, coding_by}
 use Rattle.lock_free_queues.specs.Queues.Values.{view}
 use Rattle.lock_free_queues.specs.Queues.Closes.{Closes, IsWhatWaits}
 use Rattle.lock_free_queues.proofs.Queues.Closes.{fits, closes, what_waits, as_stood}
@@ -7,14 +7,14 @@ use Rattle.lock_free_queues.proofs.spsc.queue.close.Ring+T.close.Goals as goal
 pub of_words-requires : goal.of_words-requires
 of_words-requires g c =
     let met = g.met.T.Words in
-    let code : Coding g.row.T.Denot = coding_of g.T.Words.WORDS g.T.Words.words_of g.T.Words.value_of in
+    let code : Coding g.row.T.Denot = coding_by g.T.Words in
     let law : IsCoding code = record { some = met.some; few = met.few; sized = met.sized; given_back = met.given_back } in
     fits code law Queue c.args.self.capacity (view c.args.pass) c.in_ok-words.words.items c.in_ok-words.ensures.words.last refl
 
 pub returns-clause-list : goal.returns-clause-list
 returns-clause-list g c =
     let met = g.met.T.Words in
-    let code : Coding g.row.T.Denot = coding_of g.T.Words.WORDS g.T.Words.words_of g.T.Words.value_of in
+    let code : Coding g.row.T.Denot = coding_by g.T.Words in
     let law : IsCoding code = record { some = met.some; few = met.few; sized = met.sized; given_back = met.given_back } in
     let v = view c.args.pass in
     let size = c.args.self.capacity in
@@ -23,7 +23,7 @@ returns-clause-list g c =
 pub returns-clause-waits : goal.returns-clause-waits
 returns-clause-waits g c =
     let met = g.met.T.Words in
-    let code : Coding g.row.T.Denot = coding_of g.T.Words.WORDS g.T.Words.words_of g.T.Words.value_of in
+    let code : Coding g.row.T.Denot = coding_by g.T.Words in
     let law : IsCoding code = record { some = met.some; few = met.few; sized = met.sized; given_back = met.given_back } in
     let read = c.in_ok-words.ensures.words in
     let size = c.args.self.capacity in

@@ -1,6 +1,6 @@
 use Rattle.lock_free_queues.proofs.Names.{rules, ◌≡◌, ◌≤◌, ◌+◌, ◌*◌, ◌%◌, min, slice_index, [], ◌∷◌, ◌++◌, set}
 use Rattle.lock_free_queues.proofs.Names.{replicate, refl, ap, ◌∙◌, arith, mul-le-mul_left, Coding, IsCoding}
-use Rattle.lock_free_queues.proofs.Names.{coding_of, of_values}
+use Rattle.lock_free_queues.proofs.Names.{coding_by, of_values}
 use Rattle.lock_free_queues.specs.Queues.Opened.{position_at}
 use Rattle.lock_free_queues.proofs.Queues.Filled.{filled, fills_more}
 use Rattle.lock_free_queues.proofs.Queues.Opened.{queue_opens, queue_knows}
@@ -51,7 +51,7 @@ loop-at-preserved g c =
 pub of_words-requires-clause-opens : goal.of_words-requires-clause-opens
 of_words-requires-clause-opens g c =
     let met = g.met.T.Words in
-    let code : Coding g.row.T.Denot = coding_of g.T.Words.WORDS g.T.Words.words_of g.T.Words.value_of in
+    let code : Coding g.row.T.Denot = coding_by g.T.Words in
     let law : IsCoding code = record { some = met.some; few = met.few; sized = met.sized; given_back = met.given_back } in
     let inv = c.loop-at.invariant in
     let used = inv.used in
@@ -68,7 +68,7 @@ of_words-requires-clause-opens g c =
 pub of_words-requires-clause-knows : goal.of_words-requires-clause-knows
 of_words-requires-clause-knows g c =
     let met = g.met.T.Words in
-    let code : Coding g.row.T.Denot = coding_of g.T.Words.WORDS g.T.Words.words_of g.T.Words.value_of in
+    let code : Coding g.row.T.Denot = coding_by g.T.Words in
     let law : IsCoding code = record { some = met.some; few = met.few; sized = met.sized; given_back = met.given_back } in
     queue_knows code law of_values (code.value_of (replicate code.size 0)) c.args.capacity c.ranges.capacity.fits c.args.position
     c.ranges.position.fits

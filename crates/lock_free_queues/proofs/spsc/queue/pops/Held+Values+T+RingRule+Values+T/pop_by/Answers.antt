@@ -1,5 +1,5 @@
 use Rattle.lock_free_queues.proofs.Names.{◌<◌, ◌^◌, IfSome, IfNone, sym, ap, subst, ◌∙◌, option_map, Coding, IsCoding}
-use Rattle.lock_free_queues.proofs.Names.{coding_of, Value, Queue, of_values, At, value_there, pops_value}
+use Rattle.lock_free_queues.proofs.Names.{coding_by, Value, Queue, of_values, At, value_there, pops_value}
 use Rattle.lock_free_queues.proofs.Names.{value_pop_keeps, value_pop_first}
 use Rattle.steps.specs.Queues.Ring.{first_pop, pop_answer}
 use Rattle.model.specs.declared.turn.Kind.TheVariants as kinds
@@ -15,7 +15,7 @@ use Rattle.lock_free_queues.proofs.spsc.queue.pops.Held+Values+T+RingRule+Values
 pub drive-end-requires-clause-rule : goal.drive-end-requires-clause-rule
 drive-end-requires-clause-rule g c base v call m key =
     let met = g.met.T.Words in
-    let code : Coding g.row.T.Denot = coding_of g.T.Words.WORDS g.T.Words.words_of g.T.Words.value_of in
+    let code : Coding g.row.T.Denot = coding_by g.T.Words in
     let law : IsCoding code = record { some = met.some; few = met.few; sized = met.sized; given_back = met.given_back } in
     value_pop_keeps code law g.R.Room.words_in g.R.Room.with_word g.met.R.Room.put_in base v call m key.capacity
 
@@ -24,7 +24,7 @@ drive-end-requires-clause-at g c =
     let mine = c.args.self.now in
     let v = token_view mine in
     let met = g.met.T.Words in
-    let code : Coding g.row.T.Denot = coding_of g.T.Words.WORDS g.T.Words.words_of g.T.Words.value_of in
+    let code : Coding g.row.T.Denot = coding_by g.T.Words in
     let law : IsCoding code = record { some = met.some; few = met.few; sized = met.sized; given_back = met.given_back } in
     let room = c.requires.room in
     let zeros = ap (room_of code.size) room.3 ∙ room_fresh code.size room.0 room.1 room.2 in
@@ -36,7 +36,7 @@ drive-end-requires-clause-at g c =
 pub returns-clause-popped : goal.returns-clause-popped
 returns-clause-popped g c =
     let mine = c.args.self.now in
-    let code : Coding g.row.T.Denot = coding_of g.T.Words.WORDS g.T.Words.words_of g.T.Words.value_of in
+    let code : Coding g.row.T.Denot = coding_by g.T.Words in
     let x = token_view mine in
     let w = c.drive-end.new.self.seat.me.0 in
     subst (λ z. HasPopped (option_map (value_of code) z) x w) (sym c.answer.ensures)
@@ -47,7 +47,7 @@ returns-clause-popped g c =
 pub returns-clause-empty : goal.returns-clause-empty
 returns-clause-empty g c =
     let mine = c.args.self.now in
-    let code : Coding g.row.T.Denot = coding_of g.T.Words.WORDS g.T.Words.words_of g.T.Words.value_of in
+    let code : Coding g.row.T.Denot = coding_by g.T.Words in
     let x = token_view mine in
     let w = c.drive-end.new.self.seat.me.0 in
     let ends = c.drive-end.ensures.end in
@@ -61,7 +61,7 @@ returns-clause-empty g c =
 pub returns-clause-taken : goal.returns-clause-taken
 returns-clause-taken g c =
     let mine = c.args.self.now in
-    let code : Coding g.row.T.Denot = coding_of g.T.Words.WORDS g.T.Words.words_of g.T.Words.value_of in
+    let code : Coding g.row.T.Denot = coding_by g.T.Words in
     let x = token_view mine in
     let w = c.drive-end.new.self.seat.me.0 in
     let ends = c.drive-end.ensures.end in
@@ -75,5 +75,5 @@ returns-clause-taken g c =
 pub returns-clause-steps : goal.returns-clause-steps
 returns-clause-steps g c =
     let mine = c.args.self.now in
-    value_pop_takes (coding_of g.T.Words.WORDS g.T.Words.words_of g.T.Words.value_of) (token_view mine)
+    value_pop_takes (coding_by g.T.Words) (token_view mine)
     c.drive-end.new.self.seat.me.0 mine.idle g.R.Room.words_in c.drive-end.result c.drive-end.new.room c.drive-end.ensures.end

@@ -1,4 +1,4 @@
-use Rattle.lock_free_queues.proofs.Names.{sym, subst, ◌∙◌, Coding, IsCoding, coding_of, takes_role, At}
+use Rattle.lock_free_queues.proofs.Names.{sym, subst, ◌∙◌, Coding, IsCoding, coding_by, takes_role, At}
 use Rattle.lock_free_queues.proofs.Names.{acquire_first_on}
 use Rattle.lock_free_queues.specs.Queues.Bounded.{machine_kind}
 use Rattle.lock_free_queues.proofs.Queues.Kinds.{acquires_keep}
@@ -11,7 +11,7 @@ use Rattle.lock_free_queues.proofs.spsc.ring.calls.Held+E+T+RingRule+E+T.take.Go
 pub drive-requires-clause-rule : goal.drive-requires-clause-rule
 drive-requires-clause-rule g c base v call m key =
     let met = g.met.T.Words in
-    let code : Coding g.row.T.Denot = coding_of g.T.Words.WORDS g.T.Words.words_of g.T.Words.value_of in
+    let code : Coding g.row.T.Denot = coding_by g.T.Words in
     let law : IsCoding code = record { some = met.some; few = met.few; sized = met.sized; given_back = met.given_back } in
     acquires_keep code law g.E.Kind.KIND g.R.Side.ROLE base v call m key.capacity
 
@@ -19,7 +19,7 @@ pub drive-requires-clause-at : goal.drive-requires-clause-at
 drive-requires-clause-at g c =
     let mine = c.args.self.now in
     let v = token_view mine in
-    let code : Coding g.row.T.Denot = coding_of g.T.Words.WORDS g.T.Words.words_of g.T.Words.value_of in
+    let code : Coding g.row.T.Denot = coding_by g.T.Words in
     subst (λ n. At code (machine_kind g.E.Kind.KIND) (takes_role g.R.Side.ROLE) v v (record { word = n }) tt)
     (sym (c.WORD.ensures ∙ g.R.Side.there))
     (acquire_first_on code g.E.Kind.KIND v tt mine.idle mine.alone mine.some.0 g.R.Side.ROLE)
@@ -27,7 +27,7 @@ drive-requires-clause-at g c =
 pub returns-clause-acquired : goal.returns-clause-acquired
 returns-clause-acquired g c =
     let mine = c.args.self.now in
-    acquired (coding_of g.T.Words.WORDS g.T.Words.words_of g.T.Words.value_of) g.E.Kind.KIND (token_view mine)
+    acquired (coding_by g.T.Words) g.E.Kind.KIND (token_view mine)
     c.drive.new.self.seat.me.0 mine.idle g.R.Side.ROLE c.drive.result tt c.drive.ensures.end
 
 pub returns-clause-taken : goal.returns-clause-taken
@@ -44,5 +44,5 @@ returns-clause-other g c = (acquired_moves (token_view c.args.self.now) c.drive.
 pub returns-clause-steps : goal.returns-clause-steps
 returns-clause-steps g c =
     let mine = c.args.self.now in
-    acquire_takes (coding_of g.T.Words.WORDS g.T.Words.words_of g.T.Words.value_of) (token_view mine)
+    acquire_takes (coding_by g.T.Words) (token_view mine)
     c.drive.new.self.seat.me.0 mine.idle g.E.Kind.KIND g.R.Side.ROLE c.drive.result tt c.drive.ensures.end

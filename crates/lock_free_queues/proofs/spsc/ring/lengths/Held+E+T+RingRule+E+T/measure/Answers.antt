@@ -1,4 +1,4 @@
-use Rattle.lock_free_queues.proofs.Names.{◌≤◌, refl, sym, ap, subst, ◌∙◌, first_len, Coding, IsCoding, coding_of}
+use Rattle.lock_free_queues.proofs.Names.{◌≤◌, refl, sym, ap, subst, ◌∙◌, first_len, Coding, IsCoding, coding_by}
 use Rattle.lock_free_queues.proofs.Names.{length_answer, At, counts_waiting, len_first_on}
 use Rattle.lock_free_queues.specs.Queues.Bounded.{machine_kind}
 use Rattle.lock_free_queues.proofs.Queues.Kinds.{lengths_keep}
@@ -12,7 +12,7 @@ use Rattle.lock_free_queues.proofs.spsc.ring.lengths.Held+E+T+RingRule+E+T.measu
 pub drive_on-requires-clause-rule : goal.drive_on-requires-clause-rule
 drive_on-requires-clause-rule g c base v call m key =
     let met = g.met.T.Words in
-    let code : Coding g.row.T.Denot = coding_of g.T.Words.WORDS g.T.Words.words_of g.T.Words.value_of in
+    let code : Coding g.row.T.Denot = coding_by g.T.Words in
     let law : IsCoding code = record { some = met.some; few = met.few; sized = met.sized; given_back = met.given_back } in
     lengths_keep code law g.E.Kind.KIND g.W.Measure.WHICH base v call m key.capacity
 
@@ -21,7 +21,7 @@ drive_on-requires-clause-at g c =
     let mine = c.args.self.now in
     let v = token_view mine in
     let met = g.met.T.Words in
-    let code : Coding g.row.T.Denot = coding_of g.T.Words.WORDS g.T.Words.words_of g.T.Words.value_of in
+    let code : Coding g.row.T.Denot = coding_by g.T.Words in
     let law : IsCoding code = record { some = met.some; few = met.few; sized = met.sized; given_back = met.given_back } in
     subst (λ call. At code (machine_kind g.E.Kind.KIND) (counts_waiting g.W.Measure.WHICH v.capacity) v v call tt)
     (ap first_len mine.known ∙ sym c.new-call.ensures)
@@ -34,20 +34,20 @@ returns-clause-measured g c =
     let w = c.drive_on.new.self.seat.me.0 in
     subst (λ n. HasMeasured g.W.Measure.WHICH n (length_answer g.W.Measure.WHICH n c.drive_on.result) v w)
     mine.known
-    (measured (coding_of g.T.Words.WORDS g.T.Words.words_of g.T.Words.value_of) g.E.Kind.KIND v w mine.idle
+    (measured (coding_by g.T.Words) g.E.Kind.KIND v w mine.idle
     g.W.Measure.WHICH c.drive_on.result tt c.drive_on.ensures.end)
 
 pub returns-clause-few : goal.returns-clause-few
 returns-clause-few g c is =
     let mine = c.args.self.now in
     subst (λ n. c.drive_on.result ≤ most_waiting g.E.Kind.KIND n) mine.known
-    (few (coding_of g.T.Words.WORDS g.T.Words.words_of g.T.Words.value_of) g.E.Kind.KIND (token_view mine)
+    (few (coding_by g.T.Words) g.E.Kind.KIND (token_view mine)
     c.drive_on.new.self.seat.me.0 mine.idle g.W.Measure.WHICH is c.drive_on.result tt c.drive_on.ensures.end)
 
 pub returns-clause-steps : goal.returns-clause-steps
 returns-clause-steps g c =
     let mine = c.args.self.now in
-    let code : Coding g.row.T.Denot = coding_of g.T.Words.WORDS g.T.Words.words_of g.T.Words.value_of in
+    let code : Coding g.row.T.Denot = coding_by g.T.Words in
     let v = token_view mine in
     let w = c.drive_on.new.self.seat.me.0 in
     length_takes code v w mine.idle g.E.Kind.KIND g.W.Measure.WHICH c.drive_on.result tt c.drive_on.ensures.end

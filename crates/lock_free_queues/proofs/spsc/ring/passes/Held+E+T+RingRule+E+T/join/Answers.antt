@@ -1,4 +1,4 @@
-use Rattle.lock_free_queues.proofs.Names.{◌≡◌, ◌<◌, sym, ap, subst, ◌∙◌, arith, rules, TableId, coding_of, Coding, View, IsMachine}
+use Rattle.lock_free_queues.proofs.Names.{◌≡◌, ◌<◌, sym, ap, subst, ◌∙◌, arith, rules, TableId, coding_by, Coding, View, IsMachine}
 use Rattle.lock_free_queues.proofs.Names.{LooksAt, joined_view, joins}
 use Rattle.lock_free_queues.specs.Queues.Bounded.{machine_kind}
 use Rattle.steps.specs.declared.ask.Op.TheVariants.{Load}
@@ -11,7 +11,7 @@ use Rattle.lock_free_queues.proofs.spsc.ring.passes.Held+E+T+RingRule+E+T.join.G
 pub join-requires-clause-joins : goal.join-requires-clause-joins
 join-requires-clause-joins g c =
     let mine = c.args.self.now in
-    joins (coding_of g.T.Words.WORDS g.T.Words.words_of g.T.Words.value_of) (machine_kind g.E.Kind.KIND) _
+    joins (coding_by g.T.Words) (machine_kind g.E.Kind.KIND) _
     mine.seated.seat.id c.args.other.seated.seat.id mine.seated.seat.me.0 c.args.other.seated.seat.me.0
     mine.some.0 c.args.other.some.0 c.args.other.idle mine.alone c.args.other.alone
 
@@ -22,7 +22,7 @@ look-requires-clause-owes g c =
     let v = mine.seated.seat.me.0 in
     let u = c.args.other.seated.seat.me.0 in
     let w = joined_view v u in
-    let code : Coding g.row.T.Denot = coding_of g.T.Words.WORDS g.T.Words.words_of g.T.Words.value_of in
+    let code : Coding g.row.T.Denot = coding_by g.T.Words in
     let kind = g.E.Kind.KIND in
     let same : (table_of s).words ≡ (table_of mine.seated).words = ap (λ (t : TableId). t.words) c.join.ensures.same.0 in
     let below : 0 < (table_of s).words = (let wide = mine.sized in omega arith) in

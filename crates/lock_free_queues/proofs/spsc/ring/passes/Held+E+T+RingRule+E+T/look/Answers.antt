@@ -1,4 +1,4 @@
-use Rattle.lock_free_queues.proofs.Names.{◌<◌, ◌∙◌, sym, arith, coding_of, LooksAt}
+use Rattle.lock_free_queues.proofs.Names.{◌<◌, ◌∙◌, sym, arith, coding_by, LooksAt}
 use Rattle.lock_free_queues.specs.Queues.Bounded.{machine_kind}
 use Rattle.threaded.specs.Seats.{seen, table_of, key_of}
 use Rattle.lock_free_queues.proofs.Queues.Reads.{owes_look, has_looked}
@@ -9,14 +9,14 @@ look-requires-clause-owes g c =
     let mine = c.args.self.now in
     let s = mine.seated in
     let below : 0 < (table_of s).words = (let wide = mine.sized in omega arith) in
-    owes_look (coding_of g.T.Words.WORDS g.T.Words.words_of g.T.Words.value_of) g.E.Kind.KIND (key_of s).capacity (table_of s).words
+    owes_look (coding_by g.T.Words) g.E.Kind.KIND (key_of s).capacity (table_of s).words
     (table_of s).slots s.seat.id 0 (seen s) s.seat.me.1 below s.bare (mine.known ∙ sym mine.keyed) mine.idle mine.some.0
 
 pub returns-clause-looked : goal.returns-clause-looked
 returns-clause-looked g c =
     let mine = c.args.self.now in
-    let l : LooksAt (coding_of g.T.Words.WORDS g.T.Words.words_of g.T.Words.value_of) (machine_kind g.E.Kind.KIND)
+    let l : LooksAt (coding_by g.T.Words) (machine_kind g.E.Kind.KIND)
     mine.seated.seat.me.0.capacity 0 mine.seated.seat.me.0 c.look.result c.look.new.self.seat.me.0 =
     c.look.ensures.told in
-    has_looked (coding_of g.T.Words.WORDS g.T.Words.words_of g.T.Words.value_of) (machine_kind g.E.Kind.KIND)
+    has_looked (coding_by g.T.Words) (machine_kind g.E.Kind.KIND)
     mine.seated.seat.me.0 c.look.new.self.seat.me.0 mine.alone l.looks

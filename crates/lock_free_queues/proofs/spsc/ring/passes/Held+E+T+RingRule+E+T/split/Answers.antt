@@ -1,8 +1,8 @@
-use Rattle.lock_free_queues.proofs.Names.{coding_of, splits}
+use Rattle.lock_free_queues.proofs.Names.{coding_by, splits}
 use Rattle.lock_free_queues.specs.Queues.Bounded.{machine_kind}
 use Rattle.lock_free_queues.proofs.spsc.ring.passes.Held+E+T+RingRule+E+T.split.Goals as goal
 
 pub split-requires-clause-splits : goal.split-requires-clause-splits
 split-requires-clause-splits g c =
     let mine = c.args.self.now in
-    splits (coding_of g.T.Words.WORDS g.T.Words.words_of g.T.Words.value_of) (machine_kind g.E.Kind.KIND) _ mine.seated.seat.id mine.seated.seat.me.0
+    splits (coding_by g.T.Words) (machine_kind g.E.Kind.KIND) _ mine.seated.seat.id mine.seated.seat.me.0

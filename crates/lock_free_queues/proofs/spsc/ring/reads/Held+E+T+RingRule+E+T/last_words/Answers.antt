@@ -1,4 +1,4 @@
-use Rattle.lock_free_queues.proofs.Names.{rules, ◌≡◌, ◌≢◌, sym, ap, subst, ◌∙◌, arith, Coding, coding_of}
+use Rattle.lock_free_queues.proofs.Names.{rules, ◌≡◌, ◌≢◌, sym, ap, subst, ◌∙◌, arith, Coding, coding_by}
 use Rattle.lock_free_queues.specs.Queues.Bounded.{machine_kind}
 use Rattle.lock_free_queues.specs.Queues.Calls.{QueueId}
 use Rattle.lock_free_queues.specs.Queues.Rings.{token_view}
@@ -10,7 +10,7 @@ use Rattle.lock_free_queues.proofs.spsc.ring.reads.Held+E+T+RingRule+E+T.last_wo
 pub returns-then-again-write : goal.returns-then-again-write
 returns-then-again-write g c =
     let inv = c.loop-write.invariant in
-    let code : Coding g.row.T.Denot = coding_of g.T.Words.WORDS g.T.Words.words_of g.T.Words.value_of in
+    let code : Coding g.row.T.Denot = coding_by g.T.Words in
     let mine = c.args.self.now in
     let size = mine.capacity in
     let v = token_view mine in
@@ -43,7 +43,7 @@ returns-then-again-write g c =
 pub loop-write-smaller : goal.loop-write-smaller
 loop-write-smaller g c =
     let inv = c.loop-write.invariant in
-    let code : Coding g.row.T.Denot = coding_of g.T.Words.WORDS g.T.Words.words_of g.T.Words.value_of in
+    let code : Coding g.row.T.Denot = coding_by g.T.Words in
     let size = c.args.self.now.capacity in
     let w = token_view c.loop-write.self in
     let r = token_view c.read_cells.new.self in

@@ -1,4 +1,4 @@
-use Rattle.lock_free_queues.proofs.Names.{◌≡◌, ◌<◌, ◌-◌, ◌^◌, length, coding_of}
+use Rattle.lock_free_queues.proofs.Names.{◌≡◌, ◌<◌, ◌-◌, ◌^◌, length, coding_by}
 use Rattle.lock_free_queues.specs.Queues.Bounded.{machine_kind}
 use Rattle.lock_free_queues.specs.Queues.Rings.{token_queue, token_view}
 use Rattle.lock_free_queues.specs.Queues.Reads.{WasRead, HasRead}
@@ -9,7 +9,7 @@ invariant-loop-write g l =
     record {
       queue : token_queue l.self ≡ token_queue l.fn.self;
       read : HasRead (token_view l.fn.self) (token_view l.self);
-      found : WasRead (coding_of g.T.Words.WORDS g.T.Words.words_of g.T.Words.value_of) (machine_kind g.E.Kind.KIND)
+      found : WasRead (coding_by g.T.Words) (machine_kind g.E.Kind.KIND)
           l.fn.self.capacity (token_view l.self) (token_view l.self) 0 l.write;
       few : l.write < 2 ^ 64;
       long : length l.words.items ≡ l.fn.count;

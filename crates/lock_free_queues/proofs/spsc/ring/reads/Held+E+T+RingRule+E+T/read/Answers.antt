@@ -1,4 +1,4 @@
-use Rattle.lock_free_queues.proofs.Names.{◌<◌, ◌∙◌, sym, arith, coding_of}
+use Rattle.lock_free_queues.proofs.Names.{◌<◌, ◌∙◌, sym, arith, coding_by}
 use Rattle.threaded.specs.Seats.{seen, table_of, key_of}
 use Rattle.lock_free_queues.proofs.Queues.Reads.{owes_look, was_read, was_read_last, has_read}
 use Rattle.lock_free_queues.proofs.spsc.ring.reads.Held+E+T+RingRule+E+T.read.Goals as goal
@@ -8,24 +8,24 @@ look-requires-clause-owes g c =
     let mine = c.args.self.now in
     let s = mine.seated in
     let below : c.args.word < (table_of s).words = (let wide = mine.sized in let low = c.requires in omega arith) in
-    owes_look (coding_of g.T.Words.WORDS g.T.Words.words_of g.T.Words.value_of) g.E.Kind.KIND (key_of s).capacity (table_of s).words
+    owes_look (coding_by g.T.Words) g.E.Kind.KIND (key_of s).capacity (table_of s).words
     (table_of s).slots s.seat.id c.args.word (seen s) s.seat.me.1 below s.bare (mine.known ∙ sym mine.keyed) mine.idle mine.some.0
 
 pub returns-clause-read : goal.returns-clause-read
 returns-clause-read g c =
     let mine = c.args.self.now in
-    has_read (coding_of g.T.Words.WORDS g.T.Words.words_of g.T.Words.value_of) g.E.Kind.KIND mine.capacity
+    has_read (coding_by g.T.Words) g.E.Kind.KIND mine.capacity
     c.args.word c.look.result mine.seated.seat.me.0 c.look.new.self.seat.me.0 mine.known c.requires c.look.ensures.told
     mine.alone
 
 pub returns-clause-found : goal.returns-clause-found
 returns-clause-found g c =
     let mine = c.args.self.now in
-    was_read (coding_of g.T.Words.WORDS g.T.Words.words_of g.T.Words.value_of) g.E.Kind.KIND mine.capacity
+    was_read (coding_by g.T.Words) g.E.Kind.KIND mine.capacity
     c.args.word c.look.result mine.seated.seat.me.0 c.look.new.self.seat.me.0 mine.known c.requires c.look.ensures.told
 
 pub returns-clause-last : goal.returns-clause-last
 returns-clause-last g c =
     let mine = c.args.self.now in
-    was_read_last (coding_of g.T.Words.WORDS g.T.Words.words_of g.T.Words.value_of) g.E.Kind.KIND mine.capacity
+    was_read_last (coding_by g.T.Words) g.E.Kind.KIND mine.capacity
     c.args.word c.look.result mine.seated.seat.me.0 c.look.new.self.seat.me.0 mine.known c.requires c.look.ensures.told

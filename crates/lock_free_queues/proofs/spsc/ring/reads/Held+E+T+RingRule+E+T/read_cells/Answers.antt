@@ -1,4 +1,4 @@
-use Rattle.lock_free_queues.proofs.Names.{◌≡◌, ◌<◌, ◌+◌, sym, ap, subst, ◌∙◌, arith, Coding, coding_of, refl}
+use Rattle.lock_free_queues.proofs.Names.{◌≡◌, ◌<◌, ◌+◌, sym, ap, subst, ◌∙◌, arith, Coding, coding_by, refl}
 use Rattle.lock_free_queues.proofs.Names.{length-set}
 use Rattle.lock_free_queues.specs.Queues.Bounded.{machine_kind}
 use Rattle.lock_free_queues.specs.Queues.Calls.{QueueId}
@@ -10,7 +10,7 @@ use Rattle.lock_free_queues.proofs.spsc.ring.reads.Held+E+T+RingRule+E+T.read_ce
 
 pub loop-at-init : goal.loop-at-init
 loop-at-init g c =
-    let code : Coding g.row.T.Denot = coding_of g.T.Words.WORDS g.T.Words.words_of g.T.Words.value_of in
+    let code : Coding g.row.T.Denot = coding_by g.T.Words in
     let mine = c.args.self.now in
     let v = token_view mine in
     let long = c.requires.long in
@@ -34,7 +34,7 @@ read-word-requires g c =
 pub loop-at-preserved : goal.loop-at-preserved
 loop-at-preserved g c =
     let inv = c.loop-at.invariant in
-    let code : Coding g.row.T.Denot = coding_of g.T.Words.WORDS g.T.Words.words_of g.T.Words.value_of in
+    let code : Coding g.row.T.Denot = coding_by g.T.Words in
     let mine = c.args.self.now in
     let v = token_view mine in
     let w = token_view c.loop-at.self in

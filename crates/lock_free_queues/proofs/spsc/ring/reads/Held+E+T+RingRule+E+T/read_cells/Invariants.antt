@@ -1,4 +1,4 @@
-use Rattle.lock_free_queues.proofs.Names.{◌≡◌, ◌≤◌, length, coding_of}
+use Rattle.lock_free_queues.proofs.Names.{◌≡◌, ◌≤◌, length, coding_by}
 use Rattle.lock_free_queues.specs.Queues.Bounded.{machine_kind}
 use Rattle.lock_free_queues.specs.Queues.Rings.{token_queue, token_view}
 use Rattle.lock_free_queues.specs.Queues.Reads.{HasRead}
@@ -10,7 +10,7 @@ invariant-loop-at g l =
     record {
       queue : token_queue l.self ≡ token_queue l.fn.self;
       read : HasRead (token_view l.fn.self) (token_view l.self);
-      cells : ReadTo (coding_of g.T.Words.WORDS g.T.Words.words_of g.T.Words.value_of) (machine_kind g.E.Kind.KIND)
+      cells : ReadTo (coding_by g.T.Words) (machine_kind g.E.Kind.KIND)
           l.fn.self.capacity (token_view l.fn.self) (token_view l.self) l.at l.words.items;
       long : length l.words.items ≡ length l.fn.words.items;
       past : 4 ≤ l.at;

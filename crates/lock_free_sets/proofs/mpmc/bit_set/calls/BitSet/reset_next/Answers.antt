@@ -2,9 +2,8 @@ use Rattle.lock_free_sets.proofs.Names.{refl, sym, subst, ap, ◌∙◌, one_wor
 use Rattle.steps.specs.Bits.BitSet.{first_reset}
 use Rattle.model.specs.declared.turn.Kind.TheVariants as kinds
 use Rattle.lock_free_sets.specs.Bits.Stages.{resets_next}
-use Rattle.lock_free_sets.specs.Sets.Calls.{SetId}
-use Rattle.lock_free_sets.specs.Bits.Contracts.{AllClearOnce, CameFromPosition}
-use Rattle.lock_free_sets.proofs.Bits.Resetting.{next_keeps, next_first, all_clear, came_from}
+use Rattle.lock_free_sets.proofs.Bits.Resetting.{next_keeps, next_first, found_nothing, found_place}
+use Rattle.lock_free_sets.proofs.Sets.Passes.{same_size}
 use Rattle.lock_free_sets.proofs.Steps.{bits_take}
 use Rattle.lock_free_sets.proofs.mpmc.bit_set.calls.BitSet.reset_next.Goals as goal
 
@@ -18,32 +17,28 @@ drive_on-end-requires-clause-at g c =
     subst (λ call. At one_word kinds.Bits resets_next v v call _) (ap first_reset mine.known ∙ sym c.new-call.ensures)
     (next_first v _ (record { known = refl; idle = mine.idle; alone = mine.alone; some = mine.some.0 }))
 
-pub returns-in-None-clause-clear : goal.returns-in-None-clause-clear
-returns-in-None-clause-clear g c none =
+pub returns-in-Some-clause-cleared : goal.returns-in-Some-clause-cleared
+returns-in-Some-clause-cleared g c =
     let mine = c.args.pass.now in
-    let base = seen mine.seated in
-    let w = seen c.drive_on-end.new.self in
-    subst (λ n. AllClearOnce n w) (mine.known ∙ ap (λ (z : SetId). z.capacity) c.requires)
-    (all_clear base w c.drive_on-end.result c.drive_on-end.new.room mine.idle c.drive_on-end.ensures.end
-    (sym c.answer.ensures ∙ c.in-None.is))
+    let end = c.drive_on-end in
+    found_place (seen mine.seated) (seen end.new.self) end.result end.new.room mine.idle end.ensures.end _
+    (same_size c.args.self.now mine c.requires) c.in-Some.place (sym c.answer.ensures ∙ c.in-Some.is)
 
-pub returns-in-Some-clause-came : goal.returns-in-Some-clause-came
-returns-in-Some-clause-came g c =
+pub returns-in-None-clause-clear : goal.returns-in-None-clause-clear
+returns-in-None-clause-clear g c =
     let mine = c.args.pass.now in
-    let base = seen mine.seated in
-    let w = seen c.drive_on-end.new.self in
-    subst (λ n. CameFromPosition n c.in-Some.place w) (mine.known ∙ ap (λ (z : SetId). z.capacity) c.requires)
-    (came_from base w c.drive_on-end.result c.drive_on-end.new.room mine.idle c.drive_on-end.ensures.end c.in-Some.place
-    (sym c.answer.ensures ∙ c.in-Some.is))
+    let end = c.drive_on-end in
+    found_nothing (seen mine.seated) (seen end.new.self) end.result end.new.room mine.idle end.ensures.end _
+    (same_size c.args.self.now mine c.requires) (sym c.answer.ensures ∙ c.in-None.is)
 
 pub returns-in-Some-clause-steps : goal.returns-in-Some-clause-steps
 returns-in-Some-clause-steps g c =
     let mine = c.args.pass.now in
     bits_take resets_next (seen mine.seated) (seen c.drive_on-end.new.self) c.drive_on-end.result c.drive_on-end.new.room
-    mine.idle _ (mine.known ∙ ap (λ (z : SetId). z.capacity) c.requires) (omega arith) c.drive_on-end.ensures.end
+    mine.idle _ (same_size c.args.self.now mine c.requires) (omega arith) c.drive_on-end.ensures.end
 
 pub returns-in-None-clause-steps : goal.returns-in-None-clause-steps
 returns-in-None-clause-steps g c =
     let mine = c.args.pass.now in
     bits_take resets_next (seen mine.seated) (seen c.drive_on-end.new.self) c.drive_on-end.result c.drive_on-end.new.room
-    mine.idle _ (mine.known ∙ ap (λ (z : SetId). z.capacity) c.requires) (omega arith) c.drive_on-end.ensures.end
+    mine.idle _ (same_size c.args.self.now mine c.requires) (omega arith) c.drive_on-end.ensures.end

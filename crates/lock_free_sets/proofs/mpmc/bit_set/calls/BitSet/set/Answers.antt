@@ -1,10 +1,10 @@
-use Rattle.lock_free_sets.proofs.Names.{rules, ◌<◌, refl, sym, ap, subst, ◌∙◌, one_word, seen, At, arith}
+use Rattle.lock_free_sets.proofs.Names.{rules, ◌<◌, refl, sym, subst, one_word, seen, At, arith}
 use Rattle.model.specs.declared.turn.Kind.TheVariants as kinds
+use Rattle.lock_free_sets.specs.Bits.Contracts.{SetDone}
 use Rattle.lock_free_sets.specs.Bits.Stages.{sets_place}
-use Rattle.lock_free_sets.specs.Sets.Calls.{SetId}
-use Rattle.lock_free_sets.specs.Bits.Contracts.{HasSet}
-use Rattle.lock_free_sets.proofs.Bits.Setting.{set_keeps, set_first, added, stood}
-use Rattle.lock_free_sets.proofs.Ends.{aside_most}
+use Rattle.lock_free_sets.proofs.Bits.Setting.{set_keeps, set_first, set_done}
+use Rattle.lock_free_sets.proofs.Ends.{done}
+use Rattle.lock_free_sets.proofs.Sets.Passes.{same_pass, same_size}
 use Rattle.lock_free_sets.proofs.Steps.{bits_take}
 use Rattle.lock_free_sets.proofs.mpmc.bit_set.calls.BitSet.set.Goals as goal
 
@@ -17,34 +17,23 @@ drive_on-end-requires-clause-at g c =
     let v = seen mine.seated in
     subst (λ call. At one_word kinds.Bits (sets_place c.args.id) v v call _) (sym c.new.ensures)
     (set_first c.args.id v _ (record { known = refl; idle = mine.idle; alone = mine.alone; some = mine.some.0 })
-    (subst (λ n. c.args.id < n) (sym (mine.known ∙ ap (λ (z : SetId). z.capacity) c.requires.pass)) c.requires.place))
+    (subst (λ n. c.args.id < n) (sym (same_size c.args.self.now mine c.requires.pass)) c.requires.place))
 
 pub returns-clause-same : goal.returns-clause-same
 returns-clause-same g c =
-    record {
-      set = search rules;
-      share = search rules;
-      party = search rules;
-      first = c.drive_on-end.ensures.end.ran.first;
-      aside = aside_most c.drive_on-end.ensures.end.aside;
-      all = search rules;
-    }
+    let end = c.drive_on-end in
+    same_pass (search rules)
+    (done kinds.Bits (sets_place c.args.id) (λ o p h. h) (seen c.args.pass.now.seated) (seen end.new.self) end.result end.new.room end.ensures.end)
 
 pub returns-clause-added : goal.returns-clause-added
 returns-clause-added g c =
     let base = seen c.args.pass.now.seated in
     let w = seen c.drive_on-end.new.self in
-    subst (λ b. HasSet c.args.id b base w) (sym c.answer.ensures)
-    (added c.args.id base w c.drive_on-end.result c.drive_on-end.new.room c.args.pass.now.idle c.drive_on-end.ensures.end)
-
-pub returns-clause-stood : goal.returns-clause-stood
-returns-clause-stood g c not =
-    let base = seen c.args.pass.now.seated in
-    let w = seen c.drive_on-end.new.self in
-    stood c.args.id base w c.drive_on-end.result c.drive_on-end.new.room c.args.pass.now.idle c.drive_on-end.ensures.end (sym c.answer.ensures ∙ not)
+    subst (λ b. SetDone c.args.id b base w) (sym c.answer.ensures)
+    (set_done c.args.id base w c.drive_on-end.result c.drive_on-end.new.room c.args.pass.now.idle c.drive_on-end.ensures.end)
 
 pub returns-clause-steps : goal.returns-clause-steps
 returns-clause-steps g c =
     let mine = c.args.pass.now in
     bits_take (sets_place c.args.id) (seen mine.seated) (seen c.drive_on-end.new.self) c.drive_on-end.result c.drive_on-end.new.room
-    mine.idle _ (mine.known ∙ ap (λ (z : SetId). z.capacity) c.requires.pass) (omega arith) c.drive_on-end.ensures.end
+    mine.idle _ (same_size c.args.self.now mine c.requires.pass) (omega arith) c.drive_on-end.ensures.end

@@ -1,9 +1,10 @@
-use Rattle.lock_free_sets.proofs.Names.{rules, ◌<◌, refl, sym, ap, subst, ◌∙◌, seen, arith}
-use Rattle.lock_free_sets.specs.Sets.Calls.{SetId}
-use Rattle.lock_free_sets.specs.Counts.Contracts.{HasCounted, AnswersCount}
-use Rattle.lock_free_sets.proofs.Counts.Counting.{count_keeps, count_first, counted, answers}
+use Rattle.lock_free_sets.proofs.Names.{rules, ◌<◌, refl, sym, subst, seen, arith}
+use Rattle.model.specs.declared.turn.Kind.TheVariants as kinds
+use Rattle.lock_free_sets.specs.Counts.Contracts.{SetDone}
 use Rattle.lock_free_sets.specs.Counts.Stages.{counts_place}
-use Rattle.lock_free_sets.proofs.Ends.{aside_most}
+use Rattle.lock_free_sets.proofs.Counts.Counting.{count_keeps, count_first, set_done}
+use Rattle.lock_free_sets.proofs.Ends.{done}
+use Rattle.lock_free_sets.proofs.Sets.Passes.{same_pass, same_size}
 use Rattle.lock_free_sets.proofs.Steps.{counts_take}
 use Rattle.lock_free_sets.proofs.mpmc.counting_bit_set.calls.CountingBitSet.set.Goals as goal
 
@@ -15,32 +16,20 @@ drive-old-requires-clause-at c =
     let mine = c.args.pass.now in
     count_first c.args.id (seen mine.seated) _ _
     (record { known = refl; idle = mine.idle; alone = mine.alone; some = mine.some.0 })
-    (subst (λ n. c.args.id < n) (sym (mine.known ∙ ap (λ (z : SetId). z.capacity) c.requires.pass)) c.requires.place)
+    (subst (λ n. c.args.id < n) (sym (same_size c.args.self.now mine c.requires.pass)) c.requires.place)
 
 pub returns-clause-same : goal.returns-clause-same
 returns-clause-same c =
-    record {
-      set = search rules;
-      share = search rules;
-      party = search rules;
-      first = c.drive-old.ensures.end.ran.first;
-      aside = aside_most c.drive-old.ensures.end.aside;
-      all = search rules;
-    }
+    let old = c.drive-old in
+    same_pass (search rules)
+    (done kinds.Counts (counts_place c.args.id) (λ o p h. h) (seen c.args.pass.now.seated) (seen old.new.self) old.result old.new.room old.ensures.end)
 
 pub returns-clause-counted : goal.returns-clause-counted
 returns-clause-counted c =
     let base = seen c.args.pass.now.seated in
     let w = seen c.drive-old.new.self in
-    subst (λ n. HasCounted c.args.id n base w) (sym c.answer.ensures)
-    (counted c.args.id base w c.drive-old.result c.drive-old.new.room c.args.pass.now.idle c.drive-old.ensures.end)
-
-pub returns-clause-answers : goal.returns-clause-answers
-returns-clause-answers c =
-    let base = seen c.args.pass.now.seated in
-    let w = seen c.drive-old.new.self in
-    subst (λ n. AnswersCount c.args.id n w) (sym c.answer.ensures)
-    (answers c.args.id base w c.drive-old.result c.drive-old.new.room c.args.pass.now.idle c.drive-old.ensures.end)
+    subst (λ n. SetDone c.args.id n base w) (sym c.answer.ensures)
+    (set_done c.args.id base w c.drive-old.result c.drive-old.new.room c.args.pass.now.idle c.drive-old.ensures.end)
 
 pub returns-clause-steps : goal.returns-clause-steps
 returns-clause-steps c =

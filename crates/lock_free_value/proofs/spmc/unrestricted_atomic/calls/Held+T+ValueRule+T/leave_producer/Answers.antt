@@ -1,5 +1,5 @@
 use Rattle.std.proofs.Common.{arith}
-use Rattle.lock_free_value.proofs.Names.{coding_of}
+use Rattle.lock_free_value.proofs.Names.{coding_by}
 use Rattle.history.specs.Value.{releases_producer}
 use Rattle.lock_free_value.specs.Calls.{seen}
 use Rattle.history.proofs.ValueCalls.{release_keeps, release_first}
@@ -7,21 +7,21 @@ use Rattle.lock_free_value.proofs.Facts.{released, takes_here}
 use Rattle.lock_free_value.proofs.spmc.unrestricted_atomic.calls.Held+T+ValueRule+T.leave_producer.Goals as goal
 
 pub drive-requires-clause-rule : goal.drive-requires-clause-rule
-drive-requires-clause-rule g c base v call m key = release_keeps (coding_of g.T.Words.WORDS g.T.Words.words_of g.T.Words.value_of) base v call m 1
+drive-requires-clause-rule g c base v call m key = release_keeps (coding_by g.T.Words) base v call m 1
 
 pub drive-requires-clause-at : goal.drive-requires-clause-at
 drive-requires-clause-at g c =
     let mine = c.args.self.now in
-    release_first (coding_of g.T.Words.WORDS g.T.Words.words_of g.T.Words.value_of) (seen mine) tt mine.idle mine.alone mine.some.0 c.requires
+    release_first (coding_by g.T.Words) (seen mine) tt mine.idle mine.alone mine.some.0 c.requires
 
 pub returns-clause-left : goal.returns-clause-left
 returns-clause-left g c =
     let mine = c.args.self.now in
-    released (coding_of g.T.Words.WORDS g.T.Words.words_of g.T.Words.value_of) (seen mine)
+    released (coding_by g.T.Words) (seen mine)
     c.drive.new.self.seat.me.0 mine.idle mine.known c.drive.result tt c.drive.ensures.end
 
 pub returns-clause-steps : goal.returns-clause-steps
 returns-clause-steps g c =
     let mine = c.args.self.now in
-    takes_here (coding_of g.T.Words.WORDS g.T.Words.words_of g.T.Words.value_of) (seen mine)
+    takes_here (coding_by g.T.Words) (seen mine)
     c.drive.new.self.seat.me.0 mine.idle mine.known releases_producer c.drive.result tt (omega arith) c.drive.ensures.end

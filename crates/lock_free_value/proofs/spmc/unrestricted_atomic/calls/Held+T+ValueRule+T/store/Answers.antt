@@ -1,6 +1,6 @@
 use Rattle.std.proofs.Common.{rules, sym, ◌∙◌, subst}
 use Rattle.model.specs.declared.turn.Kind.TheVariants as kinds
-use Rattle.lock_free_value.proofs.Names.{Coding, IsCoding, coding_of, stores_value}
+use Rattle.lock_free_value.proofs.Names.{Coding, IsCoding, coding_by, stores_value}
 use Rattle.history.specs.Stages.{At}
 use Rattle.history.proofs.ValueCalls.{store_keeps, store_first}
 use Rattle.lock_free_value.specs.Calls.{seen}
@@ -10,15 +10,15 @@ use Rattle.lock_free_value.proofs.spmc.unrestricted_atomic.calls.Held+T+ValueRul
 pub drive-end-requires-clause-rule : goal.drive-end-requires-clause-rule
 drive-end-requires-clause-rule g c base v call m key =
     let met = g.met.T.Words in
-    let law : IsCoding (coding_of g.T.Words.WORDS g.T.Words.words_of g.T.Words.value_of) =
+    let law : IsCoding (coding_by g.T.Words) =
     record { some = met.some; few = met.few; sized = met.sized; given_back = met.given_back } in
-    store_keeps (coding_of g.T.Words.WORDS g.T.Words.words_of g.T.Words.value_of) law c.args.value.now base v call m 1
+    store_keeps (coding_by g.T.Words) law c.args.value.now base v call m 1
 
 pub drive-end-requires-clause-at : goal.drive-end-requires-clause-at
 drive-end-requires-clause-at g c =
     let mine = c.args.self.now in
     let met = g.met.T.Words in
-    let code : Coding g.row.T.Denot = coding_of g.T.Words.WORDS g.T.Words.words_of g.T.Words.value_of in
+    let code : Coding g.row.T.Denot = coding_by g.T.Words in
     let law : IsCoding code = record { some = met.some; few = met.few; sized = met.sized; given_back = met.given_back } in
     let x = c.args.value.now in
     subst (λ call. At code kinds.Atomic (stores_value code x) (seen mine) (seen mine) call tt) (sym c.new.ensures)
@@ -27,21 +27,21 @@ drive-end-requires-clause-at g c =
 pub returns-clause-stored : goal.returns-clause-stored
 returns-clause-stored g c is =
     let mine = c.args.self.now in
-    stored_if (coding_of g.T.Words.WORDS g.T.Words.words_of g.T.Words.value_of) (seen mine)
+    stored_if (coding_by g.T.Words) (seen mine)
     c.drive-end.new.self.seat.me.0 mine.idle mine.known c.args.value.now c.drive-end.result tt
     c.drive-end.ensures.end (sym c.answer.ensures ∙ is)
 
 pub returns-clause-end : goal.returns-clause-end
 returns-clause-end g c is =
     let mine = c.args.self.now in
-    at_end_if (coding_of g.T.Words.WORDS g.T.Words.words_of g.T.Words.value_of) (seen mine)
+    at_end_if (coding_by g.T.Words) (seen mine)
     c.drive-end.new.self.seat.me.0 mine.idle mine.known c.args.value.now mine.alone mine.some.0 c.requires
     c.drive-end.result tt c.drive-end.ensures.end (sym c.answer.ensures ∙ is)
 
 pub returns-clause-same : goal.returns-clause-same
 returns-clause-same g c =
     let mine = c.args.self.now in
-    let code : Coding g.row.T.Denot = coding_of g.T.Words.WORDS g.T.Words.words_of g.T.Words.value_of in
+    let code : Coding g.row.T.Denot = coding_by g.T.Words in
     record {
       table = search rules;
       goes =
@@ -55,5 +55,5 @@ returns-clause-same g c =
 pub returns-clause-steps : goal.returns-clause-steps
 returns-clause-steps g c =
     let mine = c.args.self.now in
-    store_takes (coding_of g.T.Words.WORDS g.T.Words.words_of g.T.Words.value_of) (seen mine)
+    store_takes (coding_by g.T.Words) (seen mine)
     c.drive-end.new.self.seat.me.0 mine.idle mine.known c.args.value.now c.drive-end.result tt c.drive-end.ensures.end

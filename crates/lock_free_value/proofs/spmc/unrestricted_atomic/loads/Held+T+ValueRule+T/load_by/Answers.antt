@@ -1,5 +1,5 @@
 use Rattle.std.proofs.Common.{ap, sym, subst, ◌∙◌, arith}
-use Rattle.lock_free_value.proofs.Names.{Coding, IsCoding, coding_of}
+use Rattle.lock_free_value.proofs.Names.{Coding, IsCoding, coding_by}
 use Rattle.history.specs.Rooms.{room_of}
 use Rattle.history.specs.Value.{loads_value}
 use Rattle.history.proofs.Rooms.{room_fresh}
@@ -13,7 +13,7 @@ pub load_all-end-requires-clause-at : goal.load_all-end-requires-clause-at
 load_all-end-requires-clause-at g c =
     let mine = c.args.self.now in
     let met = g.met.T.Words in
-    let code : Coding g.row.T.Denot = coding_of g.T.Words.WORDS g.T.Words.words_of g.T.Words.value_of in
+    let code : Coding g.row.T.Denot = coding_by g.T.Words in
     let law : IsCoding code = record { some = met.some; few = met.few; sized = met.sized; given_back = met.given_back } in
     let room = c.requires.room in
     let zeros = ap (room_of code.size) room.3 ∙ room_fresh code.size room.0 room.1 room.2 in
@@ -22,7 +22,7 @@ load_all-end-requires-clause-at g c =
 pub returns-clause-loaded : goal.returns-clause-loaded
 returns-clause-loaded g c =
     let mine = c.args.self.now in
-    let code : Coding g.row.T.Denot = coding_of g.T.Words.WORDS g.T.Words.words_of g.T.Words.value_of in
+    let code : Coding g.row.T.Denot = coding_by g.T.Words in
     let w = c.load_all-end.new.seat.seat.me.0 in
     subst (λ x. HasLoaded x (seen mine) w) (sym c.answer.ensures)
     (has_loaded code (seen mine) w mine.idle mine.known g.R.Room.words_in mine.begun c.load_all-end.result
@@ -31,6 +31,6 @@ returns-clause-loaded g c =
 pub returns-clause-steps : goal.returns-clause-steps
 returns-clause-steps g c =
     let mine = c.args.self.now in
-    let code : Coding g.row.T.Denot = coding_of g.T.Words.WORDS g.T.Words.words_of g.T.Words.value_of in
+    let code : Coding g.row.T.Denot = coding_by g.T.Words in
     takes_here code (seen mine) c.load_all-end.new.seat.seat.me.0 mine.idle mine.known (loads_value code g.R.Room.words_in)
     c.load_all-end.result c.load_all-end.new.room (omega arith) c.load_all-end.ensures.ends

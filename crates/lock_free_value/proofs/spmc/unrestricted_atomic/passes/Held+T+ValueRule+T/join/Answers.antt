@@ -1,5 +1,5 @@
 use Rattle.std.proofs.Common.{◌≡◌, ◌<◌, ℕ, List, [], sym, ap, subst, arith}
-use Rattle.lock_free_value.proofs.Names.{TableId, Coding, coding_of, View, IsMachine, LooksOnce, OwesAsk, Load, owes_look}
+use Rattle.lock_free_value.proofs.Names.{TableId, Coding, coding_by, View, IsMachine, LooksOnce, OwesAsk, Load, owes_look}
 use Rattle.model.specs.declared.turn.Kind.TheVariants as kinds
 use Rattle.history.specs.Views.{joined_view}
 use Rattle.threaded.specs.Seats.{seen, table_of}
@@ -10,7 +10,7 @@ use Rattle.lock_free_value.proofs.spmc.unrestricted_atomic.passes.Held+T+ValueRu
 pub join-requires-clause-joins : goal.join-requires-clause-joins
 join-requires-clause-joins g c =
     let mine = c.args.self.now in
-    joins (coding_of g.T.Words.WORDS g.T.Words.words_of g.T.Words.value_of) kinds.Atomic 1 mine.seated.seat.id
+    joins (coding_by g.T.Words) kinds.Atomic 1 mine.seated.seat.id
     c.args.other.seated.seat.id mine.seated.seat.me.0 c.args.other.seated.seat.me.0 mine.some.0
     c.args.other.some.0 c.args.other.idle mine.alone c.args.other.alone
 
@@ -19,7 +19,7 @@ look-requires-clause-owes g c =
     let mine = c.args.self.now in
     let s = c.join.new.self in
     let w = joined_view mine.seated.seat.me.0 c.args.other.seated.seat.me.0 in
-    let code : Coding g.row.T.Denot = coding_of g.T.Words.WORDS g.T.Words.words_of g.T.Words.value_of in
+    let code : Coding g.row.T.Denot = coding_by g.T.Words in
     let same : (table_of s).words ≡ (table_of mine.seated).words = ap (λ (t : TableId). t.words) c.join.ensures.same.0 in
     let below : 0 < (table_of s).words = (let size = mine.sized in omega arith) in
     let some : 0 < w.share.part =

@@ -1,5 +1,5 @@
 use Rattle.std.proofs.Common.{◌<◌, ℕ, List, sym, subst, arith}
-use Rattle.lock_free_value.proofs.Names.{Coding, coding_of, View, IsMachine, LooksOnce, OwesAsk, Load, owes_look}
+use Rattle.lock_free_value.proofs.Names.{Coding, coding_by, View, IsMachine, LooksOnce, OwesAsk, Load, owes_look}
 use Rattle.model.specs.declared.turn.Kind.TheVariants as kinds
 use Rattle.threaded.specs.Seats.{seen, table_of}
 use Rattle.lock_free_value.proofs.spmc.unrestricted_atomic.passes.Held+T+ValueRule+T.look.Goals as goal
@@ -8,7 +8,7 @@ pub look-requires-clause-owes : goal.look-requires-clause-owes
 look-requires-clause-owes g c =
     let mine = c.args.self.now in
     let s = mine.seated in
-    let code : Coding g.row.T.Denot = coding_of g.T.Words.WORDS g.T.Words.words_of g.T.Words.value_of in
+    let code : Coding g.row.T.Denot = coding_by g.T.Words in
     let below : 0 < (table_of s).words = (let size = mine.sized in omega arith) in
     subst (λ (xs : List (ℕ × Unit {0})). OwesAsk (λ (z : View g.row.T.Denot). z.asked) (IsMachine code kinds.Atomic 1) (table_of s).words
     (table_of s).slots s.seat.id (λ u n w. LooksOnce code kinds.Atomic 1 u w) 0 Load (seen s, xs)) (sym s.bare)

@@ -1,4 +1,4 @@
-use Rattle.lock_free_value.proofs.Names.{coding_of}
+use Rattle.lock_free_value.proofs.Names.{coding_by}
 use Rattle.model.specs.declared.turn.Kind.TheVariants as kinds
 use Rattle.history.proofs.Passes.{splits}
 use Rattle.lock_free_value.proofs.spmc.unrestricted_atomic.passes.Held+T+ValueRule+T.split.Goals as goal
@@ -6,4 +6,4 @@ use Rattle.lock_free_value.proofs.spmc.unrestricted_atomic.passes.Held+T+ValueRu
 pub split-requires-clause-splits : goal.split-requires-clause-splits
 split-requires-clause-splits g c =
     let mine = c.args.self.now in
-    splits (coding_of g.T.Words.WORDS g.T.Words.words_of g.T.Words.value_of) kinds.Atomic 1 mine.seated.seat.id mine.seated.seat.me.0
+    splits (coding_by g.T.Words) kinds.Atomic 1 mine.seated.seat.id mine.seated.seat.me.0
