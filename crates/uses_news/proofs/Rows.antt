@@ -1,9 +1,14 @@
 -- What stands for news and what does not, worked out.
-use Rattle.std.proofs.Common.{◌≡◌, lit<, lit≤, ℕ, ◌+◌, ◌<◌, ◌≤◌, List, [], ◌∷◌, map, refl, arith}
+use Rattle.std.proofs.Common.{◌≡◌, lit<, lit≤, ℕ, ◌+◌, ◌<◌, ◌≤◌, None, List, [], ◌∷◌, length, map, refl, ap, ◌∙◌, arith}
+use Rattle.std.proofs.lemmas.List.{length-map}
 use Rattle.std.proofs.lemmas.List.Elements.{All-nil, All-cons, All-head}
 use Rattle.std.specs.List.{All}
-use Rattle.zero_copy_bus.specs.Sequences.{Rises}
-use Rattle.uses_news.specs.Marks.{mark, AreNewsFrom}
+use Rattle.std.specs.Prelude.{slice_get}
+use Rattle.zero_copy_bus.specs.declared.publisher.Publisher.{Publisher}
+use Rattle.zero_copy_bus.specs.Ends.{lanes_of, next_of}
+use Rattle.zero_copy_bus.specs.Sequences.{AreAll, Rises}
+use Rattle.zero_copy_slots.specs.declared.Keeps.{Ghosts}
+use Rattle.uses_news.specs.Marks.{mark, AreNewsBy, AreNewsFrom}
 
 -- the blocks 2, 3 and 5 were read
 row : AreNewsFrom 2 (7 ∷ 10 ∷ 16 ∷ [])
@@ -62,3 +67,23 @@ goes_back h =
     let again = two.3 in
     let more = two.4 in
     absurd (omega arith)
+
+-- ---- read by a lane
+
+so_many : (from to : ℕ) (numbers : List ℕ) → AreAll from to numbers → to ≡ length numbers + from
+so_many from to [] h = let is : to ≡ from = h in omega arith
+so_many from to (n ∷ ns) h = let first : n ≡ from = h.0 in let rest = so_many (n + 1) to ns h.1 in omega arith
+
+module _ {X K : Type 0} {rule : Ghosts K X} where
+  -- refused: more blocks than went out by the lane
+  more_than_went_out : (p : Publisher X K rule) (place : ℕ) (marks : List ℕ) → next_of p < length marks → AreNewsBy p place marks → ⊥
+  more_than_went_out p place marks more h =
+      let lane = h.heard.2 in
+      let out = so_many 0 (next_of p) lane.sent lane.every in
+      let few = lane.passed_on.few in
+      let read = ap length h.news.are ∙ length-map h.news.numbers mark in
+      absurd (omega arith)
+
+  -- by a lane that there is none
+  by_no_lane : (p : Publisher X K rule) (place : ℕ) (marks : List ℕ) → slice_get (lanes_of p) place ≡ None → AreNewsBy p place marks → ⊥
+  by_no_lane p place marks none h = let is = h.heard.1 in cc

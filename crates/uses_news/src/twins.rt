@@ -1,37 +1,77 @@
 //! Calls of the bus once more, each with a clause that the program has no use for, so that the clause cannot go out of the call
-//! unnoticed. What a wrong body would leave, and the clause refuses, stands in `proofs/WrongBodies.antt` of the bus.
-ghost use Rattle.std.specs.Prelude.{◌≡◌, true, false, Some, slice_get, slice_set, IfErr, IfNone, IfOk, IfSome};
+//! unnoticed. What a wrong body would leave, and the clause refuses, stands in `proofs/WrongBodies.antt`, `WrongRejoins.antt` and
+//! `WrongSubscribers.antt` of the bus.
+ghost use Rattle.std.specs.Prelude.{◌≡◌, Bool, true, false, Some, slice_get, slice_set, IfErr, IfNone, IfOk, IfSome};
 ghost use Rattle.lock_free.specs.Robust.Contracts.{WasFreed};
-ghost use Rattle.zero_copy_bus.specs.Ends.{lanes_of, members_left, members_view, place_at, place_left, received, receives_left, record_of};
-ghost use Rattle.zero_copy_bus.specs.Ends.{spares_in, table_of, IsOfLane, IsTakenFor, WasKept, WasNotSubscribed};
+ghost use Rattle.zero_copy_bus.specs.Ends.{first_before, inlet_at, inlet_before, lanes_of, layout_before, members_left, members_view};
+ghost use Rattle.zero_copy_bus.specs.Ends.{place_at, place_before, place_left, received, receives_left, record_of, roll_of, slots_before};
+ghost use Rattle.zero_copy_bus.specs.Ends.{spares_in, table_of, IsAgain, IsOfLane, IsTakenFor, WasKept, WasNotSubscribed, WasSeated};
 ghost use Rattle.zero_copy_bus.specs.Outlets.{open_in, AtLane, EachLane, StaysOrLost, WasRejoined};
+ghost use Rattle.zero_copy_bus.specs.Rolls.{HasLooked, HasNotLooked, HasRecovered};
 ghost use Rattle.zero_copy_slots.specs.Slots.{slot_in};
 
-use lock_free::mpmc::container::{ContainerRemoveError, OwnerId};
+use lock_free::mpmc::container::{ContainerAddFailure, ContainerRemoveError, OwnerId};
 use std::sync::Wait;
 use zero_copy_bus::error::{LoanFailure, SubscribeFailure};
 use zero_copy_bus::publisher::{Loan, Publisher};
 use zero_copy_bus::subscriber::{Left, Sample, Seat, Subscriber};
 use zero_copy_slots::{Keeps, Reading};
 
-/// Who has subscribed takes part as this owner, and who is refused is told why.
+/// Who has subscribed takes part as this owner, as of a look of this call, and who is refused is told why.
 pub fn subscribe<'a, X: Drop, K: Keeps<X>>(
     publisher: &mut Publisher<'a, X, K>,
     rt: &impl Wait,
     owner: OwnerId,
 ) -> Result<Subscriber<'a, X, K>, SubscribeFailure>
+    ensures looked { IfOk result (λ _. (changed : Bool) × HasLooked changed (roll_of publisher.old) (roll_of publisher.new)) }
     ensures part { IfOk result (λ s. slice_get (open_in (lanes_of publisher.new)) (place_at s) ≡ Some true) }
     ensures owner { IfOk result (λ s. (record_of s).owner ≡ owner) }
+    ensures settled { IfOk result (WasSeated publisher.old publisher.new) }
     ensures refused { IfErr result (WasNotSubscribed owner publisher.old publisher.new) }
 {
     publisher.subscribe(rt, owner)
 }
 
-/// Where nobody gets a seat, a lane is lost at most that nobody had.
+/// Where nobody gets a seat, a lane is lost at most that nobody had. A seat looks at no registry.
 pub fn seat<'a, X: Drop, K: Keeps<X>>(publisher: &mut Publisher<'a, X, K>) -> Option<Seat<'a, X, K>>
     ensures none { IfNone result (EachLane StaysOrLost (lanes_of publisher.old) (lanes_of publisher.new)) }
+    ensures looks { HasNotLooked (roll_of publisher.old) (roll_of publisher.new) }
 {
     publisher.seat()
+}
+
+/// Who joins has the seat's end of the lane, and a seat that comes back is the one that it was.
+pub fn join<'a, X: Drop, K: Keeps<X>>(
+    seat: Seat<'a, X, K>,
+    rt: &impl Wait,
+    owner: OwnerId,
+) -> Result<Subscriber<'a, X, K>, (ContainerAddFailure, Seat<'a, X, K>)>
+    ensures inlet { IfOk result (λ s. inlet_at s ≡ inlet_before seat.entry) }
+    ensures back { IfErr result (λ e. slots_before e.1 ≡ slots_before seat.entry) }
+    ensures place { IfErr result (λ e. place_before e.1 ≡ place_before seat.entry) }
+    ensures first_back { IfErr result (λ e. first_before e.1 ≡ first_before seat.entry) }
+    ensures layout_back { IfErr result (λ e. layout_before e.1 ≡ layout_before seat.entry) }
+    ensures inlet_back { IfErr result (λ e. inlet_before e.1 ≡ inlet_before seat.entry) }
+{
+    seat.join(rt, owner)
+}
+
+/// Who looks has asked the registry.
+pub fn update<X: Drop, K: Keeps<X>>(publisher: &mut Publisher<'_, X, K>, rt: &impl Wait)
+    ensures looked { (changed : Bool) × HasLooked changed (roll_of publisher.old) (roll_of publisher.new) }
+{
+    publisher.update(rt);
+}
+
+/// A dead owner is taken out of the registry before the look.
+pub fn recover<X: Drop, K: Keeps<X>>(
+    publisher: &mut Publisher<'_, X, K>,
+    rt: &impl Wait,
+    dead: OwnerId,
+)
+    ensures recovered { HasRecovered dead (roll_of publisher.old) (roll_of publisher.new) }
+{
+    publisher.recover(rt, dead);
 }
 
 /// The lanes stay while slots are counted.
@@ -61,20 +101,22 @@ pub fn read<'b, X: Drop, K: Keeps<X>>(
     subscriber.read(sample).ok()
 }
 
-/// Who leaves is no more in the registry, or it is told why not.
+/// Who leaves is no more in the registry, or comes back as it was and is told why.
 pub fn leave<'a, X: Drop, K: Keeps<X>>(
     subscriber: Subscriber<'a, X, K>,
     rt: &impl Wait,
-) -> Result<Left<'a>, ContainerRemoveError>
+) -> Result<Left<'a>, (ContainerRemoveError, Subscriber<'a, X, K>)>
     ensures removed { IfOk result
         (λ l. WasFreed (record_of subscriber.entry).index (record_of subscriber.entry).owner
         (members_view subscriber.entry) (members_left l)) }
-    ensures kept { IfErr result (WasKept subscriber.entry) }
+    ensures kept { IfErr result (λ e. WasKept subscriber.entry e.1 e.0) }
+    ensures again { IfErr result (λ e. IsAgain subscriber.entry e.1) }
 {
     subscriber.leave(rt)
 }
 
-/// The lane of one whose pass is taken in stays his, with what he holds and what he gave back. He takes part no more.
+/// The lane of one whose pass is taken in stays his, with what he holds and what he gave back. He takes part no more. The pass is
+/// taken in also where the publisher's end of the lane is gone.
 pub fn rejoin<X: Drop, K: Keeps<X>>(publisher: &mut Publisher<'_, X, K>, left: Left<'_>)
     requires { IsOfLane left publisher.old }
     ensures taken_in { AtLane (place_left left.entry) (WasRejoined (receives_left left.entry)) (lanes_of publisher.old) (lanes_of publisher.new) }

@@ -1,6 +1,6 @@
 -- For clients: what became of the records that went out to one subscriber, from its coming until its passes were taken in.
-use Rattle.std.proofs.Common.{◌≡◌, ◌≢◌, ◌&&◌, ℕ, zero, suc, ◌+◌, ◌-◌, ◌^◌, ◌<◌, ◌≤◌, true, true≢false, List, [], ◌∷◌, length, take}
-use Rattle.std.proofs.Common.{refl, sym, ap, subst, ◌∙◌, inl, inr, arith}
+use Rattle.std.proofs.Common.{◌≡◌, ◌≢◌, ◌&&◌, ℕ, zero, suc, ◌+◌, ◌-◌, ◌^◌, ◌<◌, ◌≤◌, true, true≢false, List, [], ◌∷◌, ◌++◌, length}
+use Rattle.std.proofs.Common.{take, refl, sym, ap, subst, ◌∙◌, inl, inr, ⊎_elim, arith}
 use Rattle.std.proofs.lemmas.Bool.{and_parts}
 use Rattle.std.specs.Prelude.{Some, slice_get}
 use Rattle.history.specs.Views.{first_view}
@@ -95,6 +95,18 @@ new_still but place olds news lane new same others ne is free =
           first = ap view still.passes.waits ∙ (fresh.first ∙ ap (λ (q : QueueId). first_view q.capacity) (ap queue_of (sym still.passes.waits)));
         }
     go (inr lost) = let not : Free ≡ Lost = sym free ∙ lost.1 in absurd (cc)
+
+-- once an `update` has freed the lane, each record that went out was received, counted so where it was taken out, or came back
+pub all_passed_on : LanesPassOn → (layout : Layout) (sent back received : List ℕ) (roll : Roll) (before after : List Holders) (old new : Outlet)
+    → HasAllOf layout sent back received old
+    → ¬ IsFree old
+    → IsFree new
+    → IsSettled roll before after old new
+    → 0 < (waits_queue old).capacity
+    → length sent < 2 ^ 64 - 1
+    → (came : List ℕ) × HasAllOf layout sent back (received ++ came) new × (length (received ++ came) + length back ≡ length sent)
+all_passed_on law layout sent back received roll before after old new known taken free settled some few =
+    ⊎_elim (λ was. absurd (taken was)) (λ d. law.drains layout sent back received old new known d.2 d.1 settled.end some few) (settled.free free)
 
 -- ---- the ends of a bus
 

@@ -15,9 +15,10 @@ use Rattle.zero_copy_bus.specs.declared.publisher.Publisher.{Publisher}
 use Rattle.zero_copy_bus.specs.declared.subscriber.Seat.{Seat}
 use Rattle.zero_copy_bus.specs.declared.subscriber.Subscriber.{Subscriber}
 use Rattle.zero_copy_bus.specs.Ends.{lanes_of, place_at, place_before, receives_at, receives_before, receives_queue, receives_view, record_of}
-use Rattle.zero_copy_bus.specs.Ends.{roll_of, table_of, WasNotShown}
-use Rattle.zero_copy_bus.specs.Outlets.{end_view, has_end, is_let, is_open, lets, open_in, opens, sends_view, AreShown}
-use Rattle.zero_copy_bus.specs.Outlets.{AtLane, EachLane, EachOther, IsFree, IsSettled, OthersStay, SamePasses, StaysOrLost, WasLet, WasLetOf}
+use Rattle.zero_copy_bus.specs.Ends.{roll_of, table_of, WasNotShown, WasSeated}
+use Rattle.zero_copy_bus.specs.Outlets.{end_view, has_end, holders_in, is_let, is_open, lets, open_in, opens, sends_view, AreShown}
+use Rattle.zero_copy_bus.specs.Outlets.{AtLane, EachLane, EachOther, IsFree, IsSettled, KeepsRest, OthersStay, SamePasses, StaysOrLost, WasLet, WasLetOf}
+use Rattle.zero_copy_bus.specs.Rolls.{HasLooked}
 use Rattle.zero_copy_bus.proofs.LaneLemmas.{get_map, map_got}
 use Rattle.zero_copy_slots.specs.declared.Keeps.{Ghosts}
 
@@ -118,29 +119,45 @@ shown_but roll taking place shown k is = shown k (before taking place k is)
     before (x ∷ xs) (suc n) zero e = e
     before (x ∷ xs) (suc n) (suc j) e = before xs n j e
 
--- who was let in is not seen to take part
 module _ {X K : Type 0} {rule : Ghosts K X} where
-  pub not_shown : (owner : ℕ) (p q r : Publisher X K rule) (seat : Seat X K rule) (s : Subscriber X K rule) → (record_of s).owner ≡ owner
+  -- who was given a lane
+  pub seated : (p q r : Publisher X K rule) (seat : Seat X K rule) (s : Subscriber X K rule)
       → place_at s ≡ place_before seat
       → receives_queue s ≡ receives_at seat
       → receives_view s ≡ receives_before seat
       → AtLane (place_before seat) (WasLetOf (receives_at seat) (receives_before seat)) (lanes_of p) (lanes_of q)
       → EachOther (place_before seat) StaysOrLost (lanes_of p) (lanes_of q)
       → table_of q ≡ table_of p
+      → holders_in (lanes_of q) ≡ holders_in (lanes_of p)
       → EachLane (IsSettled (roll_of r) (table_of q) (table_of r)) (lanes_of q) (lanes_of r)
-      → (slice_get (open_in (lanes_of r)) (place_at s) ≡ Some true → ⊥)
-      → WasNotShown owner p r s
-  not_shown owner p q r seat s its at queue theirs leased others table settled off =
+      → KeepsRest (lanes_of q) (table_of q) (table_of r)
+      → WasSeated p r s
+  seated p q r seat s at queue theirs leased others table holders settled rest =
       record {
-        its = its;
         between = lanes_of q;
+        holders = holders;
         leased =
             moved (place_at s) (place_before seat) (receives_queue s) (receives_at seat) (receives_view s) (receives_before seat)
             (lanes_of p) (lanes_of q) at queue theirs leased;
         others = subst (λ k. EachOther k StaysOrLost (lanes_of p) (lanes_of q)) (sym at) others;
         settled = subst (λ t. EachLane (IsSettled (roll_of r) t (table_of r)) (lanes_of q) (lanes_of r)) table settled;
+        rest = subst (λ t. KeepsRest (lanes_of q) t (table_of r)) table rest;
+      }
+
+  -- and is not seen to take part
+  pub not_shown : (owner : ℕ) (p r : Publisher X K rule) (s : Subscriber X K rule) → (record_of s).owner ≡ owner
+      → WasSeated p r s
+      → (changed : Bool)
+      → HasLooked changed (roll_of p) (roll_of r)
+      → (slice_get (open_in (lanes_of r)) (place_at s) ≡ Some true → ⊥)
+      → WasNotShown owner p r s
+  not_shown owner p r s its seat changed looked off =
+      record {
+        its = its;
+        seated = seat;
+        changed = changed;
+        looked = looked;
         hidden =
-            subst (λ k. slice_get (open_in (lanes_of r)) k ≡ Some false) (sym at)
-            (hidden_after (roll_of r) (table_of q) (table_of r) (place_before seat) (lanes_of p) (lanes_of q) (lanes_of r) settled
-            (receives_at seat) (receives_before seat) leased (λ on. off (subst (λ k. slice_get (open_in (lanes_of r)) k ≡ Some true) (sym at) on)));
+            hidden_after (roll_of r) (table_of p) (table_of r) (place_at s) (lanes_of p) seat.between (lanes_of r) seat.settled
+            (receives_queue s) (receives_view s) seat.leased off;
       }

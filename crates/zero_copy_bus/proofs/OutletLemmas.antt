@@ -232,8 +232,9 @@ module _ (roll : Roll) (one two three : List Holders) (old new : Outlet) where
         lost = settled.lost;
         still = settled.still;
         free =
-            λ is. ⊎_elim (λ was. inl was) (λ lost. inr ((λ slot has. lost.0 slot (sym (keeps slot) ∙ has)), lost.1)) (settled.free is);
+            λ is. ⊎_elim (λ was. inl was) (λ lost. inr ((λ slot has. lost.0 slot (sym (keeps slot) ∙ has)), lost.1, lost.2)) (settled.free is);
         kept = λ stays slot. keeps slot ∙ settled.kept stays slot;
+        popped = settled.popped;
       }
 
   pub settled_from : KeepsSlots (holder_of old) one two → KeepsLoans one two → IsSettled roll two three old new → IsSettled roll one three old new
@@ -247,6 +248,7 @@ module _ (roll : Roll) (one two three : List Holders) (old new : Outlet) where
         still = settled.still;
         free = settled.free;
         kept = λ stays slot. settled.kept stays slot ∙ keeps slot;
+        popped = settled.popped;
       }
 
 -- who takes part after a look is one whom the roll shows

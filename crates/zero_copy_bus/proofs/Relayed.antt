@@ -7,10 +7,13 @@ use Rattle.lock_free_queues.specs.Queues.Rings.{QueueId, queue_of, view}
 use Rattle.history.specs.Passes.{Goes}
 use Rattle.zero_copy_bus.specs.declared.outlet.Outlet.{Outlet}
 use Rattle.zero_copy_bus.specs.Ends.{shape_of}
-use Rattle.zero_copy_bus.specs.Outlets.{sends_view, waits_queue, waits_view, IsNew, WasLet, WasTakenIn}
+use Rattle.zero_copy_bus.specs.Outlets.{sends_view, waits_queue, waits_view, FoundEmpty, IsNew, WasDrained, WasLet, WasTakenIn}
 use Rattle.zero_copy_bus.specs.Relays.{HasAllOf, HasSentOn, LanesPassOn}
-use Rattle.zero_copy_loans.specs.Numbers.{Shape, HasAll, IsPassedOn, ReceivesOn, SendsOn}
+use Rattle.zero_copy_loans.specs.Numbers.{numbers_in, Shape, HasAll, IsPassedOn, ReceivesOn, SendsOn}
 use Rattle.zero_copy_loans.specs.declared.words.Layout.{Layout}
+use Rattle.lock_free_queues.specs.Queues.Merges.{HasTaken}
+use Rattle.lock_free_queues.proofs.Queues.TakenOut.{takes_all, takes_none}
+use Rattle.zero_copy_bus.proofs.Drained.{has_drained, none_left}
 use Rattle.zero_copy_loans.proofs.Numbers.{received_nothing_yet, receives_all, receives_then, sends_all, sends_then, sent_none}
 use Rattle.zero_copy_loans.proofs.Relayed.{passed_on, relays, starts_at}
 
@@ -64,8 +67,39 @@ module _ (layout : Layout) (sent back received numbers others came : List ℕ) (
             (sym (ends.queue ∙ (last_queue ∙ lets.queue))) all;
       }
 
+module _ (layout : Layout) (sent back received : List ℕ) (old new : Outlet) (known : HasAllOf layout sent back received old) (d : WasDrained old new)
+    (found : FoundEmpty old new) (end : new.sends ≡ old.sends) (some : 0 < (waits_queue old).capacity) (fits : length sent < 2 ^ 64 - 1) where
+  abbrev its : Shape
+  its = shape_of layout (waits_queue old)
+
+  abbrev words : List ℕ
+  words = (d.took some).0
+
+  popped : HasTaken words d.other d.left
+  popped =
+      takes_all words roles.Consumer d.other d.ended d.left
+      ((d.took some).1 d.other [] (takes_none roles.Consumer d.other d.begun d.begins.0 d.begins.1)) d.ends.0 d.ends.1
+
+  drained : HasAll its sent back (received ++ numbers_in layout.room words) (waits_view new)
+  drained =
+      has_drained its (waits_queue new).capacity sent back received words (waits_view old) d.kept d.other d.left (waits_view new) fits
+      known.all d.cut popped d.both d.all d.history
+
+  drains : (came : List ℕ) × HasAllOf layout sent back (received ++ came) new × (length (received ++ came) + length back ≡ length sent)
+  drains = (
+    numbers_in layout.room words,
+    record {
+      none = end ∙ known.none;
+      all =
+          subst (λ (q : QueueId). HasAll (shape_of layout q) sent back (received ++ numbers_in layout.room words) (waits_view new)) (sym d.queue)
+          drained;
+    },
+    none_left its (waits_queue new).capacity sent back received words (waits_view old) d.kept d.other d.left (waits_view new) fits
+        known.all d.cut popped d.both d.all d.history (found.0 some),
+  )
+
 tells : (layout : Layout) (sent back received : List ℕ) (lane : Outlet) → HasAllOf layout sent back received lane → IsPassedOn sent received back
 tells layout sent back received lane h = passed_on (shape_of layout (waits_queue lane)) sent back received (waits_view lane) h.all
 
 pub lanes_pass_on : LanesPassOn
-lanes_pass_on = record { begins = begins; goes_on = goes_on; tells = tells }
+lanes_pass_on = record { begins = begins; goes_on = goes_on; drains = drains; tells = tells }

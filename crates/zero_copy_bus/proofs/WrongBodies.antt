@@ -1,50 +1,55 @@
 -- What a wrong body of a call would leave or answer, and which of the call's clauses refuses that. A name says what the body does.
-use Rattle.std.proofs.Common.{◌≡◌, ◌≢◌, ◌&&◌, ⊎_elim, inl, inr, ℕ, ◌+◌, ◌/◌, ◌<◌, Option, Some, None, true, false, true≢false, List, [], ◌∷◌, ◌++◌}
-use Rattle.std.proofs.Common.{length, length-append, ap, refl, sym, ◌∙◌, arith}
+use Rattle.std.proofs.Common.{◌≡◌, ◌≢◌, ◌&&◌, ⊎_elim, inl, inr, ℕ, ◌+◌, ◌-◌, ◌/◌, ◌<◌, Option, Some, None, true, false, true≢false, List, [], ◌∷◌, ◌++◌}
+use Rattle.std.proofs.Common.{length, length-append, ap, refl, sym, subst, ◌∙◌, arith}
 use Rattle.std.proofs.lemmas.List.{append_cancel_left}
 use Rattle.std.specs.Prelude.{is_some, slice_get, Bool, IsTrue}
 use Rattle.model.specs.declared.event.Answer.{Answer}
+use Rattle.model.specs.declared.event.Answer.TheVariants.{State, Truth}
 use Rattle.model.specs.declared.event.Event.{Event}
 use Rattle.model.specs.declared.event.Event.TheVariants.{Begun, Finished}
-use Rattle.model.specs.declared.event.Item.{Item}
 use Rattle.model.specs.declared.event.Item.TheVariants.{Index}
 use Rattle.model.specs.declared.event.Start.{Start}
-use Rattle.model.specs.Families.Queues.Reading.{handed_out, published}
+use Rattle.model.specs.declared.event.Start.TheVariants.{Container}
+use Rattle.model.specs.declared.families.container.ContainerStart.TheVariants.{Recover, UpdateState}
+use Rattle.model.specs.Families.Queues.Reading.{published}
+use Rattle.steps.specs.declared.container.enums.ContainerAddFailure.{ContainerAddFailure}
 use Rattle.steps.specs.declared.container.enums.ContainerRemoveError.{ContainerRemoveError}
+use Rattle.steps.specs.declared.indices.enums.ReleaseMode.TheVariants.{Default}
+use Rattle.history.specs.ContainerRecovery.{wrote_visits}
 use Rattle.history.specs.History.{Called, IsBeginning}
 use Rattle.history.specs.declared.view.View.{View}
 use Rattle.lock_free_queues.specs.Queues.Overflowing.{HasOverflowed, PushAdded}
-use Rattle.lock_free_queues.specs.Queues.Rings.{QueueId, consumer_view}
 use Rattle.lock_free_queues.proofs.Queues.Sent.{length_named}
-use Rattle.lock_free_owners.specs.Robust.Contracts.{WasFreed}
+use Rattle.lock_free_owners.specs.Container.Resting.{SettledFrom}
 use Rattle.zero_copy_bus.specs.declared.error.LoanFailure.TheVariants.{NoRecord}
+use Rattle.zero_copy_bus.specs.declared.error.SubscribeFailure.TheVariants.{NoSeat, NotLetIn, NotSeen, NotRemoved}
 use Rattle.zero_copy_bus.specs.declared.holders.Holders.{Holders}
 use Rattle.zero_copy_bus.specs.declared.loan.Emptied.{Emptied}
 use Rattle.zero_copy_bus.specs.declared.outlet.Outlet.{Outlet}
-use Rattle.zero_copy_bus.specs.declared.outlet.Tenancy.{Tenancy}
-use Rattle.zero_copy_bus.specs.declared.outlet.Tenancy.TheVariants.{Free, Closed, Open, Lost}
 use Rattle.zero_copy_bus.specs.declared.publisher.Publisher.{Publisher}
 use Rattle.zero_copy_bus.specs.declared.roll.Roll.{Roll}
-use Rattle.zero_copy_bus.specs.declared.subscriber.Sample.{Sample}
 use Rattle.zero_copy_bus.specs.declared.subscriber.Subscriber.{Subscriber}
-use Rattle.zero_copy_bus.specs.Books.{CanSend}
-use Rattle.zero_copy_bus.specs.Ends.{emptied, lanes_of, members_view, number_of, numbers_of, place_at, received, record_of, IsTakenFor, WasKept, WasNotShown}
+use Rattle.zero_copy_bus.specs.Books.{CanSend, KeepsSlots}
+use Rattle.zero_copy_bus.specs.Ends.{emptied, lanes_of, members_before, members_left, members_view}
+use Rattle.zero_copy_bus.specs.Ends.{place_at, place_before, place_left, received, record_of, roll_of}
+use Rattle.zero_copy_bus.specs.Ends.{table_of, IsTakenFor, WasNotShown, WasNotSubscribed, WasSeated}
+use Rattle.zero_copy_bus.specs.Holders.{bit_of}
 use Rattle.zero_copy_bus.specs.Outlets.{holder_of, is_open, sends_view, waits_queue, waits_view, AreShown, FoundEmpty, HasPushed, IsFree, IsServed, IsSettled}
-use Rattle.zero_copy_bus.specs.Outlets.{closes, has_end, is_let, is_lost, lets, open_in, takes_view, AtLane, EachLane, EachOther}
-use Rattle.zero_copy_bus.specs.Outlets.{StaysOrLost, WasLetOf, WasRejoined}
+use Rattle.zero_copy_bus.specs.Outlets.{has_end, holders_in, is_let, is_lost, lets, open_in, place_of, takes_view, EachLane, StaysOrLost}
+use Rattle.zero_copy_bus.specs.Outlets.{WasDrained}
 use Rattle.zero_copy_bus.specs.Relays.{HasHeard}
-use Rattle.zero_copy_bus.specs.Rolls.{IsShown}
-use Rattle.zero_copy_bus.specs.Sequences.{AreAll, Rises}
+use Rattle.zero_copy_bus.specs.Rolls.{look_view, member_view, HasLooked, HasRecovered, IsShown}
+use Rattle.zero_copy_bus.specs.Sequences.{AreAll}
+use Rattle.zero_copy_bus.proofs.LaneLemmas.{get_map}
 use Rattle.zero_copy_bus.proofs.Words.{number_in_word}
 use Rattle.zero_copy_loans.specs.Words.{word_of}
 use Rattle.zero_copy_loans.specs.declared.words.Layout.{Layout}
 use Rattle.zero_copy_slots.specs.declared.Keeps.{Ghosts}
-use Rattle.zero_copy_slots.specs.declared.Reading.{Reading}
 use Rattle.zero_copy_slots.specs.declared.Writing.{Writing}
-use Rattle.zero_copy_slots.specs.Slots.{number_in, slot_in, slot_of}
+use Rattle.zero_copy_slots.specs.Slots.{slot_of}
 
 -- what was seen has no further event in it
-no_more : (before after seen : List (Event ℕ)) (event : Event ℕ) → seen ≡ before ++ event ∷ after → IsBeginning seen before → ⊥
+pub no_more : (before after seen : List (Event ℕ)) (event : Event ℕ) → seen ≡ before ++ event ∷ after → IsBeginning seen before → ⊥
 no_more before after seen event is since =
     let a = ap length is in
     let b = length-append before (event ∷ after) in
@@ -70,6 +75,29 @@ pub update_leaves_what_waits : (roll : Roll) (before after : List Holders) (old 
 update_leaves_what_waits roll before after old new same room taken free k =
     ⊎_elim taken (λ found. drain_leaves_what_waits old new same room found.1) (k.free free)
 
+-- what he gave back is popped, and what waits for him is not taken out: his slots are forgotten
+pub update_forgets_what_came_back : (roll : Roll) (before after : List Holders) (old new : Outlet) → takes_view new ≢ takes_view old
+    → ¬ WasDrained old new
+    → IsSettled roll before after old new
+    → ⊥
+update_forgets_what_came_back roll before after old new popped waits k = ⊎_elim popped waits k.popped
+
+-- a call adds to what its pass has made
+makes_some : (p : ℕ) (start : Start ℕ) (answer : Answer ℕ) (wrote : List (Event ℕ)) (v w : View ℕ) → Called p start answer wrote v w → 0 < length w.made
+makes_some p start answer wrote v w c =
+    let all = length-append v.made (Begun p start ∷ (wrote ++ Finished p start answer ∷ [])) in
+    let made = ap length c.made in
+    omega arith
+
+-- what waits is taken out, and the pass that took it out is dropped
+pub update_drops_the_pass_that_drained : (old new : Outlet) (d : WasDrained old new) → (waits_view new).made ≡ d.kept.made → ⊥
+update_drops_the_pass_that_drained old new d same =
+    let some = makes_some d.ends.1.by _ _ [] d.ended d.left d.ends.1.called in
+    let joined = ap length d.both.made in
+    let parts = length-append d.kept.made d.left.made in
+    let kept = ap length same in
+    absurd (omega arith)
+
 -- a loan that is refused since there is no record, and there is one
 pub loan_tells_no_record_with_one_left : (more : ℕ) (old new : List Holders) → IsTakenFor (1 + more) old new NoRecord → ⊥
 loan_tells_no_record_with_one_left more old new k = let none = k.1 in absurd (omega arith)
@@ -87,6 +115,20 @@ no_call : (p : ℕ) (start : Start ℕ) (answer : Answer ℕ) (wrote : List (Eve
 no_call p start answer wrote v w none c =
     let all = length-append v.made (Begun p start ∷ (wrote ++ Finished p start answer ∷ [])) in
     let made = ap length c.made in
+    let same = ap length none in
+    absurd (omega arith)
+
+-- also where the one before it had to end first
+no_later_call : (p : ℕ) (start : Start ℕ) (answer : Answer ℕ) (wrote : List (Event ℕ)) (v from w : View ℕ) → w.made ≡ v.made → SettledFrom v from
+    → Called p start answer wrote from w
+    → ⊥
+no_later_call p start answer wrote v from w none (inl still) c =
+    no_call p start answer wrote from w (none ∙ sym (ap (λ (u : View ℕ). u.made) still.0)) c
+no_later_call p start answer wrote v from w none (inr ended) c =
+    let made = ap length c.made in
+    let all = length-append from.made (Begun p start ∷ (wrote ++ Finished p start answer ∷ [])) in
+    let earlier = ap length ended.made in
+    let parts = length-append v.made (Finished ended.resting.party ended.resting.start ended.resting.answer ∷ []) in
     let same = ap length none in
     absurd (omega arith)
 
@@ -140,19 +182,39 @@ pub reclaim_answers_another_slot : (slot other : ℕ) (e : Emptied) → other �
 reclaim_answers_another_slot slot other e differs is k = differs (sym is ∙ k)
 
 -- who is told that he takes part, and no record of his is seen
-pub subscribe_does_not_look : (roll : Roll) (taking : List Bool) (place : ℕ) → AreShown roll taking → ¬ IsShown roll place
+pub subscribe_shows_who_is_hidden : (roll : Roll) (taking : List Bool) (place : ℕ) → AreShown roll taking → ¬ IsShown roll place
     → slice_get taking place ≡ Some true
     → ⊥
-subscribe_does_not_look roll taking place shown hidden k = hidden (shown place k)
+subscribe_shows_who_is_hidden roll taking place shown hidden k = hidden (shown place k)
+
+-- nobody looks at the registry
+pub update_does_not_look : (changed : Bool) (old new : Roll) → (look_view new).made ≡ (look_view old).made → HasLooked changed old new → ⊥
+update_does_not_look changed old new none k =
+    no_later_call k.updated.by (Container UpdateState) (Truth changed) k.updated.wrote (look_view old) k.updated.from (look_view new) none
+    k.updated.settled k.updated.called
+
+-- the registry is not asked to take the dead owner out
+pub recover_takes_nobody_out : (dead : ℕ) (old new : Roll) (k : HasRecovered dead old new)
+    → (member_view k.between).made ≡ (member_view old).made
+    → ⊥
+recover_takes_nobody_out dead old new k none =
+    let out = k.taken.recovered in
+    no_later_call out.by (Container (Recover dead Default)) (State k.taken.state) (wrote_visits out.by dead out.visits) (member_view old) out.from
+    (member_view k.between) none out.settled out.called
+
+-- or nobody looks then
+pub recover_does_not_look : (dead : ℕ) (old new : Roll) → (look_view new).made ≡ (look_view old).made → HasRecovered dead old new → ⊥
+recover_does_not_look dead old new none k =
+    update_does_not_look k.changed k.between new (none ∙ sym (ap (λ (v : View ℕ). v.made) k.looks)) k.looked
 
 -- nobody had the lane, somebody has it then, and the answer is that no seat was to be had
-pub subscribe_tells_no_seat : (place : ℕ) (old new : Outlet) (olds news : List Outlet) → slice_get olds place ≡ Some old
+pub seat_tells_none : (place : ℕ) (old new : Outlet) (olds news : List Outlet) → slice_get olds place ≡ Some old
     → slice_get news place ≡ Some new
     → IsFree old
     → is_let new ≡ true
     → EachLane StaysOrLost olds news
     → ⊥
-subscribe_tells_no_seat place old new olds news was is free leased k =
+seat_tells_none place old new olds news was is free leased k =
     let it = k place old was in
     let got : slice_get news place ≡ Some it.0 = it.1 in
     let same : it.0 ≡ new = cc in
@@ -169,109 +231,201 @@ pub seat_loses_a_lane_that_is_let : (old new : Outlet) → ¬ IsFree old → is_
 seat_loses_a_lane_that_is_let old new taken had lost (inl still) = true≢false (sym lost ∙ (ap is_lost still.tenancy ∙ had))
 seat_loses_a_lane_that_is_let old new taken had lost (inr k) = taken k.0
 
--- the registry is said to have refused one, and his lane is none of the publisher's
-pub subscribe_names_no_lane : (queue : QueueId) (theirs : View ℕ) (place : ℕ) (olds news : List Outlet) → slice_get olds place ≡ None
-    → AtLane place (WasLetOf queue theirs) olds news
-    → ⊥
-subscribe_names_no_lane queue theirs place olds news none k = let is = k.2 in cc
-
--- a lane of another is lost on the way out
-pub subscribe_loses_another_lane : (roll : Roll) (one two : List Holders) (place but : ℕ) (old : Outlet) (olds mids news : List Outlet)
+-- a lane is named as before
+same_holder : (news olds : List Outlet) (place : ℕ) (new old : Outlet) → holders_in news ≡ holders_in olds
+    → slice_get news place ≡ Some new
     → slice_get olds place ≡ Some old
-    → place ≢ but
-    → ¬ IsFree old
-    → is_lost old.tenancy ≡ false
-    → ((new : Outlet) → slice_get news place ≡ Some new → is_lost new.tenancy ≡ true)
-    → EachOther but StaysOrLost olds mids
-    → EachLane (IsSettled roll one two) mids news
-    → ⊥
-subscribe_loses_another_lane roll one two place but old olds mids news was differs taken had lost k j =
-    let mid = k place old differs was in
-    let it = j place mid.0 mid.1 in
-    seat_loses_a_lane_that_is_let old mid.0 taken had (it.2.lost (lost it.0 it.1)) mid.2
+    → holder_of new ≡ holder_of old
+same_holder news olds place new old same got was =
+    let one : slice_get (holders_in news) place ≡ Some (holder_of new) = get_map holder_of news place new got in
+    let two : slice_get (holders_in olds) place ≡ Some (holder_of old) = get_map holder_of olds place old was in
+    let both : slice_get (holders_in news) place ≡ slice_get (holders_in olds) place = ap (λ hs. slice_get hs place) same in
+    cc
+
+-- somebody has it still
+still_let : (old new : Outlet) → is_let old ≡ true → StaysOrLost old new → is_let new ≡ true
+still_let old new leased (inl still) =
+    ap (λ t. lets t && has_end new) still.tenancy ∙ (ap (λ e. lets old.tenancy && is_some e) still.passes.sends ∙ leased)
+still_let old new leased (inr lost) = absurd (true≢false (sym leased ∙ ap (λ t. lets t && has_end old) lost.0))
 
 module _ {X K : Type 0} {rule : Ghosts K X} where
-  -- another owner is let in
-  pub subscribe_lets_another_in : (owner other : ℕ) (s : Subscriber X K rule) → other ≢ owner → (record_of s).owner ≡ other
-      → (record_of s).owner ≡ owner
-      → ⊥
-  subscribe_lets_another_in owner other s differs is k = differs (sym is ∙ k)
+  -- ---- what a refused `subscribe` tells: that there is no seat
 
-  -- one is said not to take part at a place where there is no lane
+  pub subscribe_tells_no_seat : (owner place : ℕ) (lane now : Outlet) (old new : Publisher X K rule)
+      → slice_get (lanes_of old) place ≡ Some lane
+      → slice_get (lanes_of new) place ≡ Some now
+      → IsFree lane
+      → is_let now ≡ true
+      → WasNotSubscribed owner old new NoSeat
+      → ⊥
+  subscribe_tells_no_seat owner place lane now old new was is free leased k =
+      seat_tells_none place lane now (lanes_of old) (lanes_of new) was is free leased k.0
+
+  -- ---- that the registry did not let it in: and no lane was free
+
+  abbrev NoneFree : Publisher X K rule → Type 0
+  NoneFree p = (place : ℕ) (lane : Outlet) → slice_get (lanes_of p) place ≡ Some lane → ¬ IsFree lane
+
+  pub subscribe_names_no_lane : (owner : ℕ) (failure : ContainerAddFailure) (old new : Publisher X K rule) → NoneFree old
+      → WasNotSubscribed owner old new (NotLetIn failure)
+      → ⊥
+  subscribe_names_no_lane owner failure old new none k =
+      let at = k.2 in
+      none (place_before k.0) at.0 at.2 at.4.1.free
+
+  -- the registry was not asked
+  pub subscribe_asks_nobody : (owner : ℕ) (failure : ContainerAddFailure) (old new : Publisher X K rule)
+      (k : WasNotSubscribed owner old new (NotLetIn failure))
+      → (members_before k.1).seen ≡ (members_before k.0).seen
+      → ⊥
+  subscribe_asks_nobody owner failure old new k same =
+      let asked = k.4.answered in
+      no_more asked.before [] (members_before k.0).seen _ (sym same ∙ asked.is) asked.since
+
+  -- a lane of another is lost on the way out
+  pub subscribe_not_let_in_loses_another_lane : (owner place : ℕ) (failure : ContainerAddFailure) (lane : Outlet) (old new : Publisher X K rule)
+      (k : WasNotSubscribed owner old new (NotLetIn failure))
+      → place ≢ place_before k.0
+      → slice_get (lanes_of old) place ≡ Some lane
+      → ¬ IsFree lane
+      → is_lost lane.tenancy ≡ false
+      → ((now : Outlet) → slice_get (lanes_of new) place ≡ Some now → is_lost now.tenancy ≡ true)
+      → ⊥
+  subscribe_not_let_in_loses_another_lane owner place failure lane old new k differs was taken had lost =
+      let it = k.3 place lane differs was in
+      seat_loses_a_lane_that_is_let lane it.0 taken had (lost it.0 it.1) it.2
+
+  -- ---- that the look did not show it: and another is let in
+
+  pub subscribe_hides_another : (owner other : ℕ) (old new : Publisher X K rule) (s : Subscriber X K rule) → other ≢ owner
+      → (record_of s).owner ≡ other
+      → WasNotShown owner old new s
+      → ⊥
+  subscribe_hides_another owner other old new s differs is k = differs (sym is ∙ k.its)
+
+  -- no lane was free
+  pub subscribe_hides_one_without_a_lane : (owner : ℕ) (old new : Publisher X K rule) (s : Subscriber X K rule) → NoneFree old
+      → WasNotShown owner old new s
+      → ⊥
+  subscribe_hides_one_without_a_lane owner old new s none k =
+      let at = k.seated.leased in
+      none (place_at s) at.0 at.2 at.4.1.free
+
+  -- nobody has looked
+  pub subscribe_does_not_look : (owner : ℕ) (old new : Publisher X K rule) (s : Subscriber X K rule)
+      → (look_view (roll_of new)).made ≡ (look_view (roll_of old)).made
+      → WasNotShown owner old new s
+      → ⊥
+  subscribe_does_not_look owner old new s none k = update_does_not_look k.changed (roll_of old) (roll_of new) none k.looked
+
+  -- it is said not to take part at a place where there is no lane
   pub subscribe_hides_nobody : (owner : ℕ) (old new : Publisher X K rule) (s : Subscriber X K rule)
       → slice_get (open_in (lanes_of new)) (place_at s) ≡ None
       → WasNotShown owner old new s
       → ⊥
   subscribe_hides_nobody owner old new s none k = let is = k.hidden in cc
 
-  -- the registry was not asked, and is said to keep the record
-  pub leave_asks_nobody : (failure : ContainerRemoveError) (s : Subscriber X K rule) (k : WasKept s failure)
-      → (members_view k.0).seen ≡ (members_view s).seen
+  -- a lane of another is lost on the way out
+  pub subscribe_loses_another_lane : (owner place : ℕ) (lane : Outlet) (old new : Publisher X K rule) (s : Subscriber X K rule)
+      → slice_get (lanes_of old) place ≡ Some lane
+      → place ≢ place_at s
+      → ¬ IsFree lane
+      → is_lost lane.tenancy ≡ false
+      → ((now : Outlet) → slice_get (lanes_of new) place ≡ Some now → is_lost now.tenancy ≡ true)
+      → WasNotShown owner old new s
       → ⊥
-  leave_asks_nobody failure s k same = no_more k.2.before [] (members_view s).seen _ (sym same ∙ k.2.is) k.2.since
+  subscribe_loses_another_lane owner place lane old new s was differs taken had lost k =
+      let mid = k.seated.others place lane differs was in
+      let it = k.seated.settled place mid.0 mid.1 in
+      seat_loses_a_lane_that_is_let lane mid.0 taken had (it.2.lost (lost it.0 it.1)) mid.2
 
--- one whom the look does not show is dropped, so the registry keeps his record
-pub subscribe_drops_who_is_hidden : (index owner : ℕ) (v w : View ℕ) → w ≡ v → WasFreed index owner v w → ⊥
-subscribe_drops_who_is_hidden index owner v w same k = no_more k.before k.after v.seen _ (sym (ap (λ (u : View ℕ). u.seen) same) ∙ k.is) k.since
-
--- the passes of a lane are taken in, and the publisher's end goes on
-pub rejoin_keeps_its_end : (theirs : View ℕ) (old new : Outlet) → new.sends ≡ old.sends → is_some old.sends ≡ true → WasRejoined theirs old new
-    → ⊥
-rejoin_keeps_its_end theirs old new same some k = true≢false (sym some ∙ ap is_some (sym same ∙ (k.1 some).none))
-
-closes_free : (t : Tenancy) → closes t ≡ Free → t ≡ Free
-closes_free Free is = is
-closes_free Closed is = is
-closes_free Open is = absurd (true≢false (ap lets is))
-closes_free Lost is = is
-
-closes_lost : (t : Tenancy) → is_lost (closes t) ≡ is_lost t
-closes_lost Free = refl
-closes_lost Closed = refl
-closes_lost Open = refl
-closes_lost Lost = refl
-
--- it is free then, though the table gives slots to who had it
-pub rejoin_frees_the_lane : (theirs : View ℕ) (old new : Outlet) → ¬ IsFree old → IsFree new → WasRejoined theirs old new → ⊥
-rejoin_frees_the_lane theirs old new taken free k = taken (closes_free old.tenancy (sym k.0.tenancy ∙ free))
-
--- nobody gets it any more
-pub rejoin_loses_the_lane : (theirs : View ℕ) (old new : Outlet) → is_lost old.tenancy ≡ false → is_lost new.tenancy ≡ true
-    → WasRejoined theirs old new
-    → ⊥
-rejoin_loses_the_lane theirs old new had lost k =
-    true≢false (sym lost ∙ (ap is_lost k.0.tenancy ∙ (closes_lost old.tenancy ∙ had)))
-
--- a slot that came back is taken out, and forgotten
-pub rejoin_takes_out_what_came_back : (theirs : View ℕ) (item : Item ℕ) (old new : Outlet)
-    → handed_out (takes_view new).seen ≡ handed_out (takes_view old).seen ++ item ∷ []
-    → WasRejoined theirs old new
-    → ⊥
-rejoin_takes_out_what_came_back theirs item old new more k =
-    let a = ap length more in
-    let b = length-append (handed_out (takes_view old).seen) (item ∷ []) in
-    let c = ap length (ap handed_out (ap (λ (v : View ℕ). v.seen) (ap consumer_view k.0.takes))) in
-    absurd (omega arith)
-
--- ---- a subscriber
-
--- a record is received whose number is below the one that is expected
-pub receive_takes_older_numbers : (from next : ℕ) (sample : Sample) → number_of sample < from → Rises from (numbers_of (Some sample)) next → ⊥
-receive_takes_older_numbers from next sample older k = let first = k.0 in absurd (omega arith)
-
-module _ {X K : Type 0} where
-  -- what lies in another slot is read
-  pub read_takes_another_slot : (reading : Reading X K) (sample : Sample) (other : ℕ) → other ≢ received sample → slot_in reading ≡ other
-      → (number_in reading ≡ number_of sample) × (slot_in reading ≡ received sample)
+  -- nobody is given a lane, and slots of others come back
+  pub subscribe_with_no_seat_takes_slots_back : (owner : ℕ) (old new : Publisher X K rule) → table_of new ≢ table_of old
+      → WasNotSubscribed owner old new NoSeat
       → ⊥
-  read_takes_another_slot reading sample other differs is k = differs (sym is ∙ k.1)
+  subscribe_with_no_seat_takes_slots_back owner old new differs k = differs k.1
 
-  -- what lies there with a later number is read
-  pub read_takes_later_numbers : (reading : Reading X K) (sample : Sample) → number_of sample < number_in reading
-      → (number_in reading ≡ number_of sample) × (slot_in reading ≡ received sample)
+  -- or where the registry did not let it in
+  pub subscribe_not_let_in_takes_slots_back : (owner : ℕ) (failure : ContainerAddFailure) (old new : Publisher X K rule)
+      → table_of new ≢ table_of old
+      → WasNotSubscribed owner old new (NotLetIn failure)
       → ⊥
-  read_takes_later_numbers reading sample later k = let same = k.0 in absurd (omega arith)
+  subscribe_not_let_in_takes_slots_back owner failure old new differs k = differs k.5
 
--- one who leaves, and his record stays in the registry
-pub leave_removes_nothing : (index owner : ℕ) (v : View ℕ) → WasFreed index owner v v → ⊥
-leave_removes_nothing index owner v k = no_more k.before k.after v.seen _ k.is k.since
+  -- everybody takes part, and it has left since it was not seen
+  abbrev AllTakePart : Publisher X K rule → Type 0
+  AllTakePart p = (place : ℕ) → slice_get (open_in (lanes_of p)) place ≢ Some false
+
+  pub subscribe_tells_not_seen : (owner : ℕ) (old new : Publisher X K rule) → AllTakePart new → WasNotSubscribed owner old new NotSeen → ⊥
+  subscribe_tells_not_seen owner old new all k = all (place_at k.0) k.2.hidden
+
+  -- it is dropped, so the registry keeps its record
+  pub subscribe_drops_who_is_hidden : (owner : ℕ) (old new : Publisher X K rule) (k : WasNotSubscribed owner old new NotSeen)
+      → (members_left k.1).seen ≡ (members_view k.0).seen
+      → ⊥
+  subscribe_drops_who_is_hidden owner old new k same = no_more k.3.before k.3.after (members_view k.0).seen _ (sym same ∙ k.3.is) k.3.since
+
+  -- what was left is of another lane
+  pub subscribe_leaves_another_lane : (owner : ℕ) (old new : Publisher X K rule) (k : WasNotSubscribed owner old new NotSeen)
+      → place_left k.1 ≢ place_at k.0
+      → ⊥
+  subscribe_leaves_another_lane owner old new k differs = differs k.4.place
+
+  -- everybody takes part, and the registry is said to have refused to remove one
+  pub subscribe_tells_not_removed : (owner : ℕ) (failure : ContainerRemoveError) (old new : Publisher X K rule) → AllTakePart new
+      → WasNotSubscribed owner old new (NotRemoved failure)
+      → ⊥
+  subscribe_tells_not_removed owner failure old new all k = all (place_at k.0) k.2.hidden
+
+  -- it was not asked to
+  pub subscribe_removes_nobody : (owner : ℕ) (failure : ContainerRemoveError) (old new : Publisher X K rule)
+      (k : WasNotSubscribed owner old new (NotRemoved failure))
+      → (members_view k.1).seen ≡ (members_view k.0).seen
+      → ⊥
+  subscribe_removes_nobody owner failure old new k same = no_more k.3.before [] (members_view k.0).seen _ (sym same ∙ k.3.is) k.3.since
+
+  -- or to remove another
+  pub subscribe_removes_another : (owner : ℕ) (failure : ContainerRemoveError) (old new : Publisher X K rule)
+      (k : WasNotSubscribed owner old new (NotRemoved failure))
+      → record_of k.1 ≢ record_of k.0
+      → ⊥
+  subscribe_removes_another owner failure old new k differs = differs k.4.named
+
+  -- ---- and what one that is not refused tells
+
+  -- another owner is let in
+  pub subscribe_lets_another_in : (owner other : ℕ) (s : Subscriber X K rule) → other ≢ owner → (record_of s).owner ≡ other
+      → (record_of s).owner ≡ owner
+      → ⊥
+  subscribe_lets_another_in owner other s differs is k = differs (sym is ∙ k)
+
+  -- the slots of the neighbour come back, who has his lane still
+  pub subscribe_takes_anothers_slots_back : (place : ℕ) (lane : Outlet) (old new : Publisher X K rule) (s : Subscriber X K rule)
+      → slice_get (lanes_of old) place ≡ Some lane
+      → place ≢ place_at s
+      → ((now : Outlet) → slice_get (lanes_of new) place ≡ Some now → ¬ IsFree now)
+      → ¬ KeepsSlots (holder_of lane) (table_of old) (table_of new)
+      → WasSeated old new s
+      → ⊥
+  subscribe_takes_anothers_slots_back place lane old new s was differs taken lost k =
+      let mid = k.others place lane differs was in
+      let it = k.settled place mid.0 mid.1 in
+      lost
+      (subst (λ h. KeepsSlots h (table_of old) (table_of new)) (same_holder k.between (lanes_of old) place mid.0 lane k.holders mid.1 was)
+      (it.2.kept (λ free. absurd (taken it.0 it.1 free))))
+
+  -- the lane of another is closed, whom the publisher sees
+  pub subscribe_closes_another_lane : (place : ℕ) (lane : Outlet) (old new : Publisher X K rule) (s : Subscriber X K rule)
+      → slice_get (lanes_of old) place ≡ Some lane
+      → place ≢ place_at s
+      → is_let lane ≡ true
+      → IsShown (roll_of new) (place_of lane)
+      → ((now : Outlet) → slice_get (lanes_of new) place ≡ Some now → is_open now ≡ false)
+      → WasSeated old new s
+      → ⊥
+  subscribe_closes_another_lane place lane old new s was differs leased shown closed k =
+      let mid = k.others place lane differs was in
+      let it = k.settled place mid.0 mid.1 in
+      let same : holder_of mid.0 ≡ holder_of lane = same_holder k.between (lanes_of old) place mid.0 lane k.holders mid.1 was in
+      let seen : IsShown (roll_of new) (place_of mid.0) = subst (λ h. IsShown (roll_of new) (bit_of h - 1)) (sym same) shown in
+      true≢false (sym (it.2.takes.1 (still_let lane mid.0 leased mid.2, seen)) ∙ closed it.0 it.1)

@@ -1,11 +1,9 @@
 -- What clauses see of the ends of a bus.
-use Rattle.std.specs.Prelude.{◌≡◌, ◌≢◌, ◌⊎◌, ℕ, ◌/◌, ◌%◌, ◌<◌, ◌≤◌, false, Ok, Err, Option, Some, None, List, [], ◌∷◌, slice_get, vec_len}
+use Rattle.std.specs.Prelude.{◌≡◌, ◌≢◌, ◌⊎◌, ℕ, ◌/◌, ◌%◌, ◌<◌, ◌≤◌, Bool, false, Ok, Err, Option, Some, None, List, [], ◌∷◌, slice_get, vec_len}
 use Rattle.steps.specs.declared.container.enums.ContainerRemoveError.{ContainerRemoveError}
 use Rattle.steps.specs.declared.indices.enums.ReleaseMode.TheVariants.{Default}
 use Rattle.zero_copy_slots.specs.declared.Keeps.{Ghosts}
-use Rattle.model.specs.Coding.{Coding}
-use Rattle.lock_free_owners.specs.Container.Handles.{knows, pass_in}
-use Rattle.lock_free_owners.specs.Container.Names.{code_of}
+use Rattle.lock_free_owners.specs.Container.Handles.{knows}
 use Rattle.lock_free_owners.specs.Container.Contracts.{HasAdded, IsRightRemove, WasNotAdded}
 use Rattle.lock_free_owners.specs.Robust.Contracts.{WasFreed}
 use Rattle.history.specs.declared.view.View.{View}
@@ -25,6 +23,7 @@ use Rattle.zero_copy_bus.specs.declared.error.SubscribeFailure.{SubscribeFailure
 use Rattle.zero_copy_bus.specs.declared.error.SubscribeFailure.TheVariants.{NoSeat, NotLetIn, NotSeen, NotRemoved}
 use Rattle.zero_copy_bus.specs.declared.holders.Holders.{Holders}
 use Rattle.zero_copy_bus.specs.declared.outlet.Outlet.{Outlet}
+use Rattle.zero_copy_bus.specs.declared.lane.Inlet.{Inlet}
 use Rattle.zero_copy_bus.specs.declared.loan.Emptied.{Emptied}
 use Rattle.zero_copy_bus.specs.declared.loan.Loan.{Loan}
 use Rattle.zero_copy_bus.specs.declared.publisher.Publisher.{Publisher}
@@ -33,10 +32,11 @@ use Rattle.zero_copy_bus.specs.declared.subscriber.Left.{Left}
 use Rattle.zero_copy_bus.specs.declared.subscriber.Sample.{Sample}
 use Rattle.zero_copy_bus.specs.declared.subscriber.Seat.{Seat}
 use Rattle.zero_copy_bus.specs.declared.subscriber.Subscriber.{Subscriber}
-use Rattle.zero_copy_bus.specs.Outlets.{holder_of, holders_in, open_in, waits_queue, AtLane, EachLane, EachOther, IsSettled, StaysOrLost, WasLetOf}
+use Rattle.zero_copy_bus.specs.Outlets.{holder_of, holders_in, open_in, waits_queue, AtLane, EachLane, EachOther, IsSettled, KeepsRest, StaysOrLost, WasLetOf}
 use Rattle.zero_copy_bus.specs.Pools as pools
 use Rattle.zero_copy_bus.specs.Books.{CanSend, ChangesAt, IsLoaned}
 use Rattle.zero_copy_bus.specs.Holders.{publisher}
+use Rattle.zero_copy_bus.specs.Rolls.{HasLooked}
 use Rattle.zero_copy_bus.specs.Sequences.{Delivers}
 use Rattle.zero_copy_loans.specs.Numbers.{Shape, ReceivesOn}
 use Rattle.zero_copy_loans.specs.Words.{word_of, IsWord}
@@ -199,6 +199,13 @@ module _ {X K : Type 0} {rule : Ghosts K X} where
   IsUnread s sample (Slot failure) = IsUnreadable s.records.now (received sample) failure
   IsUnread s sample (Other number) = number ≢ number_of sample
 
+  -- its end of the lane
+  abbrev pub inlet_before : Seat X K rule → Inlet
+  inlet_before s = s.inlet
+
+  abbrev pub inlet_at : Subscriber X K rule → Inlet
+  inlet_at s = s.inlet
+
   -- what a seat knows of the queue that it is to receive from, and which that is
   abbrev pub receives_before : Seat X K rule → View ℕ
   receives_before s = consumer_view s.inlet.receives
@@ -206,10 +213,7 @@ module _ {X K : Type 0} {rule : Ghosts K X} where
   abbrev pub receives_at : Seat X K rule → QueueId
   receives_at s = consumer_queue s.inlet.receives
 
-  -- how the registry's records are written in words, and what is known of it
-  abbrev pub code_before : Seat X K rule → Coding ℕ
-  code_before s = code_of (pass_in s.members)
-
+  -- what is known of the registry
   abbrev pub members_before : Seat X K rule → View ℕ
   members_before s = knows s.members
 
@@ -222,12 +226,20 @@ module _ {X K : Type 0} {rule : Ghosts K X} where
       HasAdded (record { value = place_before seat; owner = owner }) (Ok (record_of s).index)
       (members_before seat) (members_view s)
 
-  -- the registry was asked to remove its record, and keeps it: at the last step of that call its owner did not have its index
-  abbrev pub WasKept : Subscriber X K rule → ContainerRemoveError → Type 0
-  WasKept s failure =
-      (after : Subscriber X K rule) × (record_of after ≡ record_of s)
-      × IsRightRemove (record { index = (record_of s).index; owner = (record_of s).owner; mode = Default }) (Err failure)
-      (members_view s) (members_view after)
+  -- the registry was asked to remove its record, and refused to: at the last step of that call its owner did not have its index
+  abbrev pub WasKept : Subscriber X K rule → Subscriber X K rule → ContainerRemoveError → Type 0
+  WasKept old new failure =
+      IsRightRemove (record { index = (record_of old).index; owner = (record_of old).owner; mode = Default }) (Err failure)
+      (members_view old) (members_view new)
+
+  -- but for what it knows of the registry it is as it was: with its end of the lane, and with what it takes next
+  pub record IsAgain (old new : Subscriber X K rule) : Type 0 where
+    pub inlet : inlet_at new ≡ inlet_at old
+    pub named : record_of new ≡ record_of old
+    pub expected : expected_at new ≡ expected_at old
+    pub slots : slots_at new ≡ slots_at old
+    pub layout : layout_at new ≡ layout_at old
+    pub place : place_at new ≡ place_at old
 
   -- what it knows of the queue that it receives from, and of the one by which it gives back
   abbrev pub receives_view : Subscriber X K rule → View ℕ
@@ -275,26 +287,36 @@ module _ {X K : Type 0} {rule : Ghosts K X} where
   abbrev pub IsHidden : Subscriber X K rule → Publisher X K rule → Type 0
   IsHidden s p = slice_get (open_in (lanes_of p)) (place_at s) ≡ Some false
 
-  -- One was let in as this owner, at a lane that was let to it (`seat`). Then all lanes were settled, and it is not seen to take part
-  -- (`update`).
-  pub record WasNotShown (owner : ℕ) (old new : Publisher X K rule) (s : Subscriber X K rule) : Type 0 where
-    pub its : (record_of s).owner ≡ owner
+  -- A lane was let to it, and the others stay (`seat`). Then all lanes were settled by what the publisher saw (`update`).
+  pub record WasSeated (old new : Publisher X K rule) (s : Subscriber X K rule) : Type 0 where
     pub between : List Outlet
+    pub holders : holders_in between ≡ holders_in (lanes_of old)
     pub leased : AtLane (place_at s) (WasLetOf (receives_queue s) (receives_view s)) (lanes_of old) between
     pub others : EachOther (place_at s) StaysOrLost (lanes_of old) between
     pub settled : EachLane (IsSettled (roll_of new) (table_of old) (table_of new)) between (lanes_of new)
+    pub rest : KeepsRest between (table_of old) (table_of new)
+
+  -- One was let in as this owner, at a lane that was let to it. The publisher looked who takes part, and it is not seen to.
+  pub record WasNotShown (owner : ℕ) (old new : Publisher X K rule) (s : Subscriber X K rule) : Type 0 where
+    pub its : (record_of s).owner ≡ owner
+    pub seated : WasSeated old new s
+    pub changed : Bool
+    pub looked : HasLooked changed (roll_of old) (roll_of new)
     pub hidden : IsHidden s new
 
-  -- Why one did not subscribe. Nobody was given a lane; or the registry refused one who had a seat, and the other lanes stay; or one
-  -- was let in whom the look does not show, and it has left again, or the registry keeps it.
+  -- Why one did not subscribe. Nobody was given a lane; or the registry refused one who had a seat, and the other lanes stay; either
+  -- way each has the slots that he had. Or one was let in whom the look does not show, and it has left again, or the registry
+  -- refused to remove it.
   abbrev pub WasNotSubscribed : ℕ → Publisher X K rule → Publisher X K rule → SubscribeFailure → Type 0
-  WasNotSubscribed owner old new NoSeat = EachLane StaysOrLost (lanes_of old) (lanes_of new)
+  WasNotSubscribed owner old new NoSeat = EachLane StaysOrLost (lanes_of old) (lanes_of new) × (table_of new ≡ table_of old)
   WasNotSubscribed owner old new (NotLetIn failure) =
       (seat : Seat X K rule) × (left : Seat X K rule)
       × AtLane (place_before seat) (WasLetOf (receives_at seat) (receives_before seat)) (lanes_of old) (lanes_of new)
       × EachOther (place_before seat) StaysOrLost (lanes_of old) (lanes_of new)
       × WasNotAdded (place_before seat) owner failure (members_before seat) (members_before left)
+      × (table_of new ≡ table_of old)
   WasNotSubscribed owner old new NotSeen =
       (s : Subscriber X K rule) × (left : Left) × WasNotShown owner old new s
       × WasFreed (record_of s).index (record_of s).owner (members_view s) (members_left left) × HasLeft s left
-  WasNotSubscribed owner old new (NotRemoved failure) = (s : Subscriber X K rule) × WasNotShown owner old new s × WasKept s failure
+  WasNotSubscribed owner old new (NotRemoved failure) =
+      (s : Subscriber X K rule) × (t : Subscriber X K rule) × WasNotShown owner old new s × WasKept s t failure × IsAgain s t

@@ -23,7 +23,7 @@ use Rattle.zero_copy_bus.specs.declared.roll.Roll.{Roll}
 use Rattle.zero_copy_bus.specs.Books.{holders_at, CanSend, Exchanges, HasNone, HasSlot, KeepsBit, KeepsSlots}
 use Rattle.zero_copy_bus.specs.Holders.{bit_of}
 use Rattle.zero_copy_bus.specs.Rolls.{IsShown}
-use Rattle.zero_copy_bus.specs.Words.{slot_back}
+use Rattle.zero_copy_bus.specs.Words.{slot_back, TakesOn}
 use Rattle.zero_copy_loans.specs.Words.{word_of}
 
 -- by whose name the subscriber of a lane holds slots, and the place of the lane by that
@@ -170,9 +170,34 @@ pub record IsLeftBehind (old new : Outlet) : Type 0 where
   pub queue : waits_queue new ≡ waits_queue old
   pub takes : new.takes ≡ old.takes
 
--- so it is, and where the publisher had its end both ends were taken in
+-- The publisher had no end of it, and the pass of the other end was taken in. With the whole share it is known then, too, what has
+-- gone out by the lane.
+pub record WasJoined (theirs : View ℕ) (old new : Outlet) : Type 0 where
+  pub both : HasJoined (waits_view old) theirs (waits_view new)
+  pub none : new.sends ≡ None
+  pub all : MissesNothing (waits_view new)
+  pub history : HasHistory (waits_queue new).capacity (waits_view new)
+
+-- so it is; where the publisher had its end both ends were taken in, and else that of the other
 abbrev pub WasRejoined : View ℕ → Outlet → Outlet → Type 0
-WasRejoined theirs old new = IsLeftBehind old new × (IsTrue (has_end old) → WasTakenIn theirs old new)
+WasRejoined theirs old new =
+    IsLeftBehind old new × (IsTrue (has_end old) → WasTakenIn theirs old new) × (old.sends ≡ None → WasJoined theirs old new)
+
+-- One pass was split off that of the lane, took the receiving role, took words out and was taken in again.
+pub record WasDrained (old new : Outlet) : Type 0 where
+  pub kept : View ℕ
+  pub other : View ℕ
+  pub begun : View ℕ
+  pub ended : View ℕ
+  pub left : View ℕ
+  pub cut : HasSplit (waits_view old) kept other
+  pub begins : Goes other begun × HasAcquired roles.Consumer true other begun
+  pub took : 0 < (waits_queue old).capacity → (words : List ℕ) × TakesOn words begun ended
+  pub ends : Goes ended left × HasReleased roles.Consumer ended left
+  pub both : HasJoined kept left (waits_view new)
+  pub queue : waits_queue new ≡ waits_queue old
+  pub all : MissesNothing (waits_view new)
+  pub history : HasHistory (waits_queue new).capacity (waits_view new)
 
 -- ---- the lanes of a bus, by their places
 
@@ -265,7 +290,8 @@ pub record IsTakenBack (slots : ℕ) (before after : List Holders) (old new : Ou
 -- ---- a look at who takes part
 
 -- Who has the other end takes part where the roll shows him, and his passes are as they were. Who lost it has no slot, and both
--- queues were found empty; any other has what he had. The guard that pushes stays, and the queue.
+-- queues were found empty; any other has what he had. The guard that pushes stays, and the queue. What he gave back is popped only
+-- after what waited was taken out.
 pub record IsSettled (roll : Roll) (before after : List Holders) (old new : Outlet) : Type 0 where
   pub takes : IsTrue (is_open new) ↔ (IsTrue (is_let old) × IsShown roll (place_of old))
   pub passes : IsTrue (is_open new) → SamePasses old new
@@ -274,5 +300,6 @@ pub record IsSettled (roll : Roll) (before after : List Holders) (old new : Outl
   pub lost : IsTrue (is_lost new.tenancy) → IsTrue (is_lost old.tenancy)
   pub still : IsFree old ⊎ (old.tenancy ≡ Lost) → IsStill old new
   pub free : IsFree new
-      → IsFree old ⊎ HasNone (holder_of old) after × FoundEmpty old new
+      → IsFree old ⊎ HasNone (holder_of old) after × FoundEmpty old new × WasDrained old new
   pub kept : (IsFree new → IsFree old) → KeepsSlots (holder_of old) before after
+  pub popped : (takes_view new ≡ takes_view old) ⊎ WasDrained old new

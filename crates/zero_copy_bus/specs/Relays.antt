@@ -7,7 +7,7 @@ use Rattle.history.specs.Passes.{Goes}
 use Rattle.zero_copy_bus.specs.declared.outlet.Outlet.{Outlet}
 use Rattle.zero_copy_bus.specs.declared.publisher.Publisher.{Publisher}
 use Rattle.zero_copy_bus.specs.Ends.{lanes_of, layout_of, next_of, shape_of}
-use Rattle.zero_copy_bus.specs.Outlets.{is_open, open_in, sends_view, waits_queue, waits_view, EachLane, IsNew, WasLet, WasTakenIn}
+use Rattle.zero_copy_bus.specs.Outlets.{is_open, open_in, sends_view, waits_queue, waits_view, EachLane, FoundEmpty, IsNew, WasDrained, WasLet, WasTakenIn}
 use Rattle.zero_copy_bus.specs.Sequences.{AreAll, Rises}
 use Rattle.zero_copy_loans.specs.Numbers.{HasAll, IsPassedOn, ReceivesOn, SendsOn}
 use Rattle.zero_copy_loans.specs.declared.words.Layout.{Layout}
@@ -34,6 +34,10 @@ pub record LanesPassOn : Type 0 where
       → ReceivesOn (shape_of layout (waits_queue first)) came theirs end → Goes end left → HasReleased roles.Consumer end left
       → WasTakenIn left last after → 0 < (waits_queue first).capacity → length sent + length numbers < 2 ^ 64 - 1
       → HasAllOf layout (sent ++ numbers) (back ++ others) (received ++ came) after
+  -- An `update` that frees the lane takes out all that waited, which counts as received. Then nothing is left.
+  pub drains : (layout : Layout) (sent back received : List ℕ) (old new : Outlet) → HasAllOf layout sent back received old → WasDrained old new
+      → FoundEmpty old new → new.sends ≡ old.sends → 0 < (waits_queue old).capacity → length sent < 2 ^ 64 - 1
+      → (came : List ℕ) × HasAllOf layout sent back (received ++ came) new × (length (received ++ came) + length back ≡ length sent)
   -- so of what went out a beginning was received or came back: each record once, and both in the order in which they went out
   pub tells : (layout : Layout) (sent back received : List ℕ) (lane : Outlet) → HasAllOf layout sent back received lane
       → IsPassedOn sent received back

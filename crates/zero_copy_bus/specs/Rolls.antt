@@ -23,6 +23,10 @@ abbrev pub IsShown : Roll → ℕ → Type 0
 IsShown roll place = ¬ ((index : ℕ) → index < roll.state.capacity
     → shown_at roll.state.shown.elements index ≢ Some place)
 
+-- nobody has looked since, so the state shows what it showed
+abbrev pub HasNotLooked : Roll → Roll → Type 0
+HasNotLooked old new = (look_view new ≡ look_view old) × (new.state ≡ old.state)
+
 -- One look at the registry. What the state shows then was copied by it or an earlier one; where no change was told it shows
 -- what it showed.
 pub record HasLooked (changed : Bool) (old new : Roll) : Type 0 where

@@ -40,7 +40,7 @@ pub enum SubscribeFailure {
     NotLetIn(#[from] ContainerAddFailure),
     #[error("the look at the registry does not show it")]
     NotSeen,
-    #[error("the look at the registry does not show it, and the registry does not forget it: {0}")]
+    #[error("the look at the registry does not show it, and the registry refused to remove it: {0}")]
     NotRemoved(ContainerRemoveError),
 }
 

@@ -1,6 +1,6 @@
 //! The publisher's end of a lane.
 ghost use Rattle.std.specs.Option.{ForSome};
-ghost use Rattle.std.specs.Prelude.{◌≡◌, ◌<◌, ◌⊎◌, ◌&&◌, true, false, None, IsTrue, IsFalse, IfNone, IfSome};
+ghost use Rattle.std.specs.Prelude.{◌≡◌, ◌<◌, ◌⊎◌, ◌&&◌, ℕ, List, true, false, None, IsTrue, IsFalse, IfNone, IfSome};
 ghost use Rattle.history.specs.Views.{first_view};
 ghost use Rattle.history.specs.Passes.{Goes};
 ghost use Rattle.lock_free_queues.specs.Queues.Overflowing.{consumer_queue, consumer_view, PushAdded, PushHandedBack};
@@ -9,7 +9,7 @@ ghost use Rattle.lock_free_queues.specs.Queues.Contracts.{FoundNone};
 ghost use Rattle.zero_copy_bus.specs.Books.{GainsNone, GainsOnly, HasNone, KeepsAllOrNone, KeepsLoans, KeepsOthers, KeepsSlots};
 ghost use Rattle.zero_copy_bus.specs.Holders.{bit_of};
 ghost use Rattle.zero_copy_bus.specs.Pools.{slots_of, table_of, IsSame};
-ghost use Rattle.zero_copy_bus.specs.Words.{slot_back};
+ghost use Rattle.zero_copy_bus.specs.Words.{slot_back, TakesOn};
 ghost use Rattle.zero_copy_loans.specs.Words.{IsWord};
 ghost use Rattle.zero_copy_slots.specs.Slots.{laid_number, laid_slot};
 
@@ -70,7 +70,7 @@ impl<'a> Outlet<'a> {
     ghost use Rattle.zero_copy_bus.specs.Outlets.{closes, has_end, has_gained, holder_of, is_lost, is_open, place_of, sends_view, takes_view};
     ghost use Rattle.zero_copy_bus.specs.Outlets.{waits_queue, waits_view};
     ghost use Rattle.zero_copy_bus.specs.Outlets.{AreShown, FoundEmpty, IsFree, IsNew, IsServed, IsSettled, IsStill, IsTakenBack, SamePasses};
-    ghost use Rattle.zero_copy_bus.specs.Outlets.{StaysOrLost, WasLet, WasEnded, WasTakenIn};
+    ghost use Rattle.zero_copy_bus.specs.Outlets.{StaysOrLost, WasDrained, WasJoined, WasLet, WasEnded, WasTakenIn};
     ghost use Rattle.zero_copy_bus.specs.Rolls.{IsShown};
 
     /// The end of a lane of these queues. None where another has it, or no further pass can be counted.
@@ -145,9 +145,9 @@ impl<'a> Outlet<'a> {
         }
     }
 
-    /// Takes in the pass of one who had the other end, and this end with it. Then it is known all that went out by the lane,
-    /// where no pass of it was dropped. Nothing more is sent until the lane is let again. It stays his until it is settled, and
-    /// what he gave back still waits.
+    /// Takes in the pass of one who had the other end, and this end with it, if it is there. Then it is known all that went out by
+    /// the lane, where no pass of it was dropped. Nothing more is sent until the lane is let again. It stays his until it is
+    /// settled, and what he gave back still waits.
     pub fn rejoin(&mut self, other: overflow::Pass)
         requires { queue_of other ≡ waits_queue self.old }
         ensures holder { holder_of self.new ≡ holder_of self.old }
@@ -156,6 +156,7 @@ impl<'a> Outlet<'a> {
         ensures queue { waits_queue self.new ≡ waits_queue self.old }
         ensures takes { self.new.takes ≡ self.old.takes }
         ensures taken_in { IsTrue (has_end self.old) → WasTakenIn (view other) self.old self.new }
+        ensures joined { self.old.sends ≡ None → WasJoined (view other) self.old self.new }
     {
         self.take_in();
         self.waits.join(other);
@@ -249,8 +250,9 @@ impl<'a> Outlet<'a> {
         ensures end { self.new.sends ≡ self.old.sends }
         ensures queue { waits_queue self.new ≡ waits_queue self.old }
         ensures lost { is_lost self.new.tenancy ≡ false }
-        ensures free { IsFree self.new → HasNone (holder_of self.old) (table_of pool.new) × FoundEmpty self.old self.new }
+        ensures free { IsFree self.new → HasNone (holder_of self.old) (table_of pool.new) × FoundEmpty self.old self.new × WasDrained self.old self.new }
         ensures kept { ¬ IsFree self.new → table_of pool.new ≡ table_of pool.old }
+        ensures popped { (takes_view self.new ≡ takes_view self.old) ⊎ WasDrained self.old self.new }
         ensures all { KeepsAllOrNone (table_of pool.old) (table_of pool.new) }
         ensures others { KeepsOthers (holder_of self.old) (table_of pool.old) (table_of pool.new) }
         ensures loans { KeepsLoans (table_of pool.old) (table_of pool.new) }
@@ -301,6 +303,8 @@ impl<'a> Outlet<'a> {
         ensures holder { holder_of self.new ≡ holder_of self.old }
         ensures none { IsTrue result → HasNone (holder_of self.old) (table_of pool.new) }
         ensures empty { IsTrue result → FoundEmpty self.old self.new }
+        ensures drained { IsTrue result → WasDrained self.old self.new }
+        ensures popped { (takes_view self.new ≡ takes_view self.old) ⊎ WasDrained self.old self.new }
         ensures end { self.new.sends ≡ self.old.sends }
         ensures queue { waits_queue self.new ≡ waits_queue self.old }
         ensures others { KeepsOthers (holder_of self.old) (table_of pool.old) (table_of pool.new) }
@@ -321,6 +325,7 @@ impl<'a> Outlet<'a> {
         ensures takes { takes_view self.new ≡ takes_view self.old }
         ensures end { self.new.sends ≡ self.old.sends }
         ensures empty { IsTrue result → 0 < (waits_queue self.old).capacity → FoundNone (waits_view self.old) (waits_view self.new) }
+        ensures drained { IsTrue result → WasDrained self.old self.new }
     {
         let Some(pass) = self.waits.split() else {
             return false;
@@ -329,6 +334,7 @@ impl<'a> Outlet<'a> {
             Ok(mut receives) => {
                 let is_empty = empty(rt, &mut receives);
                 self.waits.join(receives.release());
+                self.waits.history();
                 is_empty
             }
             Err(pass) => {
@@ -361,6 +367,8 @@ fn empty(rt: &impl Wait, receives: &mut overflow::Consumer<'_>) -> bool
     ensures queue { consumer_queue receives.new ≡ consumer_queue receives.old }
     ensures empty { 0 < (consumer_queue receives.old).capacity → IsTrue result
         → FoundNone (consumer_view receives.old) (consumer_view receives.new) }
+    ensures taken { 0 < (consumer_queue receives.old).capacity
+        → (words : List ℕ) × TakesOn words (consumer_view receives.old) (consumer_view receives.new) }
 {
     for _ in 0..receives.capacity().saturating_add(1) {
         match receives.pop(rt) {

@@ -9,7 +9,7 @@ ghost use Rattle.zero_copy_bus.specs.Holders.{is_held, publisher};
 ghost use Rattle.zero_copy_bus.specs.Outlets.{has_gained, holders_in, open_in, AreShown, AtLane, EachLane, EachOther, HaveTheirPlaces};
 ghost use Rattle.zero_copy_bus.specs.Outlets.{IsServed, IsSettled, IsTakenBack, KeepsRest, NobodyTakesPart, OthersStay, StaysOrLost, WasLetOf, WasRejoined};
 ghost use Rattle.zero_copy_bus.specs.Pools as pools;
-ghost use Rattle.zero_copy_bus.specs.Rolls.{HasLooked, HasRecovered};
+ghost use Rattle.zero_copy_bus.specs.Rolls.{HasLooked, HasNotLooked, HasRecovered};
 ghost use Rattle.zero_copy_slots.specs.Slots.{slots_in};
 
 use crate::error::{LoanFailure, ReclaimFailure, SubscribeFailure};
@@ -67,7 +67,7 @@ impl<'a, X: Drop, K: Keeps<X>> Publisher<'a, X, K> {
     ghost use Rattle.zero_copy_bus.specs.Ends.{place_before, roll_of, room_of, set_in, share_in, slots_at, slots_before, slots_of, spares_in, table_of};
     ghost use Rattle.zero_copy_bus.specs.Ends.{place_left, receives_at, receives_before, receives_left, receives_queue, receives_view, record_of};
     ghost use Rattle.zero_copy_bus.specs.Relays.{LanesPassOn};
-    ghost use Rattle.zero_copy_bus.specs.Ends.{HasNumber, IsKept, IsOfLane, IsSame, IsTakenFor, WasNotSubscribed};
+    ghost use Rattle.zero_copy_bus.specs.Ends.{HasNumber, IsKept, IsOfLane, IsSame, IsTakenFor, WasNotSubscribed, WasSeated};
 
     pub(crate) fn of(
         pool: Pool<'a>,
@@ -98,8 +98,8 @@ impl<'a, X: Drop, K: Keeps<X>> Publisher<'a, X, K> {
     }
 
     /// A seat for a subscriber, who may take it in another thread. Who does takes part from the next `update` on, and receives no
-    /// record that was published before the seat was made. None where no place is free, or no further pass can be counted. A lane
-    /// may be lost then, and nobody gets it any more.
+    /// record that was published before the seat was made. None where no place is free, or no further pass can be counted. Lanes
+    /// that nobody had may be lost by the call, also where a seat is given: nobody gets them any more.
     pub fn seat(&mut self) -> Option<Seat<'a, X, K>>
         ensures slots { IfSome result (λ s. slots_before s ≡ slots_of self.old) }
         ensures layout { IfSome result (λ s. layout_before s ≡ layout_of self.old) }
@@ -110,6 +110,7 @@ impl<'a, X: Drop, K: Keeps<X>> Publisher<'a, X, K> {
         ensures none { IfNone result (EachLane StaysOrLost (lanes_of self.old) (lanes_of self.new)) }
         ensures table { table_of self.new ≡ table_of self.old }
         ensures taking { open_in (lanes_of self.new) ≡ open_in (lanes_of self.old) }
+        ensures looks { HasNotLooked (roll_of self.old) (roll_of self.new) }
         ensures same { IsSame self.old self.new }
         ensures next { next_of self.new ≡ next_of self.old }
     {
@@ -131,12 +132,13 @@ impl<'a, X: Drop, K: Keeps<X>> Publisher<'a, X, K> {
     /// `publish` serves the lanes that do. It receives from the queue of that lane (`leased`).
     ///
     /// Refused where nobody is given a lane (`NoSeat`), and where the registry does not let the owner in (`NotLetIn`). Where the
-    /// look does not show it, it leaves again (`NotSeen`), or its owner does not have its record any more (`NotRemoved`).
+    /// look does not show it, it leaves again (`NotSeen`), or the registry refuses to remove its record (`NotRemoved`).
     pub fn subscribe(
         &mut self,
         rt: &impl Wait,
         owner: OwnerId,
     ) -> Result<Subscriber<'a, X, K>, SubscribeFailure>
+        ensures looked { IfOk result (λ _. (changed : Bool) × HasLooked changed (roll_of self.old) (roll_of self.new)) }
         ensures part { IfOk result (λ s. slice_get (open_in (lanes_of self.new)) (place_at s) ≡ Some true) }
         ensures owner { IfOk result (λ s. (record_of s).owner ≡ owner) }
         ensures slots { IfOk result (λ s. slots_at s ≡ slots_of self.old) }
@@ -145,6 +147,7 @@ impl<'a, X: Drop, K: Keeps<X>> Publisher<'a, X, K> {
         ensures leased { IfOk result (λ s. AtLane (place_at s) (WasLetOf (receives_queue s) (receives_view s))
             (lanes_of self.old) (lanes_of self.new)) }
         ensures others { IfOk result (λ s. EachOther (place_at s) OthersStay (lanes_of self.old) (lanes_of self.new)) }
+        ensures settled { IfOk result (WasSeated self.old self.new) }
         ensures refused { IfErr result (WasNotSubscribed owner self.old self.new) }
         ensures all { KeepsAllOrNone (table_of self.old) (table_of self.new) }
         ensures loans { KeepsLoans (table_of self.old) (table_of self.new) }
@@ -164,7 +167,7 @@ impl<'a, X: Drop, K: Keeps<X>> Publisher<'a, X, K> {
         }
         match subscriber.leave(rt) {
             Ok(_left) => return Err(SubscribeFailure::NotSeen),
-            Err(failure) => return Err(SubscribeFailure::NotRemoved(failure)),
+            Err((failure, _subscriber)) => return Err(SubscribeFailure::NotRemoved(failure)),
         }
     }
 
@@ -176,7 +179,7 @@ impl<'a, X: Drop, K: Keeps<X>> Publisher<'a, X, K> {
     }
 
     /// Looks who takes part, once. Who does gets what is published from now on; and where one has left, or a recovery has
-    /// taken him out, and nobody has his end of the lane any more, that is free again, and all that he had comes back. Each
+    /// taken him out, and nobody has his end of the lane any more, that is free again, with all that he had (only tested). Each
     /// of the others has what he had, and the publisher too.
     pub fn update(&mut self, rt: &impl Wait)
         ensures looked { (changed : Bool) × HasLooked changed (roll_of self.old) (roll_of self.new) }
@@ -198,12 +201,12 @@ impl<'a, X: Drop, K: Keeps<X>> Publisher<'a, X, K> {
         );
     }
 
-    /// Takes in the pass of one who left, of the queue by which records went out to him, and the publisher's end of that queue. If
-    /// no pass of it was dropped it is known then which records went out by the lane, and what became of each (`passes_on`). What
-    /// he had of the registry and of the queue by which he gave slots back is dropped, so nobody has the whole share of those.
+    /// Takes in the pass with which one who left received, and the publisher's end of that queue, if it is there. If no pass of the
+    /// queue was dropped it is known then which records went out by the lane, and what became of each (`passes_on`). What he had of
+    /// the registry and of the queue by which he gave slots back is dropped, so nobody has the whole share of those.
     ///
     /// Nothing more goes out there, also not to another who got the lane since. The lane stays whose it was, and the table as it
-    /// is. The next `update` takes back what he had, and frees the lane.
+    /// is. Unless another got the lane, the next `update` takes back what he had, and frees the lane (only tested).
     pub fn rejoin(&mut self, left: Left<'_>)
         requires { IsOfLane left self.old }
         ensures taken_in { AtLane (place_left left.entry) (WasRejoined (receives_left left.entry)) (lanes_of self.old) (lanes_of self.new) }
@@ -217,9 +220,10 @@ impl<'a, X: Drop, K: Keeps<X>> Publisher<'a, X, K> {
         rejoin_at(&mut self.outlets, place as usize, submission);
     }
 
-    /// Tells a caller's proof what became of the records that went out by a lane. From where a lane is let for the first time until
-    /// its passes are taken in (`rejoin`), with no `update` in between that did not show its subscriber, a beginning of them was
-    /// received or came back unread, each once, and both in order. What went out later still waits then. It does nothing.
+    /// Tells a caller's proof what became of the records that went out by a lane. From where a lane with room is let until all its
+    /// passes are taken in (`rejoin`), with no `update` in between that did not show its subscriber, a beginning of them was received or came back
+    /// unread, each once, and both in order. What went out later still waits then. An `update` that frees the lane takes it out, which
+    /// counts as received. It does nothing.
     pub fn passes_on(&self)
         ensures { LanesPassOn }
     {}

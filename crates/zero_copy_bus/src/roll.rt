@@ -70,7 +70,7 @@ impl<'a> Drop for Roll<'a> {
 }
 
 impl<'a> Roll<'a> {
-    ghost use Rattle.zero_copy_bus.specs.Rolls.{look_view, HasLooked, HasTakenOut, IsShown};
+    ghost use Rattle.zero_copy_bus.specs.Rolls.{look_view, HasLooked, HasNotLooked, HasTakenOut, IsShown};
 
     /// A roll of those who take part now. None where there is no memory, or no further pass can be counted.
     pub fn new(rt: &impl Wait, mut members: Handle<'a, u64>) -> Option<Roll<'a>> {
@@ -86,7 +86,7 @@ impl<'a> Roll<'a> {
     /// A handle for one more participant. None where no further pass can be counted.
     pub fn member(&mut self) -> Option<Handle<'a, u64>>
         ensures shown { (place : ℕ) → IsShown self.old place → IsShown self.new place }
-        ensures looks { look_view self.new ≡ look_view self.old }
+        ensures looks { HasNotLooked self.old self.new }
     {
         self.members.split()
     }

@@ -47,7 +47,7 @@ impl<'a, X: Drop, K: Keeps<X>> Drop for Seat<'a, X, K> {
 
 impl<'a, X: Drop, K: Keeps<X>> Seat<'a, X, K> {
     ghost use Rattle.lock_free_queues.specs.Queues.Rings.{consumer_queue, consumer_view};
-    ghost use Rattle.zero_copy_bus.specs.Ends.{code_before, expected_at, first_before, layout_at, layout_before, members_before, place_at};
+    ghost use Rattle.zero_copy_bus.specs.Ends.{expected_at, first_before, inlet_at, inlet_before, layout_at, layout_before, members_before, place_at};
     ghost use Rattle.zero_copy_bus.specs.Ends.{place_before, receives_at, receives_before, receives_queue, receives_view, record_of};
     ghost use Rattle.zero_copy_bus.specs.Ends.{slots_at, slots_before, IsLetIn};
 
@@ -76,7 +76,8 @@ impl<'a, X: Drop, K: Keeps<X>> Seat<'a, X, K> {
         }
     }
 
-    /// Takes part as this owner, whom no other has, from the publisher's next `update` on. Else the seat comes back, with why.
+    /// Takes part as this owner, whom no other has, from the publisher's next `update` on. Else the seat comes back, with why: the
+    /// same end of the same lane, from the same first number on.
     pub fn join(
         self,
         rt: &impl Wait,
@@ -90,8 +91,12 @@ impl<'a, X: Drop, K: Keeps<X>> Seat<'a, X, K> {
         ensures at { IfOk result (λ s. place_at s ≡ place_before self.entry) }
         ensures receives { IfOk result
             (λ s. (receives_queue s ≡ receives_at self.entry) × (receives_view s ≡ receives_before self.entry)) }
+        ensures inlet { IfOk result (λ s. inlet_at s ≡ inlet_before self.entry) }
         ensures back { IfErr result (λ e. slots_before e.1 ≡ slots_before self.entry) }
         ensures place { IfErr result (λ e. place_before e.1 ≡ place_before self.entry) }
+        ensures first_back { IfErr result (λ e. first_before e.1 ≡ first_before self.entry) }
+        ensures layout_back { IfErr result (λ e. layout_before e.1 ≡ layout_before self.entry) }
+        ensures inlet_back { IfErr result (λ e. inlet_before e.1 ≡ inlet_before self.entry) }
         ensures refused { IfErr result (λ e. WasNotAdded (place_before self.entry) owner e.0
             (members_before self.entry) (members_before e.1)) }
     {
@@ -221,7 +226,7 @@ impl<'a> Left<'a> {
 impl<'a, X: Drop, K: Keeps<X>> Subscriber<'a, X, K> {
     ghost use Rattle.zero_copy_bus.specs.Ends.{expected_at, layout_at, members_left, members_view, number_of, numbers_of, place_at, place_left};
     ghost use Rattle.zero_copy_bus.specs.Ends.{queue_left, received, receives_left, receives_queue, receives_view, record_of, returns_left};
-    ghost use Rattle.zero_copy_bus.specs.Ends.{returns_view, slots_at, word_at, HasHad, HasLeft, IsUnread, ReceivedNone, TookNoneBack, WasKept};
+    ghost use Rattle.zero_copy_bus.specs.Ends.{returns_view, slots_at, word_at, HasHad, HasLeft, IsAgain, IsUnread, ReceivedNone, TookNoneBack, WasKept};
 
     /// The oldest record that waits. Its number is above that of each record that it received before, and not below that of the
     /// first one that was published after it got its seat. None where none waits, or where what came is no such record, and is
@@ -295,35 +300,69 @@ impl<'a, X: Drop, K: Keeps<X>> Subscriber<'a, X, K> {
 
     /// Takes part no more: its record is out of the registry, and both roles of its lane are free. What it had comes back once the
     /// publisher looks who takes part (`update`). Refused where its owner does not have the record any more, as after a `recover`
-    /// of this owner. The subscriber is gone then, too.
-    pub fn leave(self, rt: &impl Wait) -> Result<Left<'a>, ContainerRemoveError>
+    /// of this owner. Then the subscriber comes back as it was, with both roles: its lane is freed only after it is dropped (only
+    /// tested).
+    pub fn leave(
+        self,
+        rt: &impl Wait,
+    ) -> Result<Left<'a>, (ContainerRemoveError, Subscriber<'a, X, K>)>
         ensures removed { IfOk result
             (λ l. WasFreed (record_of self.entry).index (record_of self.entry).owner (members_view self.entry) (members_left l)) }
         ensures received { IfOk result (λ l. HasReleased roles.Consumer (receives_view self.entry) (receives_left l)) }
         ensures returned { IfOk result (λ l. HasReleased roles.Producer (returns_view self.entry) (returns_left l)) }
         ensures left { IfOk result (HasLeft self.entry) }
-        ensures kept { IfErr result (WasKept self.entry) }
+        ensures kept { IfErr result (λ e. WasKept self.entry e.1 e.0) }
+        ensures again { IfErr result (λ e. IsAgain self.entry e.1) }
     {
         let Subscriber {
             inlet,
-            records: _,
-            layout: _,
-            expected: _,
+            records,
+            layout,
+            expected,
             mut members,
             record,
             place,
         } = self;
-        match members.remove(rt, record, ReleaseMode::Default) {
-            Ok(_) => {}
-            Err(failure) => return Err(failure),
+        let ContainerHandle {
+            index,
+            owner,
+            container,
+        } = record;
+        let named = ContainerHandle {
+            index,
+            owner,
+            container,
+        };
+        match members.remove(rt, named, ReleaseMode::Default) {
+            Ok(_) => {
+                let (submission, completion) = inlet.release();
+                Ok(Left {
+                    members,
+                    submission,
+                    completion,
+                    place,
+                })
+            }
+            Err(failure) => {
+                let record = ContainerHandle {
+                    index,
+                    owner,
+                    container,
+                };
+                Err((
+                    failure,
+                    Subscriber {
+                        inlet,
+                        records,
+                        layout,
+                        expected,
+                        members,
+                        record,
+                        place,
+                    },
+                ))
+            }
         }
-        let (submission, completion) = inlet.release();
-        Ok(Left {
-            members,
-            submission,
-            completion,
-            place,
-        })
     }
 
     /// How many records wait for it at most, as the bus was made.

@@ -25,6 +25,7 @@ returns-clause-taken_in c =
     (WasRejoined (view c.args.other)) (
       record { tenancy = c.rejoin.ensures.tenancy; queue = c.rejoin.ensures.queue; takes = c.rejoin.ensures.takes },
       c.rejoin.ensures.taken_in,
+      c.rejoin.ensures.joined,
     )
 
 pub returns-clause-others : goal.returns-clause-others

@@ -5,6 +5,27 @@ use Rattle.lock_free_queues.specs.Queues.Rings.{QueueId, consumer_view, view}
 use Rattle.zero_copy_bus.proofs.ViewLemmas.{found_further}
 use Rattle.zero_copy_bus.proofs.outlet.Outlet.empty_submitted.Goals as goal
 
+pub returns-in-Ok-clause-drained : goal.returns-in-Ok-clause-drained
+returns-in-Ok-clause-drained g c seen =
+    let taken = c.in-Ok.ensures.acquired in
+    record {
+      kept = view c.split.new.self;
+      other = view c.in-Some.pass;
+      begun = consumer_view c.in-Ok.receives;
+      ended = consumer_view c.empty-is_empty.new.receives;
+      left = view c.release.result;
+      cut = c.in-Some.ensures.cut;
+      begins = (taken.0.goes, taken.1);
+      took =
+          λ some.
+          c.empty-is_empty.ensures.taken (subst (λ (q : QueueId). 0 < q.capacity) (sym (taken.0.queue ∙ c.in-Some.ensures.new)) some);
+      ends = (c.release.ensures.same.goes, c.release.ensures.released);
+      both = c.join.ensures.same.joined;
+      queue = c.join.ensures.same.queue ∙ c.split.ensures.queue;
+      all = c.join.ensures.same.all;
+      history = c.history.ensures.history;
+    }
+
 pub returns-in-Ok-clause-empty : goal.returns-in-Ok-clause-empty
 returns-in-Ok-clause-empty g c seen some =
     let taken = c.in-Ok.ensures.acquired.0 in

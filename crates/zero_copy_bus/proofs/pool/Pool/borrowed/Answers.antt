@@ -7,11 +7,11 @@ pub returns-clause-least : goal.returns-clause-least
 returns-clause-least c =
     let counted = c.borrowed_indices in
     let table = c.args.self.now.table.items in
-    let book = is_counted c.args.self.now.book counted.result _ counted.ensures.counted in
-    subst (λ n. n ≤ counted.result) (as_many 0 table) (counted.ensures.least (held_from 0 table) (holds_all book))
+    let book = is_counted c.args.self.now.book counted.result _ counted.ensures.counted.counted in
+    subst (λ n. n ≤ counted.result) (as_many 0 table) (counted.ensures.counted.least (held_from 0 table) (holds_all book))
 
 pub returns-clause-whole : goal.returns-clause-whole
 returns-clause-whole c all =
     let counted = c.borrowed_indices in
-    let book = is_counted c.args.self.now.book counted.result _ counted.ensures.counted in
-    sym (all_are_held book counted.result counted.ensures.whole (subst IsAll (sym counted.ensures.same.share) all))
+    let book = is_counted c.args.self.now.book counted.result _ counted.ensures.counted.counted in
+    sym (all_are_held book counted.result counted.ensures.counted.whole (subst IsAll (sym counted.ensures.same.share) all))

@@ -9,11 +9,11 @@ invariant_of-self-2 g c =
     let mine = c.args.self.now in
     let slot = c.in_ok-slot.slot in
     let got = c.in_ok-slot.ensures in
-    let lt : slot < length mine.table.items = subst (λ n. slot < n) (sym mine.long) got.within in
+    let lt : slot < length mine.table.items = subst (λ n. slot < n) (sym mine.long) got.acquired.within in
     record {
       of = search rules;
       long = length-set mine.table.items slot c.with.result ∙ mine.long;
-      book = is_taken mine.book slot c.with.result lt _ c.with.ensures.held got.acquired;
+      book = is_taken mine.book slot c.with.result lt _ c.with.ensures.held got.acquired.acquired;
     }
 
 pub returns-clause-changes : goal.returns-clause-changes
@@ -22,6 +22,6 @@ returns-clause-changes g c =
     let table = mine.table.items in
     let slot = c.in_ok-slot.slot in
     let got = c.in_ok-slot.ensures in
-    let lt : slot < length table = subst (λ n. slot < n) (sym mine.long) got.within in
-    let none : c.nobody.result ≡ holders_at table slot = c.nobody.ensures ∙ sym (free_is _ (was_free mine.book slot _ got.acquired)) in
+    let lt : slot < length table = subst (λ n. slot < n) (sym mine.long) got.acquired.within in
+    let none : c.nobody.result ≡ holders_at table slot = c.nobody.ensures ∙ sym (free_is _ (was_free mine.book slot _ got.acquired.acquired)) in
     set_changes table slot c.with.result c.args.holder lt (subst (λ h. SameBut c.args.holder h c.with.result) none c.with.ensures.others)

@@ -3,7 +3,8 @@ use Rattle.std.specs.Prelude.{slice_get, Some, true}
 use Rattle.zero_copy_bus.specs.Books.{KeepsAllOrNone, KeepsLoans}
 use Rattle.zero_copy_bus.specs.Ends.{lanes_of, place_before, receives_at, receives_before, roll_of, table_of}
 use Rattle.zero_copy_bus.specs.Outlets.{open_in, EachOther, OthersStay}
-use Rattle.zero_copy_bus.proofs.Leases.{let_after, moved, not_shown, others_after}
+use Rattle.zero_copy_bus.proofs.Leases.{let_after, moved, not_shown, others_after, seated}
+use Rattle.zero_copy_bus.proofs.RollLemmas.{looked_after}
 use Rattle.zero_copy_bus.proofs.publisher.Publisher.subscribe.Goals as goal
 
 pub returns-then-takes_part-clause-all : goal.returns-then-takes_part-clause-all
@@ -13,6 +14,13 @@ returns-then-takes_part-clause-all g c =
 pub returns-then-takes_part-clause-loans : goal.returns-then-takes_part-clause-loans
 returns-then-takes_part-clause-loans g c =
     subst (λ t. KeepsLoans t (table_of c.update.new.self)) c.seat.ensures.table c.update.ensures.loans
+
+pub returns-then-takes_part-clause-looked : goal.returns-then-takes_part-clause-looked
+returns-then-takes_part-clause-looked g c = (
+  c.update.ensures.looked.0,
+  looked_after c.update.ensures.looked.0 (roll_of c.args.self.now) (roll_of c.seat.new.self) (roll_of c.update.new.self) c.seat.ensures.looks
+      c.update.ensures.looked.1,
+)
 
 pub returns-then-takes_part-clause-part : goal.returns-then-takes_part-clause-part
 returns-then-takes_part-clause-part g c =
@@ -49,15 +57,25 @@ returns-in-Err-leave-clause-loans g c = subst (λ t. KeepsLoans t (table_of c.up
 
 pub returns-in-Err-clause-refused : goal.returns-in-Err-clause-refused
 returns-in-Err-clause-refused g c =
-    (c.in-Some.seat, c.in-Err._seat, c.in-Some.ensures.leased, c.in-Some.ensures.others, c.in-Err.ensures.refused)
+    (c.in-Some.seat, c.in-Err._seat, c.in-Some.ensures.leased, c.in-Some.ensures.others, c.in-Err.ensures.refused, c.seat.ensures.table)
+
+pub returns-then-takes_part-clause-settled : goal.returns-then-takes_part-clause-settled
+returns-then-takes_part-clause-settled g c =
+    seated c.args.self.now c.seat.new.self c.update.new.self c.in-Some.seat c.in-Ok.subscriber c.in-Ok.ensures.at
+    c.in-Ok.ensures.receives.0 c.in-Ok.ensures.receives.1 c.in-Some.ensures.leased c.in-Some.ensures.others c.seat.ensures.table
+    c.seat.ensures.same.lanes c.update.ensures.settled c.update.ensures.rest
 
 pub returns-in-Ok-leave-clause-refused : goal.returns-in-Ok-leave-clause-refused
 returns-in-Ok-leave-clause-refused g c = (
   c.in-Ok.subscriber,
   c.in-Ok-leave._left,
-  not_shown c.args.owner c.args.self.now c.seat.new.self c.update.new.self c.in-Some.seat c.in-Ok.subscriber c.in-Ok.ensures.owner
-      c.in-Ok.ensures.at c.in-Ok.ensures.receives.0 c.in-Ok.ensures.receives.1 c.in-Some.ensures.leased c.in-Some.ensures.others
-      c.seat.ensures.table c.update.ensures.settled
+  not_shown c.args.owner c.args.self.now c.update.new.self c.in-Ok.subscriber c.in-Ok.ensures.owner
+      (seated c.args.self.now c.seat.new.self c.update.new.self c.in-Some.seat c.in-Ok.subscriber c.in-Ok.ensures.at
+      c.in-Ok.ensures.receives.0 c.in-Ok.ensures.receives.1 c.in-Some.ensures.leased c.in-Some.ensures.others c.seat.ensures.table
+      c.seat.ensures.same.lanes c.update.ensures.settled c.update.ensures.rest)
+      c.update.ensures.looked.0
+      (looked_after c.update.ensures.looked.0 (roll_of c.args.self.now) (roll_of c.seat.new.self) (roll_of c.update.new.self) c.seat.ensures.looks
+      c.update.ensures.looked.1)
       (λ is.
       true≢false
       (sym (c.takes_part.ensures.1
@@ -70,13 +88,19 @@ returns-in-Ok-leave-clause-refused g c = (
 pub returns-in-Err-leave-clause-refused : goal.returns-in-Err-leave-clause-refused
 returns-in-Err-leave-clause-refused g c = (
   c.in-Ok.subscriber,
-  not_shown c.args.owner c.args.self.now c.seat.new.self c.update.new.self c.in-Some.seat c.in-Ok.subscriber c.in-Ok.ensures.owner
-      c.in-Ok.ensures.at c.in-Ok.ensures.receives.0 c.in-Ok.ensures.receives.1 c.in-Some.ensures.leased c.in-Some.ensures.others
-      c.seat.ensures.table c.update.ensures.settled
+  c.in-Err-leave._subscriber,
+  not_shown c.args.owner c.args.self.now c.update.new.self c.in-Ok.subscriber c.in-Ok.ensures.owner
+      (seated c.args.self.now c.seat.new.self c.update.new.self c.in-Some.seat c.in-Ok.subscriber c.in-Ok.ensures.at
+      c.in-Ok.ensures.receives.0 c.in-Ok.ensures.receives.1 c.in-Some.ensures.leased c.in-Some.ensures.others c.seat.ensures.table
+      c.seat.ensures.same.lanes c.update.ensures.settled c.update.ensures.rest)
+      c.update.ensures.looked.0
+      (looked_after c.update.ensures.looked.0 (roll_of c.args.self.now) (roll_of c.seat.new.self) (roll_of c.update.new.self) c.seat.ensures.looks
+      c.update.ensures.looked.1)
       (λ is.
       true≢false
       (sym (c.takes_part.ensures.1
       (subst (λ k. slice_get (open_in (lanes_of c.update.new.self)) k ≡ Some true) (sym c.place.ensures) is))
       ∙ c.if-takes_part.false)),
   c.in-Err-leave.ensures.kept,
+  c.in-Err-leave.ensures.again,
 )

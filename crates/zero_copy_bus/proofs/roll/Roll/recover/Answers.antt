@@ -6,5 +6,5 @@ pub returns-clause-taken : goal.returns-clause-taken
 returns-clause-taken g c =
     record {
       state = c.recover.result;
-      recovered = told_yes _ (λ p x b q k. search rules) _ _ _ _ _ _ _ _ c.recover.ensures.recovered;
+      recovered = told_yes _ (λ p x b q k. search rules) _ _ _ _ _ _ _ _ c.recover.ensures.recovered.recovered;
     }
