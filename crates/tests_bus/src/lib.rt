@@ -12,6 +12,8 @@ mod rejoins;
 #[cfg(test)]
 mod rooms;
 #[cfg(test)]
+mod stage;
+#[cfg(test)]
 mod threads;
 #[cfg(test)]
 mod turns;

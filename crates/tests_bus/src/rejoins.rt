@@ -1,15 +1,16 @@
 //! A subscriber leaves with records in hand and records that wait, and the publisher takes in what it left. After one look no slot is
-//! out, though nothing was collected, and the lane is let again.
+//! out, though nothing was collected, and the lane is let again. One that was taken out as dead cannot leave, and keeps its lane.
 ghost use Rattle.std.specs.Prelude.{◌≡◌, IfSome};
 ghost use Rattle.zero_copy_bus.specs.Ends.{place_at, receives_queue, IsOfLane};
 ghost use Rattle.zero_copy_bus.specs.Relays.{HasPublished};
 
-use crate::words::{Words, spares};
+use crate::stage::{Failure, Plays, holds, on_new_bus, some};
+use crate::words::Words;
 use lock_free::mpmc::container::OwnerId;
 use std::alloc::Global;
 use std::sync::Wait;
 use std::test::Fail;
-use zero_copy_bus::bus::{Bus, Sizes};
+use zero_copy_bus::bus::Sizes;
 use zero_copy_bus::publisher::Publisher;
 use zero_copy_bus::subscriber::{Left, Subscriber};
 
@@ -63,58 +64,91 @@ fn leaves<'a>(
     Some(left)
 }
 
-/// Whether no slot is out in the end, and a lane is free. None where it does not come to this.
-fn comes_back(rt: &impl Wait, alloc: Global, slots: usize) -> Option<(bool, bool)> {
-    let sizes = Sizes {
-        slots,
-        subscribers: 1,
-        queue: slots,
-    };
-    let Ok((mut bus, pass)) = Bus::new(alloc, sizes) else {
-        return None;
-    };
-    let records = spares(alloc, slots + 1, 1).ok()?;
-    let Ok(mut publisher) = bus.publisher(rt, alloc, pass, records) else {
-        return None;
-    };
-    let left = leaves(rt, &mut publisher, slots)?;
-    publisher.rejoin(left);
-    if publisher.is_free() || publisher.borrowed() != slots {
-        return None;
-    }
+/// Somebody leaves, and the publisher looks who takes part before it takes in what was left. Whether no slot is out in the end, and a
+/// lane is free. None where it does not come to this.
+fn comes_back_before(
+    rt: &impl Wait,
+    publisher: &mut Publisher<'_, Words>,
+    slots: usize,
+) -> Option<bool> {
+    let left = leaves(rt, publisher, slots)?;
     publisher.update(rt);
-    Some((publisher.is_free(), publisher.seat().is_some()))
+    publisher.rejoin(left);
+    Some(publisher.is_free() && publisher.seat().is_some())
 }
 
-/// The same, where the publisher looks who takes part before it takes in what was left.
-fn comes_back_before(rt: &impl Wait, alloc: Global, slots: usize) -> Option<(bool, bool)> {
-    let sizes = Sizes {
-        slots,
-        subscribers: 1,
-        queue: slots,
-    };
-    let Ok((mut bus, pass)) = Bus::new(alloc, sizes) else {
-        return None;
-    };
-    let records = spares(alloc, slots + 1, 1).ok()?;
-    let Ok(mut publisher) = bus.publisher(rt, alloc, pass, records) else {
-        return None;
-    };
-    let left = leaves(rt, &mut publisher, slots)?;
-    publisher.update(rt);
-    publisher.rejoin(left);
-    Some((publisher.is_free(), publisher.seat().is_some()))
+/// What one left comes back, and then what another left. The publisher looks only after it has taken in what the first left.
+#[derive(Drop)]
+struct ComesBack {
+    slots: usize,
+}
+
+impl Plays for ComesBack {
+    fn plays(
+        &self,
+        rt: &impl Wait,
+        _alloc: Global,
+        publisher: &mut Publisher<'_, Words>,
+    ) -> Result<Option<usize>, Failure> {
+        let Some(left) = leaves(rt, publisher, self.slots) else {
+            return Err(Failure::Wrong);
+        };
+        publisher.rejoin(left);
+        holds(!publisher.is_free() && publisher.borrowed() == self.slots)?;
+        publisher.update(rt);
+        holds(publisher.is_free() && publisher.seat().is_some())?;
+        // (the seat is free again)
+        publisher.update(rt);
+        holds(comes_back_before(rt, publisher, self.slots) == Some(true))?;
+        Ok(None)
+    }
+}
+
+/// A subscriber that was taken out as dead does not leave. It comes back, and receives what waits. Its slots stay out until it is
+/// dropped, and then a lane is free.
+#[derive(Drop)]
+struct ComesBackLate;
+
+impl Plays for ComesBackLate {
+    fn plays(
+        &self,
+        rt: &impl Wait,
+        _alloc: Global,
+        publisher: &mut Publisher<'_, Words>,
+    ) -> Result<Option<usize>, Failure> {
+        let owner = some(OwnerId::new(1).ok())?;
+        let subscriber = some(publisher.subscribe(rt, owner).ok())?;
+        holds(publishes(rt, publisher, 2))?;
+        publisher.recover(rt, owner);
+        let Err((_failure, mut again)) = subscriber.leave(rt) else {
+            return Err(Failure::Wrong);
+        };
+        let has_received = again.receive(rt).is_some();
+        publisher.update(rt);
+        let is_out = !publisher.is_free();
+        drop(again);
+        publisher.update(rt);
+        holds(has_received && is_out && publisher.is_free() && publisher.seat().is_some())?;
+        Ok(None)
+    }
 }
 
 #[test]
 fn what_was_left_comes_back(rt: HostRuntime) -> Result<(), Fail> {
-    for slots in [1, 9, 65] {
-        assert!(rt;
-            comes_back(&rt, rt.alloc(), slots) == Some((true, true)),
-            "{slots} slots"
-        );
-        let is_before = comes_back_before(&rt, rt.alloc(), slots) == Some((true, true));
-        assert!(rt; is_before, "{slots} slots, after a look");
+    for slots in [1usize, 9, 65] {
+        let sizes = Sizes {
+            slots,
+            subscribers: 1,
+            queue: slots,
+        };
+        let records = slots.saturating_add(1);
+        on_new_bus(&rt, rt.alloc(), sizes, records, 1, &ComesBack { slots })?;
     }
+    let sizes = Sizes {
+        slots: 3,
+        subscribers: 1,
+        queue: 2,
+    };
+    on_new_bus(&rt, rt.alloc(), sizes, 4, 1, &ComesBackLate)?;
     Ok(())
 }

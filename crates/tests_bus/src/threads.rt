@@ -2,7 +2,8 @@
 ghost use Rattle.std.specs.Prelude.{◌≡◌, IfSome};
 
 use crate::limit::{Enough, Limit};
-use crate::words::{OwnNumber, Words, spares, text_of, writes_text};
+use crate::stage::Failure;
+use crate::words::{OwnNumber, Words, is_whole, spares, writes};
 use lock_free::mpmc::container::OwnerId;
 use std::alloc::Global;
 use std::sync::Wait;
@@ -12,7 +13,6 @@ use std::thread;
 use std::thread::Threads;
 use std::time::Clock;
 use zero_copy_bus::bus::{Bus, Sizes};
-use zero_copy_bus::error::BusError;
 use zero_copy_bus::news::{News, Notifier};
 use zero_copy_bus::numbers::Sequence;
 use zero_copy_bus::publisher::{Loan, Publisher};
@@ -102,33 +102,8 @@ fn next_loan<'a>(
     None
 }
 
-/// The word of a record at this place.
-fn word_of(number: u64, at: usize) -> u64 {
-    number.wrapping_mul(WORDS as u64).wrapping_add(at as u64)
-}
-
-/// Writes the words of the record of this number.
-fn writes(words: &mut [u64], number: u64) {
-    for (at, word) in words.iter_mut().enumerate() {
-        *word = word_of(number, at);
-    }
-}
-
-/// Publishes the record of the next number on a loan. False where that is another, or where there is no memory.
-fn publishes_next<'a>(
-    publisher: &mut Publisher<'a, Words, OwnNumber>,
-    mut loan: Loan<'a, Words, OwnNumber>,
-    number: u64,
-) -> bool {
-    writes(&mut loan.value.all, number);
-    let is_written = writes_text(&mut loan.value.text, number);
-    let next = publisher.next_number();
-    loan.value.number = next;
-    publisher.publish(loan);
-    is_written && next == number
-}
-
-/// Publishes a record of this number, tells of it, and takes back what has been given back.
+/// Publishes a record of this number, tells of it, and takes back what has been given back. False where the next number is another,
+/// and where there is no memory.
 fn publish(
     rt: &impl Wait,
     publisher: &mut Publisher<'_, Words, OwnNumber>,
@@ -136,10 +111,14 @@ fn publish(
     number: u64,
 ) -> bool {
     publisher.update(rt);
-    let Some(loan) = next_loan(rt, publisher) else {
+    let Some(mut loan) = next_loan(rt, publisher) else {
         return false;
     };
-    if !publishes_next(publisher, loan, number) {
+    let is_written = writes(&mut loan.value, number);
+    let next = publisher.next_number();
+    loan.value.number = next;
+    publisher.publish(loan);
+    if !is_written || next != number {
         return false;
     }
     notifier.notify(rt, 0);
@@ -196,7 +175,7 @@ fn publish_more(
 
 /// What the publisher tells of a run: how many records he published, and how many slots were out. He counts those once one
 /// has died, and in the end.
-#[derive(Clone, Copy, Debug)]
+#[derive(Drop)]
 struct Published {
     number: u64,
     out_at_death: usize,
@@ -238,16 +217,6 @@ fn publishes(
     })
 }
 
-/// Whether each word of a record, and its text, is that of its number.
-fn is_whole(words: &Words) -> bool {
-    for at in 0..WORDS {
-        if words.all.get(at).copied() != Some(word_of(words.number, at)) {
-            return false;
-        }
-    }
-    words.text.as_str() == text_of(words.number)
-}
-
 /// The number that a record was published with, and the one that stands in it. They are the same by the rule. None where the
 /// record is not whole.
 fn numbers_of(subscriber: &Subscriber<'_, Words, OwnNumber>, sample: &Sample) -> Option<(u64, u64)>
@@ -255,16 +224,10 @@ fn numbers_of(subscriber: &Subscriber<'_, Words, OwnNumber>, sample: &Sample) ->
 {
     let reading = subscriber.read(sample).ok()?;
     let words = reading.get();
-    if !is_whole(words) {
+    if !is_whole(words, words.number, WORDS) {
         return None;
     }
     Some((reading.number(), words.number))
-}
-
-/// The number of a record. None where it is not whole.
-fn number_of(subscriber: &Subscriber<'_, Words, OwnNumber>, sample: &Sample) -> Option<u64> {
-    let (number, _) = numbers_of(subscriber, sample)?;
-    Some(number)
 }
 
 /// Receives what comes next. None where it is over and nothing comes any more, and at the limit.
@@ -292,9 +255,10 @@ fn number_still(
     sample: &Sample,
     looks: u64,
 ) -> Option<u64> {
-    let found = number_of(subscriber, sample)?;
+    let (found, _) = numbers_of(subscriber, sample)?;
     for _ in 0..looks {
-        if number_of(subscriber, sample)? != found {
+        let (again, _) = numbers_of(subscriber, sample)?;
+        if again != found {
             return None;
         }
     }
@@ -365,7 +329,7 @@ fn dies(
 }
 
 /// What came of a run. Besides what the publisher tells it is how many records came to the slow one and to the late one.
-#[derive(Clone, Copy, Debug)]
+#[derive(Drop)]
 struct Came {
     published: Published,
     slow: u64,
@@ -408,13 +372,13 @@ fn run<R: Threads + Wait + Clock + Sync>(
     })
 }
 
-/// The same with three seats of this publisher.
-fn run_with<R: Threads + Wait + Clock + Sync>(
+/// The same with three seats of this publisher, and whether the topic was told of in the end.
+fn run_and_hear<R: Threads + Wait + Clock + Sync>(
     rt: &R,
     publisher: &mut Publisher<'_, Words, OwnNumber>,
-    notifier: &mut Notifier<'_>,
+    news: &mut News,
     owners: [OwnerId; 3],
-) -> Option<Came> {
+) -> Option<(Came, bool)> {
     let shared = Shared {
         published: AtomicU64::new(0),
         joined: AtomicU64::new(0),
@@ -424,19 +388,9 @@ fn run_with<R: Threads + Wait + Clock + Sync>(
         slow: AtomicU64::new(0),
         late: AtomicU64::new(0),
     };
-    let seats = (publisher.seat()?, publisher.seat()?, publisher.seat()?);
-    run(rt, publisher, notifier, seats, owners, &shared)
-}
-
-/// What came, and whether the topic was told of in the end.
-fn run_and_hear<R: Threads + Wait + Clock + Sync>(
-    rt: &R,
-    publisher: &mut Publisher<'_, Words, OwnNumber>,
-    news: &mut News,
-    owners: [OwnerId; 3],
-) -> Option<(Came, bool)> {
     let (mut notifier, mut listener) = news.ends()?;
-    let came = run_with(rt, publisher, &mut notifier, owners)?;
+    let seats = (publisher.seat()?, publisher.seat()?, publisher.seat()?);
+    let came = run(rt, publisher, &mut notifier, seats, owners, &shared)?;
     Some((came, listener.next(rt) == Some(0)))
 }
 
@@ -445,14 +399,13 @@ fn run_anew<R: Threads + Wait + Clock + Sync>(
     rt: &R,
     alloc: Global,
     owners: [OwnerId; 3],
-) -> Result<Option<(Came, bool)>, BusError> {
+) -> Result<Option<(Came, bool)>, Failure> {
     let (mut bus, pass) = Bus::new(alloc, SIZES)?;
-    let spares = match spares(alloc, SIZES.slots + 1, WORDS) {
-        Ok(spares) => spares,
-        Err(_) => return Err(BusError::NoMemory),
-    };
+    let spares = spares(alloc, SIZES.slots + 1, WORDS)?;
     let mut publisher = bus.publisher(rt, alloc, pass, spares)?;
-    let mut news = News::new(alloc, 1)?;
+    let Ok(mut news) = News::new(alloc, 1) else {
+        return Err(Failure::NoMemory);
+    };
     Ok(run_and_hear(rt, &mut publisher, &mut news, owners))
 }
 

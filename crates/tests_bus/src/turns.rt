@@ -4,12 +4,14 @@ use crate::rooms::Step::{
     Keeps, Leaves, Loans, Out, Publishes, Reads, ReadsOn, Reclaims, Recovers, Updates,
 };
 use crate::rooms::Who::{One, Other};
-use crate::rooms::{SIZES, Step, first_wrong, left_of};
+use crate::rooms::{Row, SIZES, Step, WORDS};
+use crate::stage::on_new_bus;
 use crate::words::Words;
 use std::sync::Wait;
 use std::test::Fail;
 use zero_copy_bus::bus::{Bus, Sizes};
-use zero_copy_bus::news::{Listener, News, Notifier};
+use zero_copy_bus::error::BusError;
+use zero_copy_bus::news::News;
 use zero_copy_slots::Anything;
 
 /// Both get each record, in order; and none comes back before both have given it back.
@@ -195,98 +197,121 @@ const ALL_GIVEN: [Step; 20] = [
 /// The record of a loan that is given up is written again, and so is what lay in its slot.
 const GIVEN_UP: [Step; 3] = [Publishes(0, 0), Loans(true), GivesUp];
 
+/// All records come back from a publisher who has none in a slot.
+const NONE_LEFT: [Step; 2] = [Loans(true), GivesUp];
+
 /// Both take a seat, and none is left.
 const JOIN: [Step; 3] = [Joins(One, 1), Joins(Other, 2), HasSeat(false)];
 
 /// One takes a seat.
 const JOIN_ONE: [Step; 1] = [Joins(One, 1)];
 
+/// How many records there are.
+const RECORDS: usize = 16;
+
 #[test]
 fn rows(rt: HostRuntime) -> Result<(), Fail> {
-    let rows: [(&str, &[Step], &[Step], usize); 13] = [
-        ("BOTH", &JOIN, &BOTH, 100),
-        ("SLOW", &JOIN_ONE, &SLOW, 3),
-        ("LOANS", &[], &LOANS, 1),
-        ("LEFT", &JOIN, &LEFT, 1),
-        ("DEAD", &JOIN, &DEAD, 1),
-        ("GIVEN", &JOIN, &GIVEN, 1),
-        ("SEATS", &[], &SEATS, 1),
-        ("FORGOTTEN", &JOIN_ONE, &FORGOTTEN, 1),
-        ("DROPPED", &[], &DROPPED, 1),
-        ("DROPPED_OTHER", &[], &DROPPED_OTHER, 1),
-        ("READ_ON", &JOIN, &READ_ON, 17),
-        ("ALL_GIVEN", &JOIN_ONE, &ALL_GIVEN, 1),
-        ("GIVEN_UP", &[], &GIVEN_UP, 100),
+    // (and how many records are left at least)
+    let rows: [(&str, &[Step], &[Step], usize, usize); 14] = [
+        ("BOTH", &JOIN, &BOTH, 100, 0),
+        ("SLOW", &JOIN_ONE, &SLOW, 3, 0),
+        ("LOANS", &[], &LOANS, 1, 0),
+        ("LEFT", &JOIN, &LEFT, 1, 0),
+        ("DEAD", &JOIN, &DEAD, 1, 0),
+        ("GIVEN", &JOIN, &GIVEN, 1, 0),
+        ("SEATS", &[], &SEATS, 1, 0),
+        ("FORGOTTEN", &JOIN_ONE, &FORGOTTEN, 1, 0),
+        ("DROPPED", &[], &DROPPED, 1, 0),
+        ("DROPPED_OTHER", &[], &DROPPED_OTHER, 1, 0),
+        ("READ_ON", &JOIN, &READ_ON, 17, 0),
+        ("ALL_GIVEN", &JOIN_ONE, &ALL_GIVEN, 1, 0),
+        ("GIVEN_UP", &[], &GIVEN_UP, 100, 0),
+        ("NONE_LEFT", &[], &NONE_LEFT, 1, RECORDS),
     ];
-    for (name, begin, steps, rounds) in &rows {
-        let wrong = first_wrong(&rt, rt.alloc(), begin, steps, *rounds)?;
+    for (name, begin, steps, rounds, least) in &rows {
+        let row = Row {
+            begin,
+            steps,
+            rounds: *rounds,
+        };
+        let (wrong, left) = on_new_bus(&rt, rt.alloc(), SIZES, RECORDS, WORDS, &row)?;
         assert_eq!(rt; wrong, None, "{name}");
+        assert!(rt; left >= *least, "{name}");
     }
     Ok(())
 }
 
-/// All records come back from a publisher who has none in a slot.
-#[test]
-fn a_publisher_hands_its_records_out(rt: HostRuntime) -> Result<(), Fail> {
-    assert_eq!(rt; left_of(&rt, rt.alloc(), 5)?, Some(5));
-    Ok(())
-}
-
-const REFUSED: [Sizes; 5] = [
-    Sizes { slots: 0, ..SIZES },
-    Sizes {
-        slots: 1 << 24,
-        ..SIZES
-    },
-    Sizes {
-        subscribers: 0,
-        ..SIZES
-    },
-    Sizes {
-        subscribers: 64,
-        ..SIZES
-    },
-    Sizes {
-        queue: 1 << 32,
-        ..SIZES
-    },
+/// More than 63 may not subscribe: a bus is refused for that.
+const REFUSED: [(Sizes, bool); 6] = [
+    (Sizes { slots: 0, ..SIZES }, false),
+    (
+        Sizes {
+            slots: 1 << 24,
+            ..SIZES
+        },
+        false,
+    ),
+    (
+        Sizes {
+            subscribers: 0,
+            ..SIZES
+        },
+        false,
+    ),
+    (
+        Sizes {
+            subscribers: 64,
+            ..SIZES
+        },
+        true,
+    ),
+    (
+        Sizes {
+            subscribers: 70,
+            ..SIZES
+        },
+        true,
+    ),
+    (
+        Sizes {
+            queue: 1 << 32,
+            ..SIZES
+        },
+        false,
+    ),
 ];
 
 #[test]
 fn a_bus_has_sizes(rt: HostRuntime) -> Result<(), Fail> {
-    for sizes in &REFUSED {
-        assert!(rt; Bus::<Words, Anything>::new(rt.alloc(), *sizes).is_err());
+    for (sizes, are_many) in &REFUSED {
+        let is_refused = match Bus::<Words, Anything>::new(rt.alloc(), *sizes) {
+            Err(BusError::TooManySubscribers) => *are_many,
+            Err(_) => !*are_many,
+            Ok(_) => false,
+        };
+        assert!(rt; is_refused);
     }
     let least = Sizes { queue: 0, ..SIZES };
     Bus::<Words, Anything>::new(rt.alloc(), least)?;
     Ok(())
 }
 
-fn tells(rt: &impl Wait, notifier: &mut Notifier<'_>) -> bool {
-    notifier.notify(rt, 69)
-        && notifier.notify(rt, 3)
-        && notifier.notify(rt, 3)
-        && !notifier.notify(rt, 70)
-}
-
-fn hears(rt: &impl Wait, listener: &mut Listener<'_>) -> [Option<usize>; 3] {
-    [listener.next(rt), listener.next(rt), listener.next(rt)]
-}
-
-/// What is heard before anything was told, and then. None where there is no pass.
-fn heard(rt: &impl Wait, news: &mut News) -> Option<(Option<usize>, [Option<usize>; 3])> {
+/// Whether nothing is heard before anything was told, and then what was, each once. None where there is no pass.
+fn is_heard(rt: &impl Wait, news: &mut News) -> Option<bool> {
     let (mut notifier, mut listener) = news.ends()?;
-    let before = listener.next(rt);
-    if !tells(rt, &mut notifier) {
-        return None;
-    }
-    Some((before, hears(rt, &mut listener)))
+    let mut right = listener.next(rt).is_none();
+    right &= notifier.notify(rt, 69);
+    right &= notifier.notify(rt, 3);
+    right &= notifier.notify(rt, 3);
+    right &= !notifier.notify(rt, 70);
+    right &= listener.next(rt) == Some(3);
+    right &= listener.next(rt) == Some(69);
+    Some(right & listener.next(rt).is_none())
 }
 
 #[test]
 fn a_topic_has_news_until_it_is_heard(rt: HostRuntime) -> Result<(), Fail> {
     let mut news = News::new(rt.alloc(), 70)?;
-    let heard = heard(&rt, &mut news).ok_or("not told")?;
-    assert!(rt; heard == (None, [Some(3), Some(69), None]));
+    assert!(rt; is_heard(&rt, &mut news) == Some(true));
     Ok(())
 }

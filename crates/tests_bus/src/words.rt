@@ -41,10 +41,29 @@ pub fn text_of(number: u64) -> &'static str {
     TEXTS[(number % 4) as usize]
 }
 
-/// Writes a text: whether there was memory.
-pub fn writes_text(text: &mut String, number: u64) -> bool {
-    text.clear();
-    text.push_str(text_of(number)).is_ok()
+/// The word of a record at this place.
+pub fn word_of(number: u64, at: usize) -> u64 {
+    number.wrapping_mul(16).wrapping_add(at as u64)
+}
+
+/// Writes a record of this number: whether there was memory.
+pub fn writes(words: &mut Words, number: u64) -> bool {
+    words.number = number;
+    for (at, word) in words.all.iter_mut().enumerate() {
+        *word = word_of(number, at);
+    }
+    words.text.clear();
+    words.text.push_str(text_of(number)).is_ok()
+}
+
+/// Whether a record is of this number, with so many words.
+pub fn is_whole(words: &Words, number: u64, so_many: usize) -> bool {
+    for at in 0..so_many {
+        if words.all.get(at).copied() != Some(word_of(number, at)) {
+            return false;
+        }
+    }
+    words.number == number && words.all.len() == so_many && words.text.as_str() == text_of(number)
 }
 
 /// Records to write, each of so many words.

@@ -37,49 +37,32 @@ fn has(buffer: &Buffer<'_, String>, letters: u64) -> bool {
     }
 }
 
-/// Two buffers, with texts of three letters and of four.
-fn two<'a>(
-    rt: &impl Wait,
-    alloc: Global,
-    lender: &mut Lender<'a, String>,
-) -> Option<(Buffer<'a, String>, Buffer<'a, String>)> {
+/// Whether this place comes with its three letters, or comes empty. With letters it is dropped, and else given back.
+fn comes(rt: &impl Wait, lender: &mut Lender<'_, String>, place: u32, is_empty: bool) -> bool {
+    let Ok(buffer) = lender.acquire(rt) else {
+        return false;
+    };
+    if buffer.place() != place {
+        return false;
+    }
+    if is_empty {
+        buffer.value.is_none() & buffer.give_back().is_ok()
+    } else {
+        has(&buffer, 3)
+    }
+}
+
+/// Whether each of two buffers has a place of its own, and that of the first comes with its value, and then empty. None where they are
+/// not to be had.
+fn two_keep(rt: &impl Wait, alloc: Global, lender: &mut Lender<'_, String>) -> Option<bool> {
     let one = fills(rt, alloc, lender, 3)?;
     let other = fills(rt, alloc, lender, 4)?;
-    Some((one, other))
-}
-
-/// Whether no place is left.
-fn has_none(rt: &impl Wait, lender: &mut Lender<'_, String>) -> bool {
-    matches!(&lender.acquire(rt), Err(PoolFailure::NoPlace(_)))
-}
-
-/// Whether this place comes with its three letters. Its buffer is dropped. None where none comes.
-fn comes(rt: &impl Wait, lender: &mut Lender<'_, String>, place: u32) -> Option<bool> {
-    let buffer = lender.acquire(rt).ok()?;
-    Some(buffer.place() == place && has(&buffer, 3))
-}
-
-/// Whether this place comes empty. Its buffer is given back so. None where none comes.
-fn comes_empty(rt: &impl Wait, lender: &mut Lender<'_, String>, place: u32) -> Option<bool> {
-    let buffer = lender.acquire(rt).ok()?;
-    let is_empty = buffer.place() == place && buffer.value.is_none();
-    Some(is_empty & buffer.give_back().is_ok())
-}
-
-/// Whether the place of one buffer comes with its value, and then empty, while another has the other place.
-fn keeps(rt: &impl Wait, lender: &mut Lender<'_, String>, one: Buffer<'_, String>) -> bool {
     let place = one.place();
-    let mut right = one.give_back().is_ok();
-    right &= comes(rt, lender, place) == Some(true);
-    right & (comes_empty(rt, lender, place) == Some(true))
-}
-
-/// Whether each of two buffers has a place of its own, and the first keeps its value. None where they are not to be had.
-fn two_keep(rt: &impl Wait, alloc: Global, lender: &mut Lender<'_, String>) -> Option<bool> {
-    let (one, other) = two(rt, alloc, lender)?;
-    let mut right = one.place() != other.place();
-    right &= has_none(rt, lender);
-    right &= keeps(rt, lender, one);
+    let mut right = place != other.place();
+    right &= matches!(&lender.acquire(rt), Err(PoolFailure::NoPlace(_)));
+    right &= one.give_back().is_ok();
+    right &= comes(rt, lender, place, false);
+    right &= comes(rt, lender, place, true);
     Some(right & other.give_back().is_ok())
 }
 
@@ -93,68 +76,42 @@ fn a_buffer_keeps_its_value(rt: HostRuntime) -> Result<(), Fail> {
     Ok(())
 }
 
-/// Lays two texts back: the place of the first. None where it could not.
-fn lays_two(rt: &impl Wait, alloc: Global, lender: &mut Lender<'_, String>) -> Option<u32> {
-    let (one, other) = two(rt, alloc, lender)?;
-    let place = one.place();
-    let are_laid = one.give_back().is_ok() & other.give_back().is_ok();
-    if are_laid { Some(place) } else { None }
-}
-
-/// Whether this place has three letters, and the other one four. None where they are not to be had.
-fn are_own(rt: &impl Wait, lender: &mut Lender<'_, String>, place: u32) -> Option<bool> {
-    let one = lender.acquire(rt).ok()?;
-    let other = lender.acquire(rt).ok()?;
-    if one.place() == place {
-        Some(has(&one, 3) && has(&other, 4))
-    } else {
-        Some(has(&other, 3) && has(&one, 4))
-    }
-}
-
-/// Each place keeps its own value.
-#[test]
-fn places_keep_their_own(rt: HostRuntime) -> Result<(), Fail> {
-    let mut pool: Pool<String> = Pool::new(rt.alloc(), 2)?;
-    let mut lender = pool.lender().ok_or("no lender")?;
-    let place = lays_two(&rt, rt.alloc(), &mut lender).ok_or("no buffer")?;
-    assert!(rt; are_own(&rt, &mut lender, place) == Some(true));
-    Ok(())
-}
-
 /// Whether a buffer has so many letters, and can be given back.
 fn has_and_gives_back(buffer: Buffer<'_, String>, letters: u64) -> bool {
     let is_right = has(&buffer, letters);
     is_right & buffer.give_back().is_ok()
 }
 
-/// Two threads fill a buffer each.
-fn two_fill<'a, R: Threads + Wait + Sync>(
-    rt: &R,
+/// Gives back what another filled with so many letters, and fills a buffer: whether both could be. It is given back too.
+fn hands_on(
+    rt: &impl Wait,
     alloc: Global,
-    one: &mut Lender<'a, String>,
-    other: &mut Lender<'a, String>,
-) -> Option<(Buffer<'a, String>, Buffer<'a, String>)> {
-    let (first, second) = thread::join(
-        rt,
-        move || fills(rt, alloc, one, 5),
-        move || fills(rt, alloc, other, 6),
-    );
-    Some((first?, second?))
+    lender: &mut Lender<'_, String>,
+    others: Buffer<'_, String>,
+    letters: u64,
+) -> bool {
+    if !has_and_gives_back(others, letters) {
+        return false;
+    }
+    match fills(rt, alloc, lender, 7) {
+        Some(buffer) => has_and_gives_back(buffer, 7),
+        None => false,
+    }
 }
 
-/// Two threads fill a buffer each, and each gives back what the other filled.
+/// Each of two lenders fills a buffer, and two threads give back what the other lender filled, and fill one more.
 fn swap<'a, R: Threads + Wait + Sync>(
     rt: &R,
     alloc: Global,
     one: &mut Lender<'a, String>,
     other: &mut Lender<'a, String>,
 ) -> Option<(bool, bool)> {
-    let (first, second) = two_fill(rt, alloc, one, other)?;
+    let first = fills(rt, alloc, one, 5)?;
+    let second = fills(rt, alloc, other, 6)?;
     Some(thread::join(
         rt,
-        move || has_and_gives_back(second, 6),
-        move || has_and_gives_back(first, 5),
+        move || hands_on(rt, alloc, one, second, 6),
+        move || hands_on(rt, alloc, other, first, 5),
     ))
 }
 

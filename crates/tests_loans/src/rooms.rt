@@ -17,7 +17,9 @@ pub enum Step {
     Sends(&'static str, Option<u64>),
     /// The text that comes next, with its number. It is given back.
     Reads(u64, &'static str),
-    /// The same, and a reading of it is forgotten before.
+    /// The same of a text whose number is that of the round.
+    ReadsOfRound(&'static str),
+    /// The same of a text with its number, and a reading of it is forgotten before.
     Forgets(u64, &'static str),
     /// Nothing waits to be received.
     FindsNone,
@@ -69,8 +71,13 @@ impl<'a> Drop for Room<'a> {
     }
 }
 
+/// Makes a channel of so many places. None where there is no memory.
+pub fn channel(alloc: Global, places: usize) -> Option<Channel<String>> {
+    Channel::new(alloc, places, QUEUE).ok()
+}
+
 /// Texts to write, so many.
-pub fn texts(alloc: Global, number: usize) -> Result<Vec<String>, AllocError> {
+fn texts(alloc: Global, number: usize) -> Result<Vec<String>, AllocError> {
     let mut texts = Vec::new(alloc);
     for _ in 0..number {
         texts.push(String::new(alloc))?;
@@ -78,33 +85,17 @@ pub fn texts(alloc: Global, number: usize) -> Result<Vec<String>, AllocError> {
     Ok(texts)
 }
 
-/// Makes a channel of so many places. None where there is no memory.
-pub fn channel(alloc: Global, places: usize) -> Option<Channel<String>> {
-    Channel::new(alloc, places, QUEUE).ok()
-}
-
-/// Writes a text: whether there was memory.
-fn writes(loan: &mut Loan<'_, String>, text: &str) -> bool {
-    loan.value.clear();
-    loan.value.push_str(text).is_ok()
-}
-
-/// Sends what was loaned: the answer of the channel. None where the loan is another's.
-fn sends_loan<'a>(sender: &mut Sender<'a, String>, loan: Loan<'a, String>) -> Option<Option<u64>> {
-    if sender.is_loaned(&loan) {
-        Some(sender.send(loan).map(|back| back.place as u64))
-    } else {
-        None
-    }
-}
-
-/// Sends a text: the answer of the channel. None where there is no place, or no memory.
-pub fn sends(rt: &impl Wait, sender: &mut Sender<'_, String>, text: &str) -> Option<Option<u64>> {
+/// Sends a text: the answer of the channel. None where there is no place, or no memory, or the loan is another's.
+fn sends(rt: &impl Wait, sender: &mut Sender<'_, String>, text: &str) -> Option<Option<u64>> {
     let mut loan = sender.loan(rt).ok()?;
-    if writes(&mut loan, text) {
-        sends_loan(sender, loan)
-    } else {
-        None
+    loan.value.clear();
+    loan.value.push_str(text).ok()?;
+    if !sender.is_loaned(&loan) {
+        return None;
+    }
+    match sender.send(loan) {
+        Some(back) => Some(Some(back.place as u64)),
+        None => Some(None),
     }
 }
 
@@ -120,81 +111,41 @@ fn is_text(receiver: &Receiver<'_, String>, sample: &Sample, number: u64, text: 
     }
 }
 
-/// Whether the text that comes next is this one, with this number. It is given back.
-pub fn reads(rt: &impl Wait, receiver: &mut Receiver<'_, String>, number: u64, text: &str) -> bool {
-    match receiver.receive(rt) {
-        Some(sample) => {
-            let is_right = is_text(receiver, &sample, number, text);
-            is_right & receiver.give_back(sample)
-        }
-        None => false,
-    }
-}
-
-/// Whether a reading could be forgotten.
-fn forgets(receiver: &Receiver<'_, String>, sample: &Sample) -> bool {
-    match receiver.read(sample) {
-        Ok(reading) => {
-            forget(reading);
-            true
-        }
-        Err(_) => false,
-    }
-}
-
-/// The same as `reads`, where a reading is forgotten before.
-fn forgets_and_reads(
+/// Whether the text that comes next is this one, with this number. A reading of it is forgotten before, if that is asked. It is given
+/// back.
+fn reads(
     rt: &impl Wait,
     receiver: &mut Receiver<'_, String>,
     number: u64,
     text: &str,
+    forgets: bool,
 ) -> bool {
-    match receiver.receive(rt) {
-        Some(sample) => {
-            let mut is_right = forgets(receiver, &sample);
-            is_right &= is_text(receiver, &sample, number, text);
-            is_right & receiver.give_back(sample)
+    let Some(sample) = receiver.receive(rt) else {
+        return false;
+    };
+    if forgets {
+        match receiver.read(&sample) {
+            Ok(reading) => forget(reading),
+            Err(_) => return false,
         }
-        None => false,
     }
+    let is_right = is_text(receiver, &sample, number, text);
+    is_right & receiver.give_back(sample)
 }
 
-/// Why there is no loan. None where there is one, which is dropped.
-fn refusal(rt: &impl Wait, sender: &mut Sender<'_, String>) -> Option<LoanFailure> {
-    sender.loan(rt).err()
-}
-
-fn has_no_place(rt: &impl Wait, sender: &mut Sender<'_, String>) -> bool {
-    matches!(&refusal(rt, sender), Some(LoanFailure::NoPlace(_)))
-}
-
-fn has_no_value(rt: &impl Wait, sender: &mut Sender<'_, String>) -> bool {
-    matches!(&refusal(rt, sender), Some(LoanFailure::NoValue))
-}
-
-/// Whether no place is loaned, since this one is still read.
-pub fn is_still_read(rt: &impl Wait, sender: &mut Sender<'_, String>, place: u32) -> bool {
-    match &refusal(rt, sender) {
-        Some(LoanFailure::StillRead(found)) => *found == place,
+/// Whether there is no loan, for the reason of this step.
+pub fn is_refused(rt: &impl Wait, sender: &mut Sender<'_, String>, step: Step) -> bool {
+    let Err(failure) = sender.loan(rt) else {
+        return false;
+    };
+    match step {
+        Step::HasNoPlace => matches!(&failure, LoanFailure::NoPlace(_)),
+        Step::HasNoValue => matches!(&failure, LoanFailure::NoValue),
+        Step::IsStillRead(place) => match &failure {
+            LoanFailure::StillRead(found) => *found == place,
+            _ => false,
+        },
         _ => false,
-    }
-}
-
-/// Whether a loan is of this sender, which is given up then.
-fn gives_up<'a>(sender: &mut Sender<'a, String>, loan: Loan<'a, String>) -> bool {
-    if sender.is_loaned(&loan) {
-        sender.give_up(loan);
-        true
-    } else {
-        false
-    }
-}
-
-/// Whether there is a loan, which is given up then.
-pub fn loans_and_gives_up(rt: &impl Wait, sender: &mut Sender<'_, String>) -> bool {
-    match sender.loan(rt) {
-        Ok(loan) => gives_up(sender, loan),
-        Err(_) => false,
     }
 }
 
@@ -220,75 +171,71 @@ impl<'a> Room<'a> {
         })
     }
 
-    fn loans_one(&mut self, rt: &impl Wait) -> bool {
-        self.one = self.sender.loan(rt).ok();
-        self.one.is_some()
-    }
-
-    fn loans_other(&mut self, rt: &impl Wait) -> bool {
-        self.other = self.sender.loan(rt).ok();
-        self.other.is_some()
-    }
-
-    fn keeps_one(&mut self) -> bool {
-        match &self.one {
-            Some(loan) => self.sender.regain(loan.place()).is_none(),
-            None => false,
-        }
-    }
-
-    fn gives_up_one(&mut self) -> bool {
-        match self.one.take() {
-            Some(loan) => gives_up(&mut self.sender, loan),
-            None => false,
-        }
-    }
-
-    fn drops_other(&mut self) -> bool {
-        match self.other.take() {
-            Some(loan) => {
-                self.place = loan.place();
-                true
-            }
-            None => false,
-        }
-    }
-
     /// Does a step of loans that are kept: whether it comes to what it has to.
     fn does_with_loans(&mut self, rt: &impl Wait, step: Step) -> bool {
         match step {
-            Step::LoansOne => self.loans_one(rt),
-            Step::LoansOther => self.loans_other(rt),
-            Step::HasNoPlace => has_no_place(rt, &mut self.sender),
-            Step::HasNoValue => has_no_value(rt, &mut self.sender),
-            Step::KeepsOne => self.keeps_one(),
-            Step::GivesUpOne => self.gives_up_one(),
-            Step::DropsOther => self.drops_other(),
+            Step::LoansOne => {
+                self.one = self.sender.loan(rt).ok();
+                self.one.is_some()
+            }
+            Step::LoansOther => {
+                self.other = self.sender.loan(rt).ok();
+                self.other.is_some()
+            }
+            Step::KeepsOne => match &self.one {
+                Some(loan) => self.sender.regain(loan.place()).is_none(),
+                None => false,
+            },
+            Step::GivesUpOne => match self.one.take() {
+                Some(loan) => {
+                    if self.sender.is_loaned(&loan) {
+                        self.sender.give_up(loan);
+                        true
+                    } else {
+                        false
+                    }
+                }
+                None => false,
+            },
+            Step::DropsOther => match self.other.take() {
+                Some(loan) => {
+                    self.place = loan.place();
+                    true
+                }
+                None => false,
+            },
             Step::RegainsOther(some) => regains(&mut self.sender, self.place) == some,
             _ => false,
         }
     }
 
-    /// Does a step: whether it comes to what it has to.
-    fn does(&mut self, rt: &impl Wait, step: Step) -> bool {
+    /// Does a step of a round: whether it comes to what it has to.
+    fn does(&mut self, rt: &impl Wait, step: Step, round: u64) -> bool {
         match step {
             Step::Sends(text, back) => sends(rt, &mut self.sender, text) == Some(back),
-            Step::Reads(number, text) => reads(rt, &mut self.receiver, number, text),
-            Step::Forgets(number, text) => forgets_and_reads(rt, &mut self.receiver, number, text),
+            Step::Reads(number, text) => reads(rt, &mut self.receiver, number, text, false),
+            Step::ReadsOfRound(text) => reads(rt, &mut self.receiver, round, text, false),
+            Step::Forgets(number, text) => reads(rt, &mut self.receiver, number, text, true),
             Step::FindsNone => self.receiver.receive(rt).is_none(),
             Step::TakesBack(place) => self.sender.take_back() == place,
             Step::IsNext(number) => self.sender.next_number() == number,
-            Step::IsStillRead(place) => is_still_read(rt, &mut self.sender, place),
+            Step::HasNoPlace | Step::HasNoValue | Step::IsStillRead(_) => is_refused(
+                rt,
+                &mut self.sender,
+                step,
+            ),
             Step::Regains(place, some) => regains(&mut self.sender, place) == some,
             _ => self.does_with_loans(rt, step),
         }
     }
 
-    /// Does the steps: the first that does not come to what it has to, if any.
-    pub fn first_wrong(&mut self, rt: &impl Wait, steps: &[Step]) -> Option<usize> {
-        for at in 0..steps.len() {
-            if !self.does(rt, steps[at]) {
-                return Some(at);
+    /// Does the steps in so many rounds, from 0: the first that does not come to what it has to, if any.
+    pub fn first_wrong(&mut self, rt: &impl Wait, steps: &[Step], rounds: usize) -> Option<usize> {
+        for round in 0..rounds {
+            for at in 0..steps.len() {
+                if !self.does(rt, steps[at], round as u64) {
+                    return Some(at);
+                }
             }
         }
         None

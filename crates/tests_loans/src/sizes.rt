@@ -1,5 +1,5 @@
 //! Slots, channels and pools of more places than fit into one word of bits.
-ghost use Rattle.lock_free.specs.Loan.Sender.{IsSame};
+ghost use Rattle.lock_free_loans.specs.Loan.Sender.{IsSame};
 ghost use Rattle.zero_copy_loans.specs.Ends.{sender_of, IsSameReceiver};
 
 use std::alloc::Global;
@@ -20,13 +20,20 @@ fn of_slot(slot: u32) -> u64 {
     slot as u64 * 3 + 1
 }
 
-/// Lays a value into a slot in which nothing lies.
+/// Lays a value into a slot in which nothing lies, and then its own, by which the first one comes out.
 fn lays(slots: &Slots<u64>, slot: u32) -> bool {
+    let mut right = matches!(&slots.read(slot), Err(ReadFailure::NotThere(_)));
+    let Ok(writing) = slots.take(slot) else {
+        return false;
+    };
+    let (_, before) = writing.put(7, 70);
+    right &= before.is_none();
     let Ok(writing) = slots.take(slot) else {
         return false;
     };
     let (laid, before) = writing.put(slot as u64, of_slot(slot));
-    before.is_none() && laid.slot() == slot && laid.number() == slot as u64
+    right &= before == Some((7, 70));
+    right && laid.slot() == slot && laid.number() == slot as u64
 }
 
 /// Whether its own value lies in a slot.
@@ -69,7 +76,7 @@ fn all_keep(slots: &Slots<u64>, number: u32) -> bool {
 
 #[test]
 fn each_slot_keeps_its_value(rt: HostRuntime) -> Result<(), Fail> {
-    for number in [64, 65, 300, 5_000] {
+    for number in [2, 64, 65, 300, 5_000] {
         let slots: Slots<u64> = Slots::new(rt.alloc(), number)?;
         assert!(rt; all_keep(&slots, number));
     }
@@ -136,29 +143,6 @@ fn goes_round(
     Some(right & sender.take_back().is_none())
 }
 
-/// Two rounds through a channel of so many places.
-fn through(rt: &impl Wait, alloc: Global, places: u32) -> Option<bool> {
-    let mut channel: Channel<u64> = Channel::new(alloc, places as usize, places as usize).ok()?;
-    let mut spares = Vec::new(alloc);
-    for _ in 0..places {
-        spares.push(0u64).ok()?;
-    }
-    spares.push(0u64).ok()?;
-    let (mut sender, mut receiver) = channel.ends(alloc, spares)?;
-    let many = places as u64;
-    let one = goes_round(rt, alloc, &mut sender, &mut receiver, many, 0)?;
-    let other = goes_round(rt, alloc, &mut sender, &mut receiver, many, many)?;
-    Some(one & other)
-}
-
-#[test]
-fn all_places_are_used(rt: HostRuntime) -> Result<(), Fail> {
-    for places in [1, 5, 9, 64, 65, 100, 300, 1_000] {
-        assert!(rt; through(&rt, rt.alloc(), places) == Some(true));
-    }
-    Ok(())
-}
-
 /// Writes three times the number that a value is sent with.
 #[derive(Drop)]
 struct Triples;
@@ -206,29 +190,51 @@ fn goes_on(rt: &impl Wait, alloc: Global, sender: &mut Sender<'_, u64>, back: u3
 
 /// Fills the queue of a channel, which has room for all places but one, and sends three more, so that the three oldest come back.
 /// Then all the others are read.
-fn each_comes(rt: &impl Wait, alloc: Global, places: u32) -> Option<bool> {
-    let room = places.checked_sub(1)?;
+fn each_comes(
+    rt: &impl Wait,
+    alloc: Global,
+    sender: &mut Sender<'_, u64>,
+    receiver: &mut Receiver<'_, u64>,
+    room: u32,
+) -> Option<bool> {
     let many = room as usize;
-    let mut channel: Channel<u64> = Channel::new(alloc, places as usize, many).ok()?;
-    let mut spares = Vec::new(alloc);
-    for _ in 0..places {
-        spares.push(0u64).ok()?;
-    }
-    spares.push(0u64).ok()?;
-    let (mut sender, mut receiver) = channel.ends(alloc, spares)?;
     let back = sender.send_each(rt, alloc, room, 1, &mut Triples)?;
     let more = sender.send_each(rt, alloc, 3, 1, &mut Triples)?;
     let mut right = back.is_empty() && rise(&more, 3, 0, 1);
     let told = receiver.read_each(rt, alloc, many, 1, &mut Plain)?;
     right &= rise(&told, many, 9, 3);
     right &= receiver.read_each(rt, alloc, 1, 1, &mut Plain).is_none();
-    Some(right & goes_on(rt, alloc, &mut sender, room))
+    Some(right & goes_on(rt, alloc, sender, room))
+}
+
+/// Two rounds through a channel of so many places, of which so many wait. Where they are fewer than there are places, each that is sent
+/// comes.
+fn through(rt: &impl Wait, alloc: Global, places: u32, room: u32) -> Option<bool> {
+    let mut channel: Channel<u64> = Channel::new(alloc, places as usize, room as usize).ok()?;
+    let spares = vec![in alloc; 0u64; places as usize + 1].ok()?;
+    let (mut sender, mut receiver) = channel.ends(alloc, spares)?;
+    if room < places {
+        return each_comes(rt, alloc, &mut sender, &mut receiver, room);
+    }
+    let many = places as u64;
+    let one = goes_round(rt, alloc, &mut sender, &mut receiver, many, 0)?;
+    let other = goes_round(rt, alloc, &mut sender, &mut receiver, many, many)?;
+    Some(one & other)
+}
+
+#[test]
+fn all_places_are_used(rt: HostRuntime) -> Result<(), Fail> {
+    for places in [1, 5, 9, 64, 65, 100, 300, 1_000] {
+        assert!(rt; through(&rt, rt.alloc(), places, places) == Some(true));
+    }
+    Ok(())
 }
 
 #[test]
 fn each_is_sent_and_read(rt: HostRuntime) -> Result<(), Fail> {
-    for places in [5, 9, 64, 65, 100, 300, 1_000] {
-        assert!(rt; each_comes(&rt, rt.alloc(), places) == Some(true));
+    for room in [4u32, 8, 63, 64, 99, 299, 999] {
+        let places = room.saturating_add(1);
+        assert!(rt; through(&rt, rt.alloc(), places, room) == Some(true));
     }
     Ok(())
 }
@@ -336,7 +342,7 @@ fn keep_own(rt: &impl Wait, alloc: Global, places: u32) -> Option<bool> {
 
 #[test]
 fn each_place_of_a_pool_keeps_its_value(rt: HostRuntime) -> Result<(), Fail> {
-    for places in [5, 9, 64, 65, 100, 300, 1_000] {
+    for places in [2, 5, 9, 64, 65, 100, 300, 1_000] {
         assert!(rt; keep_own(&rt, rt.alloc(), places) == Some(true));
     }
     Ok(())

@@ -1,14 +1,12 @@
 //! By turns in one thread.
 use crate::rooms::Step::{
     DropsOther, FindsNone, Forgets, GivesUpOne, HasNoPlace, HasNoValue, IsNext, IsStillRead,
-    KeepsOne, LoansOne, LoansOther, Reads, Regains, RegainsOther, Sends, TakesBack,
+    KeepsOne, LoansOne, LoansOther, Reads, ReadsOfRound, Regains, RegainsOther, Sends, TakesBack,
 };
-use crate::rooms::{Room, Step, channel, is_still_read, loans_and_gives_up, reads, sends};
+use crate::rooms::{Room, Step, channel, is_refused};
 use std::alloc::Global;
 use std::sync::Wait;
 use std::test::Fail;
-use zero_copy_loans::receiver::{Receiver, Sample};
-use zero_copy_loans::sender::Sender;
 
 /// How many places there are.
 const PLACES: usize = 4;
@@ -55,70 +53,49 @@ const BESIDE: [Step; 6] = [
     TakesBack(Some(0)),
 ];
 
-/// Does the steps on a new channel of so many places, with so many texts to write. It answers the first step that does not
-/// come to what it has to, if any, and how many texts are left. None where the channel or its ends are not to be had.
-fn on_new(
-    rt: &impl Wait,
-    alloc: Global,
-    places: usize,
-    texts: usize,
-    steps: &[Step],
-) -> Option<(Option<usize>, usize)> {
-    let mut channel = channel(alloc, places)?;
-    let mut room = Room::new(alloc, &mut channel, texts)?;
-    let wrong = room.first_wrong(rt, steps);
-    Some((wrong, room.left()))
-}
-
-#[test]
-fn texts_go_through_a_channel(rt: HostRuntime) -> Result<(), Fail> {
-    let came = on_new(&rt, rt.alloc(), PLACES, PLACES + 1, &TEXTS);
-    assert_eq!(rt; came, Some((None, PLACES + 1 - 3)));
-    Ok(())
-}
-
-#[test]
-fn loans_are_refused(rt: HostRuntime) -> Result<(), Fail> {
-    let came = on_new(&rt, rt.alloc(), 2, 3, &LOANS);
-    assert_eq!(rt; came, Some((None, 0)));
-    Ok(())
-}
-
-#[test]
-fn a_place_is_regained_beside_another(rt: HostRuntime) -> Result<(), Fail> {
-    let came = on_new(&rt, rt.alloc(), 2, 3, &BESIDE);
-    assert_eq!(rt; came, Some((None, 1)));
-    Ok(())
-}
-
-/// Whether a text of this number goes through, and is given up when its place is loaned again.
-fn goes_round(rt: &impl Wait, room: &mut Room<'_>, number: u64) -> bool {
-    let mut right = sends(rt, &mut room.sender, "one") == Some(None);
-    right &= reads(rt, &mut room.receiver, number, "one");
-    right &= room.sender.take_back() == Some(0);
-    right & loans_and_gives_up(rt, &mut room.sender)
-}
-
-/// Whether so many texts go through, one after another. The last loan is dropped, and of two texts one is left then. None
-/// where the channel or its ends are not to be had.
-fn are_kept(rt: &impl Wait, alloc: Global, number: u64) -> Option<bool> {
-    let mut channel = channel(alloc, 1)?;
-    let mut room = Room::new(alloc, &mut channel, 2)?;
-    let mut right = true;
-    for at in 0..number {
-        right &= goes_round(rt, &mut room, at);
-    }
-    right &= room.first_wrong(rt, &DROPPED).is_none();
-    Some(right && room.left() == 1)
-}
+/// A text goes through, and is given up when its place is loaned again.
+const KEPT: [Step; 5] = [
+    Sends("one", None),
+    ReadsOfRound("one"),
+    TakesBack(Some(0)),
+    LoansOne,
+    GivesUpOne,
+];
 
 /// A loan that is dropped.
 const DROPPED: [Step; 3] = [LoansOther, DropsOther, Regains(0, true)];
 
-/// What is given up, or lay where a loan was given up, is written again. What was dropped with its loan is gone.
+/// Does the steps so often on a new channel of so many places, with so many texts to write, and then those of the end once. It answers
+/// the first step that does not come to what it has to, if any, and how many texts are left. None where the channel or its ends are not
+/// to be had.
+fn on_new(
+    rt: &impl Wait,
+    alloc: Global,
+    sizes: (usize, usize),
+    steps: &[Step],
+    rounds: usize,
+    end: &[Step],
+) -> Option<(Option<usize>, Option<usize>, usize)> {
+    let (places, texts) = sizes;
+    let mut channel = channel(alloc, places)?;
+    let mut room = Room::new(alloc, &mut channel, texts)?;
+    let wrong = room.first_wrong(rt, steps, rounds);
+    let last = room.first_wrong(rt, end, 1);
+    Some((wrong, last, room.left()))
+}
+
+/// What is given up, or lay where a loan was given up, is written again (`KEPT`). What was dropped with its loan is gone.
 #[test]
-fn values_are_kept(rt: HostRuntime) -> Result<(), Fail> {
-    assert!(rt; are_kept(&rt, rt.alloc(), 100) == Some(true));
+fn rows(rt: HostRuntime) -> Result<(), Fail> {
+    let alloc = rt.alloc();
+    let texts = on_new(&rt, alloc, (PLACES, PLACES + 1), &TEXTS, 1, &[]);
+    assert_eq!(rt; texts, Some((None, None, PLACES - 2)));
+    let loans = on_new(&rt, alloc, (2, 3), &LOANS, 1, &[]);
+    assert_eq!(rt; loans, Some((None, None, 0)));
+    let beside = on_new(&rt, alloc, (2, 3), &BESIDE, 1, &[]);
+    assert_eq!(rt; beside, Some((None, None, 1)));
+    let kept = on_new(&rt, alloc, (1, 2), &KEPT, 100, &DROPPED);
+    assert_eq!(rt; kept, Some((None, None, 1)));
     Ok(())
 }
 
@@ -140,46 +117,30 @@ const FORGOTTEN: [Step; 8] = [
     Reads(2, "three"),
 ];
 
-/// Whether the first place stays loaned as long as it is read by this sample, and the text stands.
-fn stays_loaned(
-    rt: &impl Wait,
-    sender: &mut Sender<'_, String>,
-    receiver: &Receiver<'_, String>,
-    sample: &Sample,
-) -> bool {
-    match receiver.read(sample) {
-        Ok(reading) => {
-            let mut right = reading.get().as_str() == "one";
-            right &= is_still_read(rt, sender, 0);
-            right &= reading.get().as_str() == "one";
-            right & sender.regain(0).is_none()
-        }
-        Err(_) => false,
-    }
-}
-
-/// Whether the first place of a room stays loaned while a sample of another room reads it.
+/// Whether the first place of a room stays loaned as long as it is read by a sample of another room, and the text stands.
 fn is_kept_by_another(rt: &impl Wait, room: &mut Room<'_>, another: &mut Room<'_>) -> bool {
-    match another.receiver.receive(rt) {
-        Some(sample) => stays_loaned(rt, &mut room.sender, &room.receiver, &sample),
-        None => false,
-    }
+    let Some(sample) = another.receiver.receive(rt) else {
+        return false;
+    };
+    let Ok(reading) = room.receiver.read(&sample) else {
+        return false;
+    };
+    let mut right = reading.get().as_str() == "one";
+    right &= is_refused(rt, &mut room.sender, IsStillRead(0));
+    right &= reading.get().as_str() == "one";
+    right & room.sender.regain(0).is_none()
 }
 
-/// Whether all steps of these two come to what they have to, and the place is kept between them.
-fn is_still_read_between(rt: &impl Wait, room: &mut Room<'_>, another: &mut Room<'_>) -> bool {
-    let mut right = room.first_wrong(rt, &READ).is_none();
-    right &= another.first_wrong(rt, &FOREIGN).is_none();
-    right &= is_kept_by_another(rt, room, another);
-    right & room.first_wrong(rt, &FORGOTTEN).is_none()
-}
-
-/// The same on two new channels. None where they or their ends are not to be had.
+/// Whether all steps of two new channels come to what they have to, and the place is kept between them. None where they or their ends
+/// are not to be had.
 fn of_two_channels(rt: &impl Wait, alloc: Global) -> Option<bool> {
     let (mut channel, mut another) = (channel(alloc, PLACES)?, channel(alloc, PLACES)?);
     let mut one = Room::new(alloc, &mut channel, PLACES + 1)?;
     let mut other = Room::new(alloc, &mut another, PLACES + 1)?;
-    Some(is_still_read_between(rt, &mut one, &mut other))
+    let mut right = one.first_wrong(rt, &READ, 1).is_none();
+    right &= other.first_wrong(rt, &FOREIGN, 1).is_none();
+    right &= is_kept_by_another(rt, &mut one, &mut other);
+    Some(right & one.first_wrong(rt, &FORGOTTEN, 1).is_none())
 }
 
 /// A place that is read while it is loaned again stays loaned, and can be regained once the reading ends. A reading that is

@@ -1,5 +1,6 @@
 //! A loan channel between two threads: what BUS.md shows.
 
+use std::alloc::{AllocError, Global};
 use std::sync::Wait;
 use std::test::Fail;
 use std::thread;
@@ -34,14 +35,20 @@ fn receive(rt: &impl Wait, receiver: &mut Receiver<'_, Vec<u8>>) -> Option<u8> {
     None
 }
 
+/// So many values to write.
+fn values(alloc: Global, number: usize) -> Result<Vec<Vec<u8>>, AllocError> {
+    let mut values = Vec::with_capacity(alloc, number)?;
+    for _ in 0..number {
+        values.push(vec![in alloc; 0u8; 4096]?)?;
+    }
+    Ok(values)
+}
+
 #[test]
 fn one_sends_to_one(rt: HostRuntime) -> Result<(), Fail> {
     let (places, queue) = (4, 2);
+    let values = values(rt.alloc(), places + 1)?;
     let mut channel = Channel::new(rt.alloc(), places, queue)?;
-    let mut values = Vec::with_capacity(rt.alloc(), places + 1)?;
-    for _ in 0..places + 1 {
-        values.push(vec![in rt.alloc(); 0u8; 4096]?)?;
-    }
     let (mut sender, mut receiver) = channel.ends(rt.alloc(), values).ok_or("no ends")?;
     // (`join` calls its first closure last where no thread can be made)
     let (received, sent) = thread::join(
