@@ -1,4 +1,5 @@
 pub mod Streams
 pub mod Tries
+pub mod QueueEnds
 pub mod Worked
 pub mod WrongBodies

@@ -1,5 +1,5 @@
 -- Worked rows of the definitions that the contracts cite.
-use Rattle.std.proofs.Common.{◌≡◌, ℕ, suc, true, false, Some, None, List, [], ◌∷◌, refl, arith}
+use Rattle.std.proofs.Common.{◌≡◌, ◌+◌, ℕ, suc, true, false, Some, None, List, [], ◌∷◌, refl, arith}
 use Rattle.model.specs.declared.event.Event.TheVariants.{Published, HandedOut}
 use Rattle.model.specs.declared.event.Item.{Item}
 use Rattle.model.specs.declared.event.Item.TheVariants.{Value, Index}
@@ -11,7 +11,7 @@ use Rattle.uses_streams.specs.declared.ends.Arrival.TheVariants as arrivals
 use Rattle.uses_streams.specs.Elements.{words_of_element, element_of}
 use Rattle.uses_streams.specs.Ends.{arrival_of, arrived, is_end, IfNothing, IfValue, GainAlike}
 use Rattle.uses_streams.specs.Streams.{last_ones, values_in, has_end, ends_once, has_values, pushed_by, popped_by, CameUpTo}
-use Rattle.uses_streams.specs.Tries.{Times}
+use Rattle.uses_streams.specs.Tries.{Times, InTurn, WasStopped, WasEmptied}
 
 abbrev three : Item (Element ℕ)
 three = Value (elements.Value 3)
@@ -168,3 +168,23 @@ two_steps = (5, (4, refl, refl), refl)
 
 two_steps_are_not_three : Times 2 next 4 7 → ⊥
 two_steps_are_not_three h = (let one = h.1.1 in let two = h.1.2 in let three = h.2 in absurd (omega arith))
+
+-- ---- a step for each of a list
+
+abbrev adds : ℕ → ℕ → ℕ → Type 0
+adds x m n = n ≡ m + x
+
+none_in_turn : InTurn adds [] 4 4
+none_in_turn = refl
+
+two_in_turn : InTurn adds (3 ∷ 5 ∷ []) 4 12
+two_in_turn = (7, refl, (12, refl, refl))
+
+another_sum_is_not_reached : InTurn adds (3 ∷ []) 4 8 → ⊥
+another_sum_is_not_reached h = (let one = h.1 in let last = h.2 in absurd (omega arith))
+
+nothing_is_left_to_push : WasStopped {V = Element ℕ} Value 4 [] knows knows
+nothing_is_left_to_push = refl
+
+no_room_is_left : WasEmptied {V = ℕ} [] knows knows
+no_room_is_left = refl

@@ -1,5 +1,5 @@
 -- What a wrong body of a call would leave or answer, and the clause that refuses it. A name says what the body does.
-use Rattle.std.proofs.Common.{◌≡◌, ◌≢◌, ◌+◌, ℕ, Bool, true, false, Some, None, List, [], ◌∷◌, ◌++◌, length}
+use Rattle.std.proofs.Common.{◌≡◌, ◌≢◌, inl, inr, ◌+◌, ◌-◌, ◌^◌, ◌<◌, ◌≤◌, ℕ, Bool, true, false, Some, None, List, [], ◌∷◌, ◌++◌, length}
 use Rattle.std.proofs.Common.{refl, sym, ap, subst, ◌∙◌, arith, length-append, append-nil, true≢false}
 use Rattle.std.proofs.lemmas.List.{append_cancel_left}
 use Rattle.model.specs.declared.event.Event.{Event}
@@ -8,17 +8,23 @@ use Rattle.model.specs.declared.event.Item.{Item}
 use Rattle.model.specs.declared.event.Item.TheVariants.{Value}
 use Rattle.history.specs.declared.view.View.{View}
 use Rattle.history.specs.Passes.{Goes}
+use Rattle.history.specs.Steps.{TakesAtMost}
 use Rattle.history.specs.Views.{first_view}
 use Rattle.steps.specs.declared.queues.roles.Role.{Role}
 use Rattle.steps.specs.declared.words.Words.{Ghosts}
+use Rattle.lock_free_queues.specs.declared.spsc.ring.rule.Kind as kinds
+use Rattle.lock_free_queues.specs.declared.spsc.ring.Producer.{Producer}
+use Rattle.lock_free_queues.specs.declared.spsc.ring.Consumer.{Consumer}
 use Rattle.lock_free_queues.specs.Queues.Contracts.{PushDone, PushRefused, PopDone, PopEmpty, HasReleased}
-use Rattle.model.specs.Families.Queues.Reading.{published}
+use Rattle.lock_free_queues.specs.Queues.Relays.{Sending, Receiving}
+use Rattle.lock_free_queues.specs.Queues.Rings.{producer_view, consumer_view}
+use Rattle.model.specs.Families.Queues.Reading.{published, handed_out}
 use Rattle.uses_streams.specs.declared.element.Element.{Element}
 use Rattle.uses_streams.specs.declared.element.Element.TheVariants as elements
 use Rattle.uses_streams.specs.Streams.{values_in, has_end, has_values, pushed_by, popped_by, OnlyPushes, OnlyPops, CameUpTo}
 use Rattle.uses_streams.specs.declared.ends.values.Values.{Values}
 use Rattle.uses_streams.specs.Ends.{GainAlike}
-use Rattle.uses_streams.specs.Tries.{WereRefused, WereEmpty, WasPushedWithin, WasPoppedWithin}
+use Rattle.uses_streams.specs.Tries.{WereRefused, WereEmpty, WasPushedWithin, WasPoppedWithin, WerePushedUpTo, WerePoppedUpTo}
 use Rattle.uses_streams.specs.Values.{GivesNext, given_so_far, has_given_all}
 use Rattle.uses_streams.proofs.Streams.{pushes_value, pushes_none, stops_pushing, none_ended, receives_value, receives_end, receives_nothing}
 
@@ -118,11 +124,11 @@ module _ {T R : Type 0} {words : Ghosts (Element T)} (s t : Values T R words) wh
   pub next_ends_early : GivesNext s None t → has_given_all t ≡ false → ⊥
   next_ends_early next more = true≢false (sym next.1.1 ∙ more)
 
--- ---- calls with a limit of tries
+-- ---- calls with a limit of tries, of a stream or of a queue's ends
 
-module _ {T : Type 0} (v w : View (Element T)) where
-  module _ (capacity : ℕ) (item : Item (Element T)) where
-    -- `send_within` pushes where no try is allowed
+module _ {T : Type 0} (v w : View T) where
+  module _ (capacity : ℕ) (item : Item T) where
+    -- `send_within`, or `push_within`, pushes where no try is allowed
     pub send_within_pushes_without_a_try : WasPushedWithin 0 capacity item v w → ⊥
     send_within_pushes_without_a_try h = (let few = h.few in absurd (omega arith))
 
@@ -141,32 +147,106 @@ module _ {T : Type 0} (v w : View (Element T)) where
   pub finds_nothing : PopEmpty v w → length w.made ≡ length v.made + 3
   finds_nothing empty = ap length empty.0.called.made ∙ length-append v.made _
 
-  -- `receive_within` takes out a value where no try is allowed
-  pub receive_within_pops_without_a_try : (item : Item (Element T)) → WasPoppedWithin 0 item v w → ⊥
+  -- `receive_within`, or `pop_within`, takes out a value where no try is allowed
+  pub receive_within_pops_without_a_try : (item : Item T) → WasPoppedWithin 0 item v w → ⊥
   receive_within_pops_without_a_try item h = (let few = h.few in absurd (omega arith))
 
   -- it found the queue empty before, though one try is allowed: that pop is the first
-  pub one_try_pops_first : (item : Item (Element T)) → WasPoppedWithin 1 item v w → PopDone item v w
+  pub one_try_pops_first : (item : Item T) → WasPoppedWithin 1 item v w → PopDone item v w
   one_try_pops_first item h =
       let few = h.few in
       let none : h.empty ≡ 0 = omega arith in
       subst (λ u. PopDone item u w) (subst (λ n. WereEmpty n v h.last) none h.before) h.popped
 
-module _ {T : Type 0} (v w : View (Element T)) where
+module _ {T : Type 0} (v w : View T) where
   -- it pops once where two tries are allowed
   pub receive_within_gives_up_early : WereEmpty 2 v w → length w.made ≡ length v.made + 3 → ⊥
   receive_within_gives_up_early h once =
       let first = finds_nothing h.1.0 h.0 h.1.2 in
       let second = finds_nothing h.0 w h.2 in
-      let same = ap (λ (u : View (Element T)). length u.made) h.1.1 in
+      let same = ap (λ (u : View T). length u.made) h.1.1 in
       absurd (omega arith)
 
   -- it pops twice where one is
   pub receive_within_pops_on : WereEmpty 1 v w → length w.made ≡ length v.made + 6 → ⊥
   receive_within_pops_on h twice =
       let first = finds_nothing h.0 w h.2 in
-      let same = ap (λ (u : View (Element T)). length u.made) h.1 in
+      let same = ap (λ (u : View T). length u.made) h.1 in
       absurd (omega arith)
+
+-- ---- calls of a queue's ends
+
+-- a push that is refused makes events, where the write position is not at its end
+refusal_is_made : {T : Type 0} (capacity : ℕ) (item : Item T) (u v : View T) → length (published v.seen) < 2 ^ 64 - 1
+    → length u.made ≡ length v.made → PushRefused capacity item u v → ⊥
+refusal_is_made capacity item u v more same (inl full) =
+    (let made : length v.made ≡ length u.made + 3 = ap length full.0.called.made ∙ length-append u.made _ in absurd (omega arith))
+refusal_is_made capacity item u v more same (inr end) = (let last = end.end in absurd (omega arith))
+
+module _ {T : Type 0} (named : T → Item T) (x : T) (xs : List T) (v : View T) where
+  -- `push_all` gives up without a try, though the write position is not at its end
+  pub push_all_gives_up : (capacity : ℕ) → length (published v.seen) < 2 ^ 64 - 1 → WerePushedUpTo named capacity 0 (x ∷ xs) v v → ⊥
+  push_all_gives_up capacity more h =
+      refusal_is_made capacity (named x) h.last v more (ap (λ (u : View T). length u.made) h.pushed) h.stopped
+
+  -- `pop_all` gives up without a try
+  pub pop_all_gives_up : WerePoppedUpTo named [] (x ∷ xs) v v → ⊥
+  pop_all_gives_up h =
+      let made = finds_nothing h.last v h.stopped in
+      let same = ap (λ (u : View T). length u.made) h.popped in
+      absurd (omega arith)
+
+module _ {E T : Type 0} {kind : kinds.Ghosts E} {words : Ghosts T} (named : T → Item T) where
+  module _ (first now : Producer E T kind words) (x : T) where
+    -- `push_waiting` returns without a push
+    pub push_waiting_pushes_none : Sending named first (x ∷ []) now
+        → published (producer_view now).seen ≡ published (producer_view first).seen → ⊥
+    push_waiting_pushes_none s none = one_more (published (producer_view first).seen) (named x) (sym none ∙ s.list)
+
+    -- it pushes another value
+    pub push_waiting_pushes_another : (item : Item T) → item ≢ named x → Sending named first (x ∷ []) now
+        → published (producer_view now).seen ≡ published (producer_view first).seen ++ item ∷ [] → ⊥
+    push_waiting_pushes_another item other s came =
+        other (ap (head item) (append_cancel_left (published (producer_view first).seen) (item ∷ []) (named x ∷ []) (sym came ∙ s.list)))
+
+    -- it pushes the value twice
+    pub push_waiting_pushes_twice : Sending named first (x ∷ []) now
+        → published (producer_view now).seen ≡ published (producer_view first).seen ++ named x ∷ named x ∷ [] → ⊥
+    push_waiting_pushes_twice s came =
+        let long = ap length (sym came ∙ s.list) in
+        let two = length-append (published (producer_view first).seen) (named x ∷ named x ∷ []) in
+        let one = length-append (published (producer_view first).seen) (named x ∷ []) in
+        absurd (omega arith)
+
+    -- `push_all` passes over a value that was refused, and pushes the next one
+    pub push_all_passes_over_a_value : Sending {V = T} named first [] now
+        → published (producer_view now).seen ≡ published (producer_view first).seen ++ named x ∷ [] → ⊥
+    push_all_passes_over_a_value s came =
+        one_more (published (producer_view first).seen) (named x) (sym (append-nil (published (producer_view first).seen)) ∙ (sym s.list ∙ came))
+
+  module _ (first now : Consumer E T kind words) (x : T) where
+    -- `pop_waiting` gives a value that it did not pop
+    pub pop_waiting_gives_another : (item : Item T) → item ≢ named x → Receiving named first (x ∷ []) now
+        → handed_out (consumer_view now).seen ≡ handed_out (consumer_view first).seen ++ item ∷ [] → ⊥
+    pop_waiting_gives_another item other s came =
+        other (ap (head item) (append_cancel_left (handed_out (consumer_view first).seen) (item ∷ []) (named x ∷ []) (sym came ∙ s.list)))
+
+    -- `pop_all` drops a value that it popped
+    pub pop_all_drops_a_value : Receiving {V = T} named first [] now
+        → handed_out (consumer_view now).seen ≡ handed_out (consumer_view first).seen ++ named x ∷ [] → ⊥
+    pop_all_drops_a_value s came =
+        one_more (handed_out (consumer_view first).seen) (named x) (sym (append-nil (handed_out (consumer_view first).seen)) ∙ (sym s.list ∙ came))
+
+-- ---- `both_ends`
+
+module _ {T : Type 0} (old taken new : View T) where
+  -- the receiver looks into the queue, or pops, once it has its role
+  pub both_ends_receives_first : taken.asked ≡ 1 → new.asked ≡ taken.asked + 1 → new.asked ≤ 1 → ⊥
+  both_ends_receives_first role more few = absurd (omega arith)
+
+  -- the sender looks, or pushes, once it has its role
+  pub both_ends_sends_first : taken.asked ≡ old.asked + 2 → new.asked ≡ taken.asked + 1 → TakesAtMost 2 old new → ⊥
+  both_ends_sends_first role more few = let most : new.asked ≤ old.asked + 2 = few in absurd (omega arith)
 
 -- ---- `receive_all`
 

@@ -1,5 +1,5 @@
--- What a call with a limit of tries has done.
-use Rattle.std.specs.Prelude.{◌≡◌, ◌<◌, ℕ, zero, suc}
+-- What a call with a limit of tries, or with many values, has done.
+use Rattle.std.specs.Prelude.{◌≡◌, ◌<◌, ℕ, zero, suc, List, [], ◌∷◌, take, drop}
 use Rattle.model.specs.declared.event.Item.{Item}
 use Rattle.history.specs.declared.view.View.{View}
 use Rattle.lock_free_queues.specs.Queues.Contracts.{PushDone, PushRefused, PopDone, PopEmpty}
@@ -9,6 +9,12 @@ module _ {A : Type 0} where
   abbrev pub Times : ℕ → (A → A → Type 0) → A → A → Type 0
   Times zero Step old new = new ≡ old
   Times (suc n) Step old new = (between : A) × Times n Step old between × Step between new
+
+module _ {A B : Type 0} where
+  -- one step for each of the list, in order
+  abbrev pub InTurn : (B → A → A → Type 0) → List B → A → A → Type 0
+  InTurn Step [] old new = new ≡ old
+  InTurn Step (x ∷ xs) old new = (between : A) × Step x old between × InTurn Step xs between new
 
 module _ {T : Type 0} where
   -- so many pushes of the item were refused, one after the other
@@ -34,3 +40,35 @@ module _ {T : Type 0} where
     pub last : View T
     pub before : WereEmpty empty old last
     pub popped : PopDone item last new
+
+module _ {T V : Type 0} where
+  -- the queue was found empty, if there is room left
+  abbrev pub WasEmptied : List V → View T → View T → Type 0
+  WasEmptied [] old new = new ≡ old
+  WasEmptied (value ∷ values) old new = PopEmpty old new
+
+module _ {T V : Type 0} (named : V → Item T) where
+  -- the values were pushed, one after the other
+  abbrev pub WerePushed : List V → View T → View T → Type 0
+  WerePushed values old new = InTurn (λ value was now. PushDone (named value) was now) values old new
+
+  -- the first of these was refused, if there is one
+  abbrev pub WasStopped : ℕ → List V → View T → View T → Type 0
+  WasStopped capacity [] old new = new ≡ old
+  WasStopped capacity (value ∷ values) old new = PushRefused capacity (named value) old new
+
+  -- so many of the values were pushed, the first ones, and then the next one was refused, if there is one
+  pub record WerePushedUpTo (capacity count : ℕ) (values : List V) (old new : View T) : Type 0 where
+    pub last : View T
+    pub pushed : WerePushed (take count values) old last
+    pub stopped : WasStopped capacity (drop count values) last new
+
+  -- the values were popped, one after the other
+  abbrev pub WerePopped : List V → View T → View T → Type 0
+  WerePopped values old new = InTurn (λ value was now. PopDone (named value) was now) values old new
+
+  -- the values were popped, and then the queue was found empty, if there is room left
+  pub record WerePoppedUpTo (values room : List V) (old new : View T) : Type 0 where
+    pub last : View T
+    pub popped : WerePopped values old last
+    pub stopped : WasEmptied room last new

@@ -13,7 +13,7 @@ mod tries;
 mod values;
 mod waits;
 
-pub use calls::halves;
+pub use calls::{both_ends, halves};
 pub use values::Values;
 
 /// The end that sends. Where it is dropped, it sends the end of the stream if there is room (no clause says so). If there is none, no

@@ -56,7 +56,8 @@ fn receive(
 }
 
 /// Sends the numbers from one thread to another: what came. None where there is no memory, or no further pass. Where no second
-/// thread can be made it sends before it receives, and waits for good if the numbers and the end have no room together.
+/// thread can be made it sends before it receives (no test says so), and waits for good if the numbers and the end have no room
+/// together.
 fn transfer<R: Threads + Wait + Sync>(rt: &R, alloc: Global, numbers: &[u64]) -> Option<Vec<u64>>
     ensures { IfSome result (λ came. came.items ≡ numbers.now) }
 {
@@ -65,10 +66,10 @@ fn transfer<R: Threads + Wait + Sync>(rt: &R, alloc: Global, numbers: &[u64]) ->
     let (stream, pass) = Stream::new(alloc).ok()?;
     let (mine, other) = halves::<u64, 4>(pass)?;
     let shared = &stream;
-    let (sent, received) = thread::join(
+    let (received, sent) = thread::join(
         rt,
-        move || send(rt, shared, mine, numbers),
         move || receive(rt, shared, other, room),
+        move || send(rt, shared, mine, numbers),
     );
     let sent = sent?;
     let (received, came) = received?;

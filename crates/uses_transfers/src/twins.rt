@@ -1,12 +1,13 @@
 //! Calls of a stream once more, each with the clauses that the program has no use for, so that none can go out of a call
 //! unnoticed. What a wrong body would leave, and a clause refuses, stands in `proofs/WrongBodies.antt` of `uses_streams`.
-ghost use Rattle.std.specs.Prelude.{◌≡◌, ◌++◌, ◌∷◌, [], ◌+◌, ◌*◌, true, false, take, length};
+ghost use Rattle.std.specs.Prelude.{◌≡◌, ◌≤◌, ◌++◌, ◌∷◌, [], ◌+◌, ◌*◌, true, false, take, length};
 ghost use Rattle.std.specs.Prelude.{IsTrue, IsFalse, IfOk, IfErr, IfSome, IfNone};
 ghost use Rattle.model.specs.declared.event.Item.TheVariants.{Value};
 ghost use Rattle.threaded.specs.Shares.{IsAll};
 ghost use Rattle.history.specs.Steps.{TakesAtMost};
+ghost use Rattle.history.specs.Views.{first_view};
 ghost use Rattle.lock_free_queues.specs.Queues.Contracts.{PushRefused};
-ghost use Rattle.lock_free_queues.specs.Queues.Values.{inner, queue_of, view, IsPassOf};
+ghost use Rattle.lock_free_queues.specs.Queues.Values.{inner, queue_id, queue_of, view, IsPassOf};
 ghost use Rattle.uses_streams.specs.Ends.{arrived, is_end, IfNothing, IfValue, sender_view, receiver_view, sent_view, received_view};
 ghost use Rattle.uses_streams.specs.Ends.{sender_queue, receiver_queue, sent_queue, received_queue};
 ghost use Rattle.uses_streams.specs.Ends.{sent_so_far, received_so_far, sent, received};
@@ -17,7 +18,9 @@ ghost use Rattle.uses_streams.specs.Tries.{WereRefused, WereEmpty, WasPushedWith
 use lock_free_queues::spsc::queue::{Pass, Queue};
 use std::sync::Wait;
 use uses_streams::element::Element;
-use uses_streams::ends::{Arrival, Received, Receiver, Sender, Sent};
+use uses_streams::ends::{Arrival, Received, Receiver, Sender, Sent, both_ends};
+
+pub mod queue_ends;
 
 /// A new receiver is not at the end.
 pub fn begin<'a>(
@@ -29,6 +32,24 @@ pub fn begin<'a>(
     ensures end { IfSome result (λ r. is_at_end r ≡ false) }
 {
     Receiver::new(queue, half)
+}
+
+/// Both ends are of the queue, and nothing was sent or received. They have taken their roles, and have not looked.
+pub fn begin_both<'a>(
+    queue: &'a Queue<Element<u64>, 4>,
+    pass: Pass<Element<u64>>,
+) -> Option<(Sender<'a, u64>, Receiver<'a, u64>)>
+    requires pass { IsPassOf (inner queue.now) pass }
+    requires first { view pass ≡ first_view 4 }
+    ensures sender { IfSome result (λ r. sender_queue r.0 ≡ queue_id (inner queue.now)) }
+    ensures sent { IfSome result (λ r. sent_so_far r.0 ≡ []) }
+    ensures receiver { IfSome result (λ r. receiver_queue r.1 ≡ queue_id (inner queue.now)) }
+    ensures received { IfSome result (λ r. received_so_far r.1 ≡ []) }
+    ensures end { IfSome result (λ r. is_at_end r.1 ≡ false) }
+    ensures steps { IfSome result (λ r. TakesAtMost 2 (view pass) (sender_view r.0)) }
+    ensures other { IfSome result (λ r. (receiver_view r.1).asked ≤ 1) }
+{
+    both_ends(queue, pass)
 }
 
 /// A number is pushed by the last of so many tries, or by none.

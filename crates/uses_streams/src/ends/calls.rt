@@ -1,5 +1,5 @@
 //! What is done with a stream.
-ghost use Rattle.std.specs.Prelude.{◌≡◌, ◌++◌, ◌∷◌, [], ◌+◌, ℕ, true, false, take, length, is_none};
+ghost use Rattle.std.specs.Prelude.{◌≡◌, ◌≤◌, ◌++◌, ◌∷◌, [], ◌+◌, ℕ, true, false, take, length, is_none};
 ghost use Rattle.std.specs.Prelude.{IsTrue, IsFalse, IfOk, IfErr, IfSome, IfNone};
 ghost use Rattle.model.specs.declared.event.Item.TheVariants.{Value};
 ghost use Rattle.threaded.specs.Shares.{IsAll};
@@ -20,7 +20,7 @@ use lock_free_queues::spsc::queue::{Pass, Queue};
 use steps::words::Words;
 
 /// Splits the first pass of a queue into the halves that a sender and a receiver begin with. None where no further pass can be
-/// counted (no clause says when), and the pass is gone then.
+/// counted (no clause says when), and the pass is gone then. At most one atomic step.
 pub fn halves<T: Copy, const CAPACITY: usize>(
     pass: Pass<Element<T>>,
 ) -> Option<(Pass<Element<T>>, Pass<Element<T>>)>
@@ -29,10 +29,36 @@ where
     requires { view pass ≡ first_view CAPACITY }
     ensures queue { IfSome result (λ r. (queue_of r.0 ≡ queue_of pass) × (queue_of r.1 ≡ queue_of pass)) }
     ensures fresh { IfSome result (λ r. IsFreshHalf (view r.0) × IsFreshHalf (view r.1)) }
+    ensures steps { IfSome result (λ r. TakesAtMost 1 (view pass) (view r.0)) }
+    ensures other { IfSome result (λ r. (view r.1).asked ≡ 0) }
 {
     let mut mine = pass;
     let other = mine.split()?;
     Some((mine, other))
+}
+
+/// Both ends of a queue, by its first pass. None where no further pass can be counted (no clause says when), and the pass is gone
+/// then. At most 3 atomic steps, two of the sender's half and one of the receiver's.
+pub fn both_ends<'a, T: Copy, const CAPACITY: usize>(
+    queue: &'a Queue<Element<T>, CAPACITY>,
+    pass: Pass<Element<T>>,
+) -> Option<(Sender<'a, T>, Receiver<'a, T>)>
+where
+    Element<T>: Words,
+    requires pass { IsPassOf (inner queue.now) pass }
+    requires first { view pass ≡ first_view CAPACITY }
+    ensures sender { IfSome result (λ r. sender_queue r.0 ≡ queue_id (inner queue.now)) }
+    ensures sent { IfSome result (λ r. sent_so_far r.0 ≡ []) }
+    ensures receiver { IfSome result (λ r. receiver_queue r.1 ≡ queue_id (inner queue.now)) }
+    ensures received { IfSome result (λ r. received_so_far r.1 ≡ []) }
+    ensures end { IfSome result (λ r. is_at_end r.1 ≡ false) }
+    ensures steps { IfSome result (λ r. TakesAtMost 2 (view pass) (sender_view r.0)) }
+    ensures other { IfSome result (λ r. (receiver_view r.1).asked ≤ 1) }
+{
+    let (mine, other) = halves::<T, CAPACITY>(pass)?;
+    let sender = Sender::new(queue, mine)?;
+    let receiver = Receiver::new(queue, other)?;
+    Some((sender, receiver))
 }
 
 impl<'a, T: Copy> Sender<'a, T>
@@ -40,6 +66,7 @@ where
     Element<T>: Words,
 {
     /// Begins to send. None where another has the producer's role of the queue (no clause says when), and the half is gone then.
+    /// At most one atomic step.
     pub fn new<const CAPACITY: usize>(
         queue: &'a Queue<Element<T>, CAPACITY>,
         half: Pass<Element<T>>,
@@ -48,6 +75,7 @@ where
         requires fresh { IsFreshHalf (view half) }
         ensures queue { IfSome result (λ s. sender_queue s ≡ queue_id (inner queue.now)) }
         ensures sent { IfSome result (λ s. sent_so_far s ≡ []) }
+        ensures steps { IfSome result (λ s. TakesAtMost 1 (view half) (sender_view s)) }
     {
         let Ok(producer) = queue.acquire_producer(half) else {
             return None;
@@ -133,6 +161,7 @@ where
     Element<T>: Words,
 {
     /// Begins to receive. None where another has the consumer's role of the queue (no clause says when), and the half is gone then.
+    /// At most one atomic step.
     pub fn new<const CAPACITY: usize>(
         queue: &'a Queue<Element<T>, CAPACITY>,
         half: Pass<Element<T>>,
@@ -142,6 +171,7 @@ where
         ensures queue { IfSome result (λ r. receiver_queue r ≡ queue_id (inner queue.now)) }
         ensures received { IfSome result (λ r. received_so_far r ≡ []) }
         ensures end { IfSome result (λ r. is_at_end r ≡ false) }
+        ensures steps { IfSome result (λ r. TakesAtMost 1 (view half) (receiver_view r)) }
     {
         let Ok(consumer) = queue.acquire_consumer(half) else {
             return None;

@@ -1,0 +1,109 @@
+//! The same of calls of a plain queue's ends: that they succeed where there is room, of numbers at seven capacities, and of values.
+use lock_free_queues::spsc::index_queue::{Consumer, IndexQueue, Producer};
+use lock_free_queues::spsc::queue;
+use lock_free_queues::spsc::queue::Queue;
+use std::alloc::Global;
+use std::sync::Wait;
+use std::test::Fail;
+use std::thread;
+use std::thread::Threads;
+use uses_streams::queues::{pop_all, pop_waiting, pop_within, push_all, push_waiting, push_within};
+
+/// Pushes seven numbers into a queue of five, as many as go in at a time, and pops them into slices: whether the first five went in
+/// and no more, three came, the others went in, these came, and nothing was left.
+fn pass_slices(producer: &mut Producer<'_>, consumer: &mut Consumer<'_>) -> [bool; 5] {
+    let values = [2, 3, 5, 7, 11, 13, 17];
+    let filled = push_all(producer, &values) == 5 && push_all(producer, &values) == 0;
+    let mut three = [9; 3];
+    let came = pop_all(consumer, &mut three) == 3 && three == [2, 3, 5];
+    let went_on = push_all(producer, &values[5..]) == 2;
+    let mut six = [9; 6];
+    let emptied = pop_all(consumer, &mut six) == 4 && six == [7, 11, 13, 17, 9, 9];
+    let none = pop_all(consumer, &mut six) == 0 && push_all(producer, &[]) == 0;
+    [filled, came, went_on, emptied, none]
+}
+
+/// Fills a queue of two pairs, and empties it, by calls with a limit of tries: whether each answered as it should.
+fn try_so_often(
+    producer: &mut queue::Producer<'_, (u64, u64)>,
+    consumer: &mut queue::Consumer<'_, (u64, u64)>,
+) -> [bool; 3] {
+    let mut at_first = pop_within(consumer, 3).is_none();
+    at_first &= !push_within(producer, &(1, 2), 0);
+    at_first &= push_within(producer, &(1, 2), 1) && push_within(producer, &(3, 4), 3);
+    let full = !push_within(producer, &(5, 6), 3) && pop_within(consumer, 0).is_none();
+    let mut in_order = pop_within(consumer, 1) == Some((1, 2));
+    in_order &= pop_within(consumer, 3) == Some((3, 4));
+    [at_first, full, in_order]
+}
+
+/// Pushes the numbers below `count`, each as soon as there is room.
+fn push_numbers(rt: &impl Wait, producer: &mut Producer<'_>, count: u64) {
+    for value in 0..count {
+        push_waiting(rt, producer, &value);
+    }
+}
+
+/// Pops so many numbers, each as soon as it is there: whether they came in order.
+fn pop_numbers(rt: &impl Wait, consumer: &mut Consumer<'_>, count: u64) -> bool {
+    let mut in_order = true;
+    for value in 0..count {
+        in_order &= pop_waiting(rt, consumer) == value;
+    }
+    in_order
+}
+
+/// Passes the numbers below `count` from one thread to another: whether they came in order.
+fn cross<R: Threads + Wait + Sync>(
+    rt: &R,
+    alloc: Global,
+    capacity: usize,
+    count: u64,
+) -> Option<bool> {
+    let (queue, pass) = IndexQueue::new(alloc, capacity).ok()?;
+    let (mut producer, mut consumer) = queue.ends(pass)?;
+    let (in_order, _) = thread::join(
+        rt,
+        || pop_numbers(rt, &mut consumer, count),
+        || push_numbers(rt, &mut producer, count),
+    );
+    Some(in_order)
+}
+
+#[test]
+fn a_queue_takes_what_it_has_room_for(rt: HostRuntime) -> Result<(), Fail> {
+    for (capacity, number) in [(0, 0), (1, 1), (7, 7), (1000, 7)] {
+        let (queue, pass) = IndexQueue::new(rt.alloc(), capacity)?;
+        let (mut producer, _consumer) = queue.ends(pass).ok_or("no ends")?;
+        let went_in = push_all(&mut producer, &[2, 3, 5, 7, 11, 13, 17]);
+        assert!(rt; went_in == number, "at {capacity}");
+    }
+    Ok(())
+}
+
+#[test]
+fn slices_come_in_order(rt: HostRuntime) -> Result<(), Fail> {
+    let (queue, pass) = IndexQueue::new(rt.alloc(), 5)?;
+    let (mut producer, mut consumer) = queue.ends(pass).ok_or("no ends")?;
+    assert!(rt; pass_slices(&mut producer, &mut consumer) == [true; 5]);
+    Ok(())
+}
+
+#[test]
+fn tries_end(rt: HostRuntime) -> Result<(), Fail> {
+    let (queue, pass) = Queue::<(u64, u64), 2>::new(rt.alloc())?;
+    let (mut producer, mut consumer) = queue.ends(pass).ok_or("no ends")?;
+    assert!(rt; try_so_often(&mut producer, &mut consumer) == [true; 3]);
+    Ok(())
+}
+
+#[test]
+fn who_waits_gets_all(rt: HostRuntime) -> Result<(), Fail> {
+    for (capacity, count) in [(1, 100), (2, 100), (64, 1000), (1000, 3000)] {
+        assert!(rt;
+            cross(&rt, rt.alloc(), capacity, count) == Some(true),
+            "at {capacity}"
+        );
+    }
+    Ok(())
+}

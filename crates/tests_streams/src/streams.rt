@@ -1,0 +1,241 @@
+//! What no clause says: that calls succeed at five capacities, what a sender leaves that finishes, leaves or is dropped, and that
+//! roles come back. And each other public call once.
+use lock_free_queues::spsc::queue::Queue;
+use std::alloc::Global;
+use std::sync::Wait;
+use std::test::Fail;
+use std::thread;
+use std::thread::Threads;
+use uses_streams::element::Element;
+use uses_streams::ends::{Arrival, Receiver, Sender, both_ends, halves};
+
+/// How a sender ends.
+#[derive(Drop)]
+enum Last {
+    Finishes,
+    Leaves,
+    IsDropped,
+}
+
+/// Sends the numbers below `count`, and one more where the stream is full then: whether all went in, and that one did not.
+fn fills(sender: &mut Sender<'_, u64>, count: u64, is_full: bool) -> bool {
+    let mut right = true;
+    for value in 0..count {
+        right &= sender.send(value);
+    }
+    right && !(is_full && sender.send(7))
+}
+
+/// Finishes, where the stream is full once a number is received: whether the end was refused just where it is full.
+fn finishes(sender: Sender<'_, u64>, receiver: &mut Receiver<'_, u64>, is_full: bool) -> bool {
+    match sender.finish() {
+        Ok(_sent) => !is_full,
+        Err(sender) => {
+            let came = receiver.receive() == Arrival::Value(0);
+            let finished = sender.finish().is_ok();
+            is_full & came & finished
+        }
+    }
+}
+
+/// Receives the numbers from one up to another: whether they came in order.
+fn empties(receiver: &mut Receiver<'_, u64>, from: u64, to: u64) -> bool {
+    let mut right = true;
+    for value in from..to {
+        right &= receiver.receive() == Arrival::Value(value);
+    }
+    right
+}
+
+/// Sends so many numbers, ends so, and receives all: whether each call answered as it should, and what comes then, twice. None where
+/// the ends are not to be had.
+fn plays<const CAPACITY: usize>(
+    alloc: Global,
+    count: u64,
+    last: Last,
+) -> Option<(bool, [Arrival<u64>; 2])> {
+    let (queue, pass) = Queue::<Element<u64>, CAPACITY>::new(alloc).ok()?;
+    let (mut sender, mut receiver) = both_ends(&queue, pass)?;
+    let is_full = count == CAPACITY as u64;
+    let mut right = fills(&mut sender, count, is_full);
+    let mut from = 0;
+    match last {
+        Last::Finishes => {
+            right &= finishes(sender, &mut receiver, is_full);
+            from = is_full as u64;
+        }
+        Last::Leaves => drop(sender.leave()),
+        Last::IsDropped => drop(sender),
+    }
+    right &= empties(&mut receiver, from, count);
+    Some((right, [receiver.receive(), receiver.receive()]))
+}
+
+/// Sends one value and the end, receives both, and joins the ends: whether the pass gets each role again.
+fn send_and_join(alloc: Global) -> Option<[bool; 2]> {
+    let (queue, pass) = Queue::<Element<u64>, 2>::new(alloc).ok()?;
+    let (mut sender, mut receiver) = both_ends(&queue, pass)?;
+    if !sender.send(7) {
+        return None;
+    }
+    let Ok(sent) = sender.finish() else {
+        return None;
+    };
+    let came = [receiver.receive(), receiver.receive()];
+    let Ok(producer) = queue.acquire_producer(sent.join(receiver.leave())) else {
+        return None;
+    };
+    let is_free = queue.acquire_consumer(producer.release()).is_ok();
+    Some([came == [Arrival::Value(7), Arrival::End], is_free])
+}
+
+/// Begins to send and to receive while another has the role: whether it is refused.
+fn begin_beside_another(alloc: Global) -> Option<[bool; 2]> {
+    let (queue, pass) = Queue::<Element<u64>, 2>::new(alloc).ok()?;
+    let (mine, other) = halves::<u64, 2>(pass)?;
+    let _sender = Sender::new(&queue, mine)?;
+    let no_sender = Sender::new(&queue, other).is_none();
+    let (queue, pass) = Queue::<Element<u64>, 2>::new(alloc).ok()?;
+    let (mine, other) = halves::<u64, 2>(pass)?;
+    let _receiver = Receiver::new(&queue, mine)?;
+    let no_receiver = Receiver::new(&queue, other).is_none();
+    Some([no_sender, no_receiver])
+}
+
+/// Fills a stream of two places by calls with a limit of tries: whether each answered as it should.
+fn fills_by_tries(sender: &mut Sender<'_, u64>, receiver: &mut Receiver<'_, u64>) -> bool {
+    let mut right = receiver.receive_within(3) == Arrival::Nothing;
+    right &= !sender.send_within(5, 0);
+    right &= sender.send_within(6, 1) && sender.send_within(7, 3);
+    right && !sender.send_within(8, 3)
+}
+
+/// And empties it.
+fn empties_by_tries(sender: Sender<'_, u64>, receiver: &mut Receiver<'_, u64>) -> Option<bool> {
+    let Err(sender) = sender.finish_within(3) else {
+        return None;
+    };
+    let mut right = receiver.receive_within(0) == Arrival::Nothing;
+    right &= receiver.receive_within(1) == Arrival::Value(6);
+    right &= sender.finish_within(1).is_ok();
+    right &= receiver.receive_within(3) == Arrival::Value(7);
+    right &= receiver.receive_within(1) == Arrival::End;
+    Some(right & (receiver.receive_within(0) == Arrival::End))
+}
+
+/// Receives four numbers until the end: one, one more by an iterator, and then the rest. Whether all came.
+fn receive_in_parts(rt: &impl Wait, alloc: Global, receiver: Receiver<'_, u64>) -> Option<bool> {
+    let mut receiver = receiver;
+    let mut right = receiver.receive_waiting(rt) == Some(2);
+    let mut values = receiver.values(rt);
+    right &= values.next() == Some(3);
+    let mut receiver = values.into_receiver();
+    let mut came = Vec::from_array(alloc, [1]).ok()?;
+    right &= receiver.receive_all(rt, &mut came).is_ok();
+    right &= receiver.receive_all(rt, &mut came).is_ok();
+    Some(right && came.as_slice() == [1, 5, 7].as_slice())
+}
+
+/// Sends the numbers below `count`, each as soon as there is room, and then the end.
+fn send(rt: &impl Wait, sender: Sender<'_, u64>, count: u64) {
+    let mut sender = sender;
+    for value in 0..count {
+        sender.send_waiting(rt, value);
+    }
+    let _sent = sender.finish_waiting(rt);
+}
+
+/// Receives until the end: how many came, if they came in order.
+fn receive<'a>(rt: &'a impl Wait, receiver: Receiver<'a, u64>) -> Option<u64> {
+    let mut came = 0u64;
+    for value in receiver.values(rt) {
+        if value != came {
+            return None;
+        }
+        came = came.wrapping_add(1);
+    }
+    Some(came)
+}
+
+/// Sends the numbers below `count` from one thread to another: how many came.
+fn cross<R: Threads + Wait + Sync, const CAPACITY: usize>(
+    rt: &R,
+    alloc: Global,
+    count: u64,
+) -> Option<u64> {
+    let (queue, pass) = Queue::<Element<u64>, CAPACITY>::new(alloc).ok()?;
+    let (sender, receiver) = both_ends(&queue, pass)?;
+    let (came, _) = thread::join(
+        rt,
+        move || receive(rt, receiver),
+        move || send(rt, sender, count),
+    );
+    came
+}
+
+/// All that was sent, and the end twice.
+const ENDED: Option<(bool, [Arrival<u64>; 2])> = Some((true, [Arrival::End; 2]));
+
+/// All that was sent, and no end.
+const NOT_ENDED: Option<(bool, [Arrival<u64>; 2])> = Some((true, [Arrival::Nothing; 2]));
+
+#[test]
+fn a_full_stream_refuses_and_ends(rt: HostRuntime) -> Result<(), Fail> {
+    let alloc = rt.alloc();
+    assert!(rt; plays::<1>(alloc, 1, Last::Finishes) == ENDED);
+    assert!(rt; plays::<2>(alloc, 2, Last::Finishes) == ENDED);
+    assert!(rt; plays::<5>(alloc, 5, Last::Finishes) == ENDED);
+    assert!(rt; plays::<64>(alloc, 64, Last::Finishes) == ENDED);
+    assert!(rt; plays::<1000>(alloc, 1000, Last::Finishes) == ENDED);
+    Ok(())
+}
+
+#[test]
+fn a_dropped_sender_ends_the_stream_where_there_is_room(rt: HostRuntime) -> Result<(), Fail> {
+    let alloc = rt.alloc();
+    assert!(rt; plays::<1>(alloc, 0, Last::IsDropped) == ENDED);
+    assert!(rt; plays::<1>(alloc, 1, Last::IsDropped) == NOT_ENDED);
+    assert!(rt; plays::<5>(alloc, 4, Last::IsDropped) == ENDED);
+    assert!(rt; plays::<5>(alloc, 5, Last::IsDropped) == NOT_ENDED);
+    assert!(rt; plays::<1000>(alloc, 999, Last::IsDropped) == ENDED);
+    assert!(rt; plays::<2>(alloc, 1, Last::Leaves) == NOT_ENDED);
+    Ok(())
+}
+
+#[test]
+fn each_role_has_one_holder_and_comes_back(rt: HostRuntime) -> Result<(), Fail> {
+    assert!(rt; send_and_join(rt.alloc()) == Some([true; 2]));
+    assert!(rt; begin_beside_another(rt.alloc()) == Some([true; 2]));
+    Ok(())
+}
+
+#[test]
+fn calls_give_up_after_their_tries(rt: HostRuntime) -> Result<(), Fail> {
+    let (queue, pass) = Queue::<Element<u64>, 2>::new(rt.alloc())?;
+    let (mut sender, mut receiver) = both_ends(&queue, pass).ok_or("no ends")?;
+    let filled = fills_by_tries(&mut sender, &mut receiver);
+    let emptied = empties_by_tries(sender, &mut receiver);
+    assert!(rt; filled && emptied == Some(true));
+    Ok(())
+}
+
+#[test]
+fn a_stream_is_received_in_parts(rt: HostRuntime) -> Result<(), Fail> {
+    let (queue, pass) = Queue::<Element<u64>, 5>::new(rt.alloc())?;
+    let (mut sender, receiver) = both_ends(&queue, pass).ok_or("no ends")?;
+    sender.send_all(&rt, &[2, 3, 5, 7]);
+    let _sent = sender.finish_waiting(&rt);
+    assert!(rt; receive_in_parts(&rt, rt.alloc(), receiver) == Some(true));
+    Ok(())
+}
+
+#[test]
+fn all_come_from_one_thread_to_another(rt: HostRuntime) -> Result<(), Fail> {
+    let alloc = rt.alloc();
+    assert!(rt; cross::<HostRuntime, 1>(&rt, alloc, 100) == Some(100));
+    assert!(rt; cross::<HostRuntime, 2>(&rt, alloc, 100) == Some(100));
+    assert!(rt; cross::<HostRuntime, 5>(&rt, alloc, 100) == Some(100));
+    assert!(rt; cross::<HostRuntime, 64>(&rt, alloc, 1000) == Some(1000));
+    assert!(rt; cross::<HostRuntime, 1000>(&rt, alloc, 3000) == Some(3000));
+    Ok(())
+}
