@@ -1,0 +1,85 @@
+//! A registry: two threads replace an entry each, over and over, and a third looks at all entries until it has seen the last of both.
+//! No entry that it sees is torn.
+use lock_free::mpmc::container::{
+    CallbackProgression, Container, ContainerHandle, ContainerState, Handle, OwnerId,
+};
+use lock_free::mpmc::unique_index_set_enums::ReleaseMode;
+use std::alloc::Global;
+use std::sync::Wait;
+use std::thread::Threads;
+use std::{io, thread};
+
+/// An entry: the same number twice.
+type Entry = (u64, u64);
+
+const LAST: u64 = 999;
+
+/// Adds an entry for this owner, and replaces it until it is the last.
+fn replace(
+    rt: &impl Wait,
+    mut registry: Handle<'_, Entry>,
+    owner: OwnerId,
+) -> Option<ContainerHandle> {
+    let mine = registry.add(rt, (0, 0), owner).ok()?;
+    for number in 1..LAST + 1 {
+        let key = mine;
+        registry.replace(key, (number, number)).ok()?;
+    }
+    Some(mine)
+}
+
+/// How many entries a state shows that are the last, or None where one is torn.
+fn last_ones(state: &ContainerState<Entry>) -> Option<u64> {
+    let (mut number, mut torn) = (0u64, false);
+    state.for_each(|_, entry| {
+        torn |= entry.0 != entry.1;
+        if entry.0 == LAST {
+            number = number.wrapping_add(1);
+        }
+        CallbackProgression::Continue
+    });
+    if torn { None } else { Some(number) }
+}
+
+/// Looks until it sees both of the last entries: false where one was torn. None where there is no memory for a state.
+fn look(rt: &impl Wait, mut registry: Handle<'_, Entry>) -> Option<bool> {
+    let mut state = registry.get_state(rt).ok()?;
+    for _ in rt.forever() {
+        match last_ones(&state) {
+            Some(2) => return Some(true),
+            Some(_) => thread::yield_now(),
+            None => return Some(false),
+        }
+        if registry.is_state_of(&state) {
+            registry.update_state(rt, &mut state);
+        }
+    }
+    unreachable!()
+}
+
+/// Whether no entry was torn, and how many are left where one of two is removed. None where there is no memory, or no further handle.
+fn run<R: Threads + Wait + Sync>(rt: &R, alloc: Global) -> Option<(bool, usize)> {
+    let (one, two) = (OwnerId::new(1).ok()?, OwnerId::new(2).ok()?);
+    let (registry, pass) = Container::new(alloc, 2, 0).ok()?;
+    let mut mine = registry.handle(pass);
+    let (looks, first, second) = (mine.split()?, mine.split()?, mine.split()?);
+    let (whole, (key, other)) = thread::join(
+        rt,
+        move || look(rt, looks),
+        move || thread::join(
+            rt,
+            move || replace(rt, first, one),
+            move || replace(rt, second, two),
+        ),
+    );
+    other?;
+    mine.remove(rt, key?, ReleaseMode::Default).ok()?;
+    Some((whole?, mine.len(rt)))
+}
+
+pub fn report<R: Threads + Wait + Print + Sync>(rt: &R, alloc: Global) -> io::Result<()> {
+    match run(rt, alloc) {
+        Some((whole, left)) => println!(rt; "entries whole: {whole}; left: {left}"),
+        None => println!(rt; "no memory"),
+    }
+}
