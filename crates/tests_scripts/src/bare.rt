@@ -1,20 +1,18 @@
 //! Calls over written words: the calls of a machine without its rules.
 use crate::calls;
 use crate::stage::Stage;
-use crate::text::{number, numbers};
 use machine::event::{Event, Start};
 use machine::families::{Beside, Registry};
 use machine::party::{Doing, Latest, Party, Progress, Seat};
-use machine::turn::{Kind, Refusal, Turn};
+use machine::turn::{Kind, Refusal, Shape, Turn};
 use schedule::bare::read_words;
-use schedule::grammar::Shape;
 use std::alloc::Global;
 use std::collections::BTreeMap;
 use steps::ask::{Ask, Want};
 use steps::container::state::ContainerState;
 use steps::enums::OwnerId;
 use steps::indices::head::HeadDetails;
-use turns::families::loan::opening::open;
+use tests_texts::text::{number, numbers};
 use turns::families::{self, is_asking};
 use turns::party::{flight_of, progress_of};
 use turns::words;
@@ -85,10 +83,8 @@ fn write_death<T: Copy>(events: &mut Vec<Event<T>>, owner: OwnerId) -> bool {
 
 fn opening(alloc: Global, shape: Shape) -> Option<(Vec<u64>, Registry<u128>)> {
     let capacity = u32::try_from(shape.capacity()).ok()?;
-    match shape {
-        Shape::Of(kind, _) => families::opening::<u128>(alloc, kind, capacity).ok(),
-        Shape::Loan(_, queue) => open::<u128>(alloc, capacity, u32::try_from(queue).ok()?).ok(),
-    }
+    let queue = u32::try_from(shape.queue()).ok()?;
+    families::opening::<u128>(alloc, shape.kind(), capacity, queue).ok()
 }
 
 /// The operation that a step does, and none with a decision.

@@ -1,5 +1,4 @@
 //! What a call that is stopped would do next.
-use crate::text::number;
 use machine::families::Flight;
 use machine::families::bits::calls::BitsFlight;
 use machine::families::indices::calls::IndexFlight;
@@ -7,6 +6,7 @@ use machine::families::indices::robust::calls::RobustFlight;
 use machine::families::queues::calls::{OverflowCall, QueueFlight};
 use steps::ask::{Ask, Op, Question, Want};
 use steps::indices::unique::AcquireStage;
+use tests_texts::text::number;
 use turns::families::{atomic, bits, container, going, indices, loan, queues};
 
 /// A call under way, for those who do not name the calls of all families: a function that does is proved with the types

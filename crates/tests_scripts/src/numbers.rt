@@ -1,11 +1,11 @@
 //! Which capacities are admitted, and how many words there are.
-use crate::blocks::Rows;
 use machine::Machine;
-use machine::turn::{capacity_error, loan_error};
+use machine::turn::shape_error;
 use schedule::bare::{made, made_of, read_words};
-use schedule::grammar::{Setup, Shape};
+use schedule::grammar::Setup;
 use std::alloc::Global;
 use steps::enums::UniqueIndexCreationError;
+use tests_texts::blocks::Rows;
 
 #[derive(Clone, Copy)]
 pub struct Numbers {
@@ -29,8 +29,7 @@ impl Numbers {
     fn error_making(&self, setup: Setup) -> Option<UniqueIndexCreationError> {
         let machine: Result<Machine<u128>, UniqueIndexCreationError> = made_of(
             self.alloc,
-            setup.shape.kind(),
-            setup.shape.capacity() as usize,
+            setup.shape,
             setup.parties,
         );
         machine.err()
@@ -42,15 +41,7 @@ impl Numbers {
 
     fn is_so(&self, word: &str, setup: Setup, wanted: &str) -> Option<bool> {
         match word {
-            "capacity" => Some(
-                name(capacity_error(setup.shape.kind(), setup.shape.capacity() as usize)) == wanted,
-            ),
-            "numbers" => match setup.shape {
-                Shape::Loan(slots, queue) => Some(
-                    name(loan_error(slots as usize, queue as usize)) == wanted,
-                ),
-                Shape::Of(_, _) => None,
-            },
+            "capacity" => Some(name(shape_error(setup.shape)) == wanted),
             "made" => Some(name(self.error_making(setup)) == wanted),
             "words" => Some(Ok(self.words(setup)?) == wanted.parse::<u64>()),
             _ => None,

@@ -1,14 +1,15 @@
 //! A machine, and lists of turns that it takes by one run.
+use crate::lines::is_name;
 use crate::stage::Stage;
-use crate::text::number;
 use machine::event::Event;
 use machine::party::Progress;
 use machine::turn::{Kind, Refusal, Turn};
 use machine::{Machine, Stopped};
-use schedule::bare::{TakesTurns, line_of_refusal, read_command, run, run_all, text_of};
+use schedule::bare::{TakesTurns, read_command, run, run_all};
 use schedule::grammar::Command;
 use std::alloc::Global;
 use steps::container::state::ContainerState;
+use tests_texts::text::number;
 
 /// What takes lists of turns: a machine, for those who name none.
 pub trait TakesLists {
@@ -83,9 +84,7 @@ impl<M: TakesLists> OnMachine<M> {
 
 fn is_so(stopped: Stopped, wanted: &str) -> Option<bool> {
     let (taken, refusal) = wanted.split_once(' ')?;
-    let line = line_of_refusal(stopped.refusal);
-    let is_refusal = text_of(&line).strip_prefix("refused ") == Some(refusal);
-    Some(is_refusal && stopped.taken as u64 == number(taken)?)
+    Some(is_name(stopped.refusal, refusal) && stopped.taken as u64 == number(taken)?)
 }
 
 impl<M: TakesTurns<u128> + TakesLists> Stage for OnMachine<M> {

@@ -1,15 +1,16 @@
 //! Rows of turns, each with what must come of it.
-use crate::blocks::Rows;
+use crate::lines::{is_end, is_line, is_name};
 use crate::shows;
 use crate::stage::Stage;
-use crate::text::number;
 use machine::event::Start;
 use machine::families::queues::QueueStart;
 use machine::turn::Turn;
-use schedule::bare::{line_of, line_of_refusal, read_command, text_of};
+use schedule::bare::read_command;
 use schedule::grammar::Command;
 use schedule::pen::Pen;
 use std::alloc::Global;
+use tests_texts::blocks::Rows;
+use tests_texts::text::number;
 
 /// The most turns of a call that says how it ends, and not when.
 const MANY: u64 = 1000;
@@ -29,19 +30,6 @@ impl<S: Drop> Drop for Played<S> {
             next: _,
         } = self;
     }
-}
-
-/// Whether the event of a call that ends has this line.
-fn is_end(line: &str, party: u32, answer: &str) -> Option<bool> {
-    let (number, rest) = line.split_once(" finished ")?;
-    let (_, end) = rest.split_once(" -> ")?;
-    Some(number.parse() == Ok(party) && end == answer)
-}
-
-/// Whether it is the end of this call.
-fn is_end_of(line: &str, party: u32, call: &str, answer: &str) -> Option<bool> {
-    let (number, rest) = line.split_once(" finished ")?;
-    Some(number.parse() == Ok(party) && rest.split_once(" -> ")? == (call, answer))
 }
 
 impl<S: Stage> Played<S> {
@@ -111,15 +99,12 @@ impl<S: Stage> Played<S> {
         }
     }
 
-    /// Whether the last event is that a call of the party ended with this answer.
-    fn has_answered(&self, party: u32, answer: &str) -> Option<bool> {
-        let line = line_of(self.stage.events().last()?);
-        is_end(text_of(&line), party, answer)
-    }
-
-    fn has_answered_to(&self, party: u32, call: &str, answer: &str) -> Option<bool> {
-        let line = line_of(self.stage.events().last()?);
-        is_end_of(text_of(&line), party, call, answer)
+    /// Whether the last event is that a call of the party ended with this answer, this call if one is named.
+    fn has_answered(&self, party: u32, call: Option<&str>, answer: &str) -> bool {
+        match self.stage.events().last() {
+            Some(event) => is_end(event, party, call, answer),
+            None => false,
+        }
     }
 
     /// A call that ends: `set 1 in 2 -> true`.
@@ -127,7 +112,7 @@ impl<S: Stage> Played<S> {
         let (call, rest) = rest.split_once(" in ")?;
         let (turns, answer) = rest.split_once(" -> ")?;
         let taken = self.begins(party, call, number(turns)?)?;
-        Some(taken && self.has_answered_to(party, call, answer)?)
+        Some(taken && self.has_answered(party, Some(call), answer))
     }
 
     /// A call that does not end: `push 5 in 3`.
@@ -141,7 +126,7 @@ impl<S: Stage> Played<S> {
     fn ends(&mut self, party: u32, rest: &str) -> Option<bool> {
         let (turns, answer) = rest.split_once(" -> ")?;
         let taken = self.goes(party, number(turns)?);
-        Some(taken && self.has_answered(party, answer)?)
+        Some(taken && self.has_answered(party, None, answer))
     }
 
     /// A turn of the party's call, which at a question is this decision.
@@ -202,7 +187,7 @@ impl<S: Stage> Played<S> {
     fn is_refused(&mut self, turn: Turn<u128>, refusal: &str) -> bool {
         match self.stage.step(turn) {
             Ok(()) => false,
-            Err(told) => text_of(&line_of_refusal(told)).strip_prefix("refused ") == Some(refusal),
+            Err(told) => is_name(told, refusal),
         }
     }
 
@@ -230,10 +215,13 @@ impl<S: Stage> Played<S> {
     }
 
     /// Whether the next event is this.
-    fn is_next(&mut self, line: &str) -> Option<bool> {
-        let event = line_of(self.stage.events().get(self.next)?);
+    fn is_next(&mut self, line: &str) -> bool {
+        let is_so = match self.stage.events().get(self.next) {
+            Some(event) => is_line(event, line),
+            None => false,
+        };
         self.next = self.next.wrapping_add(1);
-        Some(text_of(&event) == line)
+        is_so
     }
 
     /// `from 4`: the events from this place on are those that follow, and `end` behind them: no more.
@@ -249,7 +237,7 @@ impl<S: Stage> Played<S> {
 
     fn row_of_all(&mut self, word: &str, rest: &str) -> Option<bool> {
         match word {
-            ">" => self.is_next(rest),
+            ">" => Some(self.is_next(rest)),
             "events" => self.looks(rest),
             "turn" => self.takes(rest),
             "refused" => self.refuses_line(rest),

@@ -1,11 +1,11 @@
 //! What a stage shows.
+use crate::lines::is_line;
 use crate::played::Played;
 use crate::stage::Stage;
-use crate::text::{number, numbers, perhaps};
 use machine::event::Event;
 use machine::party::Progress;
-use schedule::bare::{line_of, text_of};
 use steps::indices::head::HeadDetails;
+use tests_texts::text::{number, numbers, perhaps};
 
 /// How many values were freed and not hidden.
 fn seen_late(events: &[Event<u128>]) -> u64 {
@@ -25,16 +25,20 @@ fn number_of_party(word: &str) -> Option<u32> {
 }
 
 impl<S: Stage> Played<S> {
-    fn last_is(&self, text: &str) -> Option<bool> {
-        let line = line_of(self.stage.events().last()?);
-        Some(text_of(&line) == text)
+    fn last_is(&self, text: &str) -> bool {
+        match self.stage.events().last() {
+            Some(event) => is_line(event, text),
+            None => false,
+        }
     }
 
     /// Whether the event before the last one is this.
-    fn before_is(&self, text: &str) -> Option<bool> {
+    fn before_is(&self, text: &str) -> bool {
         let events = self.stage.events();
-        let line = line_of(events.get(events.len().checked_sub(2)?)?);
-        Some(text_of(&line) == text)
+        match events.get(events.len().wrapping_sub(2)) {
+            Some(event) => is_line(event, text),
+            None => false,
+        }
     }
 
     fn are_words(&self, rest: &str) -> Option<bool> {
@@ -162,7 +166,7 @@ impl<S: Stage> Played<S> {
             "counts" => self.has_counts(rest),
             "steps" => self.has_steps(rest),
             "going" => Some(self.stage.is_going(number_of_party(rest)?)),
-            "before" => self.before_is(rest),
+            "before" => Some(self.before_is(rest)),
             "no_call" => Some(self.stage.progress(number_of_party(rest)?).is_none()),
             _ => self.row_of_state(word, rest),
         }
@@ -173,7 +177,7 @@ impl<S: Stage> Played<S> {
 pub fn row<S: Stage>(played: &Played<S>, rest: &str) -> Option<bool> {
     let (word, rest) = rest.split_once(' ')?;
     match word {
-        "last" => played.last_is(rest),
+        "last" => Some(played.last_is(rest)),
         "words" => played.are_words(rest),
         "word" => played.is_word(rest),
         "proposed" => Some(u64::from(played.head()?.head) == number(rest)?),

@@ -1,4 +1,4 @@
-//! What rows say: numbers, lists of them, escaped bytes, and what stands in braces for a number of the round.
+//! What rows say: numbers, lists of them, and what stands in braces for a number of the round.
 use schedule::pen::Pen;
 use std::alloc::Global;
 
@@ -38,74 +38,6 @@ pub fn perhaps(word: &str) -> Option<Option<u128>> {
     match word {
         "none" => Some(None),
         _ => Some(Some(word.parse().ok()?)),
-    }
-}
-
-/// The text behind a space that may stand before it.
-pub fn behind_space(text: &str) -> &str {
-    text.strip_prefix(' ').unwrap_or(text)
-}
-
-/// So many of one byte, as `5000*48;`, and the text behind it.
-fn adds_many(bytes: &mut Vec<u8>, text: &str) -> Option<()> {
-    let (many, rest) = text.split_once(';')?;
-    let (times, byte) = many.split_once('*')?;
-    let end = bytes.len().checked_add(times.parse().ok()?)?;
-    bytes.resize(end, byte.parse().ok()?).ok()?;
-    bytes.extend_from_slice(rest.as_bytes()).ok()
-}
-
-fn adds_byte(bytes: &mut Vec<u8>, byte: u8, rest: &str) -> Option<()> {
-    bytes.push(byte).ok()?;
-    bytes.extend_from_slice(rest.as_bytes()).ok()
-}
-
-/// What stands behind a backslash.
-fn adds_escaped(bytes: &mut Vec<u8>, text: &str) -> Option<()> {
-    if let Some(rest) = text.strip_prefix('*') {
-        return adds_many(bytes, rest);
-    }
-    let (byte, rest) = byte_of(text)?;
-    adds_byte(bytes, byte, rest)
-}
-
-fn byte_of(text: &str) -> Option<(u8, &str)> {
-    if let Some(rest) = text.strip_prefix('n') {
-        return Some((b'\n', rest));
-    }
-    if let Some(rest) = text.strip_prefix('t') {
-        return Some((b'\t', rest));
-    }
-    if let Some(rest) = text.strip_prefix('r') {
-        return Some((b'\r', rest));
-    }
-    if let Some(rest) = text.strip_prefix('s') {
-        return Some((b' ', rest));
-    }
-    Some((0, text.strip_prefix('0')?))
-}
-
-/// Appends the bytes of an escaped text: `\n`, `\t`, `\r`, `\0` and `\s` for a space, and `\*5000*48;` for 5,000 bytes of
-/// the number 48.
-pub fn adds_bytes(bytes: &mut Vec<u8>, text: &str) -> Option<()> {
-    for (at, part) in text.split('\\').enumerate() {
-        if at == 0 {
-            bytes.extend_from_slice(part.as_bytes()).ok()?;
-        } else {
-            adds_escaped(bytes, part)?;
-        }
-    }
-    Some(())
-}
-
-/// The same and a line feed, unless a backslash ends it.
-pub fn adds_line(bytes: &mut Vec<u8>, text: &str) -> Option<()> {
-    match text.strip_suffix('\\') {
-        Some(text) => adds_bytes(bytes, text),
-        None => {
-            adds_bytes(bytes, text)?;
-            bytes.push(b'\n').ok()
-        }
     }
 }
 
