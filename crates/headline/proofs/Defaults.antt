@@ -1,5 +1,5 @@
 -- A robust set and a container end calls by turns, in runs in which no call may lock with the small bounds.
-use Rattle.std.proofs.Common.{◌≡◌, false, Option, Some, None, List, [], ◌∷◌, ◌++◌, refl, sym, ap, subst, ◌∙◌, arith}
+use Rattle.std.proofs.Common.{◌≡◌, false, Option, Some, None, List, [], ◌∷◌, ◌++◌, refl, sym, ap, subst, ◌∙◌}
 use Rattle.std.specs.List.{AllByRecursion}
 use Rattle.model.specs.declared.event.Start.{Start}
 use Rattle.model.specs.declared.turn.Kind.{Kind}

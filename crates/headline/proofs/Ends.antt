@@ -18,12 +18,12 @@ use Rattle.headline.proofs.WantsNothing.{IsNothing, IsDone, HasRoomIn, call_ends
 use Rattle.headline.proofs.SubmissionRoom.{has_room}
 
 wants_nothing : (want : Want (Unit {0})) → ask_of want ≡ None → is_question want ≡ false → IsNothing want
-wants_nothing x0 x1 x2 = grind arith
+wants_nothing = grind arith
 
 module _ {T : Type 0} where
   -- a call that may go on without a decision asks no question
   asks_nothing : (w : World T) (p : ℕ) → call_refusal w (Next p) ≡ None → is_due w.coding (flight_in w p) ≡ false
-  asks_nothing x0 x1 x2 = grind (arith, row_passed, is_none)
+  asks_nothing = grind (arith, row_passed, is_none)
 
   none_stands : (w : World T) (p : ℕ) (a : After (Flight T) (Answer T)) → IsDone a → StandsAt w p a → flight_in w p ≡ None
   none_stands w p (GoOn flight) done stands = absurd done
@@ -32,7 +32,7 @@ module _ {T : Type 0} where
   module _ (old new : World T) (p : ℕ) where
     by_flight : (o : Option (Flight T)) → flight_in old p ≡ o → HasRoomIn o → is_due old.coding o ≡ false → ask_of_flight old.coding o ≡ None
         → is_none o ≡ false → GoesOn old (Next p) new → flight_in new p ≡ None
-    by_flight x0 x1 x2 x3 x4 x5 x6 = grind (arith, wants_nothing, call_ends, none_stands)
+    by_flight = grind (arith, wants_nothing, call_ends, none_stands)
 
   pub ends : (t : Trace T) → IsReached t → (turn : Turn T) → refusal_of t.world turn ≡ None → (p : ℕ) → turn ≡ Next p
       → ask_in t.world turn ≡ None → flight_in (after_turn t turn).world p ≡ None

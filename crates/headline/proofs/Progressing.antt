@@ -43,7 +43,7 @@ module _ {T : Type 0} where
   -- the bound that the family promises is the one of the kind
   pub most_promised : (kind : Kind) (capacity size : ℕ) (start : Start T) (backs : ℕ)
       → (promise_of kind).most_steps capacity size start backs ≡ most_steps kind capacity size start backs
-  most_promised x0 x1 x2 x3 x4 = grind arith
+  most_promised = grind arith
 
   keeps : (guarantee : Start T → Guarantee) (call start : Start T) (x g : Progress) → call ≡ start → x ≡ g
       → IsWithin (guarantee call) x → IsWithin (guarantee start) g

@@ -38,7 +38,7 @@ TakesOne None = Unit {0}
 TakesOne (Some queue) = 1 ≤ queue
 
 begins_roomy : (slots : ℕ) (book : Book) (start : LoanStart) → 1 ≤ book.queue → HasRoom (first slots book start)
-begins_roomy x0 x1 x2 x3 = grind (arith, nat_tests)
+begins_roomy = grind (arith, nat_tests)
 
 module _ {T : Type 0} where
   abbrev GoesRoomy : After LoanFlight (Answer T) → Type 0
@@ -47,17 +47,17 @@ module _ {T : Type 0} where
 
 module _ (T : Type 0) where
   goes_roomy : (places : List Place) (flight : LoanFlight) (old : ℕ) → HasRoom flight → GoesRoomy (after {T = T} places flight old)
-  goes_roomy x0 x1 x2 x3 = grind arith
+  goes_roomy = grind arith
 
   opens_roomy : (kind : Kind) (capacity queue : ℕ) → queue_error kind queue ≡ None → TakesOne (queue_in (kept_opened {T = T} kind capacity queue))
-  opens_roomy x0 x1 x2 x3 = grind (arith, nat_tests)
+  opens_roomy = grind (arith, nat_tests)
 
 module _ {T : Type 0} where
   -- ---- any call
 
   first_roomy : (kind : Kind) (capacity : ℕ) (start : Start T) (kept : Registry T) → TakesOne (queue_in kept)
       → HasRoomIn (first_of kind capacity start kept)
-  first_roomy x0 x1 x2 x3 x4 = grind (arith, begins_roomy)
+  first_roomy = grind (arith, begins_roomy)
 
   abbrev StepsRoomy : After (Flight T) (Answer T) → Type 0
   StepsRoomy (GoOn flight) = HasRoomIn (Some flight)
@@ -65,20 +65,20 @@ module _ {T : Type 0} where
 
   steps_roomy : (code : Coding T) (words : List ℕ) (beside : Option (ℕ × ℕ)) (p : ℕ) (start : Start T) (flight : Flight T) (old : ℕ)
       (kept : Registry T) → HasRoomIn (Some flight) → StepsRoomy (step_of code words beside p start flight old kept).after
-  steps_roomy x0 x1 x2 x3 x4 x5 x6 x7 x8 = grind (arith, goes_roomy)
+  steps_roomy = grind (arith, goes_roomy)
 
   -- ---- a turn
 
   module _ (w : World T) (p : ℕ) where
     begun : (start : Start T) (o : Option (Flight T)) → HasRoomIn o → HasRoomIn (flight_in w p) → HasRoomIn (flight_in (after_begin w p start o) p)
-    begun x0 x1 x2 x3 = grind (arith, party_put_same)
+    begun = grind (arith, party_put_same)
 
     answered : (x : Party T) (ask : Option Ask) (answer : ℕ) (doing : Doing T) → HasRoomIn (flight_of (Some doing)) → HasRoomIn (flight_in w p)
         → HasRoomIn (flight_in (after_answer w p x ask answer doing) p)
-    answered x0 x1 x2 x3 x4 x5 = grind (arith, step_in, steps_roomy, party_put_same)
+    answered = grind (arith, step_in, steps_roomy, party_put_same)
 
     went : (o : Option (Party T)) → HasRoomIn (flight_of (doing_of o)) → HasRoomIn (flight_in w p) → HasRoomIn (flight_in (after_next w p o) p)
-    went x0 x1 x2 = grind (arith, answered)
+    went = grind (arith, answered)
 
     decided : (said : Bool) (o : Option (Party T)) → HasRoomIn (flight_of (doing_of o)) → HasRoomIn (flight_in w p)
         → HasRoomIn (flight_in (after_decision w p said o) p)

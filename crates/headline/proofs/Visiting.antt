@@ -73,7 +73,7 @@ module _ {T : Type 0} where
   longer_less (Ended start answer wrote) e h = h
 
   own_less : (span : Span T) (e : Event T) → BeginsNo e → IsRecovery (own_after span e) → IsRecovery span
-  own_less x0 x1 x2 x3 = grind (arith, longer_less)
+  own_less = grind (arith, longer_less)
 
   after_less : (span : Span T) (e : Event T) → BeginsNo e → (b : Bool) → IsRecovery (if b then own_after span e else span) → IsRecovery span
   after_less span e none true h = own_less span e none h

@@ -1,3 +1,4 @@
+-- What every machine does, by kind and by turn: the main theorem, and what its clauses say.
 pub mod Bounds
 pub mod Ends
 pub mod Going

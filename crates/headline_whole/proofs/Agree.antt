@@ -179,6 +179,8 @@ module _ {T : Type 0} where
         reset_writes stage = refl
     bit_writes p (bit_flights.ResetAll run) old = clears_none p (places_in run.call.word old)
     bit_writes p (bit_flights.Count run) old = refl
+    bit_writes p (bit_flights.IsSet run) old = refl
+    bit_writes p (bit_flights.CountOf run) old = refl
     bit_writes p (bit_flights.TakeAll run) old = unless_writes (old == 0) (events.TakenOut p run.call.word old) refl
 
     effect_none : (turn : Turn T) (e : Event T) → IsEffectOf turn e → whole.answer_in is_call e ≡ []

@@ -4,7 +4,7 @@ use Rattle.std.proofs.Common.{replicate, slice_index, refl, sym, ap, subst, ◌�
 use Rattle.std.proofs.lemmas.List.{length-replicate}
 use Rattle.steps.specs.Bits.BitSet.{first_set, set_want, set_after, first_reset, reset_want, reset_after}
 use Rattle.steps.specs.Bits.ResetAll.{all_bits, all_counts, reset_all_want, reset_all_after, reset_all_kept}
-use Rattle.steps.specs.Bits.Words.{elements, element_of}
+use Rattle.steps.specs.Bits.Words.{elements, element_of, stands}
 use Rattle.steps.specs.Objects.Counts.{counted}
 use Rattle.steps.specs.Objects.Places.{Places, has, with_place, next_place, after_next, emptied}
 use Rattle.steps.specs.declared.bits.bit_set.ResetNext.{ResetNext}
@@ -24,7 +24,7 @@ use Rattle.model.specs.declared.turn.Kind.TheVariants as kinds
 use Rattle.model.specs.declared.turn.Turn.TheVariants.{Begin}
 use Rattle.model.specs.Coding.{Coding}
 use Rattle.model.specs.Families.{first_of}
-use Rattle.model.specs.Families.Bits.Calls.{add_one, reset_answer}
+use Rattle.model.specs.Families.Bits.Calls.{add_one, look_set, look_count, reset_answer}
 use Rattle.model.specs.Families.Bits.Opening.{kept_rows, bits_words}
 use Rattle.model.specs.Families.Queues.Calls.{as_it_is, fresh}
 use Rattle.model.specs.Refusals.{refusal_of}
@@ -36,7 +36,7 @@ use Rattle.plain.specs.Alone.{BehavesAs}
 use Rattle.plain.specs.Bits.{flags_in, places_in, Represents}
 use Rattle.plain.proofs.Alone.{Runs}
 use Rattle.plain.proofs.Places.Empties.{opened}
-use Rattle.plain.proofs.Places.Flags.{flags_length, same_flags}
+use Rattle.plain.proofs.Places.Flags.{flag_at, flags_length, same_flags}
 use Rattle.plain.proofs.Places.Resets.{reset_runs}
 use Rattle.plain.proofs.Places.Sets.{set_runs}
 use Rattle.plain.proofs.Walks.{any_low}
@@ -48,10 +48,10 @@ use Rattle.headline_whole.proofs.Owners.{not_past}
 use Rattle.headline_whole.proofs.Sweeps.{cleared, all_cleared, all_but_first, sweep_runs}
 
 admitted_bits : (c : ℕ) → capacity_error kinds.Bits c ≡ None → c < 2 ^ 32
-admitted_bits x0 x1 = grind arith
+admitted_bits = grind arith
 
 admitted_counts : (c : ℕ) → capacity_error kinds.Counts c ≡ None → c < 2 ^ 32
-admitted_counts x0 x1 = grind arith
+admitted_counts = grind arith
 
 -- once all elements are 0 the words are those of an empty set, whose search begins where it began
 record Emptied (capacity : ℕ) (words : List ℕ) : Type 0 where
@@ -123,6 +123,18 @@ module _ {T : Type 0} where
         (λ e room last h. record { said = λ is. ap answers.Truth h.1; holds = h.0; object = h.2 })
         first_set tt words tt (set_runs capacity place low words fits first_set refl)
 
+    looks : (place : ℕ) → place < capacity → PlacesWhole (calls.IsSet place) (under_way.IsSet (record { call = look_set; given = place; room = tt }))
+    looks place low =
+        record {
+          steps = 1;
+          few = omega arith;
+          end = answers.Truth (stands words place);
+          last_room = tt;
+          last_words = words;
+          ends = (refl, refl, refl);
+          holds = record { said = λ is. ap answers.Truth (sym (flag_at capacity words place low)); holds = fits; object = refl };
+        }
+
     resets : PlacesWhole calls.ResetNext (under_way.ResetNext (record { call = first_reset capacity; given = tt; room = tt }))
     resets =
         runs_as code (λ (c : ResetNext) (given : Unit {0}). reset_want c) (λ c given old. reset_after c old) (λ c (room : Unit {0}) old. room) tt
@@ -173,6 +185,18 @@ module _ {T : Type 0} where
           holds = record { said = λ is. refl; holds = length-set words place ((slice_index words place + 1) % 2 ^ 64) ∙ long; object = refl };
         }
 
+    look_counts : (place : ℕ) → CountsWhole (calls.Count place) (under_way.CountOf (record { call = look_count; given = place; room = tt }))
+    look_counts place =
+        record {
+          steps = 1;
+          few = omega arith;
+          end = answers.Number (slice_index words place);
+          last_room = tt;
+          last_words = words;
+          ends = (refl, refl, refl);
+          holds = record { said = λ is. refl; holds = long; object = refl };
+        }
+
     takes_all : capacity < 2 ^ 32 → CountsWhole calls.ResetAll (under_way.TakeAll (record { call = all_counts capacity; given = tt; room = fresh }))
     takes_all few =
         let same : cleared words 0 capacity ≡ replicate capacity 0 = subst (λ n. cleared words 0 n ≡ replicate n 0) long (all_cleared words) in
@@ -203,6 +227,10 @@ module _ {T : Type 0} where
       → first_row (kept_rows capacity start kept p) ≡ None → Agree (starts.Bits start) flight kept
   has_registry capacity p start flight f registries.Nothing is e = subst (λ x. Agree (starts.Bits start) x registries.Nothing) is tt
   has_registry capacity p start flight f kept is e = absurd (cc)
+
+  low_look : (capacity p place : ℕ) (kept : Registry T) → first_row (kept_rows capacity (calls.IsSet place) kept p) ≡ None → place < capacity
+  low_look capacity p place registries.Nothing e = let row = row_passed _ _ _ e in not_past capacity place row.0
+  low_look capacity p place kept e = absurd (cc)
 
   low_place : (capacity p place : ℕ) (kept : Registry T) → first_row (kept_rows capacity (calls.Set place) kept p) ≡ None → place < capacity
   low_place capacity p place registries.Nothing e = let row = row_passed _ _ _ e in not_past capacity place row.0
@@ -236,6 +264,10 @@ module _ {T : Type 0} where
         go calls.ResetAll e rows =
             so calls.ResetAll (under_way.ResetAll (record { call = all_bits capacity; given = tt; room = fresh })) (same_flight _ flight e) rows
             (empties_all code capacity t.world.turns t.world.words fits)
+        go (calls.IsSet place) e rows =
+            so (calls.IsSet place) (under_way.IsSet (record { call = look_set; given = place; room = tt })) (same_flight _ flight e) rows
+            (looks code capacity t.world.turns t.world.words fits place (low_look capacity p place t.world.kept rows))
+        go (calls.Count place) e rows = absurd (cc)
     places_begin t p start flight r made free fits named = absurd (cc)
 
     pub places_law : capacity_error kinds.Bits capacity ≡ None → Law (places_reading capacity) code kinds.Bits capacity
@@ -280,6 +312,10 @@ module _ {T : Type 0} where
           go calls.ResetAll e rows =
               so calls.ResetAll (under_way.TakeAll (record { call = all_counts capacity; given = tt; room = fresh })) (same_flight _ flight e) rows
               (takes_all code capacity t.world.turns t.world.words long few)
+          go (calls.IsSet place) e rows = absurd (cc)
+          go (calls.Count place) e rows =
+              so (calls.Count place) (under_way.CountOf (record { call = look_count; given = place; room = tt })) (same_flight _ flight e) rows
+              (look_counts code capacity t.world.turns t.world.words long place)
       counts_begin t p start flight r made free long named = absurd (cc)
 
     pub counts_law : capacity_error kinds.Counts capacity ≡ None → Law (counts_reading capacity) code kinds.Counts capacity

@@ -73,7 +73,7 @@ behind_at a (suc n) zero k past = absurd (omega arith)
 behind_at a (suc n) (suc j) k past = behind_at (a + 1) n j k (omega arith)
 
 opening_long : (c : ℕ) → length (opening_words c) ≡ 1 + c + (c + 63) / 64
-opening_long x0 = grind (arith, length-append, length-range_with_len, length-replicate)
+opening_long = grind (arith, length-append, length-range_with_len, length-replicate)
 
 after_index : (c i : ℕ) → i < c → slice_index (opening_words c) (1 + i) ≡ i + 1
 after_index c i below =
@@ -85,7 +85,7 @@ past_indices c zero below = absurd (omega arith)
 past_indices c (suc j) below = behind_at 1 c j (flag_words c) (omega arith)
 
 pub admitted : (c : ℕ) → capacity_error kinds.Indices c ≡ None → (1 ≤ c) × (c ≤ 2 ^ 24 - 2)
-admitted x0 x1 = grind arith
+admitted = grind arith
 
 linked : (c : ℕ) → Linked c c (opening_words c)
 linked c = record { long = opening_long c; head = refl; next = after_index c; flags = past_indices c }

@@ -1,4 +1,5 @@
--- Queues whose calls run whole: pushes and pops answer as they act, and a call that counts tells how many values wait.
+-- Queues whose calls run whole: pushes and pops answer as they act, a call that counts tells how many values wait, and a peek
+-- which is the oldest.
 use Rattle.std.proofs.Common.{◌≡◌, ℕ, zero, suc, ◌==◌, Bool, true, false, None, List, [], ◌∷◌, ◌++◌, length, drop, nat_lt}
 use Rattle.std.proofs.Common.{refl, sym, ap, subst, ◌∙◌, append_assoc, append-nil, arith, if◌then◌else◌}
 use Rattle.std.proofs.Math.Seq.{drop-append_seam}
@@ -19,7 +20,8 @@ use Rattle.model.specs.declared.families.queues.QueueStart.TheVariants as calls
 use Rattle.model.specs.Families.Queues.Objects.{list_of, answer_of_item}
 use Rattle.model.specs.Families.Queues.Promises as of_queue
 use Rattle.model.specs.Families.Queues.Reading.{publishes, hands_out, published, handed_out, waiting}
-use Rattle.model.specs.Families.Queues.Spans.{Wrote, moments_of, through_cells, published_by_push, published_by, handed_out_by, push_of, HandsOut}
+use Rattle.model.specs.Families.Queues.Spans.{Wrote, moments_of, through_cells, published_by_push, published_by, handed_out_by, handed_out_in}
+use Rattle.model.specs.Families.Queues.Spans.{push_of, HandsOut}
 use Rattle.model.specs.Linearizable.{Specification}
 use Rattle.model.specs.Linearized.{is_push_or_pop}
 use Rattle.model.specs.Moments.{BeginsNone, HeldSometime}
@@ -28,6 +30,7 @@ use Rattle.model.specs.Promises.{IsKeptBy}
 use Rattle.model.specs.Reading.{Span}
 use Rattle.model.specs.Shape.{IsShut}
 use Rattle.model.specs.World.{Trace}
+use Rattle.model.proofs.Moments.{held_now}
 use Rattle.headline_whole.specs.Objects.{is_list_call, whole_list}
 use Rattle.headline_whole.specs.Whole.{RunsWhole, AnswersAs}
 use Rattle.headline_whole.proofs.Courses.{NoneEnds}
@@ -49,7 +52,8 @@ module _ {T : Type 0} where
   abbrev Conserves : QueueKind → ℕ → QueueStart T → List (Item T) → Type 0
   Conserves kind capacity start list =
       (list ++ published_by kind capacity start ((list_of kind capacity).answer list (starts.Queues start))
-      ≡ handed_out_by kind capacity ((list_of kind capacity).answer list (starts.Queues start)) ++ (list_of kind capacity).after list (starts.Queues start))
+      ≡ handed_out_in kind capacity start ((list_of kind capacity).answer list (starts.Queues start))
+      ++ (list_of kind capacity).after list (starts.Queues start))
       × (capacity ≡ 0 → (list_of kind capacity).after list (starts.Queues start) ≡ [])
 
   through : (kind : QueueKind) (less : ℕ) (item : Item T) → through_cells kind (suc less) item ≡ item ∷ []
@@ -160,13 +164,14 @@ module _ {T : Type 0} where
   open_only kind (HandedOut p item) span shut may = open_shut (HandsOut kind) (λ wrote. handed_out wrote ≡ []) span shut may
   open_only kind e span shut may = may
 
-  -- the list is empty at first, and calls that count leave it
+  -- the list is empty at first, and calls that count and peeks leave it
   first_and_counts : (kind : QueueKind) (capacity : ℕ) (xs : List (Item T))
       → (◌≡◌ {A = List (Item T)} (list_of kind capacity).opening []) × ((list_of kind capacity).after xs (starts.Queues calls.Len) ≡ xs)
       × ((list_of kind capacity).after xs (starts.Queues calls.IsEmpty) ≡ xs) × ((list_of kind capacity).after xs (starts.Queues calls.IsFull) ≡ xs)
-  first_and_counts IndexQueue capacity xs = (refl, refl, refl, refl)
-  first_and_counts Overflow capacity xs = (refl, refl, refl, refl)
-  first_and_counts Queue capacity xs = (refl, refl, refl, refl)
+      × ((list_of kind capacity).after xs (starts.Queues calls.Peek) ≡ xs)
+  first_and_counts IndexQueue capacity xs = (refl, refl, refl, refl, refl)
+  first_and_counts Overflow capacity xs = (refl, refl, refl, refl, refl)
+  first_and_counts Queue capacity xs = (refl, refl, refl, refl, refl)
 
 module _ {T : Type 0} (kind : QueueKind) (t : Trace T) (kept : IsKeptBy (of_queue.promise kind) t) (runs : RunsWhole t.events) where
   abbrev spec : Specification T (List (Item T))
@@ -181,8 +186,8 @@ module _ {T : Type 0} (kind : QueueKind) (t : Trace T) (kept : IsKeptBy (of_queu
   abbrev put_by : QueueStart T → Answer T → List (Item T)
   put_by start answer = published_by kind t.world.capacity start answer
 
-  abbrev out_by : Answer T → List (Item T)
-  out_by answer = handed_out_by kind t.world.capacity answer
+  abbrev out_by : QueueStart T → Answer T → List (Item T)
+  out_by start answer = handed_out_in kind t.world.capacity start answer
 
   -- where no call is under way, the values of the list wait
   record Rest (es : List (Event T)) : Type 0 where
@@ -212,7 +217,7 @@ module _ {T : Type 0} (kind : QueueKind) (t : Trace T) (kept : IsKeptBy (of_queu
     Leaves new = new ≡ (if is_list_call (starts.Queues start) then acting.after (list begun) (starts.Queues start) else list begun)
 
     leaves : Says → (new : List (Item T)) → list (begun ++ told) ≡ new → Leaves new
-        → list begun ++ put_by start answer ≡ out_by answer ++ new → (t.world.capacity ≡ 0 → new ≡ []) → Rest (begun ++ told)
+        → list begun ++ put_by start answer ≡ out_by start answer ++ new → (t.world.capacity ≡ 0 → new ≡ []) → Rest (begun ++ told)
     leaves said new is so moves empty =
         record {
           answered = once_ended spec acting p (starts.Queues start) answer begun since none said (is ∙ so) h.answered;
@@ -234,43 +239,54 @@ module _ {T : Type 0} (kind : QueueKind) (t : Trace T) (kept : IsKeptBy (of_queu
         let moves = conserves kind t.world.capacity start (list begun) acts h.none in
         let new = acting.after (list begun) (starts.Queues start) in
         leaves (λ is. done.0 ∙ sym same) new done.1 (sym (ap (λ (b : Bool). if b then new else list begun) is_call))
-        (subst (λ (a : Answer T). list begun ++ put_by start a ≡ out_by a ++ new) (sym done.0) moves.0) moves.1
+        (subst (λ (a : Answer T). list begun ++ put_by start a ≡ out_by start a ++ new) (sym done.0) moves.0) moves.1
 
     -- a call that moves no value
-    moves_none : moments_of start answer ≡ [] → put_by start answer ≡ [] → out_by answer ≡ [] → Says → Leaves (list begun) → Rest (begun ++ told)
+    moves_none : moments_of start answer ≡ [] → put_by start answer ≡ [] → out_by start answer ≡ [] → Says → Leaves (list begun) → Rest (begun ++ told)
     moves_none acts_not puts_none takes_none said so =
         leaves said (list begun) (quiet_now spec acting p (starts.Queues start) answer begun since (wrote.moments ∙ acts_not)) so
         (ap (λ (xs : List (Item T)). list begun ++ xs) puts_none
         ∙ (append-nil (list begun) ∙ sym (ap (λ (xs : List (Item T)). xs ++ list begun) takes_none))) h.none
 
-    -- a call that counts: its number was right at a moment of it, and so is the length of the list
-    counts_so : (say : ℕ → Answer T) → ((n : ℕ) → out_by (say n) ≡ []) → put_by start answer ≡ [] → moments_of start answer ≡ []
-        → HeldSometime p (λ part. answer ≡ say (length (waiting part))) (begun ++ Begun p (starts.Queues start) ∷ since)
-        → say (length (list begun)) ≡ spec.object.answer (list begun) (starts.Queues start) → Leaves (list begun) → Rest (begun ++ told)
-    counts_so say takes_none puts_none acts_not held same so =
+    -- a call that tells of what waits: it was right at a moment of it, and so it is of the list
+    tells_so : (say : List (Item T) → Answer T) → ((xs : List (Item T)) → out_by start (say xs) ≡ []) → put_by start answer ≡ []
+        → moments_of start answer ≡ []
+        → HeldSometime p (λ part. answer ≡ say (waiting part)) (begun ++ Begun p (starts.Queues start) ∷ since)
+        → say (list begun) ≡ spec.object.answer (list begun) (starts.Queues start) → Leaves (list begun) → Rest (begun ++ told)
+    tells_so say takes_none puts_none acts_not held same so =
         let out = as_begun hands_out hands_out_effects p (starts.Queues start) held.part held.rest begun since held.is held.within
         (sym (reads_same hands_out hands_out_effects since)
-        ∙ (wrote.handed_out ∙ (ap out_by held.held ∙ takes_none (length (waiting held.part))))) in
+        ∙ (wrote.handed_out ∙ (ap (out_by start) held.held ∙ takes_none (waiting held.part)))) in
         let put = as_begun publishes publishes_effects p (starts.Queues start) held.part held.rest begun since held.is held.within
         (sym (reads_same publishes publishes_effects since) ∙ (wrote.published ∙ puts_none)) in
-        let right : answer ≡ say (length (list begun)) =
+        let right : answer ≡ say (list begun) =
         held.held
-        ∙ ap (λ (xs : List (Item T)). say (length xs))
+        ∙ ap say
         ((λ i. drop (length (out i)) (put i))
         ∙ (ap (λ (xs : List (Item T)). drop (length (handed_out begun)) xs) h.waits ∙ drop-append_seam (handed_out begun) (list begun))) in
-        moves_none acts_not puts_none (ap out_by right ∙ takes_none (length (list begun))) (λ is. right ∙ same) so
+        moves_none acts_not puts_none (ap (out_by start) right ∙ takes_none (list begun)) (λ is. right ∙ same) so
 
   ends : (p : ℕ) (start : Start T) (answer : Answer T) (begun since after : List (Event T))
       → t.events ≡ (begun ++ Begun p start ∷ since) ++ Finished p start answer ∷ after → NoneEnds since
       → of_queue.wrote kind t.world.capacity start answer (of_parties since) → Rest begun → Rest (begun ++ whole_call p start since answer)
   ends p (starts.Queues calls.AcquireProducer) answer begun since after at none wrote h =
-      moves_none p calls.AcquireProducer answer begun since none wrote h refl refl (ap out_by (kept.promised.roles _ after _ at)) no_call refl
+      moves_none p calls.AcquireProducer answer begun since none wrote h refl refl
+      (ap (out_by calls.AcquireProducer) (kept.promised.roles _ after _ at)) no_call refl
   ends p (starts.Queues calls.ReleaseProducer) answer begun since after at none wrote h =
-      moves_none p calls.ReleaseProducer answer begun since none wrote h refl refl (ap out_by (kept.promised.roles _ after _ at).0) no_call refl
+      moves_none p calls.ReleaseProducer answer begun since none wrote h refl refl
+      (ap (out_by calls.ReleaseProducer) (kept.promised.roles _ after _ at).0) no_call refl
   ends p (starts.Queues calls.AcquireConsumer) answer begun since after at none wrote h =
-      moves_none p calls.AcquireConsumer answer begun since none wrote h refl refl (ap out_by (kept.promised.roles _ after _ at)) no_call refl
+      moves_none p calls.AcquireConsumer answer begun since none wrote h refl refl
+      (ap (out_by calls.AcquireConsumer) (kept.promised.roles _ after _ at)) no_call refl
   ends p (starts.Queues calls.ReleaseConsumer) answer begun since after at none wrote h =
-      moves_none p calls.ReleaseConsumer answer begun since none wrote h refl refl (ap out_by (kept.promised.roles _ after _ at).0) no_call refl
+      moves_none p calls.ReleaseConsumer answer begun since none wrote h refl refl
+      (ap (out_by calls.ReleaseConsumer) (kept.promised.roles _ after _ at).0) no_call refl
+  ends p (starts.Queues calls.HasProducer) answer begun since after at none wrote h =
+      moves_none p calls.HasProducer answer begun since none wrote h refl refl
+      (ap (out_by calls.HasProducer) (kept.promised.roles _ after _ at)) no_call refl
+  ends p (starts.Queues calls.HasConsumer) answer begun since after at none wrote h =
+      moves_none p calls.HasConsumer answer begun since none wrote h refl refl
+      (ap (out_by calls.HasConsumer) (kept.promised.roles _ after _ at)) no_call refl
   ends p (starts.Queues (calls.PushIndex index)) answer begun since after at none wrote h =
       acts_so p (calls.PushIndex index) answer begun since none wrote h after at refl refl refl refl
   ends p (starts.Queues (calls.Push value)) answer begun since after at none wrote h =
@@ -278,14 +294,19 @@ module _ {T : Type 0} (kind : QueueKind) (t : Trace T) (kept : IsKeptBy (of_queu
   ends p (starts.Queues calls.Pop) answer begun since after at none wrote h =
       acts_so p calls.Pop answer begun since none wrote h after at refl refl refl refl
   ends p (starts.Queues calls.Len) answer begun since after at none wrote h =
-      counts_so p calls.Len answer begun since none wrote h (λ n. Number n) (λ n. refl) refl refl (kept.promised.lengths _ after _ at) refl
+      tells_so p calls.Len answer begun since none wrote h (λ xs. Number (length xs)) (λ xs. refl) refl refl (kept.promised.lengths _ after _ at) refl
       (sym (first_and_counts kind t.world.capacity (list begun)).1)
   ends p (starts.Queues calls.IsEmpty) answer begun since after at none wrote h =
-      counts_so p calls.IsEmpty answer begun since none wrote h (λ n. Truth (n == 0)) (λ n. refl) refl refl (kept.promised.lengths _ after _ at) refl
+      tells_so p calls.IsEmpty answer begun since none wrote h (λ xs. Truth (length xs == 0)) (λ xs. refl) refl refl (kept.promised.lengths _ after _ at) refl
       (sym (first_and_counts kind t.world.capacity (list begun)).2)
   ends p (starts.Queues calls.IsFull) answer begun since after at none wrote h =
-      counts_so p calls.IsFull answer begun since none wrote h (λ n. Truth (n == t.world.capacity)) (λ n. refl) refl refl
+      tells_so p calls.IsFull answer begun since none wrote h (λ xs. Truth (length xs == t.world.capacity)) (λ xs. refl) refl refl
       (kept.promised.lengths _ after _ at) refl (sym (first_and_counts kind t.world.capacity (list begun)).3)
+  ends p (starts.Queues calls.Peek) answer begun since after at none wrote h =
+      tells_so p calls.Peek answer begun since none wrote h (λ xs. answer_of_item (slice_get xs 0)) (λ xs. refl) refl refl
+      (held_now p (λ part. answer ≡ answer_of_item (slice_get (waiting part) 0)) (begun ++ Begun p (starts.Queues calls.Peek) ∷ since)
+      (kept.promised.lengths _ after _ at))
+      refl (sym (first_and_counts kind t.world.capacity (list begun)).4)
   ends p start answer begun since after at none wrote h = absurd wrote
 
   pub list_answers : AnswersAs (whole_list kind t.world.capacity) t.events

@@ -43,7 +43,7 @@ use Rattle.headline_whole.proofs.Flights.{FlightRuns, runs_as, twice}
 use Rattle.headline_whole.proofs.Decisions.{yes_of}
 
 pub admitted : (c : ℕ) → capacity_error kinds.Container c ≡ None → (1 ≤ c) × (c < 2 ^ 32)
-admitted x0 x1 = grind arith
+admitted = grind arith
 
 module _ {T : Type 0} (code : Coding T) (capacity : ℕ) where
   abbrev pub map_in : List ℕ → Contents T

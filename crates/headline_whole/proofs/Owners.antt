@@ -74,7 +74,7 @@ use Rattle.headline_whole.proofs.SoloCalls.{Speech, Ends, Speaks, talking, talk_
 use Rattle.headline_whole.proofs.Decisions.{goes_on, progression, same_decision, same_number, yes_number, yes_of, decision, found_so, asked_so}
 
 pub admitted : (c : ℕ) → capacity_error kinds.Robust c ≡ None → (1 ≤ c) × (c < 2 ^ 32)
-admitted x0 x1 = grind arith
+admitted = grind arith
 
 pub below : (a b : ℕ) → nat_lt a b ≡ true → a < b
 below a b t = grind (arith, nat_tests)

@@ -21,7 +21,7 @@ use Rattle.model.specs.declared.families.container.ContainerStart.TheVariants as
 use Rattle.model.specs.declared.families.indices.IndexStart.TheVariants.{Acquire, Release, IsLocked}
 use Rattle.model.specs.declared.families.indices.robust.RobustStart.TheVariants as robust
 use Rattle.model.specs.declared.families.queues.QueueKind.TheVariants as queues
-use Rattle.model.specs.declared.families.queues.QueueStart.TheVariants.{AcquireProducer, PushIndex, Pop, Len, IsFull}
+use Rattle.model.specs.declared.families.queues.QueueStart.TheVariants.{AcquireProducer, PushIndex, Pop, Peek, HasProducer, Len, IsFull}
 use Rattle.model.specs.declared.turn.Kind.TheVariants as kinds
 use Rattle.model.specs.declared.turn.Kind.{Kind}
 use Rattle.model.specs.declared.turn.Turn.{Turn}
@@ -52,6 +52,30 @@ pushed_and_popped = refl
 
 as_a_list : AnswersAs (whole_list queues.IndexQueue 2) (ran one_word kinds.IndexQueue 2 2 push_and_pop).events
 as_a_list = subst (λ (xs : List (Start ℕ × Answer ℕ)). IsLegal (whole_list queues.IndexQueue 2).object xs) (sym pushed_and_popped) refl
+
+-- ---- a peek answers the oldest, and leaves it
+
+abbrev peeked : List (Turn ℕ)
+peeked =
+    roles
+    ++ (begins 1 (Queues Peek) 3
+    ++ (begins 0 (Queues (PushIndex 7)) 4
+    ++ (begins 0 (Queues (PushIndex 8)) 4
+    ++ (begins 1 (Queues Peek) 3
+    ++ (begins 1 (Queues HasProducer) 1 ++ (begins 1 (Queues Pop) 4 ++ begins 1 (Queues Peek) 3))))))
+
+told_the_oldest : answered is_list_call (ran one_word kinds.IndexQueue 2 2 peeked).events
+    ≡ (Queues Peek, PoppedNone)
+    ∷ (Queues (PushIndex 7), Truth true)
+    ∷ (Queues (PushIndex 8), Truth true)
+    ∷ (Queues Peek, PoppedIndex 7)
+    ∷ (Queues Pop, PoppedIndex 7)
+    ∷ (Queues Peek, PoppedIndex 8)
+    ∷ []
+told_the_oldest = refl
+
+as_a_list_with_peeks : AnswersAs (whole_list queues.IndexQueue 2) (ran one_word kinds.IndexQueue 2 2 peeked).events
+as_a_list_with_peeks = subst (λ (xs : List (Start ℕ × Answer ℕ)). IsLegal (whole_list queues.IndexQueue 2).object xs) (sym told_the_oldest) refl
 
 -- ---- a list that is full refuses, and one that overflows hands its front back
 
@@ -304,6 +328,14 @@ refused_push legal = cc
 
 invented_pop : AnswersAs {T = ℕ} (whole_list queues.IndexQueue 2) (Begun 0 (Queues Pop) ∷ Finished 0 (Queues Pop) (PoppedIndex 7) ∷ []) → ⊥
 invented_pop legal = cc
+
+peeked_the_newest : AnswersAs {T = ℕ} (whole_list queues.IndexQueue 2)
+    (Finished 0 (Queues (PushIndex 7)) (Truth true)
+    ∷ Finished 0 (Queues (PushIndex 8)) (Truth true)
+    ∷ Finished 1 (Queues Peek) (PoppedIndex 8)
+    ∷ [])
+    → ⊥
+peeked_the_newest legal = let one : ◌≡◌ {A = ℕ} 7 8 = cc in absurd (cc)
 
 overfull : AnswersAs {T = ℕ} (whole_list queues.IndexQueue 1)
     (Finished 0 (Queues (PushIndex 7)) (Truth true) ∷ Finished 0 (Queues (PushIndex 8)) (Truth true) ∷ [])

@@ -1,7 +1,7 @@
 -- The objects as which calls answer that run whole: lists, sets of places, counts, a stack of free indices, and maps from index
 -- to owner and value.
 use Rattle.std.specs.Prelude.{ℕ, ◌==◌, Bool, true, false, not, Option, Some, None, is_some, Result, Ok, Err, List, [], ◌∷◌}
-use Rattle.std.specs.Prelude.{if◌then◌else◌, length, map, slice_index, slice_index_or}
+use Rattle.std.specs.Prelude.{if◌then◌else◌, length, map, slice_get, slice_index, slice_index_or}
 use Rattle.std.specs.List.{count_by}
 use Rattle.steps.specs.Objects.Counts as counts
 use Rattle.steps.specs.Objects.Owners as owners
@@ -27,12 +27,12 @@ use Rattle.model.specs.declared.families.container.ContainerStart.TheVariants as
 use Rattle.model.specs.declared.families.indices.robust.RobustStart.TheVariants as robust
 use Rattle.model.specs.declared.families.indices.IndexStart.TheVariants.{Acquire, Release, BorrowedIndices, IsLocked}
 use Rattle.model.specs.declared.families.queues.QueueKind.{QueueKind}
-use Rattle.model.specs.declared.families.queues.QueueStart.TheVariants.{PushIndex, Push, Pop, Len, IsEmpty, IsFull}
+use Rattle.model.specs.declared.families.queues.QueueStart.TheVariants.{PushIndex, Push, Pop, Peek, Len, IsEmpty, IsFull}
 use Rattle.model.specs.Families.Bits.Calls.{reset_answer}
 use Rattle.model.specs.Families.Container.Calls.{place_of, removed, replaced}
 use Rattle.model.specs.Families.Indices.Calls.{acquire_answer}
 use Rattle.model.specs.Families.Indices.Robust.Calls.{release_answer}
-use Rattle.model.specs.Families.Queues.Objects.{list_of}
+use Rattle.model.specs.Families.Queues.Objects.{answer_of_item, list_of}
 use Rattle.model.specs.Linearizable.{Specification}
 use Rattle.plain.specs.Contents as contents
 use Rattle.plain.specs.Contents.{Contents}
@@ -70,18 +70,20 @@ abbrev pub owners_freed : Owners → ReleaseMode → List Bool → Owners
 owners_freed s mode decisions = owners.recovered mode s (agreed (owners.to_recover s) decisions)
 
 module _ {T : Type 0} where
-  -- ---- lists: the bounded one and the overflowing one, which also say how many values they have
+  -- ---- lists: the bounded one and the overflowing one, which also say how many values they have, and the bounded one its oldest
 
   abbrev pub is_list_call : Start T → Bool
   is_list_call (Queues (PushIndex index)) = true
   is_list_call (Queues (Push value)) = true
   is_list_call (Queues Pop) = true
+  is_list_call (Queues Peek) = true
   is_list_call (Queues Len) = true
   is_list_call (Queues IsEmpty) = true
   is_list_call (Queues IsFull) = true
   is_list_call start = false
 
   abbrev pub whole_list_answer : QueueKind → ℕ → List (Item T) → Start T → Answer T
+  whole_list_answer kind capacity items (Queues Peek) = answer_of_item (slice_get items 0)
   whole_list_answer kind capacity items (Queues Len) = Number (length items)
   whole_list_answer kind capacity items (Queues IsEmpty) = Truth (length items == 0)
   whole_list_answer kind capacity items (Queues IsFull) = Truth (length items == capacity)
@@ -115,6 +117,7 @@ module _ {T : Type 0} where
   abbrev pub places_answer : Places → Start T → Answer T
   places_answer s (Bits (bits.Set place)) = Truth (not (places.has s place))
   places_answer s (Bits bits.ResetNext) = reset_answer (places.next_place s)
+  places_answer s (Bits (bits.IsSet place)) = Truth (places.has s place)
   places_answer s start = Done
 
   abbrev pub whole_places : ℕ → Specification T Places
@@ -132,6 +135,7 @@ module _ {T : Type 0} where
 
   abbrev pub counts_answer : List ℕ → Start T → Answer T
   counts_answer s (Bits (bits.Set place)) = Number (slice_index s place)
+  counts_answer s (Bits (bits.Count place)) = Number (slice_index s place)
   counts_answer s start = Done
 
   abbrev pub whole_counts : ℕ → Specification T (List ℕ)

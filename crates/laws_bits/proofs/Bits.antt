@@ -6,6 +6,7 @@ pub mod Justified
 pub mod Kept
 pub mod Knows
 pub mod Lists
+pub mod Looks
 pub mod Nexts
 pub mod Sets
 pub mod Sound

@@ -97,11 +97,13 @@ abbrev BitsStand : ℕ → BitsFlight → Type 0
 BitsStand c (calls.Set run) = Unit {0}
 BitsStand c (calls.ResetNext run) = run.call.capacity ≡ c
 BitsStand c (calls.ResetAll run) = (run.call.end ≡ 1 + elements c) × (1 ≤ run.call.word)
+BitsStand c (calls.IsSet run) = Unit {0}
 BitsStand c flight = ⊥
 
 abbrev CountsStand : ℕ → BitsFlight → Type 0
 CountsStand c (calls.Count run) = Unit {0}
 CountsStand c (calls.TakeAll run) = run.call.end ≡ c
+CountsStand c (calls.CountOf run) = Unit {0}
 CountsStand c flight = ⊥
 
 module _ {T : Type 0} where
@@ -273,6 +275,7 @@ module _ {T : Type 0} where
     bits_fall c (starts.Bits start) (flights.Bits (calls.Set run)) at = set_falls run.given run.call.stage
     bits_fall c (starts.Bits start) (flights.Bits (calls.ResetNext run)) at = next_falls run.call.capacity run.call.stage
     bits_fall c (starts.Bits start) (flights.Bits (calls.ResetAll run)) at = all_falls run.call.word run.call.end run.room
+    bits_fall c (starts.Bits start) (flights.Bits (calls.IsSet run)) at = tt
     bits_fall c start flight at = absurd at
 
     -- of the counts
@@ -294,6 +297,7 @@ module _ {T : Type 0} where
     counts_fall : (c : ℕ) (start : Start T) (flight : Flight T) → FlightStands (CountsStand c) start flight → StepFalls (counts_measure n) code words flight
     counts_fall c (starts.Bits start) (flights.Bits (calls.Count run)) at = tt
     counts_fall c (starts.Bits start) (flights.Bits (calls.TakeAll run)) at = takes_fall run.call.word run.call.end run.room
+    counts_fall c (starts.Bits start) (flights.Bits (calls.CountOf run)) at = tt
     counts_fall c start flight at = absurd at
 
   -- ---- no call has more left
@@ -308,11 +312,13 @@ module _ {T : Type 0} where
       let end = at.0 in
       let one = at.1 in
       (omega arith, grind arith)
+  bits_most c words (starts.Bits start) (flights.Bits (calls.IsSet run)) at = (omega arith, omega arith)
   bits_most c words start flight at = absurd at
 
   counts_most : (c : ℕ) (start : Start T) (flight : Flight T) → FlightStands (CountsStand c) start flight → count_left flight ≤ c - 1
   counts_most c (starts.Bits start) (flights.Bits (calls.Count run)) at = omega arith
   counts_most c (starts.Bits start) (flights.Bits (calls.TakeAll run)) at = omega arith
+  counts_most c (starts.Bits start) (flights.Bits (calls.CountOf run)) at = omega arith
   counts_most c start flight at = absurd at
 
   -- ---- what a kind owes

@@ -20,6 +20,9 @@ use Rattle.steps.specs.declared.queues.ring.Push.{Push}
 use Rattle.steps.specs.declared.queues.ring.PushStage as pushes
 use Rattle.steps.specs.declared.queues.ring.Pop.{Pop}
 use Rattle.steps.specs.declared.queues.ring.PopStage as pops
+use Rattle.steps.specs.declared.queues.peek.Peek.{Peek}
+use Rattle.steps.specs.declared.queues.peek.PeekStage.{PeekStage}
+use Rattle.steps.specs.declared.queues.peek.PeekStage.TheVariants as peeks
 use Rattle.steps.specs.declared.routine.Running.{Running}
 use Rattle.model.specs.declared.event.Start.{Start}
 use Rattle.model.specs.declared.event.Start.TheVariants as starts
@@ -34,7 +37,7 @@ use Rattle.model.specs.declared.families.queues.calls.OverflowCall.TheVariants a
 use Rattle.model.specs.declared.families.queues.calls.QueueFlight.{QueueFlight}
 use Rattle.model.specs.declared.families.queues.calls.QueueFlight.TheVariants.{Role, Indices, Values, Overflow, Length}
 use Rattle.model.specs.declared.families.queues.calls.RingCall.TheVariants as rings
-use Rattle.model.specs.declared.families.queues.calls.RoleCall.TheVariants.{Acquire, Release}
+use Rattle.model.specs.declared.families.queues.calls.RoleCall.TheVariants.{Acquire, Release, Look}
 use Rattle.model.specs.Coding.{Coding, IsCoding}
 use Rattle.model.specs.Families.{opening_of, first_of, want_of, after_of, goes_of, step_of, is_question, kept_after_begin, kept_after_death}
 use Rattle.model.specs.Families.Queues.Calls.{words_of_index}
@@ -67,6 +70,11 @@ pop_left size (pops.TheVariants.LoadsWrite read) = size - 1 + 2
 pop_left size (pops.TheVariants.LoadsCell read cell at) = size - (at + 1) + 1
 pop_left size (pops.TheVariants.StoresRead read) = 0
 
+abbrev peek_left : ℕ → PeekStage → ℕ
+peek_left size peeks.LoadsRead = size - 1 + 2
+peek_left size (peeks.LoadsWrite read) = size - 1 + 1
+peek_left size (peeks.LoadsCell cell at) = size - (at + 1)
+
 abbrev over_left : ℕ → PopStage → ℕ
 over_left read overflow_pops.FindsNone = 0
 over_left read overflow_pops.LoadsRead = 3
@@ -88,8 +96,10 @@ module _ {T : Type 0} where
   call_left size write read (Role call) = 0
   call_left size write read (Indices (rings.Push run)) = push_left 1 run.call.stage
   call_left size write read (Indices (rings.Pop run)) = pop_left 1 run.call.stage
+  call_left size write read (Indices (rings.Peek run)) = peek_left 1 run.call.stage
   call_left size write read (Values (rings.Push run)) = push_left size run.call.stage
   call_left size write read (Values (rings.Pop run)) = pop_left size run.call.stage
+  call_left size write read (Values (rings.Peek run)) = peek_left size run.call.stage
   call_left size write read (Overflow (overflows.Push run)) = overflow.push_left run.call.stage
   call_left size write read (Overflow (overflows.Pop run)) = over_left read run.call.stage
   call_left size write read (Length which run) = len_left write read run.call.stage
@@ -136,8 +146,10 @@ module _ {T : Type 0} where
   CallStands size kd c (Length which run) = Unit {0}
   CallStands size queue_kinds.IndexQueue c (Indices (rings.Push run)) = IsPush 1 c run.call
   CallStands size queue_kinds.IndexQueue c (Indices (rings.Pop run)) = Unit {0}
+  CallStands size queue_kinds.IndexQueue c (Indices (rings.Peek run)) = Unit {0}
   CallStands size queue_kinds.Queue c (Values (rings.Push run)) = IsPush size c run.call
   CallStands size queue_kinds.Queue c (Values (rings.Pop run)) = Unit {0}
+  CallStands size queue_kinds.Queue c (Values (rings.Peek run)) = Unit {0}
   CallStands size queue_kinds.Overflow c (Overflow call) = Unit {0}
   CallStands size kd c flight = ⊥
 
@@ -302,6 +314,22 @@ module _ {T : Type 0} (alone changes : ℕ) (code : Coding T) (words : List ℕ)
       go false t = rw t (inl (load_leaves words (word_at cell at), omega arith, omega arith))
   pop_falls run (pops.TheVariants.StoresRead r) = tt
 
+  abbrev peeking : Running (Peek ℕ OneWord) (Unit {0}) OneWord → PeekStage → QueueFlight T
+  peeking run stage = Indices (rings.Peek (record run { call = record run.call { stage = stage } }))
+
+  peek_falls : (run : Running (Peek ℕ OneWord) (Unit {0}) OneWord) (stage : PeekStage) → Shown (peeking run stage)
+  peek_falls run peeks.LoadsRead = inl (load_leaves words 1, omega arith, omega arith)
+  peek_falls run (peeks.LoadsWrite r) = go (run.call.capacity == 0 || write == r) refl
+    where
+      go : (t : Bool) → (run.call.capacity == 0 || write == r) ≡ t → Shown (peeking run (peeks.LoadsWrite r))
+      go true t = rw t tt
+      go false t = rw t (inl (load_leaves words 0, omega arith, omega arith))
+  peek_falls run (peeks.LoadsCell cell at) = go (nat_lt (at + 1) 1) refl
+    where
+      go : (t : Bool) → nat_lt (at + 1) 1 ≡ t → Shown (peeking run (peeks.LoadsCell cell at))
+      go true t = let less : at + 1 < 1 = grind (arith, nat_tests) in absurd (omega arith)
+      go false t = rw t tt
+
   -- the queue of values
   abbrev value_pushing : Running (Push T) T (Unit {0}) → pushes.PushStage → QueueFlight T
   value_pushing run stage = Values (rings.Push (record run { call = record run.call { stage = stage } }))
@@ -347,15 +375,34 @@ module _ {T : Type 0} (alone changes : ℕ) (code : Coding T) (words : List ℕ)
       go false t = rw t (inl (load_leaves words (word_at cell at), omega arith, omega arith))
   value_pop_falls run (pops.TheVariants.StoresRead r) = tt
 
+  abbrev value_peeking : Running (Peek T (buffers.Buffer 128)) (Unit {0}) (buffers.Buffer 128) → PeekStage → QueueFlight T
+  value_peeking run stage = Values (rings.Peek (record run { call = record run.call { stage = stage } }))
+
+  value_peek_falls : (run : Running (Peek T (buffers.Buffer 128)) (Unit {0}) (buffers.Buffer 128)) (stage : PeekStage) → Shown (value_peeking run stage)
+  value_peek_falls run peeks.LoadsRead = inl (load_leaves words 1, omega arith, omega arith)
+  value_peek_falls run (peeks.LoadsWrite r) = go (run.call.capacity == 0 || write == r) refl
+    where
+      go : (t : Bool) → (run.call.capacity == 0 || write == r) ≡ t → Shown (value_peeking run (peeks.LoadsWrite r))
+      go true t = rw t tt
+      go false t = rw t (inl (load_leaves words 0, omega arith, omega arith))
+  value_peek_falls run (peeks.LoadsCell cell at) = go (nat_lt (at + 1) code.size) refl
+    where
+      go : (t : Bool) → nat_lt (at + 1) code.size ≡ t → Shown (value_peeking run (peeks.LoadsCell cell at))
+      go true t = let less : at + 1 < code.size = grind (arith, nat_tests) in rw t (inl (load_leaves words (word_at cell at), omega arith, omega arith))
+      go false t = rw t tt
+
   call_falls : (kd : QueueKind) (c : ℕ) → code.size ≤ 128 → c < 2 ^ 32 → (flight : QueueFlight T) → CallStands code.size kd c flight → Shown flight
   call_falls kd c few fits (Role (Acquire run)) at = tt
   call_falls kd c few fits (Role (Release run)) at = tt
+  call_falls kd c few fits (Role (Look run)) at = tt
   call_falls kd c few fits (Length which run) at = len_falls which run run.call.stage
   call_falls queue_kinds.IndexQueue c few fits (Indices (rings.Push run)) at = push_falls run c run.call.stage fits at.1
   call_falls queue_kinds.IndexQueue c few fits (Indices (rings.Pop run)) at = pop_falls run run.call.stage
+  call_falls queue_kinds.IndexQueue c few fits (Indices (rings.Peek run)) at = peek_falls run run.call.stage
   call_falls queue_kinds.Queue c few fits (Values (rings.Push run)) at =
       value_push_falls run c run.call.stage few fits at.1
   call_falls queue_kinds.Queue c few fits (Values (rings.Pop run)) at = value_pop_falls run run.call.stage
+  call_falls queue_kinds.Queue c few fits (Values (rings.Peek run)) at = value_peek_falls run run.call.stage
   call_falls queue_kinds.Overflow c few fits (Overflow (overflows.Push run)) at = over_push_falls run run.call.stage
   call_falls queue_kinds.Overflow c few fits (Overflow (overflows.Pop run)) at = over_pop_falls run run.call.stage
   call_falls kd c few fits flight at = absurd at

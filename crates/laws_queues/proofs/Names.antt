@@ -6,7 +6,7 @@ pub use Rattle.model.proofs.Names.{IsCoding, IsKept, IsLegal, List, None, OneWor
 pub use Rattle.model.proofs.Names.{Stands, Trace, [], after_turn, answer_in, answers_from, ap, append-nil, append_assoc}
 pub use Rattle.model.proofs.Names.{as_call, as_it_is, ask_of, call_refusal, capacity_error, cases_eq, cases_lt}
 pub use Rattle.model.proofs.Names.{change_of, cond, doing_of, ending_of, false, first_of, first_row, flight_of, fold}
-pub use Rattle.model.proofs.Names.{get_or, get_or-set_other, goes_of, if◌then◌else◌, inl, inr, is_question}
+pub use Rattle.model.proofs.Names.{get_or, get_or-set_other, goes_of, if◌then◌else◌, inl, inr, is_none, is_question}
 pub use Rattle.model.proofs.Names.{kept_after_begin, kept_at, length, length-append, length-replicate, map, map-append}
 pub use Rattle.model.proofs.Names.{moments, nat_lt, nat_tests, not, old_of, one_if, one_word, opening, opening_of}
 pub use Rattle.model.proofs.Names.{option_map, own_after, party_after, party_at_begin, party_of, refl, replicate}
@@ -19,7 +19,7 @@ pub use Rattle.model.proofs.Scenes.{ComesFrom, StandsThere}
 pub use Rattle.model.specs.Families.Queues.Book.{AnswersRight, cell_of, item_at, stored, waiting_in}
 pub use Rattle.model.specs.Families.Queues.Bounds.{most_steps}
 pub use Rattle.model.specs.Families.Queues.Calls.{acquire_of, after, consumer_word, first, goes_back, length_answer}
-pub use Rattle.model.specs.Families.Queues.Calls.{popped, producer_word, read_word, release_of, want, words_of_index}
+pub use Rattle.model.specs.Families.Queues.Calls.{look_of, popped, producer_word, read_word, release_of, want, words_of_index}
 pub use Rattle.model.specs.Families.Queues.Calls.{write_word}
 pub use Rattle.model.specs.Families.Queues.Lengths.{TellsLength}
 pub use Rattle.model.specs.Families.Queues.Objects.{answer_of_item, appended, cut, cut_off, list_of}
@@ -49,8 +49,9 @@ pub use Rattle.model.specs.declared.families.Registry.{Registry}
 pub use Rattle.model.specs.declared.families.queues.QueueKind.{QueueKind}
 pub use Rattle.model.specs.declared.families.queues.QueueKind.TheVariants.{IndexQueue, Queue}
 pub use Rattle.model.specs.declared.families.queues.QueueStart.{QueueStart}
-pub use Rattle.model.specs.declared.families.queues.QueueStart.TheVariants.{AcquireConsumer, AcquireProducer, IsEmpty}
-pub use Rattle.model.specs.declared.families.queues.QueueStart.TheVariants.{IsFull, Pop, Push, PushIndex}
+pub use Rattle.model.specs.declared.families.queues.QueueStart.TheVariants.{AcquireConsumer, AcquireProducer}
+pub use Rattle.model.specs.declared.families.queues.QueueStart.TheVariants.{HasConsumer, HasProducer, IsEmpty, IsFull}
+pub use Rattle.model.specs.declared.families.queues.QueueStart.TheVariants.{Peek, Pop, Push, PushIndex}
 pub use Rattle.model.specs.declared.families.queues.QueueStart.TheVariants.{ReleaseConsumer, ReleaseProducer}
 pub use Rattle.model.specs.declared.families.queues.Roles.{Roles}
 pub use Rattle.model.specs.declared.families.queues.calls.LengthOf.{LengthOf}
@@ -58,7 +59,7 @@ pub use Rattle.model.specs.declared.families.queues.calls.QueueFlight.{QueueFlig
 pub use Rattle.model.specs.declared.families.queues.calls.QueueFlight.TheVariants.{Indices, Length, Role, Values}
 pub use Rattle.model.specs.declared.families.queues.calls.RingCall.{RingCall}
 pub use Rattle.model.specs.declared.families.queues.calls.RoleCall.{RoleCall}
-pub use Rattle.model.specs.declared.families.queues.calls.RoleCall.TheVariants.{Acquire, Release}
+pub use Rattle.model.specs.declared.families.queues.calls.RoleCall.TheVariants.{Acquire, Look, Release}
 pub use Rattle.model.specs.declared.families.queues.effects.Effect.{Effect}
 pub use Rattle.model.specs.declared.families.queues.effects.Effect.TheVariants.{Acts, MakesRoom, Publishes}
 pub use Rattle.model.specs.declared.families.queues.effects.Effect.TheVariants.{PublishesAndActs, Quiet, TakesOut}
@@ -72,6 +73,7 @@ pub use Rattle.std.proofs.Math.Seq.{take-append_seam, take-nil}
 pub use Rattle.std.proofs.lemmas.List.{drop_at, length-map, nil_from_length, take-append-le, take-map}
 pub use Rattle.steps.specs.Copied.{kept_in_one, one_put_in, value_in}
 pub use Rattle.steps.specs.Queues.Lengths.{first_len, number_waiting}
+pub use Rattle.steps.specs.Queues.Peek.{peek_after, peek_kept, peek_want}
 pub use Rattle.steps.specs.Queues.Ring.{after_position, distance, pop_after, pop_kept, pop_want, push_after, push_want}
 pub use Rattle.steps.specs.Queues.Ring.{word_at}
 pub use Rattle.steps.specs.declared.ask.After.TheVariants.{Done}

@@ -4,7 +4,7 @@ use Rattle.std.proofs.Common.{◌≡◌, ◌≢◌, ℕ, zero, suc, ◌+◌, ◌
 use Rattle.std.proofs.Common.{◌∷◌, length, get_or, set, take, replicate, refl, subst, ◌∙◌, arith, length-set}
 use Rattle.std.proofs.Common.{get_or-set_other}
 use Rattle.laws_queues.proofs.Queues.Core.{cells_apart, one_more}
-use Rattle.laws_queues.proofs.Ring.Pops.{same_words as as_far}
+use Rattle.laws_queues.proofs.Ring.Words.{same_words as as_far}
 
 -- ---- the two cells
 

@@ -5,7 +5,7 @@ use Rattle.steps.specs.declared.atomic.StoreStage.TheVariants as storing
 use Rattle.steps.specs.declared.atomic.LoadStage.TheVariants as loading
 use Rattle.steps.specs.declared.copied.Buffer as buffers
 use Rattle.model.specs.declared.families.atomic.AtomicStart.TheVariants as starts
-use Rattle.model.specs.declared.families.atomic.calls.AtomicFlight.TheVariants.{Acquire, Release, Store, Load}
+use Rattle.model.specs.declared.families.atomic.calls.AtomicFlight.TheVariants.{Acquire, Release, Store, Load, Look, Version}
 use Rattle.laws_value.proofs.Core.{Core, GoesUp, IsFilled}
 
 -- ---- the calls by their stages
@@ -35,6 +35,8 @@ number_of size (Acquire run) backs = 0
 number_of size (Release run) backs = 0
 number_of size (Store run) backs = store_number size run.call.stage
 number_of size (Load run) backs = load_number size run.call.stage backs
+number_of size (Look run) backs = 0
+number_of size (Version run) backs = 0
 
 -- ---- what they know of the words
 
@@ -74,6 +76,8 @@ At code holder k p starts.ReleaseProducer (Release run) = (run.call.word ≡ 1) 
 At code holder k p (starts.Store value) (Store run) =
     (holder ≡ Some p) × (run.given ≡ value) × KnowsStore code.size k (code.words_of value) run.call.stage
 At code holder k p starts.Load (Load run) = KnowsLoad code.size k run.room run.call.stage
+At code holder k p starts.HasProducer (Look run) = run.call.word ≡ 1
+At code holder k p starts.Version (Version run) = Unit {0}
 At code holder k p start flight = ⊥
 
 -- what it knows of the counts: a call without a loop has not turned back
@@ -82,6 +86,8 @@ KnowsFlight k since changes backs (Acquire run) = backs ≡ 0
 KnowsFlight k since changes backs (Release run) = backs ≡ 0
 KnowsFlight k since changes backs (Store run) = backs ≡ 0
 KnowsFlight k since changes backs (Load run) = KnowsBacks k since changes backs run.call.stage
+KnowsFlight k since changes backs (Look run) = backs ≡ 0
+KnowsFlight k since changes backs (Version run) = backs ≡ 0
 
 -- ---- what a step of another party keeps
 

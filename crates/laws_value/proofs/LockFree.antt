@@ -61,6 +61,8 @@ module _ {T : Type 0} where
   call_left size now (calls.Release run) = 0
   call_left size now (calls.Store run) = store_left size run.call.stage
   call_left size now (calls.Load run) = load_left size now run.call.stage
+  call_left size now (calls.Look run) = 0
+  call_left size now (calls.Version run) = 0
 
   abbrev left_at : ℕ → ℕ → Flight T → ℕ
   left_at size now (flights.Atomic flight) = call_left size now flight
@@ -160,6 +162,8 @@ module _ {T : Type 0} where
     call_falls (calls.Release run) at = tt
     call_falls (calls.Store run) at = store_falls run run.call.stage at
     call_falls (calls.Load run) at = load_falls run run.call.stage
+    call_falls (calls.Look run) at = tt
+    call_falls (calls.Version run) at = tt
 
   falls : (code : Coding T) → code.size ≤ 128 → (c : ℕ) (words : List ℕ) (start : Start T) (flight : Flight T) → At code c start flight
       → StepFalls (measure code.size) code words flight
@@ -198,6 +202,8 @@ module _ {T : Type 0} where
   call_goes code c coded start (calls.Release run) old at = tt
   call_goes code c coded start (calls.Store run) old at = store_goes code c coded start run run.call.stage old at
   call_goes code c coded start (calls.Load run) old at = load_goes code c start run old
+  call_goes code c coded start (calls.Look run) old at = tt
+  call_goes code c coded start (calls.Version run) old at = tt
 
   goes : (code : Coding T) (c : ℕ) → IsCoding code → (start : Start T) (flight : Flight T) (old : ℕ) → At code c start flight
       → OwnAfter outline code c start (after_of code flight old)

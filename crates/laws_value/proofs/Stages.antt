@@ -6,6 +6,7 @@ use Rattle.model.specs.declared.event.Event.TheVariants.{Finished}
 use Rattle.model.specs.declared.families.Flight.TheVariants as flights
 use Rattle.model.specs.declared.families.Registry.TheVariants as registries
 use Rattle.model.specs.Families.Atomic.Bounds.{most_steps}
+use Rattle.model.specs.Families.Atomic.Promises.{AnswersRight}
 use Rattle.model.specs.Families.Atomic.Reading.{holder_after}
 use Rattle.model.specs.Families.Atomic.Roles.{GrantsRight}
 use Rattle.model.specs.Families.Atomic.Spans.{moments_of}
@@ -75,7 +76,8 @@ module _ {T : Type 0} (scene : Scene T Value) where
     -- the call is done, and nothing acted
     pub ends :
         (holder' : Option ℕ) (start : AtomicStart T) (answer : Answer T) (ask : Option Ask)
-        → [] ≡ moments_of start answer → GrantsRight scene.events (Finished p (Atomic start) answer)
+        → [] ≡ moments_of start answer → AnswersRight code scene.events (Finished p (Atomic start) answer)
+        → GrantsRight scene.events (Finished p (Atomic start) answer)
         → fold holder_after ho (Finished p (Atomic start) answer ∷ []) ≡ holder'
         → scene.steps + step_count ask ≤ most_steps code.size start (scene.backs + 0) → scene.backs ≡ 0 → words_after words ask ≡ layout holder' k
         → ((q : ℕ) → q ≢ p → (s : AtomicStart T) (f : AtomicFlight T) → At code ho k q s f → At code holder' k q s f)

@@ -5,7 +5,7 @@ use Rattle.laws_value.proofs.Names.{Start, Atomic, Flight, AtomicStart, AtomicFl
 use Rattle.laws_value.proofs.Names.{ask_of, want, old_of, Scene, Inv, scene_of, inv_of}
 use Rattle.model.specs.declared.families.Flight.TheVariants as flights
 use Rattle.model.specs.declared.families.Registry.TheVariants as registries
-use Rattle.model.specs.declared.families.atomic.AtomicStart.TheVariants.{AcquireProducer, ReleaseProducer, Store, Load}
+use Rattle.model.specs.declared.families.atomic.AtomicStart.TheVariants.{AcquireProducer, ReleaseProducer, Store, Load, HasProducer, Version}
 use Rattle.model.specs.declared.families.atomic.calls.AtomicFlight.TheVariants as calls
 use Rattle.model.specs.declared.turn.Kind.TheVariants as kinds
 use Rattle.model.specs.Families.{begin_of, first_of}
@@ -38,6 +38,8 @@ module _ {T : Type 0} (scene : Scene T Value) (inv : Inv outline scene) where
   step_moves (Store value) (calls.Store run) at s b fresh =
       subst (λ v. StepOf scene (Store value) (store_at v run.call.stage)) (sym at.1) (store_step scene inv value at.0 b run.call.stage fresh at.2 s)
   step_moves Load (calls.Load run) at s b fresh = load_step scene inv inv.holds.within run.room run.call.stage at b s
+  step_moves HasProducer (calls.Look run) at s b fresh = grind arith
+  step_moves Version (calls.Version run) at s b fresh = grind arith
   step_moves start flight at s b fresh = absurd at
 
 -- ---- a store that is to load the version finds another than the last

@@ -1,1 +1,2 @@
+-- The values that were stored.
 pub mod Stored

@@ -32,8 +32,8 @@ pub fn keeps_guarantees<T>()
     ensures { (t : Trace T) → IsKept t → KeepsGuarantees t }
 {}
 
-/// The lengths of a queue and the load of the single value change no word. The lemma is `looks_change_nothing` of
-/// `proofs/Looks.antt` of `model`.
+/// The lengths, peeks and looks at roles of queues, the load, the version and the look at the role of the single value, and
+/// the looks at a flag and at a count change no word. The lemma is `looks_change_nothing` of `proofs/Looks.antt` of `model`.
 pub fn looks_change_nothing<T>()
     ensures { (code : Coding T) (flight : Flight T) → Looks flight → ChangesNothing code flight }
 {}

@@ -31,6 +31,7 @@ pub mod WorkedLinearizable
 pub mod WorkedLoads
 pub mod WorkedLockFree
 pub mod WorkedLoan
+pub mod WorkedLooks
 pub mod WorkedProgress
 pub mod WorkedRobust
 pub mod WorkedValue

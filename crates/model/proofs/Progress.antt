@@ -12,7 +12,7 @@ use Rattle.model.specs.Families.Loan.Promises as loan_promises
 use Rattle.model.specs.Families.Indices.Promises as index_promises
 use Rattle.model.specs.Families.Indices.Robust.Promises as robust_promises
 use Rattle.model.specs.Families.Queues.Promises as queue_promises
-use Rattle.model.specs.Progress.{Guarantee, IsGuaranteed, of_push, of_pop, in_queue}
+use Rattle.model.specs.Progress.{Guarantee, IsGuaranteed, of_push, of_pop, of_peek, in_queue}
 use Rattle.model.specs.Progress.{in_value, in_bits, in_counts, in_indices, in_robust, in_container, in_loan}
 use Rattle.model.specs.Progress.{guarantee_of, IsWithin, LatestIsWithin, KeepsGuarantees}
 use Rattle.model.specs.Promises.Bounds.{IsBounded}
@@ -36,6 +36,9 @@ module _ {T : Type 0} where
   abbrev popping : Start T
   popping = starts.Queues queues.Pop
 
+  abbrev peeking : Start T
+  peeking = starts.Queues queues.Peek
+
   queue_guaranteed : (kind : QueueKind) (capacity size : ℕ) (start : Start T)
       → IsGuaranteed (queue_promises.promise kind) capacity size start (in_queue size kind start)
   queue_guaranteed kind capacity size (starts.Queues start) = of_call kind start
@@ -56,6 +59,11 @@ module _ {T : Type 0} where
       pop queue_kinds.Overflow = λ backs. omega arith
       pop queue_kinds.Queue = λ backs. at_most _
 
+      peek : (kind : QueueKind) → IsGuaranteed (queue_promises.promise kind) capacity size peeking (of_peek size kind)
+      peek queue_kinds.IndexQueue = λ backs. at_most _
+      peek queue_kinds.Overflow = λ backs. at_most _
+      peek queue_kinds.Queue = λ backs. at_most _
+
       of_call : (kind : QueueKind) (start : QueueStart T)
           → IsGuaranteed (queue_promises.promise kind) capacity size (starts.Queues start) (in_queue size kind (starts.Queues start))
       of_call kind queues.AcquireProducer = λ backs. at_most _
@@ -65,6 +73,9 @@ module _ {T : Type 0} where
       of_call kind (queues.PushIndex index) = push kind index
       of_call kind (queues.Push value) = push_value kind value
       of_call kind queues.Pop = pop kind
+      of_call kind queues.Peek = peek kind
+      of_call kind queues.HasProducer = λ backs. at_most _
+      of_call kind queues.HasConsumer = λ backs. at_most _
       of_call kind queues.Len = λ backs. omega arith
       of_call kind queues.IsEmpty = λ backs. omega arith
       of_call kind queues.IsFull = λ backs. omega arith

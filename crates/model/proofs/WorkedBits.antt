@@ -11,7 +11,7 @@ use Rattle.model.specs.declared.event.Answer.TheVariants.{Done, ResetNone, Reset
 use Rattle.model.specs.declared.event.Event.TheVariants as told
 use Rattle.model.specs.declared.event.Event.TheVariants.{Cleared, Counted, TakenOut}
 use Rattle.model.specs.declared.families.Registry.TheVariants as registries
-use Rattle.model.specs.declared.families.bits.BitsStart.TheVariants.{Set, ResetNext, ResetAll}
+use Rattle.model.specs.declared.families.bits.BitsStart.TheVariants.{Set, ResetNext, ResetAll, IsSet, Count}
 use Rattle.model.specs.declared.turn.Kind.TheVariants as kinds
 use Rattle.model.specs.Families.Bits.Promises.{IsBitSet, IsCountingSet, AnswersCount, HasCleared, HasTaken, CameTo, BitsWrote, bits_stand, counts_stand}
 use Rattle.model.specs.Families.Bits.Reading.{is_set_of, is_clear_of, sets, clears, standing, position_after, count_at}
@@ -140,6 +140,53 @@ counted_told : counted.events
     ∷ Finished 1 (Bits ResetAll) Done
     ∷ []
 counted_told = refl
+
+-- looks: each takes one step and writes nothing
+abbrev looked : Trace ℕ
+looked =
+    set_of kinds.Bits 8
+    (Begin 0 (Bits (Set 3))
+    ∷ Next 0
+    ∷ Next 0
+    ∷ Begin 1 (Bits (IsSet 3))
+    ∷ Next 1
+    ∷ Begin 1 (Bits (IsSet 4))
+    ∷ Next 1
+    ∷ [])
+
+looked_told : looked.events
+    ≡ Begun 0 (Bits (Set 3))
+    ∷ told.Set 0 3
+    ∷ Finished 0 (Bits (Set 3)) (Truth true)
+    ∷ Begun 1 (Bits (IsSet 3))
+    ∷ Finished 1 (Bits (IsSet 3)) (Truth true)
+    ∷ Begun 1 (Bits (IsSet 4))
+    ∷ Finished 1 (Bits (IsSet 4)) (Truth false)
+    ∷ []
+looked_told = refl
+
+abbrev looked_up : Trace ℕ
+looked_up =
+    set_of kinds.Counts 2
+    (Begin 0 (Bits (Set 1)) ∷ Next 0 ∷ Begin 1 (Bits (Count 1)) ∷ Next 1 ∷ [])
+
+looked_up_told : looked_up.events
+    ≡ Begun 0 (Bits (Set 1))
+    ∷ Counted 0 1
+    ∷ Finished 0 (Bits (Set 1)) (Number 0)
+    ∷ Begun 1 (Bits (Count 1))
+    ∷ Finished 1 (Bits (Count 1)) (Number 1)
+    ∷ []
+looked_up_told = refl
+
+look_past_the_capacity : refusal_of (set_of kinds.Bits 8 []).world (Begin 0 (Bits (IsSet 8))) ≡ Some BadIndex
+look_past_the_capacity = refl
+
+no_count_of_bits : refusal_of (set_of kinds.Bits 8 []).world (Begin 0 (Bits (Count 1))) ≡ Some WrongCall
+no_count_of_bits = refl
+
+no_look_of_counts : refusal_of (set_of kinds.Counts 8 []).world (Begin 0 (Bits (IsSet 1))) ≡ Some WrongCall
+no_look_of_counts = refl
 
 -- a place past the capacity, and a call that counts have not
 past_the_capacity : refusal_of (set_of kinds.Bits 8 []).world (Begin 0 (Bits (Set 8))) ≡ Some BadIndex

@@ -11,6 +11,7 @@ use Rattle.model.specs.declared.families.atomic.AtomicStart.{AtomicStart}
 use Rattle.model.specs.declared.families.atomic.AtomicStart.TheVariants as atomics
 use Rattle.model.specs.declared.families.bits.BitsStart.{BitsStart}
 use Rattle.model.specs.declared.families.bits.BitsStart.TheVariants as bits
+use Rattle.model.specs.declared.families.bits.calls.BitsFlight.TheVariants as bits_flights
 use Rattle.model.specs.declared.families.container.ContainerStart.{ContainerStart}
 use Rattle.model.specs.declared.families.container.ContainerStart.TheVariants as containers
 use Rattle.model.specs.declared.families.indices.IndexStart.{IndexStart}
@@ -20,6 +21,8 @@ use Rattle.model.specs.declared.families.indices.robust.RobustStart.TheVariants 
 use Rattle.model.specs.declared.families.loan.LoanStart.{LoanStart}
 use Rattle.model.specs.declared.families.loan.LoanStart.TheVariants as loans
 use Rattle.model.specs.declared.families.queues.calls.QueueFlight.TheVariants as queue_flights
+use Rattle.model.specs.declared.families.queues.calls.RingCall.TheVariants as rings
+use Rattle.model.specs.declared.families.queues.calls.RoleCall.TheVariants as roles
 use Rattle.model.specs.declared.families.queues.QueueKind.{QueueKind}
 use Rattle.model.specs.declared.families.queues.QueueKind.TheVariants as queue_kinds
 use Rattle.model.specs.declared.families.queues.QueueStart.{QueueStart}
@@ -65,6 +68,11 @@ of_push size queue_kinds.IndexQueue = WaitFree 4
 of_push size queue_kinds.Overflow = WaitFree 6
 of_push size queue_kinds.Queue = WaitFree (3 + size)
 
+abbrev pub of_peek : ℕ → QueueKind → Guarantee
+of_peek size queue_kinds.IndexQueue = WaitFree 3
+of_peek size queue_kinds.Overflow = WaitFree 0
+of_peek size queue_kinds.Queue = WaitFree (2 + size)
+
 abbrev pub of_pop : ℕ → QueueKind → Guarantee
 of_pop size queue_kinds.IndexQueue = WaitFree 4
 of_pop size queue_kinds.Overflow = ObstructionFree 4 2
@@ -79,6 +87,9 @@ module _ {T : Type 0} where
   of_queue size kind (queues.PushIndex index) = of_push size kind
   of_queue size kind (queues.Push value) = of_push size kind
   of_queue size kind queues.Pop = of_pop size kind
+  of_queue size kind queues.Peek = of_peek size kind
+  of_queue size kind queues.HasProducer = WaitFree 1
+  of_queue size kind queues.HasConsumer = WaitFree 1
   of_queue size kind queues.Len = ObstructionFree 4 4
   of_queue size kind queues.IsEmpty = ObstructionFree 4 4
   of_queue size kind queues.IsFull = ObstructionFree 4 4
@@ -86,6 +97,8 @@ module _ {T : Type 0} where
   abbrev pub of_value : ℕ → AtomicStart T → Guarantee
   of_value size atomics.AcquireProducer = WaitFree 1
   of_value size atomics.ReleaseProducer = WaitFree 1
+  of_value size atomics.HasProducer = WaitFree 1
+  of_value size atomics.Version = WaitFree 1
   of_value size (atomics.Store value) = WaitFree (2 + size)
   of_value size atomics.Load = ObstructionFree (2 + size) (1 + size)
 
@@ -93,12 +106,16 @@ abbrev pub of_bits : ℕ → BitsStart → Guarantee
 of_bits capacity (bits.Set bit) = ObstructionFree 2 1
 of_bits capacity bits.ResetNext = ObstructionFree (3 + capacity) 1
 of_bits capacity bits.ResetAll = WaitFree (elements capacity)
+of_bits capacity (bits.IsSet bit) = WaitFree 1
+of_bits capacity (bits.Count place) = WaitFree 0
 
 -- a counting bit set has no reset of the next one
 abbrev pub of_counts : ℕ → BitsStart → Guarantee
 of_counts capacity (bits.Set place) = WaitFree 1
 of_counts capacity bits.ResetNext = WaitFree 0
 of_counts capacity bits.ResetAll = WaitFree capacity
+of_counts capacity (bits.IsSet bit) = WaitFree 0
+of_counts capacity (bits.Count place) = WaitFree 1
 
 abbrev pub of_indices : ℕ → IndexStart → Guarantee
 of_indices capacity indices.Acquire = ObstructionFree (4 + capacity) (max 2 capacity)
@@ -224,10 +241,18 @@ module _ {T : Type 0} where
 
   -- ---- calls that only look
 
-  -- the lengths of a queue and the load of the single value
+  -- the lengths of a queue, the peeks, the looks at roles, the load and the version of the single
+  -- value, and the looks at a flag and at a count
   abbrev pub Looks : Flight T → Type 0
   Looks (flights.Queues (queue_flights.Length which run)) = Unit {0}
+  Looks (flights.Queues (queue_flights.Role (roles.Look run))) = Unit {0}
+  Looks (flights.Queues (queue_flights.Indices (rings.Peek run))) = Unit {0}
+  Looks (flights.Queues (queue_flights.Values (rings.Peek run))) = Unit {0}
   Looks (flights.Atomic (atomic_flights.Load run)) = Unit {0}
+  Looks (flights.Atomic (atomic_flights.Look run)) = Unit {0}
+  Looks (flights.Atomic (atomic_flights.Version run)) = Unit {0}
+  Looks (flights.Bits (bits_flights.IsSet run)) = Unit {0}
+  Looks (flights.Bits (bits_flights.CountOf run)) = Unit {0}
   Looks flight = ⊥
 
   -- what the call asks for leaves the words, whatever they are

@@ -60,17 +60,18 @@ impl<T: Copy> Clone for Start<T> {
 pub enum Answer<T> {
     /// Of giving a role back, of resetting all bits or counts, of a replace, and of giving a loaned index up.
     Done,
-    /// Of a push of the bounded queue, of a store, of acquiring a role, of asking whether a queue is empty or full, a
-    /// container empty or a set of indices or a container locked, of setting a bit, of bringing a state up to date, and
-    /// of giving a received index back.
+    /// Of a push of the bounded queue, of a store, of acquiring a role, of asking whether one is held, a queue empty or
+    /// full, a container empty, a bit set or a set of indices or a container locked, of setting a bit, of bringing a
+    /// state up to date, and of giving a received index back.
     Truth(bool),
-    /// Of asking how many values wait, how many indices are borrowed or how many an owner has, the count of a place
-    /// before it was set, how many values a new state of a container shows, and how many indices a reclaim released.
+    /// Of asking how many values wait, for the version of the single value, how many indices are borrowed or how many an
+    /// owner has, the count of a place as it was asked for or before it was set, how many values a new state of a
+    /// container shows, and how many indices a reclaim released.
     Number(u64),
-    /// Of a pop, a receive or a take-back, or of a push of the overflowing queue or a send, that has no value.
+    /// Of a pop, a peek, a receive or a take-back, or of a push of the overflowing queue or a send, that has no value.
     PoppedNone,
-    /// The number that a pop, a receive or a take-back answers, or that a push of the overflowing queue or a send hands
-    /// back.
+    /// The number that a pop, a peek, a receive or a take-back answers, or that a push of the overflowing queue or a send
+    /// hands back.
     PoppedIndex(u64),
     /// The same for a value of the machine's own type.
     Popped(T),

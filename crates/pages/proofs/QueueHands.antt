@@ -3,7 +3,7 @@ use Rattle.std.proofs.Common.{◌⊎◌, inl, inr, option_map, suc, zero}
 use Rattle.std.proofs.lemmas.Bool.Decides.{nat_tests}
 use Rattle.std.specs.Prelude.{slice_set}
 use Rattle.model.proofs.Names.{Bool, Coding, List, None, Option, Some, [], ap, arith, ask_of, false, first_row, is_question, not, old_of}
-use Rattle.model.proofs.Names.{refl, step_of, subst, sym, true, want_of, words_after, ℕ, ◌+◌, ◌==◌, ◌∷◌, ◌≡◌}
+use Rattle.model.proofs.Names.{refl, set-get_or, step_of, subst, sym, true, want_of, words_after, ℕ, ◌+◌, ◌==◌, ◌∷◌, ◌≡◌}
 use Rattle.model.specs.declared.event.Answer.{Answer}
 use Rattle.model.specs.declared.event.Start.{Start}
 use Rattle.model.specs.declared.event.Start.TheVariants.{Queues}
@@ -12,14 +12,19 @@ use Rattle.model.specs.declared.families.Flight.TheVariants as flights
 use Rattle.model.specs.declared.families.Registry.{Registry}
 use Rattle.model.specs.declared.families.Registry.TheVariants as registries
 use Rattle.model.specs.declared.families.queues.QueueKind.{QueueKind}
+use Rattle.model.specs.declared.families.queues.QueueKind.TheVariants as kinds
 use Rattle.model.specs.declared.families.queues.QueueStart.{QueueStart}
 use Rattle.model.specs.declared.families.queues.QueueStart.TheVariants.{AcquireProducer, ReleaseProducer, AcquireConsumer, ReleaseConsumer}
+use Rattle.model.specs.declared.families.queues.QueueStart.TheVariants.{HasProducer, HasConsumer, Peek}
 use Rattle.model.specs.declared.families.queues.QueueStart.TheVariants.{IsEmpty, IsFull, Len, Pop, Push, PushIndex}
 use Rattle.model.specs.declared.families.queues.Roles.{Roles}
 use Rattle.model.specs.declared.families.queues.calls.LengthOf.{LengthOf}
-use Rattle.model.specs.declared.families.queues.calls.QueueFlight.TheVariants.{Length}
+use Rattle.model.specs.declared.families.queues.calls.QueueFlight.{QueueFlight}
+use Rattle.model.specs.declared.families.queues.calls.QueueFlight.TheVariants.{Indices, Length, Values}
+use Rattle.model.specs.declared.families.queues.calls.RingCall.TheVariants as rings
 use Rattle.model.specs.declared.turn.Refusal.TheVariants.{NoRole}
-use Rattle.model.specs.Families.Queues.Calls.{acquire_of, as_it_is, consumer_word, first, producer_word, release_of}
+use Rattle.model.specs.Families.Queues.Calls.{acquire_of, as_it_is, consumer_word, first, look_of, popped, popped_value}
+use Rattle.model.specs.Families.Queues.Calls.{producer_word, read_in, release_of}
 use Rattle.model.specs.Families.Queues.Opening.{call_rows, holds}
 use Rattle.model.specs.Linearized.{is_push_or_pop}
 use Rattle.model.specs.Step.{Step, as_call}
@@ -28,8 +33,12 @@ use Rattle.steps.specs.declared.ask.After.TheVariants as afters
 use Rattle.steps.specs.declared.queues.lengths.Len as lengths
 use Rattle.steps.specs.declared.queues.lengths.LenStage.{LenStage}
 use Rattle.steps.specs.declared.queues.lengths.LenStage.TheVariants.{LoadsWrite, LoadsRead, LoadsWriteAgain, LoadsReadAgain}
+use Rattle.steps.specs.declared.queues.peek.PeekStage.{PeekStage}
+use Rattle.steps.specs.declared.queues.peek.PeekStage.TheVariants as peeks
 use Rattle.steps.specs.declared.routine.Running.{Running}
 use Rattle.steps.specs.Queues.Lengths.{len_asks}
+use Rattle.steps.specs.Queues.Peek.{peek_asks}
+use Rattle.steps.specs.Queues.Ring.{pop_answer, word_at}
 use Rattle.steps.specs.Routine.{went_on}
 use Rattle.pages.proofs.Hands.{Leaves, OtherStep, not_two}
 
@@ -107,11 +116,20 @@ module _ {T : Type 0} where
     pub run : Running lengths.Len (Unit {0}) (Unit {0})
     pub is : flight ≡ flights.Queues (Length which run)
 
+  -- a peek of either bounded queue
+  abbrev pub IsPeek : Flight T → Type 0
+  IsPeek (flights.Queues (Indices (rings.Peek run))) = Unit {0}
+  IsPeek (flights.Queues (Values (rings.Peek run))) = Unit {0}
+  IsPeek flight = ⊥
+
   abbrev pub OtherOf : Roles → ℕ → QueueStart T → Flight T → Type 0
   OtherOf roles p AcquireProducer flight = flight ≡ flights.Queues (acquire_of producer_word)
   OtherOf roles p ReleaseProducer flight = (flight ≡ flights.Queues (release_of producer_word)) × (roles.producer ≡ Some p)
   OtherOf roles p AcquireConsumer flight = flight ≡ flights.Queues (acquire_of consumer_word)
   OtherOf roles p ReleaseConsumer flight = (flight ≡ flights.Queues (release_of consumer_word)) × (roles.consumer ≡ Some p)
+  OtherOf roles p HasProducer flight = flight ≡ flights.Queues (look_of producer_word)
+  OtherOf roles p HasConsumer flight = flight ≡ flights.Queues (look_of consumer_word)
+  OtherOf roles p Peek flight = IsPeek flight
   OtherOf roles p Len flight = IsLength flight
   OtherOf roles p IsEmpty flight = IsLength flight
   OtherOf roles p IsFull flight = IsLength flight
@@ -124,6 +142,11 @@ module _ {T : Type 0} where
   pub the_flight : {x y : Flight T} → Some x ≡ Some y → y ≡ x
   the_flight e = cc
 
+  peek_begins : (kind : QueueKind) (capacity : ℕ) (flight : Flight T) → option_map flights.Queues (first kind capacity Peek) ≡ Some flight → IsPeek flight
+  peek_begins kinds.IndexQueue capacity flight named = subst IsPeek (sym (the_flight named)) tt
+  peek_begins kinds.Overflow capacity flight named = absurd (cc)
+  peek_begins kinds.Queue capacity flight named = subst IsPeek (sym (the_flight named)) tt
+
   pub other_begins : (kind : QueueKind) (capacity : ℕ) (roles : Roles) (p : ℕ) (start : QueueStart T) (flight : Flight T)
       → is_push_or_pop (Queues start) ≡ false → option_map flights.Queues (first kind capacity start) ≡ Some flight
       → first_row (call_rows roles p start) ≡ None → Other roles p (Queues start) flight
@@ -131,6 +154,9 @@ module _ {T : Type 0} where
   other_begins kind capacity roles p ReleaseProducer flight other named rows = (the_flight named, holder_is roles.producer p rows)
   other_begins kind capacity roles p AcquireConsumer flight other named rows = the_flight named
   other_begins kind capacity roles p ReleaseConsumer flight other named rows = (the_flight named, holder_is roles.consumer p rows)
+  other_begins kind capacity roles p HasProducer flight other named rows = the_flight named
+  other_begins kind capacity roles p HasConsumer flight other named rows = the_flight named
+  other_begins kind capacity roles p Peek flight other named rows = peek_begins kind capacity flight named
   other_begins kind capacity roles p Len flight other named rows = record { which = _; run = _; is = the_flight named }
   other_begins kind capacity roles p IsEmpty flight other named rows = record { which = _; run = _; is = the_flight named }
   other_begins kind capacity roles p IsFull flight other named rows = record { which = _; run = _; is = the_flight named }
@@ -141,6 +167,9 @@ module _ {T : Type 0} where
   not_own roles p (Queues ReleaseProducer) flight h = refl
   not_own roles p (Queues AcquireConsumer) flight h = refl
   not_own roles p (Queues ReleaseConsumer) flight h = refl
+  not_own roles p (Queues HasProducer) flight h = refl
+  not_own roles p (Queues HasConsumer) flight h = refl
+  not_own roles p (Queues Peek) flight h = refl
   not_own roles p (Queues Len) flight h = refl
   not_own roles p (Queues IsEmpty) flight h = refl
   not_own roles p (Queues IsFull) flight h = refl
@@ -163,11 +192,24 @@ module _ {T : Type 0} where
     no_question : (flight : Flight T) → IsLength flight → is_question (want_of code flight) ≡ false
     no_question flight h = subst (λ f. is_question (want_of code f) ≡ false) (sym h.is) (length_asks h.run.call.stage h.which h.run refl)
 
+    peek_loads : (stage : PeekStage) → is_question (peek_asks stage) ≡ false
+    peek_loads peeks.LoadsRead = refl
+    peek_loads (peeks.LoadsWrite read) = refl
+    peek_loads (peeks.LoadsCell cell at) = refl
+
+    peek_asks_nothing : (flight : Flight T) → IsPeek flight → is_question (want_of code flight) ≡ false
+    peek_asks_nothing (flights.Queues (Indices (rings.Peek run))) h = peek_loads run.call.stage
+    peek_asks_nothing (flights.Queues (Values (rings.Peek run))) h = peek_loads run.call.stage
+    peek_asks_nothing flight h = absurd h
+
     pub asks_nothing : (roles : Roles) (p : ℕ) (start : Start T) (flight : Flight T) → Other roles p start flight → is_question (want_of code flight) ≡ false
     asks_nothing roles p (Queues AcquireProducer) flight h = subst (λ f. is_question (want_of code f) ≡ false) (sym h) refl
     asks_nothing roles p (Queues ReleaseProducer) flight h = subst (λ f. is_question (want_of code f) ≡ false) (sym h.0) refl
     asks_nothing roles p (Queues AcquireConsumer) flight h = subst (λ f. is_question (want_of code f) ≡ false) (sym h) refl
     asks_nothing roles p (Queues ReleaseConsumer) flight h = subst (λ f. is_question (want_of code f) ≡ false) (sym h.0) refl
+    asks_nothing roles p (Queues HasProducer) flight h = subst (λ f. is_question (want_of code f) ≡ false) (sym h) refl
+    asks_nothing roles p (Queues HasConsumer) flight h = subst (λ f. is_question (want_of code f) ≡ false) (sym h) refl
+    asks_nothing roles p (Queues Peek) flight h = peek_asks_nothing flight h
     asks_nothing roles p (Queues Len) flight h = no_question flight h
     asks_nothing roles p (Queues IsEmpty) flight h = no_question flight h
     asks_nothing roles p (Queues IsFull) flight h = no_question flight h
@@ -189,6 +231,9 @@ module _ {T : Type 0} where
     others_stay k next q produces consumes (Queues ReleaseProducer) flight h = (h.0, produces h.1)
     others_stay k next q produces consumes (Queues AcquireConsumer) flight h = h
     others_stay k next q produces consumes (Queues ReleaseConsumer) flight h = (h.0, consumes h.1)
+    others_stay k next q produces consumes (Queues HasProducer) flight h = h
+    others_stay k next q produces consumes (Queues HasConsumer) flight h = h
+    others_stay k next q produces consumes (Queues Peek) flight h = h
     others_stay k next q produces consumes (Queues Len) flight h = h
     others_stay k next q produces consumes (Queues IsEmpty) flight h = h
     others_stay k next q produces consumes (Queues IsFull) flight h = h
@@ -320,36 +365,62 @@ module _ {T : Type 0} where
       loads_alone pr co (LoadsWriteAgain at other) = refl
       loads_alone pr co (LoadsReadAgain at other) = refl
 
-      goes_on_so : (which : LengthOf) (answer : ℕ → Answer T) (comes : After lengths.Len ℕ) (then : Flight T)
-          → as_call flights.Queues (λ a. a) (as_call (λ r. Length which r) answer (went_on as_it_is tt tt comes)) ≡ afters.GoOn then
-          → IsLength then
-      goes_on_so which answer (afters.GoOn call) then e =
-          record { which = which; run = record { call = call; given = tt; room = tt }; is = the_next e }
+      peeks_alone : (pr co : Option ℕ) (stage : PeekStage) → words_after (words_of pr co) (ask_of (peek_asks stage)) ≡ words_of pr co
+      peeks_alone pr co peeks.LoadsRead = refl
+      peeks_alone pr co (peeks.LoadsWrite read) = refl
+      peeks_alone pr co (peeks.LoadsCell cell at) = set-get_or (words_of pr co) (word_at cell at) 0
+
+      -- a call that goes on is one of the same kind
+      goes_on_so : {C G M E A : Type 0} (IsSuch : Flight T → Type 0) (call_of : Running C G M → QueueFlight T)
+          → ((run : Running C G M) → IsSuch (flights.Queues (call_of run)))
+          → (answer : A → Answer T) (end : E → G → M → A) (given : G) (room : M) (comes : After C E) (then : Flight T)
+          → as_call flights.Queues (λ a. a) (as_call call_of answer (went_on end given room comes)) ≡ afters.GoOn then
+          → IsSuch then
+      goes_on_so IsSuch call_of such answer end given room (afters.GoOn call) then e =
+          subst IsSuch (sym (the_next e)) (such (record { call = call; given = given; room = room }))
         where
           the_next : {x y : Flight T} → on x ≡ on y → y ≡ x
           the_next e = cc
-      goes_on_so which answer (afters.Done number) then e = ended e
+      goes_on_so IsSuch call_of such answer end given room (afters.Done number) then e = ended e
 
-      module _ (start : Start T) (which : LengthOf) (run : Running lengths.Len (Unit {0}) (Unit {0})) (pr co : Option ℕ) where
-        abbrev length_step : Step (Flight T) (Registry T) T
-        length_step =
-            step_of code (words_of pr co) beside p start (flights.Queues (Length which run))
-            (old_of (words_of pr co) (ask_of (want_of code (flights.Queues (Length which run))))) (registries.Queues (both pr co))
+      -- a step that loads a word, and leaves the roles
+      module _ (start : Start T) (flight : Flight T) (pr co : Option ℕ) where
+        abbrev loading : Step (Flight T) (Registry T) T
+        loading =
+            step_of code (words_of pr co) beside p start flight (old_of (words_of pr co) (ask_of (want_of code flight))) (registries.Queues (both pr co))
 
-        loads : length_step.kept ≡ registries.Queues (both pr co) → length_step.wrote ≡ []
-            → ((then : Flight T) → length_step.after ≡ afters.GoOn then → Other (both pr co) p start then)
-            → StepOf (both pr co) p start (flights.Queues (Length which run)) (words_of pr co) beside
-        loads kept_is silent stays =
+        loads : words_after (words_of pr co) (ask_of (want_of code flight)) ≡ words_of pr co
+            → loading.kept ≡ registries.Queues (both pr co) → loading.wrote ≡ []
+            → ((then : Flight T) → loading.after ≡ afters.GoOn then → Other (both pr co) p start then)
+            → StepOf (both pr co) p start flight (words_of pr co) beside
+        loads alone kept_is silent stays =
             record {
               next = both pr co;
               kept_is = kept_is;
               silent = silent;
-              blank_is = ap blank (loads_alone pr co run.call.stage);
-              tells = subst (Tells (both pr co)) (sym (loads_alone pr co run.call.stage)) (told (both pr co));
+              blank_is = ap blank alone;
+              tells = subst (Tells (both pr co)) (sym alone) (told (both pr co));
               stays = stays;
               who_is = λ n. inl refl;
               others = λ q start flight ne h. h;
             }
+
+      of_length : (which : LengthOf) (run : Running lengths.Len (Unit {0}) (Unit {0})) → IsLength (flights.Queues (Length which run))
+      of_length which run = record { which = which; run = run; is = refl }
+
+      length_on : (which : LengthOf) (answer : ℕ → Answer T) (comes : After lengths.Len ℕ) (then : Flight T)
+          → as_call flights.Queues (λ a. a) (as_call (λ r. Length which r) answer (went_on as_it_is tt tt comes)) ≡ afters.GoOn then
+          → IsLength then
+      length_on which answer comes then e = goes_on_so IsLength (λ r. Length which r) (of_length which) answer as_it_is tt tt comes then e
+
+      by_peek : (pr co : Option ℕ) (flight : Flight T) → IsPeek flight → StepOf (both pr co) p (Queues Peek) flight (words_of pr co) beside
+      by_peek pr co (flights.Queues (Indices (rings.Peek run))) h =
+          loads (Queues Peek) (flights.Queues (Indices (rings.Peek run))) pr co (peeks_alone pr co run.call.stage) refl refl
+          (λ then e. goes_on_so IsPeek (λ r. Indices (rings.Peek r)) (λ r. tt) popped (λ end given room. pop_answer room.0 end) _ _ _ then e)
+      by_peek pr co (flights.Queues (Values (rings.Peek run))) h =
+          loads (Queues Peek) (flights.Queues (Values (rings.Peek run))) pr co (peeks_alone pr co run.call.stage) refl refl
+          (λ then e. goes_on_so IsPeek (λ r. Values (rings.Peek r)) (λ r. tt) popped_value (λ end given room. pop_answer (read_in code room) end) _ _ _ then e)
+      by_peek pr co flight h = absurd h
 
       by_start : (pr co : Option ℕ) (start : QueueStart T) (flight : Flight T) → Other (both pr co) p (Queues start) flight
           → StepOf (both pr co) p (Queues start) flight (words_of pr co) beside
@@ -361,15 +432,25 @@ module _ {T : Type 0} where
           subst (λ f. StepOf (both pr co) p (Queues AcquireConsumer) f (words_of pr co) beside) (sym h) (acquires_consumer pr co)
       by_start pr co ReleaseConsumer flight h =
           subst (λ f. StepOf (both pr co) p (Queues ReleaseConsumer) f (words_of pr co) beside) (sym h.0) (releases_consumer pr co h.1)
+      by_start pr co HasProducer flight h =
+          subst (λ f. StepOf (both pr co) p (Queues HasProducer) f (words_of pr co) beside) (sym h)
+          (loads (Queues HasProducer) (flights.Queues (look_of producer_word)) pr co refl refl refl (λ then e. ended e))
+      by_start pr co HasConsumer flight h =
+          subst (λ f. StepOf (both pr co) p (Queues HasConsumer) f (words_of pr co) beside) (sym h)
+          (loads (Queues HasConsumer) (flights.Queues (look_of consumer_word)) pr co refl refl refl (λ then e. ended e))
+      by_start pr co Peek flight h = by_peek pr co flight h
       by_start pr co Len flight h =
           subst (λ f. StepOf (both pr co) p (Queues Len) f (words_of pr co) beside) (sym h.is)
-          (loads (Queues Len) h.which h.run pr co refl refl (λ then e. goes_on_so h.which _ _ then e))
+          (loads (Queues Len) (flights.Queues (Length h.which h.run)) pr co (loads_alone pr co h.run.call.stage) refl refl
+          (λ then e. length_on h.which _ _ then e))
       by_start pr co IsEmpty flight h =
           subst (λ f. StepOf (both pr co) p (Queues IsEmpty) f (words_of pr co) beside) (sym h.is)
-          (loads (Queues IsEmpty) h.which h.run pr co refl refl (λ then e. goes_on_so h.which _ _ then e))
+          (loads (Queues IsEmpty) (flights.Queues (Length h.which h.run)) pr co (loads_alone pr co h.run.call.stage) refl refl
+          (λ then e. length_on h.which _ _ then e))
       by_start pr co IsFull flight h =
           subst (λ f. StepOf (both pr co) p (Queues IsFull) f (words_of pr co) beside) (sym h.is)
-          (loads (Queues IsFull) h.which h.run pr co refl refl (λ then e. goes_on_so h.which _ _ then e))
+          (loads (Queues IsFull) (flights.Queues (Length h.which h.run)) pr co (loads_alone pr co h.run.call.stage) refl refl
+          (λ then e. length_on h.which _ _ then e))
       by_start pr co (PushIndex value) flight h = absurd h
       by_start pr co (Push value) flight h = absurd h
       by_start pr co Pop flight h = absurd h

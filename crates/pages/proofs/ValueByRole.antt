@@ -9,7 +9,7 @@ use Rattle.model.specs.declared.event.Start.TheVariants.{Atomic, Container, Loan
 use Rattle.model.specs.declared.families.Flight.{Flight}
 use Rattle.model.specs.declared.families.Flight.TheVariants as flights
 use Rattle.model.specs.declared.families.Registry.TheVariants as registries
-use Rattle.model.specs.declared.families.atomic.AtomicStart.TheVariants.{AcquireProducer, Load, ReleaseProducer, Store}
+use Rattle.model.specs.declared.families.atomic.AtomicStart.TheVariants.{AcquireProducer, HasProducer, Load, ReleaseProducer, Store, Version}
 use Rattle.model.specs.declared.turn.Kind.TheVariants as kinds
 use Rattle.model.specs.Families.{begin_of}
 use Rattle.model.specs.Families.Atomic.Calls as calls
@@ -41,7 +41,7 @@ abbrev who : Option ℕ → ℕ → Option ℕ
 who role zero = role
 who role (suc n) = Some n
 
--- ---- the calls on the role
+-- ---- the calls on the role, and on the version
 
 abbrev acquires : Flight ℕ
 acquires = flights.Atomic (calls.first AcquireProducer)
@@ -49,9 +49,17 @@ acquires = flights.Atomic (calls.first AcquireProducer)
 abbrev releases : Flight ℕ
 releases = flights.Atomic (calls.first ReleaseProducer)
 
+abbrev looks : Flight ℕ
+looks = flights.Atomic (calls.first HasProducer)
+
+abbrev counts : Flight ℕ
+counts = flights.Atomic (calls.first Version)
+
 abbrev Other : Option ℕ → ℕ → Start ℕ → Flight ℕ → Type 0
 Other role p (Atomic AcquireProducer) flight = flight ≡ acquires
 Other role p (Atomic ReleaseProducer) flight = (flight ≡ releases) × (role ≡ Some p)
+Other role p (Atomic HasProducer) flight = flight ≡ looks
+Other role p (Atomic Version) flight = flight ≡ counts
 Other role p start flight = ⊥
 
 abbrev StepOf : Option ℕ → ℕ → Start ℕ → Flight ℕ → List ℕ → Option (ℕ × ℕ) → Type 0
@@ -63,6 +71,8 @@ others_stay : (k next : Option ℕ) (q : ℕ) → (k ≡ Some q → next ≡ Som
     → (start : Start ℕ) (flight : Flight ℕ) → Other k q start flight → Other next q start flight
 others_stay k next q holds (Atomic AcquireProducer) flight h = h
 others_stay k next q holds (Atomic ReleaseProducer) flight h = (h.0, holds h.1)
+others_stay k next q holds (Atomic HasProducer) flight h = h
+others_stay k next q holds (Atomic Version) flight h = h
 others_stay k next q holds (Atomic (Store value)) flight h = absurd h
 others_stay k next q holds (Atomic Load) flight h = absurd h
 others_stay k next q holds other flight h = absurd h
@@ -119,6 +129,33 @@ module _ (p version : ℕ) (cells : List ℕ) (beside : Option (ℕ × ℕ)) whe
       who_is zero = inr (inr holder)
       who_is (suc n) = inl refl
 
+  -- a call that changes nothing
+  look : (role : Option ℕ) → StepOf role p (Atomic HasProducer) looks (version ∷ free role ∷ cells) beside
+  look role =
+      record {
+        next = role;
+        kept_is = refl;
+        silent = refl;
+        blank_is = refl;
+        tells = record { version = version; cells = cells; is = refl };
+        stays = λ then e. ended e;
+        who_is = λ n. inl refl;
+        others = λ q start flight ne h. h;
+      }
+
+  count : (role : Option ℕ) → StepOf role p (Atomic Version) counts (version ∷ free role ∷ cells) beside
+  count role =
+      record {
+        next = role;
+        kept_is = refl;
+        silent = refl;
+        blank_is = refl;
+        tells = record { version = version; cells = cells; is = refl };
+        stays = λ then e. ended e;
+        who_is = λ n. inl refl;
+        others = λ q start flight ne h. h;
+      }
+
 goes_other : (role : Option ℕ) (words : List ℕ) (beside : Option (ℕ × ℕ)) (p : ℕ) (start : Start ℕ) (flight : Flight ℕ)
     → Other role p start flight → Tells role words → StepOf role p start flight words beside
 goes_other role words beside p (Atomic AcquireProducer) flight h t =
@@ -127,6 +164,12 @@ goes_other role words beside p (Atomic AcquireProducer) flight h t =
 goes_other role words beside p (Atomic ReleaseProducer) flight h t =
     subst (λ ws. StepOf role p (Atomic ReleaseProducer) flight ws beside) (sym t.is)
     (subst (λ f. StepOf role p (Atomic ReleaseProducer) f (t.version ∷ free role ∷ t.cells) beside) (sym h.0) (release p t.version t.cells beside role h.1))
+goes_other role words beside p (Atomic HasProducer) flight h t =
+    subst (λ ws. StepOf role p (Atomic HasProducer) flight ws beside) (sym t.is)
+    (subst (λ f. StepOf role p (Atomic HasProducer) f (t.version ∷ free role ∷ t.cells) beside) (sym h) (look p t.version t.cells beside role))
+goes_other role words beside p (Atomic Version) flight h t =
+    subst (λ ws. StepOf role p (Atomic Version) flight ws beside) (sym t.is)
+    (subst (λ f. StepOf role p (Atomic Version) f (t.version ∷ free role ∷ t.cells) beside) (sym h) (count p t.version t.cells beside role))
 goes_other role words beside p (Atomic (Store value)) flight h t = absurd h
 goes_other role words beside p (Atomic Load) flight h t = absurd h
 goes_other role words beside p other flight h t = absurd h
@@ -134,6 +177,8 @@ goes_other role words beside p other flight h t = absurd h
 not_own : (role : Option ℕ) (p : ℕ) (start : Start ℕ) (flight : Flight ℕ) → Other role p start flight → is_store_or_load start ≡ false
 not_own role p (Atomic AcquireProducer) flight h = refl
 not_own role p (Atomic ReleaseProducer) flight h = refl
+not_own role p (Atomic HasProducer) flight h = refl
+not_own role p (Atomic Version) flight h = refl
 not_own role p (Atomic (Store value)) flight h = absurd h
 not_own role p (Atomic Load) flight h = absurd h
 not_own role p other flight h = absurd h
@@ -141,6 +186,8 @@ not_own role p other flight h = absurd h
 asks_nothing : (role : Option ℕ) (p : ℕ) (start : Start ℕ) (flight : Flight ℕ) → Other role p start flight → is_question (want_of one_word flight) ≡ false
 asks_nothing role p (Atomic AcquireProducer) flight h = subst (λ f. is_question (want_of one_word f) ≡ false) (sym h) refl
 asks_nothing role p (Atomic ReleaseProducer) flight h = subst (λ f. is_question (want_of one_word f) ≡ false) (sym h.0) refl
+asks_nothing role p (Atomic HasProducer) flight h = subst (λ f. is_question (want_of one_word f) ≡ false) (sym h) refl
+asks_nothing role p (Atomic Version) flight h = subst (λ f. is_question (want_of one_word f) ≡ false) (sym h) refl
 asks_nothing role p (Atomic (Store value)) flight h = absurd h
 asks_nothing role p (Atomic Load) flight h = absurd h
 asks_nothing role p other flight h = absurd h
@@ -165,6 +212,8 @@ other : (k : Option ℕ) (p : ℕ) (start : Start ℕ) (flight : Flight ℕ) →
     → Other k p start flight
 other k p (Atomic AcquireProducer) flight mine named rows = the_flight named
 other k p (Atomic ReleaseProducer) flight mine named rows = (the_flight named, holder_is k p rows)
+other k p (Atomic HasProducer) flight mine named rows = the_flight named
+other k p (Atomic Version) flight mine named rows = the_flight named
 other k p (Atomic (Store value)) flight mine named rows = absurd (cc)
 other k p (Atomic Load) flight mine named rows = absurd (cc)
 other k p start flight mine named rows = absurd (cc)

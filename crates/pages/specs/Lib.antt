@@ -1,3 +1,4 @@
+-- The theorems on pages, each with what ties it to the code.
 pub mod BitSet
 pub mod BitSetBridge
 pub mod CountingBitSet

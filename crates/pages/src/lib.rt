@@ -186,7 +186,7 @@ pub fn queue_of_values_is_the_code<T>()
 {}
 
 /// Roles change hands: on the model's machine, with neither a bound of parties nor one of turns, parties acquire the roles and
-/// give them back, and ask for lengths. Whatever turns they take, the invocations and responses of pushes and pops, or of stores
+/// give them back, and look. Whatever turns they take, the invocations and responses of pushes and pops, or of stores
 /// and loads, are the history of the page's machine over those of these turns, where whoever makes a push is called party 0,
 /// whoever makes a pop party 1, who stores party 0, and who loads by his own number and 1. The function does nothing.
 pub fn roles_change_hands<T>()

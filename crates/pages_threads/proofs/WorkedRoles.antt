@@ -75,12 +75,14 @@ not_known h = let e = h.allowed.0 in cc
 
 -- ---- the value
 
--- Party 3 stores 5 and gives the role back. Party 7, which has it then, stops in the middle of its store. Party 3 loads.
+-- Party 3 stores 5, looks at the version, and gives the role back. Party 7, which has it then, stops in the middle of its store.
+-- Party 3 looks at the role, and loads. The looks are no calls of the page.
 abbrev stores : View ℕ
 stores =
     knowing one_word kinds.Atomic 1
-    (call 3 (Atomic values.AcquireProducer) 1 ++ call 3 (Atomic (values.Store 5)) 3 ++ call 3 (Atomic values.ReleaseProducer) 1
-    ++ call 7 (Atomic values.AcquireProducer) 1 ++ call 7 (Atomic (values.Store 6)) 2 ++ call 3 (Atomic values.Load) 3)
+    (call 3 (Atomic values.AcquireProducer) 1 ++ call 3 (Atomic (values.Store 5)) 3 ++ call 3 (Atomic values.Version) 1
+    ++ call 3 (Atomic values.ReleaseProducer) 1 ++ call 7 (Atomic values.AcquireProducer) 1 ++ call 7 (Atomic (values.Store 6)) 2
+    ++ call 3 (Atomic values.HasProducer) 1 ++ call 3 (Atomic values.Load) 3)
 
 -- as the page sees it, party 0 stores twice, and party 4 loads
 value_turns : turns_of value_page stores

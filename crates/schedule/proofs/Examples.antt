@@ -2,12 +2,13 @@
 use Rattle.std.proofs.Common.{◌≡◌, ℕ, false, List, [], ◌∷◌, Ok, Err, refl, true, codes}
 use Rattle.std.specs.Fmt.{digits}
 use Rattle.texts.specs.declared.error.Cause.TheVariants as causes
+use Rattle.texts.specs.Atomic as value
 use Rattle.texts.specs.Bits.{set, any_set_call, bit_set_call, counting_bit_set_call}
 use Rattle.texts.specs.Container as container
 use Rattle.texts.specs.Indices.{mode_at, release, any_index_call, index_call}
 use Rattle.texts.specs.Indices.Robust as robust
 use Rattle.texts.specs.Loan as loan
-use Rattle.texts.specs.Queues.{push_index, push_value, any_queue_call, index_queue_call, value_queue_call}
+use Rattle.texts.specs.Queues.{push_index, push_value, any_queue_call, index_queue_call, overflow_call, value_queue_call}
 use Rattle.texts.specs.Grammar.{number_at, setup_of, begin_of, next_of, decision_of, turn_of, death_of, command_of}
 use Rattle.texts.specs.Print.{event_text, refusal_text}
 use Rattle.schedule.specs.Output.{Output, outcome, nexts, lines_from, machine_of, output_of_lines, output_of, stopped}
@@ -43,6 +44,31 @@ lengths : output_of (codes
 unfolding output_of_lines machine_of setup_of number_at lines_from command_of turn_of begin_of index_queue_call any_queue_call
     push_index next_of nexts outcome event_text digits
 lengths = refl
+
+-- a peek whose loads of the positions come before and after the last step of a push
+peeked : output_of
+    (codes
+    "index_queue 1 2\n0 begin acquire_producer\n0 next\n1 begin acquire_consumer\n1 next\n0 begin push 5\n0 next 3\n1 begin peek\n1 next\n0 next\n1 next 9\n0 begin has_consumer\n0 next\n")
+    []
+    ≡ printed_whole (codes
+    "0 begun acquire_producer\n0 finished acquire_producer -> true\n1 begun acquire_consumer\n1 finished acquire_consumer -> true\n0 begun push 5\n1 begun peek\n0 published 5\n0 acted push 5 -> true\n0 finished push 5 -> true\n1 finished peek -> some 5\n0 begun has_consumer\n0 finished has_consumer -> true\n")
+unfolding output_of_lines machine_of setup_of number_at lines_from command_of turn_of begin_of index_queue_call any_queue_call
+    push_index next_of nexts outcome event_text digits
+peeked = refl
+
+no_peek : output_of (codes "overflow 1 1\n0 begin peek") [] ≡ stopped 2 causes.UnknownCall
+unfolding output_of_lines machine_of setup_of number_at lines_from command_of turn_of begin_of overflow_call any_queue_call
+no_peek = refl
+
+-- a version before the last step of a store, and one after it
+versions : output_of (codes
+    "atomic 1 2\n0 begin acquire_producer\n0 next\n0 begin store 5\n0 next 3\n1 begin version\n1 next\n0 next\n1 begin version\n1 next\n")
+    []
+    ≡ printed_whole (codes
+    "0 begun acquire_producer\n0 finished acquire_producer -> true\n0 begun store 5\n1 begun version\n1 finished version -> 1\n0 acted store 5 -> true\n0 finished store 5 -> true\n1 begun version\n1 finished version -> 2\n")
+unfolding output_of_lines machine_of setup_of number_at lines_from command_of turn_of begin_of value.value_call
+    value.any_value_call value.store next_of nexts outcome event_text digits
+versions = refl
 
 -- two flags are set, and a reset of all clears both in one turn
 two_flags : output_of (codes "bits 8 1\n0 begin set 1\n0 next 9\n0 begin set 3\n0 next 9\n0 begin reset_all\n0 next 9\n") []

@@ -6,7 +6,7 @@ use texts::error::Cause;
 use texts::pen::Pen;
 
 /// The words that are no numbers.
-const WORDS: [&str; 48] = [
+const WORDS: [&str; 54] = [
     "index_queue",
     "overflow",
     "queue",
@@ -25,13 +25,19 @@ const WORDS: [&str; 48] = [
     "release_producer",
     "acquire_consumer",
     "release_consumer",
+    "has_producer",
+    "has_consumer",
     "push",
     "pop",
+    "peek",
     "store",
     "load",
+    "version",
     "set",
     "reset_next",
     "reset_all",
+    "is_set",
+    "count",
     "acquire",
     "release",
     "borrowed_indices",

@@ -13,6 +13,7 @@ use Rattle.steps.specs.declared.atomic.StoreStage.TheVariants as stores
 use Rattle.steps.specs.declared.atomic.Load.{Load}
 use Rattle.steps.specs.declared.atomic.LoadStage.{LoadStage}
 use Rattle.steps.specs.declared.atomic.LoadStage.TheVariants as loads
+use Rattle.steps.specs.declared.atomic.version.Version.{Version}
 
 -- there are two cells: the first word of the number's cell
 abbrev pub cell_word : ℕ → ℕ → ℕ
@@ -118,3 +119,11 @@ abbrev pub goes_back : LoadStage → ℕ → Bool
 goes_back loads.LoadsVersion old = false
 goes_back (loads.LoadsCell version cell at) old = false
 goes_back (loads.ChecksVersion version) old = not (old == version)
+
+-- ---- version
+
+abbrev pub version_want : Version → Want (Unit {0})
+version_want call = load 0
+
+abbrev pub version_after : Version → ℕ → After Version ℕ
+version_after call old = Done old

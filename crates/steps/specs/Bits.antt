@@ -3,5 +3,6 @@ pub mod Words
 pub mod Places
 pub mod BitSet
 pub mod Counts
+pub mod Looks
 pub mod ResetAll
 pub mod Laws

@@ -1,6 +1,6 @@
 -- What every call keeps to: a store tells it nothing, and one that ends by
 -- itself comes nearer to its end at each step.
-use Rattle.std.specs.Prelude.{◌≡◌, ℕ, ◌+◌, ◌-◌, ◌^◌, ◌<◌, ◌≤◌, Bool, false, IsTrue, List, nat_lt, refl}
+use Rattle.std.specs.Prelude.{◌≡◌, ℕ, ◌+◌, ◌-◌, ◌^◌, ◌<◌, ◌≤◌, Bool, true, false, IsTrue, List, nat_lt, refl}
 use Rattle.std.proofs.Common.{arith, ap, sym, true≢false}
 use Rattle.std.proofs.lemmas.Bool.Decides.{nat_tests}
 use Rattle.steps.specs.Ask.{is_store}
@@ -10,6 +10,7 @@ use Rattle.steps.specs.declared.ask.After.TheVariants.{GoOn, Done}
 use Rattle.steps.specs.declared.copied.OneWord.{OneWord}
 use Rattle.steps.specs.declared.queues.roles.AcquireRole.{AcquireRole}
 use Rattle.steps.specs.declared.queues.roles.ReleaseRole.{ReleaseRole}
+use Rattle.steps.specs.declared.queues.roles.LookRole.{LookRole}
 use Rattle.steps.specs.declared.queues.lengths.Len.{Len}
 use Rattle.steps.specs.declared.queues.lengths.LenStage.{LenStage}
 use Rattle.steps.specs.declared.queues.lengths.LenStage.TheVariants as lens
@@ -17,6 +18,9 @@ use Rattle.steps.specs.declared.queues.ring.Push.{Push}
 use Rattle.steps.specs.declared.queues.ring.PushStage as pushes
 use Rattle.steps.specs.declared.queues.ring.Pop.{Pop}
 use Rattle.steps.specs.declared.queues.ring.PopStage as pops
+use Rattle.steps.specs.declared.queues.peek.Peek.{Peek}
+use Rattle.steps.specs.declared.queues.peek.PeekStage.{PeekStage}
+use Rattle.steps.specs.declared.queues.peek.PeekStage.TheVariants as peeks
 use Rattle.steps.specs.declared.queues.overflow.Push as over
 use Rattle.steps.specs.declared.queues.overflow.PushStage.{PushStage}
 use Rattle.steps.specs.declared.queues.overflow.PushStage.TheVariants as over_pushes
@@ -31,10 +35,12 @@ use Rattle.steps.specs.declared.atomic.StoreStage.TheVariants as stores
 use Rattle.steps.specs.declared.atomic.Load.{Load}
 use Rattle.steps.specs.declared.atomic.LoadStage.{LoadStage}
 use Rattle.steps.specs.declared.atomic.LoadStage.TheVariants as loads
-use Rattle.steps.specs.Queues.Roles.{acquire_want, acquire_after, release_want, release_after}
+use Rattle.steps.specs.declared.atomic.version.Version.{Version}
+use Rattle.steps.specs.Queues.Roles.{acquire_want, acquire_after, release_want, release_after, look_want, look_after}
 use Rattle.steps.specs.Queues.Lengths.{len_asks, len_takes}
 use Rattle.steps.specs.Queues.Ring.{cell_word, distance, at_push, push_asks, push_takes, push_after, push_left, at_pop}
 use Rattle.steps.specs.Queues.Ring.{pop_asks, pop_takes, pop_after, pop_keeps, pop_left}
+use Rattle.steps.specs.Queues.Peek.{peek_asks, peek_takes, peek_after, peek_keeps, peek_left, at_peek}
 use Rattle.steps.specs.Queues.Overflow as overflow
 use Rattle.steps.specs.Atomic as value
 
@@ -56,6 +62,13 @@ acquire_fewer c d n goes = cc
 
 pub release_fewer : (c d : ReleaseRole) (n : ℕ) → release_after c n ≡ GoOn d → 0 < 0
 release_fewer c d n goes = cc
+
+pub look_tells : (c : LookRole) (room : Unit {0}) (m n : ℕ)
+    → IsTrue (is_store (look_want c)) → (look_after c m ≡ look_after c n) × (room ≡ room)
+look_tells c room m n t = no_store t
+
+pub look_fewer : (c d : LookRole) (n : ℕ) → look_after c n ≡ GoOn d → 0 < 0
+look_fewer c d n goes = cc
 
 -- ---- lengths
 
@@ -139,6 +152,37 @@ module _ {V R : Type 0} (size : ℕ) where
       → pop_left size d.stage < pop_left size c.stage
   pop_fewer c d k goes =
       let e = ap pop_then goes in let f = pop_stage_fewer c c.stage k in omega arith
+
+module _ {V R : Type 0} (with_word : R → ℕ → ℕ → R) (size : ℕ) where
+  pub peek_tells : (c : Peek V R) (stage : PeekStage) (room : R) (m n : ℕ)
+      → IsTrue (is_store (peek_asks stage)) → (peek_takes size c stage m ≡ peek_takes size c stage n)
+      × (peek_keeps with_word room stage m ≡ peek_keeps with_word room stage n)
+  peek_tells c peeks.LoadsRead room m n t = no_store t
+  peek_tells c (peeks.LoadsWrite read) room m n t = no_store t
+  peek_tells c (peeks.LoadsCell cell at) room m n t = no_store t
+
+module _ {V R : Type 0} (size : ℕ) where
+  abbrev peek_then : After (Peek V R) Bool → ℕ
+  peek_then (GoOn d) = peek_left size d.stage + 1
+  peek_then (Done e) = 0
+
+  peek_stage_fewer : (c : Peek V R) (stage : PeekStage) (k : ℕ)
+      → peek_then (peek_takes size c stage k) ≤ peek_left size stage
+  peek_stage_fewer c peeks.LoadsRead k = omega arith
+  peek_stage_fewer c (peeks.LoadsWrite p) k =
+      by_either (λ a. peek_then a ≤ size + 1) c.capacity 0 k p (Done false)
+      (GoOn (at_peek c (peeks.LoadsCell (cell_word c.capacity size p) 0)))
+      (λ e. omega arith) (λ e. omega arith) (λ e f. omega arith)
+  peek_stage_fewer c (peeks.LoadsCell cell at) k =
+      by_test (λ a. peek_then a ≤ size - at) (nat_lt (at + 1) size)
+      (GoOn (at_peek c (peeks.LoadsCell cell (at + 1)))) (Done true)
+      (λ t. let further : at + 1 < size = grind (arith, nat_tests) in omega arith)
+      (λ t. omega arith)
+
+  pub peek_fewer : (c d : Peek V R) (k : ℕ) → peek_after size c k ≡ GoOn d
+      → peek_left size d.stage < peek_left size c.stage
+  peek_fewer c d k goes =
+      let e = ap peek_then goes in let f = peek_stage_fewer c c.stage k in omega arith
 
 -- ---- the overflowing queue
 
@@ -234,3 +278,11 @@ module _ {V R : Type 0} (with_word : R → ℕ → ℕ → R) (size : ℕ) where
   load_tells c loads.LoadsVersion room m n t = no_store t
   load_tells c (loads.LoadsCell version cell at) room m n t = no_store t
   load_tells c (loads.ChecksVersion version) room m n t = no_store t
+
+pub version_tells : (c : Version) (room : Unit {0}) (m n : ℕ)
+    → IsTrue (is_store (value.version_want c))
+    → (value.version_after c m ≡ value.version_after c n) × (room ≡ room)
+version_tells c room m n t = no_store t
+
+pub version_fewer : (c d : Version) (n : ℕ) → value.version_after c n ≡ GoOn d → 0 < 0
+version_fewer c d n goes = cc

@@ -1,5 +1,6 @@
 -- The calls of the queues, as tables.
 pub mod Lengths
 pub mod Overflow
+pub mod Peek
 pub mod Ring
 pub mod Roles

@@ -7,6 +7,8 @@ ghost use Rattle.std.specs.Prelude.{◌≡◌};
 ghost use Rattle.steps.specs.Copied.{value_in};
 ghost use Rattle.steps.specs.Atomic.{cell_word, first_store, store_want, store_after, first_load, load_want, load_after, load_kept, goes_back};
 
+pub mod version;
+
 use crate::ask::{After, Ask, Op, Want};
 use crate::copied::Room;
 use crate::routine::{Ends, Routine};

@@ -6,4 +6,5 @@
 pub mod bit_set;
 pub mod counting_bit_set;
 pub mod flags;
+pub mod looks;
 pub mod reset_all;

@@ -3,7 +3,7 @@ use Rattle.std.specs.Prelude.{ℕ, ◌-◌, ◌^◌, List, ◌++◌, Result, Ok,
 use Rattle.model.specs.declared.event.Start.{Start}
 use Rattle.model.specs.declared.event.Start.TheVariants as starts
 use Rattle.model.specs.declared.families.atomic.AtomicStart.{AtomicStart}
-use Rattle.model.specs.declared.families.atomic.AtomicStart.TheVariants.{AcquireProducer, ReleaseProducer, Store, Load}
+use Rattle.model.specs.declared.families.atomic.AtomicStart.TheVariants.{AcquireProducer, ReleaseProducer, Store, Load, HasProducer, Version}
 use Rattle.texts.specs.declared.error.Cause.{Cause}
 use Rattle.texts.specs.declared.error.Cause.TheVariants.{UnknownCall}
 use Rattle.texts.specs.Reading.{◌>>=◌, number_at}
@@ -21,6 +21,8 @@ any_value_call name ws =
     else if bytes_eq name (codes "release_producer") then Ok (ReleaseProducer, ws)
     else if bytes_eq name (codes "store") then store ws
     else if bytes_eq name (codes "load") then Ok (Load, ws)
+    else if bytes_eq name (codes "has_producer") then Ok (HasProducer, ws)
+    else if bytes_eq name (codes "version") then Ok (Version, ws)
     else Err UnknownCall
 
 -- the calls of the single value
@@ -36,3 +38,5 @@ call_text AcquireProducer = codes "acquire_producer"
 call_text ReleaseProducer = codes "release_producer"
 call_text (Store value) = codes "store " ++ decimal value
 call_text Load = codes "load"
+call_text HasProducer = codes "has_producer"
+call_text Version = codes "version"

@@ -3,7 +3,7 @@ use Rattle.std.specs.Prelude.{ℕ, ◌-◌, ◌^◌, List, ◌++◌, Result, Ok,
 use Rattle.model.specs.declared.event.Start.{Start}
 use Rattle.model.specs.declared.event.Start.TheVariants as starts
 use Rattle.model.specs.declared.families.bits.BitsStart.{BitsStart}
-use Rattle.model.specs.declared.families.bits.BitsStart.TheVariants.{Set, ResetNext, ResetAll}
+use Rattle.model.specs.declared.families.bits.BitsStart.TheVariants.{Set, ResetNext, ResetAll, IsSet, Count}
 use Rattle.texts.specs.declared.error.Cause.{Cause}
 use Rattle.texts.specs.declared.error.Cause.TheVariants.{UnknownCall}
 use Rattle.texts.specs.Reading.{◌>>=◌, number_at}
@@ -15,6 +15,16 @@ set ws = do
   place ← number_at (2 ^ 64 - 1) ws
   Ok (Set place.0, place.1)
 
+unfoldable pub is_set : List (List ℕ) → Result (BitsStart × List (List ℕ)) Cause
+is_set ws = do
+  place ← number_at (2 ^ 64 - 1) ws
+  Ok (IsSet place.0, place.1)
+
+unfoldable pub count : List (List ℕ) → Result (BitsStart × List (List ℕ)) Cause
+count ws = do
+  place ← number_at (2 ^ 64 - 1) ws
+  Ok (Count place.0, place.1)
+
 -- the calls of both
 unfoldable pub any_set_call : List ℕ → List (List ℕ) → Result (BitsStart × List (List ℕ)) Cause
 any_set_call name ws =
@@ -24,7 +34,13 @@ any_set_call name ws =
 
 abbrev pub any_bit_set_call : List ℕ → List (List ℕ) → Result (BitsStart × List (List ℕ)) Cause
 any_bit_set_call name ws =
-    if bytes_eq name (codes "reset_next") then Ok (ResetNext, ws) else any_set_call name ws
+    if bytes_eq name (codes "reset_next") then Ok (ResetNext, ws)
+    else if bytes_eq name (codes "is_set") then is_set ws
+    else any_set_call name ws
+
+abbrev pub any_counting_call : List ℕ → List (List ℕ) → Result (BitsStart × List (List ℕ)) Cause
+any_counting_call name ws =
+    if bytes_eq name (codes "count") then count ws else any_set_call name ws
 
 -- the calls of a bit set
 unfoldable pub bit_set_call : List ℕ → List (List ℕ) → Result (Start ℕ × List (List ℕ)) Cause
@@ -36,7 +52,7 @@ bit_set_call name ws = do
 unfoldable pub counting_bit_set_call : List ℕ → List (List ℕ)
     → Result (Start ℕ × List (List ℕ)) Cause
 counting_bit_set_call name ws = do
-  call ← any_set_call name ws
+  call ← any_counting_call name ws
   Ok (starts.Bits call.0, call.1)
 
 -- ---- how they print
@@ -45,6 +61,8 @@ abbrev pub call_text : BitsStart → List ℕ
 call_text (Set place) = codes "set " ++ decimal place
 call_text ResetNext = codes "reset_next"
 call_text ResetAll = codes "reset_all"
+call_text (IsSet bit) = codes "is_set " ++ decimal bit
+call_text (Count place) = codes "count " ++ decimal place
 
 -- a place and the count that was taken out of it
 abbrev pub taken_text : ℕ → ℕ → List ℕ

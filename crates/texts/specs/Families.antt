@@ -36,10 +36,10 @@ kind_named name =
     else if bytes_eq name (codes "loan") then Some kinds.Loan
     else None
 
--- the call of this name on a structure of this kind; both queues of indices have the same calls
+-- the call of this name on a structure of this kind
 abbrev pub call_named : Kind → List ℕ → List (List ℕ) → Result (Start ℕ × List (List ℕ)) Cause
 call_named kinds.IndexQueue name ws = queues.index_queue_call name ws
-call_named kinds.Overflow name ws = queues.index_queue_call name ws
+call_named kinds.Overflow name ws = queues.overflow_call name ws
 call_named kinds.Queue name ws = queues.value_queue_call name ws
 call_named kinds.Atomic name ws = atomic.value_call name ws
 call_named kinds.Bits name ws = bits.bit_set_call name ws

@@ -7,14 +7,14 @@ use Rattle.model.specs.declared.event.Start.TheVariants.{Queues}
 use Rattle.model.specs.declared.families.queues.QueueStart.{QueueStart}
 use Rattle.model.specs.declared.families.queues.QueueStart.TheVariants.{AcquireProducer, ReleaseProducer}
 use Rattle.model.specs.declared.families.queues.QueueStart.TheVariants.{AcquireConsumer, ReleaseConsumer, PushIndex}
-use Rattle.model.specs.declared.families.queues.QueueStart.TheVariants.{Push, Pop, Len, IsEmpty, IsFull}
+use Rattle.model.specs.declared.families.queues.QueueStart.TheVariants.{Push, Pop, Peek, HasProducer, HasConsumer, Len, IsEmpty, IsFull}
 use Rattle.texts.specs.declared.error.Cause.{Cause}
 use Rattle.texts.specs.declared.error.Cause.TheVariants.{UnknownCall}
 use Rattle.texts.specs.Reading.{◌>>=◌, number_at}
 
 -- ---- how they are read
 
--- a call on a role, a pop, or a question of length: no value follows its name
+-- a call on a role, a pop, or a question of length or of a role: no value follows its name
 abbrev pub call_without_value : List ℕ → Option (QueueStart ℕ)
 call_without_value name =
     if bytes_eq name (codes "acquire_producer") then Some AcquireProducer
@@ -25,6 +25,8 @@ call_without_value name =
     else if bytes_eq name (codes "len") then Some Len
     else if bytes_eq name (codes "is_empty") then Some IsEmpty
     else if bytes_eq name (codes "is_full") then Some IsFull
+    else if bytes_eq name (codes "has_producer") then Some HasProducer
+    else if bytes_eq name (codes "has_consumer") then Some HasConsumer
     else None
 
 -- a push of an index, or of a value of the machine's own type
@@ -43,14 +45,23 @@ unfoldable pub any_queue_call : List ℕ → List (List ℕ) → Result (Start �
 any_queue_call name ws =
     elim (call_without_value name) [ Some start ↦ Ok (Queues start, ws) | None ↦ Err UnknownCall ]
 
--- the calls of a queue of indices, and of one of values
+-- the calls that both bounded queues have
+abbrev pub any_bounded_call : List ℕ → List (List ℕ) → Result (Start ℕ × List (List ℕ)) Cause
+any_bounded_call name ws =
+    if bytes_eq name (codes "peek") then Ok (Queues Peek, ws) else any_queue_call name ws
+
+-- the calls of a queue of indices, of an overflowing queue, and of a queue of values
 unfoldable pub index_queue_call : List ℕ → List (List ℕ) → Result (Start ℕ × List (List ℕ)) Cause
 index_queue_call name ws =
+    if bytes_eq name (codes "push") then push_index ws else any_bounded_call name ws
+
+unfoldable pub overflow_call : List ℕ → List (List ℕ) → Result (Start ℕ × List (List ℕ)) Cause
+overflow_call name ws =
     if bytes_eq name (codes "push") then push_index ws else any_queue_call name ws
 
 unfoldable pub value_queue_call : List ℕ → List (List ℕ) → Result (Start ℕ × List (List ℕ)) Cause
 value_queue_call name ws =
-    if bytes_eq name (codes "push") then push_value ws else any_queue_call name ws
+    if bytes_eq name (codes "push") then push_value ws else any_bounded_call name ws
 
 -- ---- how they print
 
@@ -62,6 +73,9 @@ call_text ReleaseConsumer = codes "release_consumer"
 call_text (PushIndex index) = codes "push " ++ decimal index
 call_text (Push value) = codes "push " ++ decimal value
 call_text Pop = codes "pop"
+call_text Peek = codes "peek"
+call_text HasProducer = codes "has_producer"
+call_text HasConsumer = codes "has_consumer"
 call_text Len = codes "len"
 call_text IsEmpty = codes "is_empty"
 call_text IsFull = codes "is_full"

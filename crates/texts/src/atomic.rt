@@ -32,6 +32,10 @@ fn any_value_call<'a>(name: &[u8], words: Rest<'a>) -> Result<(AtomicStart<u128>
         store(words)
     } else if name == b"load".as_slice() {
         Ok((AtomicStart::Load, words))
+    } else if name == b"has_producer".as_slice() {
+        Ok((AtomicStart::HasProducer, words))
+    } else if name == b"version".as_slice() {
+        Ok((AtomicStart::Version, words))
     } else {
         Err(Cause::UnknownCall)
     }
@@ -61,5 +65,7 @@ pub fn print_call(line: &mut Line, start: AtomicStart<u128>)
             line.push_number(value);
         }
         AtomicStart::Load => line.push("load"),
+        AtomicStart::HasProducer => line.push("has_producer"),
+        AtomicStart::Version => line.push("version"),
     }
 }

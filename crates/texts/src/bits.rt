@@ -2,7 +2,8 @@
 ghost use Rattle.std.specs.Prelude.{◌≡◌, ◌+◌, ◌≤◌, ◌++◌, length, codes, decimal};
 ghost use Rattle.texts.specs.Text.{words_left};
 ghost use Rattle.texts.specs.Grammar.{Gives};
-ghost use Rattle.texts.specs.Bits.{set, any_set_call, any_bit_set_call, bit_set_call, counting_bit_set_call, call_text, taken_text};
+ghost use Rattle.texts.specs.Bits.{set, is_set, count, any_set_call, any_bit_set_call, any_counting_call, bit_set_call};
+ghost use Rattle.texts.specs.Bits.{counting_bit_set_call, call_text, taken_text};
 
 use crate::error::Cause;
 use crate::grammar::number_at;
@@ -17,6 +18,22 @@ fn set(words: Rest<'_>) -> Result<(BitsStart, Rest<'_>), Cause>
 {
     let (place, rest) = number_at(u128::from(u64::MAX), words)?;
     Ok((BitsStart::Set(place as u64), rest))
+}
+
+#[tactic(auto, unfolding(crate::specs::Bits::is_set))]
+fn is_set(words: Rest<'_>) -> Result<(BitsStart, Rest<'_>), Cause>
+    ensures { Gives (λ x. (x.0, words_left x.1)) result (is_set (words_left words.entry)) }
+{
+    let (place, rest) = number_at(u128::from(u64::MAX), words)?;
+    Ok((BitsStart::IsSet(place as u64), rest))
+}
+
+#[tactic(auto, unfolding(crate::specs::Bits::count))]
+fn count(words: Rest<'_>) -> Result<(BitsStart, Rest<'_>), Cause>
+    ensures { Gives (λ x. (x.0, words_left x.1)) result (count (words_left words.entry)) }
+{
+    let (place, rest) = number_at(u128::from(u64::MAX), words)?;
+    Ok((BitsStart::Count(place as u64), rest))
 }
 
 #[tactic(auto, unfolding(crate::specs::Bits::any_set_call))]
@@ -39,6 +56,19 @@ fn any_bit_set_call<'a>(name: &[u8], words: Rest<'a>) -> Result<(BitsStart, Rest
 {
     if name == b"reset_next".as_slice() {
         Ok((BitsStart::ResetNext, words))
+    } else if name == b"is_set".as_slice() {
+        is_set(words)
+    } else {
+        any_set_call(name, words)
+    }
+}
+
+fn any_counting_call<'a>(name: &[u8], words: Rest<'a>) -> Result<(BitsStart, Rest<'a>), Cause>
+    ensures { Gives (λ x. (x.0, words_left x.1)) result
+        (any_counting_call name.now (words_left words.entry)) }
+{
+    if name == b"count".as_slice() {
+        count(words)
     } else {
         any_set_call(name, words)
     }
@@ -63,7 +93,7 @@ pub fn counting_bit_set_call<'a>(
     ensures { Gives (λ x. (x.0, words_left x.1)) result
         (counting_bit_set_call name.now (words_left words.entry)) }
 {
-    let (start, rest) = any_set_call(name, words)?;
+    let (start, rest) = any_counting_call(name, words)?;
     Ok((Start::Bits(start), rest))
 }
 
@@ -94,5 +124,13 @@ pub fn print_call(line: &mut Line, start: BitsStart)
         }
         BitsStart::ResetNext => line.push("reset_next"),
         BitsStart::ResetAll => line.push("reset_all"),
+        BitsStart::IsSet(place) => {
+            line.push("is_set ");
+            line.push_number(u128::from(place));
+        }
+        BitsStart::Count(place) => {
+            line.push("count ");
+            line.push_number(u128::from(place));
+        }
     }
 }

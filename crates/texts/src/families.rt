@@ -49,7 +49,7 @@ pub fn call<'a>(kind: Kind, name: &[u8], words: Rest<'a>) -> Result<(Start<u128>
 {
     match kind {
         Kind::IndexQueue => queues::index_queue_call(name, words),
-        Kind::Overflow => queues::index_queue_call(name, words),
+        Kind::Overflow => queues::overflow_call(name, words),
         Kind::Queue => queues::value_queue_call(name, words),
         Kind::Atomic => atomic::value_call(name, words),
         Kind::Bits => bits::bit_set_call(name, words),

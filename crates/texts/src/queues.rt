@@ -2,8 +2,8 @@
 ghost use Rattle.std.specs.Prelude.{◌≡◌, ◌+◌, ◌≤◌, ◌++◌, length, decimal};
 ghost use Rattle.texts.specs.Text.{words_left};
 ghost use Rattle.texts.specs.Grammar.{Gives};
-ghost use Rattle.texts.specs.Queues.{call_without_value, push_index, push_value, any_queue_call};
-ghost use Rattle.texts.specs.Queues.{index_queue_call, value_queue_call, call_text, item_text};
+ghost use Rattle.texts.specs.Queues.{call_without_value, push_index, push_value, any_queue_call, any_bounded_call};
+ghost use Rattle.texts.specs.Queues.{index_queue_call, overflow_call, value_queue_call, call_text, item_text};
 
 use crate::error::Cause;
 use crate::grammar::number_at;
@@ -31,6 +31,10 @@ fn call_without_value(name: &[u8]) -> Option<QueueStart<u128>>
         Some(QueueStart::IsEmpty)
     } else if name == b"is_full".as_slice() {
         Some(QueueStart::IsFull)
+    } else if name == b"has_producer".as_slice() {
+        Some(QueueStart::HasProducer)
+    } else if name == b"has_consumer".as_slice() {
+        Some(QueueStart::HasConsumer)
     } else {
         None
     }
@@ -63,11 +67,35 @@ fn any_queue_call<'a>(name: &[u8], words: Rest<'a>) -> Result<(Start<u128>, Rest
     }
 }
 
-/// A call of a queue of indices.
+fn any_bounded_call<'a>(name: &[u8], words: Rest<'a>) -> Result<(Start<u128>, Rest<'a>), Cause>
+    ensures { Gives (λ x. (x.0, words_left x.1)) result
+        (any_bounded_call name.now (words_left words.entry)) }
+{
+    if name == b"peek".as_slice() {
+        Ok((Start::Queues(QueueStart::Peek), words))
+    } else {
+        any_queue_call(name, words)
+    }
+}
+
+/// A call of a bounded queue of indices.
 #[tactic(auto, unfolding(crate::specs::Queues::index_queue_call))]
 pub fn index_queue_call<'a>(name: &[u8], words: Rest<'a>) -> Result<(Start<u128>, Rest<'a>), Cause>
     ensures { Gives (λ x. (x.0, words_left x.1)) result
         (index_queue_call name.now (words_left words.entry)) }
+{
+    if name == b"push".as_slice() {
+        push_index(words)
+    } else {
+        any_bounded_call(name, words)
+    }
+}
+
+/// A call of an overflowing queue.
+#[tactic(auto, unfolding(crate::specs::Queues::overflow_call))]
+pub fn overflow_call<'a>(name: &[u8], words: Rest<'a>) -> Result<(Start<u128>, Rest<'a>), Cause>
+    ensures { Gives (λ x. (x.0, words_left x.1)) result
+        (overflow_call name.now (words_left words.entry)) }
 {
     if name == b"push".as_slice() {
         push_index(words)
@@ -85,7 +113,7 @@ pub fn value_queue_call<'a>(name: &[u8], words: Rest<'a>) -> Result<(Start<u128>
     if name == b"push".as_slice() {
         push_value(words)
     } else {
-        any_queue_call(name, words)
+        any_bounded_call(name, words)
     }
 }
 
@@ -132,6 +160,9 @@ pub fn print_call(line: &mut Line, start: QueueStart<u128>)
             line.push_number(value);
         }
         QueueStart::Pop => line.push("pop"),
+        QueueStart::Peek => line.push("peek"),
+        QueueStart::HasProducer => line.push("has_producer"),
+        QueueStart::HasConsumer => line.push("has_consumer"),
         QueueStart::Len => line.push("len"),
         QueueStart::IsEmpty => line.push("is_empty"),
         QueueStart::IsFull => line.push("is_full"),

@@ -1,12 +1,12 @@
 -- For each field of what the bit sets promise a run that this field alone refuses here.
-use Rattle.std.proofs.Common.{◌≡◌, ℕ, false, List, [], ◌∷◌, ◌++◌, refl, arith}
+use Rattle.std.proofs.Common.{◌≡◌, ℕ, Bool, true, false, List, [], ◌∷◌, ◌++◌, refl, arith}
 use Rattle.model.specs.declared.event.Answer.TheVariants.{Truth, Number}
 use Rattle.model.specs.declared.event.Event.{Event}
 use Rattle.model.specs.declared.event.Event.TheVariants as events
 use Rattle.model.specs.declared.event.Event.TheVariants.{Begun, Counted, Finished}
 use Rattle.model.specs.declared.event.Start.TheVariants.{Bits}
 use Rattle.model.specs.declared.families.Registry.TheVariants as registries
-use Rattle.model.specs.declared.families.bits.BitsStart.TheVariants.{Set}
+use Rattle.model.specs.declared.families.bits.BitsStart.TheVariants.{Set, IsSet, Count}
 use Rattle.model.specs.declared.turn.Kind.TheVariants as kinds
 use Rattle.model.specs.Families.Bits.Promises.{IsBitSet, IsCountingSet}
 use Rattle.model.specs.World.{Trace}
@@ -33,6 +33,17 @@ refused_set k =
     at_no_moment 0 _ (Begun 0 (Bits (Set 1)) ∷ []) ((λ e. cc), (λ e. cc))
     (k.answers (Begun 0 (Bits (Set 1)) ∷ []) [] (Finished 0 (Bits (Set 1)) (Truth false)) refl)
 
+-- a look answers that its bit stands, which does not, and one is of a place past the capacity
+abbrev pub seen : ℕ → Bool → List (Event ℕ)
+seen bit answer = Begun 0 (Bits (IsSet bit)) ∷ Finished 0 (Bits (IsSet bit)) (Truth answer) ∷ []
+
+seen_standing : IsBitSet (bits (0 ∷ 0 ∷ []) (seen 1 true)) → ⊥
+seen_standing k = let e = (k.answers (Begun 0 (Bits (IsSet 1)) ∷ []) [] (Finished 0 (Bits (IsSet 1)) (Truth true)) refl).1 in cc
+
+seen_past_the_capacity : IsBitSet (bits (0 ∷ 0 ∷ []) (seen 9 false)) → ⊥
+seen_past_the_capacity k =
+    let low = (k.answers (Begun 0 (Bits (IsSet 9)) ∷ []) [] (Finished 0 (Bits (IsSet 9)) (Truth false)) refl).0 in absurd (omega arith)
+
 -- words: the count of each place
 abbrev pub counts : List ℕ → List (Event ℕ) → Trace ℕ
 counts words events = machine kinds.Counts words registries.Nothing events
@@ -58,3 +69,20 @@ counts_nothing : IsCountingSet (counts (0 ∷ 0 ∷ []) uncounted) → ⊥
 counts_nothing k =
     let right = k.answers (Begun 0 (Bits (Set 1)) ∷ []) [] (Finished 0 (Bits (Set 1)) (Number 0)) refl in
     no_count right.before right.is
+
+-- a look answers another count than its place has
+abbrev miscounted : List (Event ℕ)
+miscounted =
+    Counted 1 1 ∷ Begun 0 (Bits (Count 1)) ∷ Finished 0 (Bits (Count 1)) (Number 2) ∷ []
+
+seen_miscounted : IsCountingSet (counts (0 ∷ 1 ∷ []) miscounted) → ⊥
+seen_miscounted k =
+    let e = (k.answers (Counted 1 1 ∷ Begun 0 (Bits (Count 1)) ∷ []) [] (Finished 0 (Bits (Count 1)) (Number 2)) refl).1 in cc
+
+-- a look at a count beyond the capacity
+abbrev past : List (Event ℕ)
+past = Begun 0 (Bits (Count 9)) ∷ Finished 0 (Bits (Count 9)) (Number 0) ∷ []
+
+seen_count_past_the_capacity : IsCountingSet (counts (0 ∷ 0 ∷ []) past) → ⊥
+seen_count_past_the_capacity k =
+    let low = (k.answers (Begun 0 (Bits (Count 9)) ∷ []) [] (Finished 0 (Bits (Count 9)) (Number 0)) refl).0 in absurd (omega arith)

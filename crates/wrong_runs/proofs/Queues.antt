@@ -1,6 +1,7 @@
 -- For each field of what a queue promises a run that this field alone refuses here.
-use Rattle.std.proofs.Common.{ℕ, false, Some, None, List, [], ◌∷◌, refl, arith}
-use Rattle.model.specs.declared.event.Answer.TheVariants.{Truth, Number, PoppedNone}
+use Rattle.std.proofs.Common.{ℕ, true, false, Some, None, List, [], ◌∷◌, ◌++◌, refl, arith}
+use Rattle.model.specs.declared.event.Answer.{Answer}
+use Rattle.model.specs.declared.event.Answer.TheVariants.{Truth, Number, PoppedNone, PoppedIndex}
 use Rattle.model.specs.declared.event.Event.{Event}
 use Rattle.model.specs.declared.event.Event.TheVariants.{Begun, Published, Acted, Finished}
 use Rattle.model.specs.declared.event.Item.TheVariants.{Index}
@@ -8,7 +9,7 @@ use Rattle.model.specs.declared.event.Start.{Start}
 use Rattle.model.specs.declared.event.Start.TheVariants as starts
 use Rattle.model.specs.declared.families.Registry.TheVariants as registries
 use Rattle.model.specs.declared.families.queues.QueueKind.TheVariants as queues
-use Rattle.model.specs.declared.families.queues.QueueStart.TheVariants.{AcquireProducer, PushIndex, Pop, Len}
+use Rattle.model.specs.declared.families.queues.QueueStart.TheVariants.{AcquireProducer, AcquireConsumer, PushIndex, Pop, Peek, HasProducer, HasConsumer, Len}
 use Rattle.model.specs.declared.turn.Kind.TheVariants as kinds
 use Rattle.model.specs.Families.Queues.Promises.{IsQueue}
 use Rattle.model.specs.World.{Trace}
@@ -61,12 +62,51 @@ no_length k =
     at_no_moment 0 _ (Begun 0 (starts.Queues Len) ∷ []) ((λ e. cc), (λ e. cc))
     (k.lengths (Begun 0 (starts.Queues Len) ∷ []) [] (Finished 0 (starts.Queues Len) (Number 1)) refl)
 
+-- what comes of pushes, and then a peek
+abbrev pushed : ℕ → List (Event ℕ)
+pushed index = Published 0 (Index index) ∷ Acted 0 (push index) (Truth true) ∷ []
+
+abbrev peeks : Answer ℕ → Event ℕ
+peeks answer = Finished 1 (starts.Queues Peek) answer
+
+-- a peek finds nothing, while a value waits
+peeked_none : IsQueue queues.IndexQueue (queue (1 ∷ 0 ∷ 1 ∷ 1 ∷ 7 ∷ 0 ∷ []) (pushed 7 ++ peeks PoppedNone ∷ [])) → ⊥
+peeked_none k = let e = k.lengths (pushed 7) [] (peeks PoppedNone) refl in cc
+
+-- a peek answers the newest of two
+peeked_newest : IsQueue queues.IndexQueue (queue (2 ∷ 0 ∷ 1 ∷ 1 ∷ 7 ∷ 8 ∷ []) ((pushed 7 ++ pushed 8) ++ peeks (PoppedIndex 8) ∷ [])) → ⊥
+peeked_newest k = let e = k.lengths (pushed 7 ++ pushed 8) [] (peeks (PoppedIndex 8)) refl in cc
+
 -- a role is refused that nobody holds
 abbrev pub refused : List (Event ℕ)
 refused = Finished 0 (starts.Queues AcquireProducer) (Truth false) ∷ []
 
 pub refused_role : IsQueue queues.IndexQueue (queue (0 ∷ 0 ∷ 1 ∷ 1 ∷ 0 ∷ 0 ∷ []) refused) → ⊥
 refused_role k = let e = k.roles [] [] (Finished 0 (starts.Queues AcquireProducer) (Truth false)) refl in cc
+
+-- a look says that nobody produces, while party 0 does
+abbrev granted : List (Event ℕ)
+granted = Finished 0 (starts.Queues AcquireProducer) (Truth true) ∷ []
+
+abbrev unseen : Event ℕ
+unseen = Finished 1 (starts.Queues HasProducer) (Truth false)
+
+unseen_producer : IsQueue queues.IndexQueue (machine kinds.IndexQueue (0 ∷ 0 ∷ 0 ∷ 1 ∷ 0 ∷ 0 ∷ [])
+    (registries.Queues (record { producer = Some 0; consumer = None })) (granted ++ unseen ∷ []))
+    → ⊥
+unseen_producer k = let e = k.roles granted [] unseen refl in cc
+
+-- a look says that nobody consumes, while party 0 does
+abbrev consumed : List (Event ℕ)
+consumed = Finished 0 (starts.Queues AcquireConsumer) (Truth true) ∷ []
+
+abbrev overlooked : Event ℕ
+overlooked = Finished 1 (starts.Queues HasConsumer) (Truth false)
+
+unseen_consumer : IsQueue queues.IndexQueue (machine kinds.IndexQueue (0 ∷ 0 ∷ 1 ∷ 0 ∷ 0 ∷ 0 ∷ [])
+    (registries.Queues (record { producer = None; consumer = Some 0 })) (consumed ++ overlooked ∷ []))
+    → ⊥
+unseen_consumer k = let e = k.roles consumed [] overlooked refl in cc
 
 -- the machine lets a party push that was not granted the role
 unnamed_producer : IsQueue queues.IndexQueue (machine kinds.IndexQueue (0 ∷ 0 ∷ 0 ∷ 1 ∷ 0 ∷ 0 ∷ [])

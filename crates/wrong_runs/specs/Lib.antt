@@ -1,1 +1,2 @@
+-- A run that the main theorem refuses.
 pub mod Wrong

@@ -6,7 +6,7 @@ use Rattle.laws_bits.proofs.Names.{stands, Event, BitsFlight, ResetNext, BitsAns
 use Rattle.laws_bits.proofs.Names.{clears, standing, position_after, position_of, BeginsNone, Each, one_if}
 use Rattle.laws_bits.proofs.Names.{held_later, since_more, AreRight, Each-append}
 use Rattle.std.proofs.Common.{arith}
-use Rattle.model.specs.declared.families.bits.calls.BitsFlight.TheVariants.{Set, ResetAll}
+use Rattle.model.specs.declared.families.bits.calls.BitsFlight.TheVariants.{Set, ResetAll, IsSet}
 use Rattle.model.specs.declared.turn.Kind.TheVariants as kinds
 use Rattle.laws_bits.proofs.Bits.Core.{ClearedBelow, cleared_still, sets_more, clears_more}
 use Rattle.laws_bits.proofs.Bits.Knows.{CallAt, KnowsCall, KnowsSet, KnowsNext, Paid, Passed, Began, call_wrote, number_of}
@@ -125,4 +125,5 @@ module _ {T : Type 0} where
         since_more p (ClearedBelow run.call.word) (ClearedBelow run.call.word) events es none h.1
             (cleared_still run.call.word h.1.before h.1.since es h.1.holds),
       )
+      call_still since backs (IsSet run) h = let up = pays.up in omega arith
       call_still since backs flight h = absurd h

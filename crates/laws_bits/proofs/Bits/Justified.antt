@@ -30,6 +30,7 @@ module _ {T : Type 0} where
   are_effects c p old wrote (starts.Set bit) (calls.Set run) at = set_effects T p run.given old run.call.stage
   are_effects c p old wrote starts.ResetNext (calls.ResetNext run) at = next_effects T p run.call.capacity old run.call.stage
   are_effects c p old wrote starts.ResetAll (calls.ResetAll run) at = all_effects T p (places_in run.call.word old)
+  are_effects c p old wrote (starts.IsSet bit) (calls.IsSet run) at = tt
   are_effects c p old wrote start flight at = absurd at
 
   pub laws : (code : Coding T) (c : ℕ) → SetLaws bit_set code c

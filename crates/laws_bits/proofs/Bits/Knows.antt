@@ -6,7 +6,7 @@ use Rattle.laws_bits.proofs.Names.{HeldSometime, SinceBegin, Span}
 use Rattle.steps.specs.declared.bits.bit_set.SetStage.TheVariants as setting
 use Rattle.steps.specs.declared.bits.bit_set.ResetNextStage.TheVariants as resetting
 use Rattle.model.specs.declared.families.bits.BitsStart.TheVariants as starts
-use Rattle.model.specs.declared.families.bits.calls.BitsFlight.TheVariants.{Set, ResetAll}
+use Rattle.model.specs.declared.families.bits.calls.BitsFlight.TheVariants.{Set, ResetAll, IsSet}
 use Rattle.laws_bits.proofs.Bits.Core.{ClearedBelow}
 use Rattle.laws_bits.proofs.Spans.{wrote_in}
 
@@ -88,6 +88,7 @@ module _ {T : Type 0} where
   CallAt c wrote starts.ResetAll (ResetAll run) =
       (run.call.end ≡ 1 + elements c) × (1 ≤ run.call.word) × (run.call.word ≤ 1 + elements c)
       × ((b : ℕ) → run.call.word ≤ element_of b → clears b wrote ≡ 0)
+  CallAt c wrote (starts.IsSet bit) (IsSet run) = (run.given ≡ bit) × (bit < c)
   CallAt c wrote start flight = ⊥
 
   -- ---- what it knows of the events
@@ -120,4 +121,5 @@ module _ {T : Type 0} where
       KnowsNext run.call.capacity p events words since changes backs run.call.stage
   KnowsCall p events words since changes backs (ResetAll run) =
       (backs ≡ 0) × SinceBegin p (ClearedBelow run.call.word) events
+  KnowsCall p events words since changes backs (IsSet run) = backs + since ≤ changes
   KnowsCall p events words since changes backs flight = ⊥

@@ -10,6 +10,7 @@ use Rattle.model.specs.declared.turn.Kind.TheVariants as kinds
 use Rattle.laws_bits.proofs.Bits.Alls.{reset_all_step}
 use Rattle.laws_bits.proofs.Bits.Invariant.{Holds, Preserves, bit_set}
 use Rattle.laws_bits.proofs.Bits.Knows.{CallAt, KnowsSet, KnowsNext, next_number, set_at, next_at}
+use Rattle.laws_bits.proofs.Bits.Looks.{look_at, look_step}
 use Rattle.laws_bits.proofs.Bits.Nexts.{next_step}
 use Rattle.laws_bits.proofs.Bits.Sets.{set_step}
 use Rattle.laws_bits.proofs.Family.{SetScene, ShowsStep, StepOf}
@@ -61,6 +62,9 @@ module _ {T : Type 0} where
         reset_all_step code c scene holds wrote is run.call.word at.1
         (λ b past. subst (λ xs. clears b xs ≡ 0) (sym from) (at.3 b past)) knows.1 knows.0 few run.room run.call.end
         at.0 (let below = at.2 in let end = at.0 in omega arith)
+    step_shows (starts.IsSet bit) (calls.IsSet run) wrote at is from few knows =
+        subst (λ n. Shown wrote (starts.IsSet bit) (look_at n)) (sym at.0)
+        (subst (λ es. Shown es (starts.IsSet bit) (look_at bit)) (sym from) (look_step code c scene holds bit at.1 few knows))
     step_shows start flight wrote at is from few knows = absurd at
 
   -- ---- a call begins

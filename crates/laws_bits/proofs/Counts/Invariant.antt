@@ -4,7 +4,9 @@ use Rattle.laws_bits.proofs.Names.{◌≡◌, ℕ, ◌+◌, ◌*◌, ◌^◌, �
 use Rattle.laws_bits.proofs.Names.{BitsStart, BitsFlight, Count, TakeAll, CountsAnswerOn, counts_promise, counts}
 use Rattle.laws_bits.proofs.Names.{takes, SinceBegin, BeginsNone, Each, Span, since_more, AreRight, Each-append}
 use Rattle.std.proofs.Common.{arith}
+use Rattle.model.specs.declared.families.bits.BitsStart.TheVariants as starts
 use Rattle.model.specs.declared.families.bits.BitsStart.TheVariants.{Set, ResetAll}
+use Rattle.model.specs.declared.families.bits.calls.BitsFlight.TheVariants.{CountOf}
 use Rattle.model.specs.declared.turn.Kind.TheVariants as kinds
 use Rattle.laws_bits.proofs.Counts.Core.{TakenBelow, taken_still, counts_more, takes_more}
 use Rattle.laws_bits.proofs.Family.{SetOutline}
@@ -26,9 +28,10 @@ module _ {T : Type 0} where
 
   -- ---- the calls
 
-  -- a set is done in one step, with what it writes
+  -- a set is done in one step, with what it writes, and so is a look
   abbrev pub call_wrote : ℕ → BitsFlight → Span T → List (Event T)
   call_wrote p (Count run) span = []
+  call_wrote p (CountOf run) span = []
   call_wrote p flight span = wrote_in span
 
   -- a reset of all has taken nothing out of the places to which it is still to come
@@ -36,6 +39,7 @@ module _ {T : Type 0} where
   CallAt c wrote (Set place) (Count run) = (run.given ≡ place) × (place < c)
   CallAt c wrote ResetAll (TakeAll run) =
       (run.call.end ≡ c) × (run.call.word ≤ c) × ((b : ℕ) → run.call.word ≤ b → takes b wrote ≡ 0)
+  CallAt c wrote (starts.Count place) (CountOf run) = (run.given ≡ place) × (place < c)
   CallAt c wrote start flight = ⊥
 
   -- no call turns back
@@ -43,6 +47,7 @@ module _ {T : Type 0} where
   KnowsCall p events backs (Count run) = backs ≡ 0
   KnowsCall p events backs (TakeAll run) =
       (backs ≡ 0) × SinceBegin p (TakenBelow run.call.word) events
+  KnowsCall p events backs (CountOf run) = backs ≡ 0
   KnowsCall p events backs flight = ⊥
 
   -- ---- what a turn preserves
@@ -113,4 +118,5 @@ module _ {T : Type 0} where
   call_still p events es none backs (Count run) h = h
   call_still p events es none backs (TakeAll run) h =
       (h.0, since_more p (TakenBelow run.call.word) (TakenBelow run.call.word) events es none h.1 (taken_still run.call.word h.1.before h.1.since es h.1.holds))
+  call_still p events es none backs (CountOf run) h = h
   call_still p events es none backs flight h = absurd h

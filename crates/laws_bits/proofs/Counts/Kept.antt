@@ -4,6 +4,7 @@ use Rattle.laws_bits.proofs.Names.{Event, BitsStart, BitsFlight, most_counts_ste
 use Rattle.laws_bits.proofs.Names.{HasTaken, HasTakenOn, CountsAnswerRight, CountsAnswerOn, counts, takes, SinceBegin}
 use Rattle.laws_bits.proofs.Names.{Begun, Counted, Finished, Bits, Trace}
 use Rattle.std.proofs.Common.{arith}
+use Rattle.model.specs.declared.families.bits.BitsStart.TheVariants as starts
 use Rattle.model.specs.declared.families.bits.BitsStart.TheVariants.{Set, ResetAll}
 use Rattle.model.specs.declared.event.Answer.TheVariants.{Number}
 use Rattle.laws_bits.proofs.Counts.Core.{counts_more}
@@ -57,6 +58,8 @@ module _ {T : Type 0} where
       let count = h.count in
       record { before = h.before; is = h.is; count = omega arith }
   answer_exact c before (Finished p (Bits ResetAll) answer) few h = taken_exact c p before few h
+  answer_exact c before (Finished p (Bits (starts.Count place)) (Number number)) few h =
+      (h.0, (let low = few place in let is = h.1 in omega arith))
   answer_exact c before e few h = tt
 
   pub exact : (t : Trace T) → ((b : ℕ) → counts b t.events < 2 ^ 64) → IsCountingOn t → IsCountingSet t

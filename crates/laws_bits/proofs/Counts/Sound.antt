@@ -3,11 +3,13 @@ use Rattle.laws_bits.proofs.Names.{◌≡◌, ℕ, false, Some, List, [], ◌∷
 use Rattle.laws_bits.proofs.Names.{Begun, Start, Bits, Registry, Flight, BitsStart, BitsFlight, Count, TakeAll}
 use Rattle.laws_bits.proofs.Names.{Coding, first_of, is_question, first, want, counts_words, is_past, takes, Each-nil}
 use Rattle.std.proofs.Common.{arith}
+use Rattle.model.specs.declared.families.bits.BitsStart.TheVariants as starts
 use Rattle.model.specs.declared.families.bits.BitsStart.TheVariants.{Set, ResetAll}
+use Rattle.model.specs.declared.families.bits.calls.BitsFlight.TheVariants.{CountOf}
 use Rattle.model.specs.declared.turn.Kind.TheVariants as kinds
 use Rattle.laws_bits.proofs.Counts.Invariant.{Holds, CallAt, Preserves, counting_set}
 use Rattle.laws_bits.proofs.Counts.Resets.{reset_step}
-use Rattle.laws_bits.proofs.Counts.Steps.{set_shows}
+use Rattle.laws_bits.proofs.Counts.Steps.{set_shows, look_shows}
 use Rattle.laws_bits.proofs.Family.{SetScene, ShowsStep, StepOf}
 use Rattle.laws_bits.proofs.Laws.{IsOwn, IsFirst}
 use Rattle.laws_bits.proofs.Words.{zeros}
@@ -45,6 +47,10 @@ module _ {T : Type 0} where
         reset_step code c scene holds wrote is run.call.word
         (λ b past. subst (λ xs. takes b xs ≡ 0) (sym from) (at.2 b past)) knows.1 knows.0 few run.room run.call.end
         at.0 at.1
+    step_shows (starts.Count place) (CountOf run) wrote at is from few knows =
+        subst (λ n. Shown wrote (starts.Count n) (CountOf run)) at.0
+        (subst (λ xs. Shown xs (starts.Count run.given) (CountOf run)) (sym from)
+        (look_shows code c scene holds run.given (let below = at.1 in let same = at.0 in omega arith) few knows))
     step_shows start flight wrote at is from few knows = absurd at
 
   -- ---- a call begins

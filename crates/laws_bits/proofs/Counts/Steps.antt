@@ -1,13 +1,15 @@
--- What each step of a call shows: a set adds 1 to its count, and a reset of all swaps the next count with 0.
+-- What the step of a set shows, which adds 1 to its count, and that of a look, which loads it.
 use Rattle.laws_bits.proofs.Names.{◌≡◌, ◌≢◌, ℕ, ◌+◌, ◌*◌, ◌/◌, ◌%◌, ◌^◌, ◌<◌, ◌≤◌, ◌==◌, Bool, true, false, Some}
 use Rattle.laws_bits.proofs.Names.{List, [], ◌∷◌, length, get_or, set, refl, sym, length-set, get_or-set_same}
 use Rattle.laws_bits.proofs.Names.{get_or-set_other, nat_tests, Add, Done, Counted, Finished, Bits, Coding}
-use Rattle.laws_bits.proofs.Names.{counts, count_at}
+use Rattle.laws_bits.proofs.Names.{counts, count_at, subst, Event, Load}
 use Rattle.std.proofs.Common.{arith}
 use Rattle.model.specs.declared.event.Answer.TheVariants as answers
+use Rattle.model.specs.declared.families.bits.BitsStart.TheVariants as starts
 use Rattle.model.specs.declared.families.bits.BitsStart.TheVariants.{Set}
-use Rattle.laws_bits.proofs.Counts.Invariant.{Holds, counting_set}
+use Rattle.laws_bits.proofs.Counts.Invariant.{Holds, Preserves, rest_preserves, counting_set}
 use Rattle.laws_bits.proofs.Family.{SetScene, StepShows}
+use Rattle.laws_bits.proofs.Words.{load_leaves}
 
 module _ {T : Type 0} (code : Coding T) (c : ℕ) (scene : SetScene T) where
   open scene use {state as s, events, turns, party as p, steps, backs}
@@ -99,3 +101,24 @@ module _ {T : Type 0} (code : Coding T) (c : ℕ) (scene : SetScene T) where
                 let there = get_or-set_other ws place b ((get_or ws place 0 + 1) % 2 ^ 64) 0 other in
                 let low = holds.low b in
                 omega arith
+
+    -- ---- a look
+
+    abbrev look_end : ℕ → List (Event T)
+    look_end place = Finished p (Bits (starts.Count place)) (answers.Number (get_or ws place 0)) ∷ []
+
+    pub look_shows : (place : ℕ) → place < c → steps ≤ 0 → backs ≡ 0
+        → StepShows counting_set code c scene [] (starts.Count place)
+        (Some (record { word = place; op = Load })) false (Done (answers.Number (get_or ws place 0))) []
+    look_shows place below s b =
+        record {
+          preserves = subst (λ (words : List ℕ). Preserves c ws events turns words (look_end place)) (sym (load_leaves ws place))
+              (rest_preserves c ws events turns (look_end place) holds (λ b. refl) (λ b. refl) ((below, now), tt));
+          own = (refl, tt);
+          stands = ((refl, refl), tt);
+          here = record { answer = answers.Number (get_or ws place 0); wrote = []; span = refl; steps = omega arith };
+          knows = omega arith;
+        }
+      where
+        now : get_or ws place 0 ≡ count_at place events % 2 ^ 64
+        now = let h = (holds.conserved place).1 in let low = holds.low place in omega arith

@@ -13,6 +13,7 @@ use Rattle.model.specs.declared.families.queues.calls.QueueFlight.TheVariants.{O
 use Rattle.model.specs.declared.families.queues.QueueKind.TheVariants as kinds
 use Rattle.laws_queues.proofs.Queues.Core.{Core}
 use Rattle.laws_queues.proofs.Queues.Values.{Val}
+use Rattle.laws_queues.proofs.Ring.Keeping.{peek_keeps}
 use Rattle.laws_queues.proofs.Ring.Knows.{KnowsPush, KnowsPop}
 use Rattle.laws_queues.proofs.Overflow.Knows.{KnowsOverflowPush, KnowsOverflowPop, overflow_wrote, OverflowAt}
 use Rattle.laws_queues.proofs.Queues.Knows.{has_written, RoleAt, IndexAt, ValueAt, At}
@@ -49,11 +50,11 @@ module _ (ro ro' : Roles) (q : ℕ) (producer : ro.producer ≡ Some q → ro'.p
   module _ {T : Type 0} (en : Coding T) (c : ℕ) where
     index_kept : (k k' : Core ℕ) → RingKeeps one_word c ro k k' q → (start : QueueStart T) (call : rings.RingCall ℕ OneWord)
         → IndexAt kinds.IndexQueue c ro k q start call → IndexAt kinds.IndexQueue c ro' k' q start call
-    index_kept = grind arith
+    index_kept = grind (arith, peek_keeps)
 
     value_kept : (k k' : Core T) → RingKeeps en c ro k k' q → (start : QueueStart T) (call : rings.RingCall T (Buffer 128))
         → ValueAt en kinds.Queue c ro k q start call → ValueAt en kinds.Queue c ro' k' q start call
-    value_kept = grind arith
+    value_kept = grind (arith, peek_keeps)
 
     overflow_kept : (k k' : Core ℕ) → OverflowKeeps T c ro k k' q → (start : QueueStart T) (call : overflows.OverflowCall) → OverflowAt c ro k q start call
         → OverflowAt c ro' k' q start call × (has_written {T = T} c k' q (Overflow call) ≡ has_written c k q (Overflow call))

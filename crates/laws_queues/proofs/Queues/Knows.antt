@@ -1,9 +1,9 @@
 -- What a call of a queue knows where it stands: of the words, of the events and of the counts.
 use Rattle.laws_queues.proofs.Names.{◌≡◌, ℕ, ◌+◌, ◌-◌, ◌*◌, ◌^◌, ◌<◌, ◌≤◌, Option, Some, None, List, [], ◌∷◌, ◌++◌}
 use Rattle.laws_queues.proofs.Names.{length, take, map, Len, LenStage, Running, number_waiting, RoleCall, Acquire}
-use Rattle.laws_queues.proofs.Names.{Release, LengthOf, QueueFlight, Role, Indices, Values, Length, Item, Buffer}
+use Rattle.laws_queues.proofs.Names.{Release, Look, LengthOf, QueueFlight, Role, Indices, Values, Length, Item, Buffer}
 use Rattle.laws_queues.proofs.Names.{OneWord, QueueStart, AcquireProducer, ReleaseProducer, AcquireConsumer}
-use Rattle.laws_queues.proofs.Names.{ReleaseConsumer, PushIndex, Push, Pop, IsEmpty, IsFull, Event, Roles, QueueKind}
+use Rattle.laws_queues.proofs.Names.{ReleaseConsumer, PushIndex, Push, Pop, Peek, HasProducer, HasConsumer, IsEmpty, IsFull, Event, Roles, QueueKind}
 use Rattle.laws_queues.proofs.Names.{Coding, one_word, waiting, BeginsNone, HeldSometime, held_later, Flight}
 use Rattle.std.proofs.Common.{arith}
 use Rattle.steps.specs.declared.queues.lengths.LenStage.TheVariants as lens
@@ -17,7 +17,7 @@ use Rattle.model.specs.declared.families.queues.QueueKind.TheVariants as kinds
 use Rattle.laws_queues.proofs.Queues.Core.{Core}
 use Rattle.laws_queues.proofs.Queues.Core.{GoesUp}
 use Rattle.laws_queues.proofs.Queues.Values.{Val, item}
-use Rattle.laws_queues.proofs.Ring.Knows.{ring_number, PushAt, PopAt}
+use Rattle.laws_queues.proofs.Ring.Knows.{ring_number, PushAt, PopAt, PeekAt}
 use Rattle.laws_queues.proofs.Overflow.Knows.{KnowsBacks, backs_keep, overflow_wrote, overflow_push_number, overflow_pop_number, OverflowAt}
 pub use Rattle.laws_queues.specs.Fresh.{IsFreshStore, IsFreshAt, IsFreshCall}
 
@@ -143,6 +143,8 @@ module _ {T : Type 0} where
   RoleAt ro p ReleaseProducer (Release run) = (run.call.word ≡ 2) × (ro.producer ≡ Some p)
   RoleAt ro p AcquireConsumer (Acquire run) = run.call.word ≡ 3
   RoleAt ro p ReleaseConsumer (Release run) = (run.call.word ≡ 3) × (ro.consumer ≡ Some p)
+  RoleAt ro p HasProducer (Look run) = run.call.word ≡ 2
+  RoleAt ro p HasConsumer (Look run) = run.call.word ≡ 3
   RoleAt ro p start call = ⊥
 
   abbrev pub LengthAt : ℕ → QueueStart T → LengthOf → ℕ → Type 0
@@ -151,10 +153,11 @@ module _ {T : Type 0} where
   LengthAt c IsFull measures.IsFull capacity = capacity ≡ c
   LengthAt c start which capacity = ⊥
 
-  -- each kind has its own pushes and pops
+  -- each kind has its own pushes and pops, and a bounded one its own peeks
   abbrev pub IndexAt : (kd : QueueKind) → ℕ → Roles → Core (Val T kd) → ℕ → QueueStart T → rings.RingCall ℕ OneWord → Type 0
   IndexAt kinds.IndexQueue c ro k p (PushIndex v) call = PushAt one_word in_one c ro k p v call
   IndexAt kinds.IndexQueue c ro k p Pop call = PopAt one_word in_one c ro k p call
+  IndexAt kinds.IndexQueue c ro k p Peek call = PeekAt one_word in_one c ro k p call
   IndexAt kinds.IndexQueue c ro k p start call = ⊥
   IndexAt kinds.Overflow c ro k p start call = ⊥
   IndexAt kinds.Queue c ro k p start call = ⊥
@@ -164,6 +167,7 @@ module _ {T : Type 0} where
   ValueAt en kinds.Overflow c ro k p start call = ⊥
   ValueAt en kinds.Queue c ro k p (Push v) call = PushAt en in_cell c ro k p v call
   ValueAt en kinds.Queue c ro k p Pop call = PopAt en in_cell c ro k p call
+  ValueAt en kinds.Queue c ro k p Peek call = PeekAt en in_cell c ro k p call
   ValueAt en kinds.Queue c ro k p start call = ⊥
 
   abbrev pub OverAt : (kd : QueueKind) → ℕ → Roles → Core (Val T kd) → ℕ → QueueStart T → OverflowCall → Type 0

@@ -1,12 +1,13 @@
 -- What the steps of the calls on roles show. A role's word is 1 while the role is free.
-use Rattle.laws_queues.proofs.Names.{◌≡◌, ℕ, ◌^◌, ◌<◌, ◌≤◌, true, false, Option, Some, None, option_map, refl, ap}
-use Rattle.laws_queues.proofs.Names.{subst, sym, ◌∙◌, Ask, Store, Exchange, AcquireProducer, ReleaseProducer}
-use Rattle.laws_queues.proofs.Names.{AcquireConsumer, ReleaseConsumer, QueueKind, Coding, acquire_of, release_of}
+use Rattle.laws_queues.proofs.Names.{◌≡◌, ℕ, ◌^◌, ◌<◌, ◌≤◌, ◌==◌, true, false, not, is_none, Option, Some, None, option_map, refl, ap}
+use Rattle.laws_queues.proofs.Names.{subst, sym, ◌∙◌, Ask, Load, Store, Exchange, AcquireProducer, ReleaseProducer}
+use Rattle.laws_queues.proofs.Names.{AcquireConsumer, ReleaseConsumer, HasProducer, HasConsumer, QueueKind, Coding, acquire_of, release_of, look_of}
 use Rattle.laws_queues.proofs.Names.{producer_word, consumer_word, pending}
 use Rattle.std.proofs.Common.{arith}
 use Rattle.model.specs.declared.event.Answer.TheVariants as answers
 use Rattle.laws_queues.proofs.Queues.Invariant.{Scene, Inv}
 use Rattle.laws_queues.proofs.Queues.Keeping.{clash, kept, keeps_same}
+use Rattle.laws_queues.proofs.Queues.Knows.{free}
 use Rattle.laws_queues.proofs.Queues.Pending.{pending_here, few_wait, none_hangs}
 use Rattle.laws_queues.proofs.Queues.Stages.{IsCalm, StepOf, still_hangs, ends}
 
@@ -15,6 +16,14 @@ takes word = Some (record { word = word; op = Exchange 1 0 })
 
 abbrev gives : ℕ → Option Ask
 gives word = Some (record { word = word; op = Store 1 })
+
+abbrev looks : ℕ → Option Ask
+looks word = Some (record { word = word; op = Load })
+
+-- the word tells whether the role is taken
+taken_is : (o : Option ℕ) → not (free o == 1) ≡ not (is_none o)
+taken_is None = refl
+taken_is (Some p) = refl
 
 -- the scene with other holders of the roles
 abbrev with_roles : {T : Type 0} → {kd : QueueKind} → Scene T kd → Option ℕ → Option ℕ → Scene T kd
@@ -141,3 +150,36 @@ module _ {T : Type 0} (en : Coding T) (kd : QueueKind) (scene : Scene T kd) (sma
   pub releases_consumer : scene.roles.consumer ≡ Some scene.party → Inv en kd scene → IsCalm en kd scene k.read
       → StepOf en kd scene ReleaseConsumer (release_of consumer_word)
   releases_consumer holds inv before = release_consumer scene.roles.producer scene.roles.consumer holds inv before
+
+  -- a look finds the role as it is
+  pub looks_at_producer : Inv en kd scene → IsCalm en kd scene k.read → StepOf en kd scene HasProducer (look_of producer_word)
+  looks_at_producer inv before = (
+    k,
+    refl,
+    ends en kd scene inv small scene.roles false HasProducer (answers.Truth (not (free scene.roles.producer == 1)))
+        (looks producer_word)
+        (record { moments = refl; published = refl; handed_out = refl })
+        tt
+        (rw inv.queue.producers (ap answers.Truth (taken_is scene.roles.producer)))
+        (refl, refl)
+        (omega arith)
+        (omega arith)
+        (still_hangs en kd scene inv small k _ refl refl refl before)
+        (λ q ne st f h. (h, refl)),
+  )
+
+  pub looks_at_consumer : Inv en kd scene → IsCalm en kd scene k.read → StepOf en kd scene HasConsumer (look_of consumer_word)
+  looks_at_consumer inv before = (
+    k,
+    refl,
+    ends en kd scene inv small scene.roles false HasConsumer (answers.Truth (not (free scene.roles.consumer == 1)))
+        (looks consumer_word)
+        (record { moments = refl; published = refl; handed_out = refl })
+        tt
+        (rw inv.queue.consumers (ap answers.Truth (taken_is scene.roles.consumer)))
+        (refl, refl)
+        (omega arith)
+        (omega arith)
+        (still_hangs en kd scene inv small k _ refl refl refl before)
+        (λ q ne st f h. (h, refl)),
+  )

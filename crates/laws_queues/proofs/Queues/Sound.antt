@@ -19,7 +19,7 @@ use Rattle.model.proofs.Frame as frame
 use Rattle.laws_queues.proofs.Queues.Invariant.{machine_kind, family, waiting_is, Queue, Represents, outline}
 use Rattle.laws_queues.proofs.Queues.Stages.{cell_place}
 use Rattle.laws_queues.proofs.Queues.Values.{Val, encoded, item}
-use Rattle.laws_queues.proofs.Ring.Pops.{same_words}
+use Rattle.laws_queues.proofs.Ring.Words.{same_words}
 use Rattle.model.specs.declared.families.Registry.TheVariants as registries
 use Rattle.model.proofs.FamilyLaws as laws
 use Rattle.model.proofs.FamilyLaws.{Opens, Turns, AllTurns, Owed, OwesAll}

@@ -3,10 +3,10 @@ use Rattle.laws_queues.proofs.Names.{◌≡◌, ℕ, ◌-◌, ◌^◌, ◌<◌, 
 use Rattle.laws_queues.proofs.Names.{List, [], ◌∷◌, ◌++◌, map, get_or, refl, sym, ap, subst, ◌∙◌}
 use Rattle.laws_queues.proofs.Names.{append-nil, OneWord, Len, Running, Begun, Start}
 use Rattle.laws_queues.proofs.Names.{Queues, Flight, QueueStart, AcquireProducer, ReleaseProducer}
-use Rattle.laws_queues.proofs.Names.{AcquireConsumer, ReleaseConsumer, PushIndex, Push, Pop, IsEmpty, IsFull}
-use Rattle.laws_queues.proofs.Names.{RoleCall, Acquire, Release, LengthOf, QueueFlight, Role, Indices, Values, Length}
+use Rattle.laws_queues.proofs.Names.{AcquireConsumer, ReleaseConsumer, PushIndex, Push, Pop, Peek, HasProducer, HasConsumer, IsEmpty, IsFull}
+use Rattle.laws_queues.proofs.Names.{RoleCall, Acquire, Release, Look, LengthOf, QueueFlight, Role, Indices, Values, Length}
 use Rattle.laws_queues.proofs.Names.{Party, QueueKind, IndexQueue, Coding, IsCoding, one_word}
-use Rattle.laws_queues.proofs.Names.{first_of, want_of, ask_of, is_question, kept_after_begin, acquire_of, release_of}
+use Rattle.laws_queues.proofs.Names.{first_of, want_of, ask_of, is_question, kept_after_begin, acquire_of, release_of, look_of}
 use Rattle.laws_queues.proofs.Names.{first, lacks_role, call_of}
 use Rattle.laws_queues.proofs.Names.{pending_at, party_of, doing_of, flight_of, Open, span_of, first_row, old_of}
 use Rattle.laws_queues.proofs.Names.{party_at_begin, Next, Trace}
@@ -37,11 +37,13 @@ use Rattle.laws_queues.proofs.Queues.Knows.{KnowsLen, KnowsFlight, number_of, Ro
 use Rattle.laws_queues.proofs.Queues.Lengths.{len_step, is_empty_step, is_full_step}
 use Rattle.laws_queues.proofs.Queues.Pending.{pending_put, hangs_same}
 use Rattle.laws_queues.proofs.Queues.Roles.{acquires_producer, acquires_consumer, releases_producer, releases_consumer}
+use Rattle.laws_queues.proofs.Queues.Roles.{looks_at_producer, looks_at_consumer}
 use Rattle.laws_queues.proofs.Queues.Stages.{IsCalm, DoesStep, StepOf, MovesOf, of_step}
 use Rattle.laws_queues.proofs.Queues.Values.{Val, encoded, item}
 use Rattle.laws_queues.proofs.Ring.Kinds as ring
 use Rattle.laws_queues.proofs.Ring.Kinds.{Ring, of_indices, of_values, kind_of, Room, words_in, ring_want, ring_after, ring_effect}
-use Rattle.laws_queues.proofs.Ring.Knows.{IsFresh, push_at, pop_at, ring_number, PushAt, PopAt}
+use Rattle.laws_queues.proofs.Ring.Knows.{IsFresh, push_at, pop_at, peek_at, ring_number, PushAt, PopAt, PeekAt}
+use Rattle.laws_queues.proofs.Ring.Peeks.{peek_step}
 use Rattle.laws_queues.proofs.Ring.Pops.{pop_step}
 use Rattle.laws_queues.proofs.Ring.Pushes.{push_step}
 
@@ -58,6 +60,10 @@ module _ {T : Type 0} (en : Coding T) (kd : QueueKind) (scene : Scene T kd) (sma
       subst (λ w. StepOf en kd scene AcquireConsumer (acquire_of w)) (sym at) (acquires_consumer en kd scene small s b inv before)
   role_step ReleaseConsumer (Release run) at s b before =
       subst (λ w. StepOf en kd scene ReleaseConsumer (release_of w)) (sym at.0) (releases_consumer en kd scene small s b at.1 inv before)
+  role_step HasProducer (Look run) at s b before =
+      subst (λ w. StepOf en kd scene HasProducer (look_of w)) (sym at) (looks_at_producer en kd scene small s b inv before)
+  role_step HasConsumer (Look run) at s b before =
+      subst (λ w. StepOf en kd scene HasConsumer (look_of w)) (sym at) (looks_at_consumer en kd scene small s b inv before)
   role_step start call at s b before = absurd at
 
   length_step : (start : QueueStart T) (which : LengthOf) (run : Running Len (Unit {0}) (Unit {0}))
@@ -78,14 +84,16 @@ module _ {T : Type 0} (en : Coding T) (kd : QueueKind) (scene : Scene T kd) (sma
 
 abbrev IsFreshRing : {V R : Type 0} → ℕ → RingCall V R → Type 0
 IsFreshRing write (rings.Push run) = IsFresh write run.call.stage
-IsFreshRing write (rings.Pop run) = Unit {0}
+IsFreshRing write other = Unit {0}
 
 fresh_ring : {T : Type 0} (en : Coding T) (write : ℕ) (r : Ring) (call : RingCall (Val T (kind_of r)) (Room r))
     → IsFreshAt {T = T} write (ring.flight r call) → IsFreshRing write call
 fresh_ring en write of_indices (rings.Push run) h = h
 fresh_ring en write of_indices (rings.Pop run) h = tt
+fresh_ring en write of_indices (rings.Peek run) h = tt
 fresh_ring en write of_values (rings.Push run) h = h
 fresh_ring en write of_values (rings.Pop run) h = tt
+fresh_ring en write of_values (rings.Peek run) h = tt
 
 -- a bounded queue of either kind
 module _ {T : Type 0} (en : Coding T) (law : IsCoding en) (r : Ring) (scene : Scene T (kind_of r))
@@ -107,6 +115,7 @@ module _ {T : Type 0} (en : Coding T) (law : IsCoding en) (r : Ring) (scene : Sc
       (subst (λ n. RingStep (ring.push r v) (push_at scene.capacity n run.call.stage)) (sym at.2)
       (push_step en r law scene inv small before v at.0 b run.call.stage fresh at.3 s))
   push_call v (rings.Pop run) at s fresh = absurd at
+  push_call v (rings.Peek run) at s fresh = absurd at
 
   pop_call : (call : RingCall (Val T (kind_of r)) (Room r))
       → PopAt (encoded en (kind_of r)) (words_in r) scene.capacity scene.roles scene.core scene.party call
@@ -114,6 +123,16 @@ module _ {T : Type 0} (en : Coding T) (law : IsCoding en) (r : Ring) (scene : Sc
   pop_call (rings.Push run) at s = absurd at
   pop_call (rings.Pop run) at s =
       subst (λ n. RingStep Pop (pop_at n run.room run.call.stage)) (sym at.1) (pop_step en r law scene inv small before run.room at.0 b run.call.stage at.2 s)
+  pop_call (rings.Peek run) at s = absurd at
+
+  peek_call : (call : RingCall (Val T (kind_of r)) (Room r))
+      → PeekAt (encoded en (kind_of r)) (words_in r) scene.capacity scene.roles scene.core scene.party call
+      → scene.steps ≤ ring_number (encoded en (kind_of r)) (words_in r) call → RingStep Peek call
+  peek_call (rings.Push run) at s = absurd at
+  peek_call (rings.Pop run) at s = absurd at
+  peek_call (rings.Peek run) at s =
+      subst (λ n. RingStep Peek (peek_at n run.room run.call.stage)) (sym at.1)
+      (peek_step en r law scene inv small before run.room at.0 b run.call.stage at.2 s)
 
 module _ {T : Type 0} (en : Coding T) (law : IsCoding en) where
   index_step : (scene : Scene T IndexQueue) → scene.core.write < 2 ^ 64 → Inv en IndexQueue scene
@@ -125,6 +144,8 @@ module _ {T : Type 0} (en : Coding T) (law : IsCoding en) where
       push_call en law of_indices scene small inv b before v (rings.Push run) at s fresh
   index_step scene small inv Pop (rings.Pop run) at fresh s b before =
       pop_call en law of_indices scene small inv b before (rings.Pop run) at s
+  index_step scene small inv Peek (rings.Peek run) at fresh s b before =
+      peek_call en law of_indices scene small inv b before (rings.Peek run) at s
   index_step scene small inv start call at fresh s b before = absurd at
 
   value_step : (scene : Scene T kinds.Queue) → scene.core.write < 2 ^ 64
@@ -137,6 +158,8 @@ module _ {T : Type 0} (en : Coding T) (law : IsCoding en) where
       push_call en law of_values scene small inv b before v (rings.Push run) at s fresh
   value_step scene small inv Pop (rings.Pop run) at fresh s b before =
       pop_call en law of_values scene small inv b before (rings.Pop run) at s
+  value_step scene small inv Peek (rings.Peek run) at fresh s b before =
+      peek_call en law of_values scene small inv b before (rings.Peek run) at s
   value_step scene small inv start call at fresh s b before = absurd at
 
 -- where the party's call stands

@@ -1,11 +1,13 @@
--- What a step of a push of a bounded queue keeps of what a pop knows, and one of a pop of what a push knows.
-use Rattle.laws_queues.proofs.Names.{◌≡◌, ℕ, List, [], ◌∷◌, ◌++◌, ap, Coding}
+-- What a step of a push of a bounded queue keeps of what a pop or a peek knows, and one of a pop of what a push knows.
+use Rattle.laws_queues.proofs.Names.{◌≡◌, ℕ, List, [], ◌∷◌, ◌++◌, refl, ap, Coding}
 use Rattle.std.proofs.Common.{arith}
 use Rattle.steps.specs.declared.queues.ring.PopStage.{PopStage}
 use Rattle.steps.specs.declared.queues.ring.PopStage.TheVariants as pops
 use Rattle.steps.specs.declared.queues.ring.PushStage as pushes
+use Rattle.steps.specs.declared.queues.peek.PeekStage.{PeekStage}
+use Rattle.steps.specs.declared.queues.peek.PeekStage.TheVariants as peeks
 use Rattle.laws_queues.proofs.Queues.Core.{Core, filled, published, taken}
-use Rattle.laws_queues.proofs.Ring.Knows.{KnowsPush, KnowsPop}
+use Rattle.laws_queues.proofs.Ring.Knows.{KnowsPush, KnowsPop, KnowsPeek}
 
 module _ {V : Type 0} (en : Coding V) (c : ℕ) (k : Core V) where
   -- a store into a cell keeps what a pop knows
@@ -25,3 +27,12 @@ module _ {V : Type 0} (en : Coding V) (c : ℕ) (k : Core V) where
   pub take_keeps : (v : V) (rest : List V) → k.waiting ≡ v ∷ rest → (w : V) (stage : pushes.PushStage)
       → KnowsPush en c k w stage → KnowsPush en c (taken en.size en.words_of c k rest) w stage
   take_keeps = grind arith
+
+  -- what keeps all that a pop knows keeps what a peek knows
+  pub peek_keeps : (k' : Core V) (room : List ℕ)
+      → ((stage : PopStage) → KnowsPop en c k room stage → KnowsPop en c k' room stage)
+      → (stage : PeekStage) → KnowsPeek en c k room stage → KnowsPeek en c k' room stage
+  peek_keeps k' room keeps peeks.LoadsRead h = keeps pops.LoadsRead h
+  peek_keeps k' room keeps (peeks.LoadsWrite read) h = keeps (pops.LoadsWrite read) h
+  peek_keeps k' room keeps (peeks.LoadsCell cell place) h =
+      let then = keeps (pops.LoadsCell k.read cell place) h in (then.0, then.1, then.2, refl, then.4, then.5, then.6, then.7)

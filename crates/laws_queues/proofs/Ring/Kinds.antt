@@ -2,6 +2,7 @@
 use Rattle.laws_queues.proofs.Names.{◌≡◌, ℕ, ◌+◌, nat_lt, Bool, true, false, Option, Some, None, List, [], ◌∷◌}
 use Rattle.laws_queues.proofs.Names.{length, set, fold, map, drop, slice_get, refl, After, Buffer, OneWord, value_in}
 use Rattle.laws_queues.proofs.Names.{kept_in_one, one_put_in, push_want, push_after, pop_want, pop_after, pop_kept}
+use Rattle.laws_queues.proofs.Names.{peek_want, peek_after, peek_kept, Quiet, Peek}
 use Rattle.laws_queues.proofs.Names.{went_on, Answer, Event, Published, HandedOut, Acted, Finished, Queues}
 use Rattle.laws_queues.proofs.Names.{QueueStart, PushIndex, Push, Pop, Roles, QueueFlight, Indices, Values, Effect}
 use Rattle.laws_queues.proofs.Names.{QueueKind, IndexQueue, Queue, Coding, IsCoding, AnswersRight, most_steps}
@@ -20,7 +21,7 @@ use Rattle.laws_queues.proofs.Queues.Core.{Core}
 use Rattle.laws_queues.proofs.Queues.Keeping.{RingKeeps, Keeps}
 use Rattle.laws_queues.proofs.Queues.Knows.{in_one, in_cell, has_written, Hangs, listed, KnowsFlight, number_of, At}
 use Rattle.laws_queues.proofs.Queues.Values.{Val, encoded, item}
-use Rattle.laws_queues.proofs.Ring.Knows.{ring_number, PushAt, PopAt}
+use Rattle.laws_queues.proofs.Ring.Knows.{ring_number, PushAt, PopAt, PeekAt}
 
 pub data Ring : Type 0 where
   of_indices : Ring
@@ -30,7 +31,7 @@ abbrev pub kind_of : Ring → QueueKind
 kind_of of_indices = IndexQueue
 kind_of of_values = Queue
 
--- ---- the room of a pop
+-- ---- the room of a pop and of a peek
 
 abbrev pub Room : Ring → Type 0
 Room of_indices = OneWord
@@ -77,6 +78,7 @@ module _ {T : Type 0} (en : Coding T) (r : Ring) where
   abbrev pub ring_want : RingCall (Val T (kind_of r)) (Room r) → Want (Unit {0})
   ring_want (rings.Push run) = push_want enc.words_of run.call run.given
   ring_want (rings.Pop run) = pop_want run.call
+  ring_want (rings.Peek run) = peek_want run.call
 
   abbrev pub ring_after : RingCall (Val T (kind_of r)) (Room r) → ℕ → After (QueueFlight T) (Answer T)
   ring_after (rings.Push run) old =
@@ -86,10 +88,15 @@ module _ {T : Type 0} (en : Coding T) (r : Ring) where
       as_call (λ x. flight r (rings.Pop x)) (popped_of r)
       (went_on (λ end given room. pop_answer (read_in room) end) run.given
       (pop_kept (with_word r) run.call run.room old) (pop_after enc.size run.call old))
+  ring_after (rings.Peek run) old =
+      as_call (λ x. flight r (rings.Peek x)) (popped_of r)
+      (went_on (λ end given room. pop_answer (read_in room) end) run.given
+      (peek_kept (with_word r) run.call run.room old) (peek_after enc.size run.call old))
 
   abbrev pub ring_effect : RingCall (Val T (kind_of r)) (Room r) → Effect T
   ring_effect (rings.Push run) = push_effect (item (kind_of r) run.given) run.call.stage
   ring_effect (rings.Pop run) = pop_effect (item (kind_of r) (read_in run.room)) run.call.stage
+  ring_effect (rings.Peek run) = Quiet
 
 -- ---- what is so of both
 
@@ -137,6 +144,11 @@ module _ {T : Type 0} where
       → PopAt (encoded en (kind_of r)) (words_in r) c ro k p call → At en (kind_of r) c ro k p Pop (flight r call)
   pop_here en of_indices c ro k p call h = h
   pop_here en of_values c ro k p call h = h
+
+  pub peek_here : (en : Coding T) (r : Ring) (c : ℕ) (ro : Roles) (k : Core (Val T (kind_of r))) (p : ℕ) (call : RingCall (Val T (kind_of r)) (Room r))
+      → PeekAt (encoded en (kind_of r)) (words_in r) c ro k p call → At en (kind_of r) c ro k p Peek (flight r call)
+  peek_here en of_indices c ro k p call h = h
+  peek_here en of_values c ro k p call h = h
 
   pub ring_keeps : (en : Coding T) (r : Ring) (c : ℕ) (ro : Roles) (k k' : Core (Val T (kind_of r))) (q : ℕ)
       → RingKeeps (encoded en (kind_of r)) c ro k k' q → Keeps en (kind_of r) c ro k k' q
@@ -235,3 +247,9 @@ module _ {T : Type 0} where
   pub most_pop : (en : Coding T) (r : Ring) (backs : ℕ) → most_steps {T = T} en.size (kind_of r) Pop backs ≡ 3 + (encoded en (kind_of r)).size
   most_pop en of_indices backs = refl
   most_pop en of_values backs = refl
+
+  -- ---- the end of a peek
+
+  pub most_peek : (en : Coding T) (r : Ring) (backs : ℕ) → most_steps {T = T} en.size (kind_of r) Peek backs ≡ 2 + (encoded en (kind_of r)).size
+  most_peek en of_indices backs = refl
+  most_peek en of_values backs = refl

@@ -1,10 +1,12 @@
--- What a push and a pop of the bounded queue know where they stand. V is the type of the values, R of the rooms.
+-- What a push, a pop and a peek of the bounded queue know where they stand. V is the type of the values, R of the rooms.
 use Rattle.laws_queues.proofs.Names.{◌≡◌, ℕ, ◌+◌, ◌-◌, ◌^◌, ◌<◌, ◌≤◌, Some, List, ◌∷◌, length, get_or, value_in}
 use Rattle.laws_queues.proofs.Names.{Roles, Coding}
 use Rattle.steps.specs.declared.queues.ring.PushStage.{PushStage}
 use Rattle.steps.specs.declared.queues.ring.PushStage.TheVariants as pushes
 use Rattle.steps.specs.declared.queues.ring.PopStage.{PopStage}
 use Rattle.steps.specs.declared.queues.ring.PopStage.TheVariants as pops
+use Rattle.steps.specs.declared.queues.peek.PeekStage.{PeekStage}
+use Rattle.steps.specs.declared.queues.peek.PeekStage.TheVariants as peeks
 use Rattle.steps.specs.Queues.Ring.{cell_word}
 use Rattle.model.specs.declared.families.queues.calls.RingCall.{RingCall}
 use Rattle.model.specs.declared.families.queues.calls.RingCall.TheVariants as rings
@@ -21,6 +23,10 @@ module _ {V R : Type 0} where
   abbrev pub pop_at : ℕ → R → PopStage → RingCall V R
   pop_at c room stage =
       rings.Pop (record { call = record { capacity = c; stage = stage; of = record {} }; given = tt; room = room })
+
+  abbrev pub peek_at : ℕ → R → PeekStage → RingCall V R
+  peek_at c room stage =
+      rings.Peek (record { call = record { capacity = c; stage = stage; of = record {} }; given = tt; room = room })
 
 -- ---- what they know
 
@@ -45,6 +51,12 @@ module _ {V : Type 0} (en : Coding V) where
   KnowsPop c k room (pops.StoresRead read) =
       (rest : List V) × (read ≡ k.read) × (k.waiting ≡ value_in en.value_of en.size room ∷ rest)
 
+  -- a peek knows what a pop knows at that stage
+  abbrev pub KnowsPeek : ℕ → Core V → List ℕ → PeekStage → Type 0
+  KnowsPeek c k room peeks.LoadsRead = KnowsPop c k room pops.LoadsRead
+  KnowsPeek c k room (peeks.LoadsWrite read) = KnowsPop c k room (pops.LoadsWrite read)
+  KnowsPeek c k room (peeks.LoadsCell cell at) = KnowsPop c k room (pops.LoadsCell k.read cell at)
+
 -- how many steps the call has taken at most, where a value has so many words
 abbrev pub push_number : ℕ → PushStage → ℕ
 push_number size pushes.LoadsWrite = 0
@@ -58,17 +70,28 @@ pop_number size (pops.LoadsWrite read) = 1
 pop_number size (pops.LoadsCell read cell at) = 2 + at
 pop_number size (pops.StoresRead read) = 2 + size
 
+abbrev pub peek_number : ℕ → PeekStage → ℕ
+peek_number size peeks.LoadsRead = 0
+peek_number size (peeks.LoadsWrite read) = 1
+peek_number size (peeks.LoadsCell cell at) = 2 + at
+
 module _ {V R : Type 0} (en : Coding V) (words_in : R → List ℕ) where
   abbrev pub ring_number : RingCall V R → ℕ
   ring_number (rings.Push run) = push_number en.size run.call.stage
   ring_number (rings.Pop run) = pop_number en.size run.call.stage
+  ring_number (rings.Peek run) = peek_number en.size run.call.stage
 
   abbrev pub PushAt : ℕ → Roles → Core V → ℕ → V → RingCall V R → Type 0
   PushAt c ro k p v (rings.Push run) =
       (ro.producer ≡ Some p) × (run.call.capacity ≡ c) × (run.given ≡ v) × KnowsPush en c k v run.call.stage
-  PushAt c ro k p v (rings.Pop run) = ⊥
+  PushAt c ro k p v other = ⊥
 
   abbrev pub PopAt : ℕ → Roles → Core V → ℕ → RingCall V R → Type 0
-  PopAt c ro k p (rings.Push run) = ⊥
   PopAt c ro k p (rings.Pop run) =
       (ro.consumer ≡ Some p) × (run.call.capacity ≡ c) × KnowsPop en c k (words_in run.room) run.call.stage
+  PopAt c ro k p other = ⊥
+
+  abbrev pub PeekAt : ℕ → Roles → Core V → ℕ → RingCall V R → Type 0
+  PeekAt c ro k p (rings.Peek run) =
+      (ro.consumer ≡ Some p) × (run.call.capacity ≡ c) × KnowsPeek en c k (words_in run.room) run.call.stage
+  PeekAt c ro k p other = ⊥

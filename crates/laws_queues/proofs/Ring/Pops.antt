@@ -1,8 +1,8 @@
 -- The steps of a pop of a bounded queue.
-use Rattle.laws_queues.proofs.Names.{◌≡◌, ℕ, suc, ◌+◌, ◌*◌, ◌%◌, ◌^◌, ◌<◌, ◌≤◌, ◌==◌, nat_lt, Bool, true, false, ◌||◌}
-use Rattle.laws_queues.proofs.Names.{Option, Some, List, [], ◌∷◌, ◌++◌, length, get_or, set, take, map, drop}
-use Rattle.laws_queues.proofs.Names.{slice_get, refl, sym, ap, subst, ◌∙◌, append-nil, length-set, nat_tests}
-use Rattle.laws_queues.proofs.Names.{nil_from_length, set-get_or, Ask, Load, Store, After, GoOn, Done, value_in}
+use Rattle.laws_queues.proofs.Names.{◌≡◌, ℕ, suc, ◌+◌, ◌^◌, ◌<◌, ◌≤◌, ◌==◌, nat_lt, Bool, true, false, ◌||◌}
+use Rattle.laws_queues.proofs.Names.{Option, Some, List, [], ◌∷◌, ◌++◌, length, get_or, map, drop}
+use Rattle.laws_queues.proofs.Names.{slice_get, refl, sym, ap, subst, ◌∙◌, append-nil, nat_tests}
+use Rattle.laws_queues.proofs.Names.{set-get_or, Ask, Load, Store, After, GoOn, Done}
 use Rattle.laws_queues.proofs.Names.{after_position, QueueFlight, RingCall, Effect, Quiet, Acts, Item, Pop, Answer}
 use Rattle.laws_queues.proofs.Names.{Queues, HandedOut, Acted, Coding, IsCoding, ask_of, read_word, answer_of_item}
 use Rattle.laws_queues.proofs.Names.{load_of_write, load_of_read, published, handed_out, Open, old_of, words_after}
@@ -12,36 +12,20 @@ use Rattle.steps.specs.declared.queues.ring.PopStage.{PopStage}
 use Rattle.steps.specs.declared.queues.ring.PopStage.TheVariants as pops
 use Rattle.steps.specs.Queues.Ring.{cell_word}
 use Rattle.model.specs.declared.event.Answer.TheVariants as answers
-use Rattle.laws_queues.proofs.Queues.Core.{Core, Good, one_more, taken, takes, front, word_at}
+use Rattle.laws_queues.proofs.Queues.Core.{Core, Good, taken, takes}
 use Rattle.laws_queues.proofs.Queues.Invariant.{Scene, Inv, waiting_is}
 use Rattle.laws_queues.proofs.Queues.Keeping.{clash, kept}
 use Rattle.laws_queues.proofs.Queues.Knows.{free, layout}
-use Rattle.laws_queues.proofs.Queues.Stages.{IsCalm, or_true, first_of_some, cell_asked, asked_place, DoesStep, quiet}
+use Rattle.laws_queues.proofs.Queues.Stages.{IsCalm, first_of_some, cell_asked, DoesStep, quiet}
 use Rattle.laws_queues.proofs.Queues.Values.{Val, encoded, item}
-use Rattle.laws_queues.proofs.Ring.Kinds.{Ring, kind_of, Room, words_in, with_word, put_in, flight, got, read_in}
+use Rattle.laws_queues.proofs.Ring.Kinds.{Ring, kind_of, Room, words_in, with_word, flight, got, read_in}
 use Rattle.laws_queues.proofs.Ring.Kinds.{ring_want, ring_after, ring_effect, are_words, calm, wrote_none, knows}
 use Rattle.laws_queues.proofs.Ring.Kinds.{number, pop_here, ring_keeps, none_hangs, cells_are, list_after_pop}
 use Rattle.laws_queues.proofs.Ring.Kinds.{list_answers_pop, listed_is, answer_is, got_is_right, hands_out, wrote_got}
 use Rattle.laws_queues.proofs.Ring.Kinds.{most_pop}
 use Rattle.laws_queues.proofs.Ring.Keeping.{take_keeps}
 use Rattle.laws_queues.proofs.Ring.Knows.{pop_at, KnowsPop, pop_number}
-
--- ---- the words of a value, read one after another
-
--- a list that agrees with this one word by word, as far as this one goes
-pub same_words : (xs ys : List ℕ) → length ys ≤ length xs → ((i : ℕ) → i < length ys → get_or xs i 0 ≡ get_or ys i 0) → take (length ys) xs ≡ ys
-same_words xs [] long each = refl
-same_words [] (y ∷ ys) long each = absurd (omega arith)
-same_words (x ∷ xs) (y ∷ ys) long each =
-    let first : x ≡ y = each 0 (omega arith) in
-    let rest : take (length ys) xs ≡ ys = same_words xs ys (omega arith) (λ i below. each (suc i) (omega arith)) in
-    rw (first, rest) refl
-
--- the value in a room whose first words are those of a value
-module _ {V : Type 0} (en : Coding V) (law : IsCoding en) where
-  room_value : (room : List ℕ) (v : V) → en.size ≤ length room
-      → ((i : ℕ) → i < en.size → get_or room i 0 ≡ get_or (en.words_of v) i 0) → value_in en.value_of en.size room ≡ v
-  room_value = grind (arith, length, false, take, same_words, nat_tests)
+use Rattle.laws_queues.proofs.Ring.Words.{none_waits, some_waits, loads_more, loads_last}
 
 module _ {T : Type 0} (en : Coding T) (r : Ring) (law : IsCoding en) (scene : Scene T (kind_of r))
     (inv : Inv en (kind_of r) scene) (small : scene.core.write < 2 ^ 64)
@@ -137,14 +121,6 @@ module _ {T : Type 0} (en : Coding T) (r : Ring) (law : IsCoding en) (scene : Sc
         },
       )
 
-  -- nothing waits
-  empty : (c == 0 || k.write == k.read) ≡ true → k.waiting ≡ []
-  empty = grind (arith, length, nil_from_length, or_true, nat_tests)
-
-  -- something waits
-  some : (c == 0 || k.write == k.read) ≡ false → 0 < length k.waiting
-  some = grind arith
-
   abbrev loads_cell : ℕ → PopStage
   loads_cell i = pops.LoadsCell k.read (cell_word c size k.read) i
 
@@ -154,10 +130,10 @@ module _ {T : Type 0} (en : Coding T) (r : Ring) (law : IsCoding en) (scene : Sc
       go : (t : Bool) → (c == 0 || k.write == k.read) ≡ t → DoesOf (pops.LoadsWrite k.read)
       go true t =
           let goes : ring_after en r (at (pops.LoadsWrite k.read)) k.write ≡ Done (answers.PoppedNone) = rw t refl in
-          subst (λ a. Does (Some load_of_write) a Acts) (sym goes) (refused (empty t) s)
+          subst (λ a. Does (Some load_of_write) a Acts) (sym goes) (refused (none_waits size words_of c k g t) s)
       go false t =
           let goes : ring_after en r (at (pops.LoadsWrite k.read)) k.write ≡ GoOn (flight r (at (loads_cell 0))) = rw t refl in
-          let first = first_of_some k.waiting (some t) in
+          let first = first_of_some k.waiting (some_waits size words_of c k g t) in
           let one = lawful.some in
           let known : KnowsPop (encoded en (kind_of r)) c k (words_in r room) (loads_cell 0) =
           (long, first.0, first.1, refl, first.2, refl, omega arith, λ i h. absurd (omega arith)) in
@@ -167,49 +143,14 @@ module _ {T : Type 0} (en : Coding T) (r : Ring) (law : IsCoding en) (scene : Sc
   loads_word : (i : ℕ) → KnowsPop (encoded en (kind_of r)) c k (words_in r room) (loads_cell i) → steps ≤ 2 + i → DoesOf (loads_cell i)
   loads_word i known s = go (nat_lt (i + 1) size) refl
     where
-      long : size ≤ length (words_in r room)
-      long = known.0
-
-      v : Val T (kind_of r)
-      v = known.1
-
-      rest : List (Val T (kind_of r))
-      rest = known.2
-
-      is : k.waiting ≡ v ∷ rest
-      is = known.4
-
-      below : i < size
-      below = known.6
-
       ask : Option Ask
       ask = Some (record { word = cell_asked size c k.read i; op = Load })
 
       old : ℕ
       old = get_or (layout ro k) (cell_asked size c k.read i) 0
 
-      old_is : old ≡ get_or (words_of v) i 0
-      old_is =
-          let few = g.few in
-          let short = lawful.few in
-          let shorter : length k.waiting ≡ suc (length rest) = ap length is in
-          let place = asked_place size c k.read i (omega arith) fits short below in
-          word_at k.write k.read (free ro.producer) (free ro.consumer) k.cells (cell_asked size c k.read i) (size * (k.read % c) + i) place
-          ∙ front size words_of c k v rest is g i below
-
       next : Room r
       next = with_word r room i old
-
-      put : words_in r next ≡ set (words_in r room) i old
-      put = put_in r room i old
-
-      wide : size ≤ length (words_in r next)
-      wide = grind (arith, length, next, put, length-set, old)
-
-      each : (j : ℕ) → j < i + 1 → get_or (words_in r next) j 0 ≡ get_or (words_of v) j 0
-      each j low =
-          ap (λ xs. get_or xs j 0) put
-          ∙ one_more (λ n. n) (words_in r room) (words_of v) i old (λ n h e. absurd (omega arith)) (omega arith) old_is known.7 j low
 
       same : words_after (layout ro k) ask ≡ layout ro k
       same = set-get_or (layout ro k) (cell_asked size c k.read i) 0
@@ -218,14 +159,14 @@ module _ {T : Type 0} (en : Coding T) (r : Ring) (law : IsCoding en) (scene : Sc
       go true t =
           let goes : ring_after en r (at (loads_cell i)) old ≡ GoOn (flight r (pop_at c next (loads_cell (i + 1)))) = rw t refl in
           let further : i + 1 < size = grind (arith, nat_tests) in
-          subst (λ a. Does ask a Quiet) (sym goes) (goes_on ask next (loads_cell (i + 1)) same (wide, v, rest, refl, is, refl, further, each) (omega arith))
+          subst (λ a. Does ask a Quiet) (sym goes)
+          (goes_on ask next (loads_cell (i + 1)) same (loads_more en r law c ro k fits g room i known further) (omega arith))
       go false t =
           let goes : ring_after en r (at (loads_cell i)) old ≡ GoOn (flight r (pop_at c next (pops.StoresRead k.read))) = rw t refl in
+          let below = known.6 in
           let last : size ≡ i + 1 = (let over : size ≤ i + 1 = grind (arith, nat_tests) in omega arith) in
-          let value : value_in (encoded en (kind_of r)).value_of size (words_in r next) ≡ v =
-          room_value (encoded en (kind_of r)) lawful (words_in r next) v wide (λ j low. each j (omega arith)) in
           subst (λ a. Does ask a Quiet) (sym goes)
-          (goes_on ask next (pops.StoresRead k.read) same (rest, refl, is ∙ ap (λ x. x ∷ rest) (sym value)) (omega arith))
+          (goes_on ask next (pops.StoresRead k.read) same (loads_last en r law c ro k fits g room i known last) (omega arith))
 
   stores_read : (rest : List (Val T (kind_of r))) → k.waiting ≡ read_in en r room ∷ rest → steps ≤ 2 + size → DoesOf (pops.StoresRead k.read)
   stores_read rest is s =

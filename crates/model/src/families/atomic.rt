@@ -13,4 +13,8 @@ pub enum AtomicStart<T> {
     /// Only the holder of the producer's role stores.
     Store(T),
     Load,
+    /// Asks whether a party holds the producer's role.
+    HasProducer,
+    /// Asks for the version, which each store makes greater by 1.
+    Version,
 }

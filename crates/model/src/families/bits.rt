@@ -13,4 +13,8 @@ pub enum BitsStart {
     ResetNext,
     /// Clears all bits, or takes out all counts.
     ResetAll,
+    /// Asks whether the bit stands. A counting bit set has no such call.
+    IsSet(u64),
+    /// Asks for the count of the place. A bit set has no such call.
+    Count(u64),
 }

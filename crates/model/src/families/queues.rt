@@ -27,6 +27,13 @@ pub enum QueueStart<T> {
     /// Of a value of the machine's own type.
     Push(T),
     Pop,
+    /// Asks for the oldest value, which stays. The overflowing queue has no such call. Only the holder of the consumer's
+    /// role asks.
+    Peek,
+    /// Asks whether a party holds the producer's role.
+    HasProducer,
+    /// Asks whether a party holds the consumer's role.
+    HasConsumer,
     Len,
     IsEmpty,
     IsFull,

@@ -16,9 +16,12 @@ use Rattle.steps.specs.declared.bits.bit_set.ResetNext.{ResetNext}
 use Rattle.steps.specs.declared.bits.bit_set.ResetNextStage.{ResetNextStage}
 use Rattle.steps.specs.declared.bits.bit_set.ResetNextStage.TheVariants as resets
 use Rattle.steps.specs.declared.bits.counting_bit_set.Set as counts
+use Rattle.steps.specs.declared.bits.looks.IsSet.{IsSet}
+use Rattle.steps.specs.declared.bits.looks.Count.{Count}
 use Rattle.steps.specs.declared.bits.reset_all.ResetAll.{ResetAll}
 use Rattle.steps.specs.Bits.BitSet.{set_asks, set_takes, reset_asks, reset_takes}
 use Rattle.steps.specs.Bits.Counts as counting
+use Rattle.steps.specs.Bits.Looks.{is_set_want, is_set_after, count_want, count_after}
 use Rattle.steps.specs.Bits.ResetAll.{reset_all_want, reset_all_after, reset_all_kept, reset_all_left}
 use Rattle.steps.specs.declared.copied.OneWord.{OneWord}
 
@@ -43,6 +46,22 @@ count_tells c place room m n t = no_store t
 
 pub count_fewer : (c d : counts.Set) (n : ℕ) → counting.set_after c n ≡ GoOn d → 0 < 0
 count_fewer c d n goes = cc
+
+pub is_set_tells : (c : IsSet) (place : ℕ) (room : Unit {0}) (m n : ℕ)
+    → IsTrue (is_store (is_set_want c place))
+    → (is_set_after c place m ≡ is_set_after c place n) × (room ≡ room)
+is_set_tells c place room m n t = no_store t
+
+pub is_set_fewer : (c d : IsSet) (place n : ℕ) → is_set_after c place n ≡ GoOn d → 0 < 0
+is_set_fewer c d place n goes = cc
+
+pub look_tells : (c : Count) (place : ℕ) (room : Unit {0}) (m n : ℕ)
+    → IsTrue (is_store (count_want c place))
+    → (count_after c m ≡ count_after c n) × (room ≡ room)
+look_tells c place room m n t = no_store t
+
+pub look_fewer : (c d : Count) (n : ℕ) → count_after c n ≡ GoOn d → 0 < 0
+look_fewer c d n goes = cc
 
 pub reset_all_tells : (c : ResetAll) (room : OneWord) (m n : ℕ)
     → IsTrue (is_store (reset_all_want c))

@@ -1,12 +1,13 @@
 -- The calls on roles.
-use Rattle.std.specs.Prelude.{ℕ, Bool, ◌==◌}
-use Rattle.steps.specs.declared.ask.Op.TheVariants.{Store, Exchange}
+use Rattle.std.specs.Prelude.{ℕ, Bool, ◌==◌, not}
+use Rattle.steps.specs.declared.ask.Op.TheVariants.{Load, Store, Exchange}
 use Rattle.steps.specs.declared.ask.Want.{Want}
 use Rattle.steps.specs.declared.ask.Want.TheVariants as wants
 use Rattle.steps.specs.declared.ask.After.{After}
 use Rattle.steps.specs.declared.ask.After.TheVariants.{Done}
 use Rattle.steps.specs.declared.queues.roles.AcquireRole.{AcquireRole}
 use Rattle.steps.specs.declared.queues.roles.ReleaseRole.{ReleaseRole}
+use Rattle.steps.specs.declared.queues.roles.LookRole.{LookRole}
 
 -- a role word is 1 where the role is free, 0 where it is taken
 abbrev pub acquire_want : AcquireRole → Want (Unit {0})
@@ -20,3 +21,9 @@ release_want call = wants.Ask (record { word = call.word; op = Store 1 })
 
 abbrev pub release_after : ReleaseRole → ℕ → After ReleaseRole (Unit {0})
 release_after call old = Done tt
+
+abbrev pub look_want : LookRole → Want (Unit {0})
+look_want call = wants.Ask (record { word = call.word; op = Load })
+
+abbrev pub look_after : LookRole → ℕ → After LookRole Bool
+look_after call old = Done (not (old == 1))

@@ -1,5 +1,5 @@
 //! The two roles of a structure that has one producer and one consumer at a time.
-ghost use Rattle.steps.specs.Queues.Roles.{acquire_want, acquire_after, release_want, release_after};
+ghost use Rattle.steps.specs.Queues.Roles.{acquire_want, acquire_after, release_want, release_after, look_want, look_after};
 
 use crate::ask::{After, Ask, Op, Want};
 use crate::routine::{Ends, Routine};
@@ -21,6 +21,13 @@ pub struct AcquireRole {
 /// Gives a role back. One step, a store of 1. After the drop of the Rust crate's `Producer` and `Consumer`.
 #[derive(Clone, Copy)]
 pub struct ReleaseRole {
+    /// The role's word.
+    pub word: usize,
+}
+
+/// Answers whether a role is taken, and changes nothing. One step, a load. This project's own.
+#[derive(Clone, Copy)]
+pub struct LookRole {
     /// The role's word.
     pub word: usize,
 }
@@ -133,4 +140,60 @@ impl Ends for ReleaseRole {
     ghost left = { λ c. 0 };
 
     ghost fewer = { λ c d given n goes. release_fewer c d n goes };
+}
+
+impl Routine for LookRole {
+    ghost use Rattle.steps.specs.Laws.{look_tells};
+
+    type Given = ();
+
+    type Room = ();
+
+    type End = bool;
+
+    type Value = u64;
+
+    type Answer = bool;
+
+    ghost want_of = { λ c given. look_want c };
+
+    ghost after = { λ c given old. look_after c old };
+
+    ghost kept = { λ c room old. room };
+
+    ghost value_of = { λ given room. 0 };
+
+    ghost answer_of = { λ end given room. end };
+
+    ghost store_tells_nothing = { λ c given room m n t. look_tells c room m n t };
+
+    #[inline(always)]
+    fn ask(self, _given: &()) -> Want<()> {
+        Want::Ask(Ask {
+            word: self.word,
+            op: Op::Load,
+        })
+    }
+
+    #[inline(always)]
+    fn take(self, _given: &(), _room: &mut (), answer: u64) -> After<LookRole, bool> {
+        After::Done(answer != 1)
+    }
+
+    fn value(_given: &(), _room: &()) -> u64 {
+        0
+    }
+
+    #[inline(always)]
+    fn answer(end: bool, _given: &(), _room: &()) -> bool {
+        end
+    }
+}
+
+impl Ends for LookRole {
+    ghost use Rattle.steps.specs.Laws.{look_fewer};
+
+    ghost left = { λ c. 0 };
+
+    ghost fewer = { λ c d given n goes. look_fewer c d n goes };
 }

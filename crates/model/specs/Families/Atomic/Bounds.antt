@@ -1,7 +1,7 @@
 -- How many steps a call of the single value takes.
 use Rattle.std.specs.Prelude.{ℕ, ◌+◌, ◌*◌}
 use Rattle.model.specs.declared.families.atomic.AtomicStart.{AtomicStart}
-use Rattle.model.specs.declared.families.atomic.AtomicStart.TheVariants.{AcquireProducer, ReleaseProducer, Store, Load}
+use Rattle.model.specs.declared.families.atomic.AtomicStart.TheVariants.{AcquireProducer, ReleaseProducer, Store, Load, HasProducer, Version}
 
 -- how many steps the call takes at most, where a value has so many words and
 -- the call has begun a loop's turn again so often
@@ -10,3 +10,5 @@ most_steps size AcquireProducer backs = 1
 most_steps size ReleaseProducer backs = 1
 most_steps size (Store value) backs = 2 + size
 most_steps size Load backs = 2 + size + backs * (1 + size)
+most_steps size HasProducer backs = 1
+most_steps size Version backs = 1

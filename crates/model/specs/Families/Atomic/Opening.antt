@@ -5,7 +5,7 @@ use Rattle.model.specs.declared.families.Flight.TheVariants as flights
 use Rattle.model.specs.declared.families.Registry.{Registry}
 use Rattle.model.specs.declared.families.Registry.TheVariants as registries
 use Rattle.model.specs.declared.families.atomic.AtomicStart.{AtomicStart}
-use Rattle.model.specs.declared.families.atomic.AtomicStart.TheVariants.{AcquireProducer, ReleaseProducer, Store, Load}
+use Rattle.model.specs.declared.families.atomic.AtomicStart.TheVariants.{AcquireProducer, ReleaseProducer, Store, Load, HasProducer, Version}
 use Rattle.model.specs.declared.families.atomic.calls.AtomicFlight.{AtomicFlight}
 use Rattle.model.specs.declared.turn.Kind.{Kind}
 use Rattle.model.specs.declared.turn.Kind.TheVariants as kinds
@@ -46,6 +46,8 @@ module _ {T : Type 0} where
   lacks_role producer p ReleaseProducer = not (holds producer p)
   lacks_role producer p (Store value) = not (holds producer p)
   lacks_role producer p Load = false
+  lacks_role producer p HasProducer = false
+  lacks_role producer p Version = false
 
   -- what is tested of a party that is to begin a call
   abbrev pub call_rows : Option ℕ → ℕ → AtomicStart T → List (Bool × Refusal)

@@ -1,19 +1,20 @@
 -- What holds of the machine of the single value, after any turns.
-use Rattle.std.specs.Prelude.{◌≡◌, ℕ, ◌-◌, List, drop, take, replicate, Option, Some, slice_index}
+use Rattle.std.specs.Prelude.{◌≡◌, ℕ, ◌+◌, ◌-◌, List, length, drop, take, replicate, Option, Some, slice_index}
 use Rattle.steps.specs.declared.ask.Ask.{Ask}
 use Rattle.steps.specs.declared.ask.Op.TheVariants.{Add, Exchange}
 use Rattle.steps.specs.Atomic.{cell_word}
 use Rattle.model.specs.declared.event.Start.{Start}
 use Rattle.model.specs.declared.event.Start.TheVariants.{Atomic}
 use Rattle.model.specs.declared.event.Answer.{Answer}
-use Rattle.model.specs.declared.event.Answer.TheVariants.{Loaded}
+use Rattle.model.specs.declared.event.Answer.TheVariants.{Loaded, Number}
 use Rattle.model.specs.declared.event.Event.{Event}
-use Rattle.model.specs.declared.event.Event.TheVariants.{Acted}
-use Rattle.model.specs.declared.families.atomic.AtomicStart.TheVariants.{Store, Load}
+use Rattle.model.specs.declared.event.Event.TheVariants.{Acted, Finished}
+use Rattle.model.specs.declared.families.atomic.AtomicStart.TheVariants.{Store, Load, Version}
 use Rattle.model.specs.Coding.{Coding}
 use Rattle.model.specs.Families.Atomic.Bounds.{most_steps}
 use Rattle.model.specs.Families.Atomic.Calls.{version_word}
 use Rattle.model.specs.Families.Atomic.Objects.{one_value}
+use Rattle.model.specs.Families.Atomic.Reading.{stored}
 use Rattle.model.specs.Families.Atomic.Roles.{GrantsRight, KeepsHolder}
 use Rattle.model.specs.Families.Atomic.Spans.{moments_of}
 use Rattle.model.specs.Objects.{Object, IsLegal, standing}
@@ -42,9 +43,12 @@ module _ {T : Type 0} where
   abbrev pub value_in : Coding T → List (Event T) → T
   value_in code events = standing (value_of_zeros code) (moments events)
 
-  -- a load answers the value that stands
+  -- A load answers the value that stands. The version is 1 more than the number of the values that
+  -- were stored as the look ends.
   abbrev pub AnswersRight : Coding T → List (Event T) → Event T → Type 0
   AnswersRight code before (Acted p (Atomic Load) answer) = answer ≡ Loaded (value_in code before)
+  AnswersRight code before (Finished p (Atomic Version) answer) =
+      answer ≡ Number (length (stored before) + 1)
   AnswersRight code before e = Unit {0}
 
   -- the words of the version's cell make the value that stands

@@ -1,10 +1,11 @@
 -- How the events of the single value are read.
-use Rattle.std.specs.Prelude.{ℕ, true, Option, Some, None, List, fold}
+use Rattle.std.specs.Prelude.{ℕ, true, Option, Some, None, List, [], ◌∷◌, fold}
+use Rattle.std.specs.List.{flat_map}
 use Rattle.model.specs.declared.event.Start.TheVariants.{Atomic}
 use Rattle.model.specs.declared.event.Answer.TheVariants.{Truth}
 use Rattle.model.specs.declared.event.Event.{Event}
-use Rattle.model.specs.declared.event.Event.TheVariants.{Finished}
-use Rattle.model.specs.declared.families.atomic.AtomicStart.TheVariants.{AcquireProducer, ReleaseProducer}
+use Rattle.model.specs.declared.event.Event.TheVariants.{Acted, Finished}
+use Rattle.model.specs.declared.families.atomic.AtomicStart.TheVariants.{AcquireProducer, ReleaseProducer, Store}
 
 module _ {T : Type 0} where
   -- the role is held from an acquire that finished true to a giving back that finished
@@ -15,3 +16,12 @@ module _ {T : Type 0} where
 
   abbrev pub holder_of : List (Event T) → Option ℕ
   holder_of events = fold holder_after None events
+
+  -- ---- the values that were stored, in the order in which they came to stand
+
+  abbrev pub stores : Event T → List T
+  stores (Acted p (Atomic (Store value)) answer) = value ∷ []
+  stores e = []
+
+  abbrev pub stored : List (Event T) → List T
+  stored events = flat_map stores events

@@ -2,7 +2,7 @@
 use Rattle.std.specs.Prelude.{ℕ, ◌+◌}
 use Rattle.steps.specs.Bits.Words.{elements}
 use Rattle.model.specs.declared.families.bits.BitsStart.{BitsStart}
-use Rattle.model.specs.declared.families.bits.BitsStart.TheVariants.{Set, ResetNext, ResetAll}
+use Rattle.model.specs.declared.families.bits.BitsStart.TheVariants.{Set, ResetNext, ResetAll, IsSet, Count}
 
 -- how many steps the call of a bit set takes at most at this capacity, where it has begun a
 -- loop's turn again so often
@@ -10,9 +10,13 @@ abbrev pub most_bits_steps : ℕ → BitsStart → ℕ → ℕ
 most_bits_steps capacity (Set bit) backs = 2 + backs
 most_bits_steps capacity ResetNext backs = 3 + capacity + backs
 most_bits_steps capacity ResetAll backs = elements capacity
+most_bits_steps capacity (IsSet bit) backs = 1
+most_bits_steps capacity (Count place) backs = 0
 
 -- the call of a counting bit set; none turns back
 abbrev pub most_counts_steps : ℕ → BitsStart → ℕ
 most_counts_steps capacity (Set place) = 1
 most_counts_steps capacity ResetNext = 0
 most_counts_steps capacity ResetAll = capacity
+most_counts_steps capacity (IsSet bit) = 0
+most_counts_steps capacity (Count place) = 1

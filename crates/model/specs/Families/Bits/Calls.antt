@@ -3,8 +3,11 @@ use Rattle.std.specs.Prelude.{ℕ, Bool, false, Option, Some, None, []}
 use Rattle.steps.specs.declared.ask.Want.{Want}
 use Rattle.steps.specs.declared.ask.After.{After}
 use Rattle.steps.specs.declared.bits.counting_bit_set.Set as counting
+use Rattle.steps.specs.declared.bits.looks.IsSet.{IsSet as LooksSet}
+use Rattle.steps.specs.declared.bits.looks.Count.{Count as LooksCount}
 use Rattle.steps.specs.Bits.BitSet.{first_set, set_want, set_after, set_turns_back, first_reset, reset_want, reset_after, reset_turns_back}
 use Rattle.steps.specs.Bits.Counts as counts
+use Rattle.steps.specs.Bits.Looks.{is_set_want, is_set_after, count_want, count_after}
 use Rattle.steps.specs.Bits.ResetAll.{all_bits, all_counts, reset_all_want, reset_all_after, reset_all_kept}
 use Rattle.steps.specs.Routine.{went_on}
 use Rattle.model.specs.declared.event.Answer.{Answer}
@@ -14,7 +17,7 @@ use Rattle.model.specs.declared.families.Flight.TheVariants as flights
 use Rattle.model.specs.declared.families.bits.BitsStart.{BitsStart}
 use Rattle.model.specs.declared.families.bits.BitsStart.TheVariants as starts
 use Rattle.model.specs.declared.families.bits.calls.BitsFlight.{BitsFlight}
-use Rattle.model.specs.declared.families.bits.calls.BitsFlight.TheVariants.{Set, ResetNext, ResetAll, Count, TakeAll}
+use Rattle.model.specs.declared.families.bits.calls.BitsFlight.TheVariants.{Set, ResetNext, ResetAll, Count, TakeAll, IsSet, CountOf}
 use Rattle.model.specs.declared.turn.Kind.{Kind}
 use Rattle.model.specs.declared.turn.Kind.TheVariants.{Bits, Counts}
 use Rattle.model.specs.Families.Queues.Calls.{as_it_is, fresh}
@@ -25,6 +28,12 @@ use Rattle.model.specs.Step.{Going, as_call}
 abbrev pub add_one : counting.Set
 add_one = record {}
 
+abbrev pub look_set : LooksSet
+look_set = record {}
+
+abbrev pub look_count : LooksCount
+look_count = record {}
+
 -- the call that begins, or None where the kind has no such call
 abbrev pub first : Kind → ℕ → BitsStart → Option BitsFlight
 first Bits capacity (starts.Set bit) =
@@ -33,10 +42,14 @@ first Bits capacity starts.ResetNext =
     Some (ResetNext (record { call = first_reset capacity; given = tt; room = tt }))
 first Bits capacity starts.ResetAll =
     Some (ResetAll (record { call = all_bits capacity; given = tt; room = fresh }))
+first Bits capacity (starts.IsSet bit) =
+    Some (IsSet (record { call = look_set; given = bit; room = tt }))
 first Counts capacity (starts.Set place) =
     Some (Count (record { call = add_one; given = place; room = tt }))
 first Counts capacity starts.ResetAll =
     Some (TakeAll (record { call = all_counts capacity; given = tt; room = fresh }))
+first Counts capacity (starts.Count place) =
+    Some (CountOf (record { call = look_count; given = place; room = tt }))
 first kind capacity start = None
 
 -- ---- the calls under way
@@ -48,6 +61,8 @@ want (ResetNext run) = reset_want run.call
 want (ResetAll run) = reset_all_want run.call
 want (Count run) = counts.set_want run.call run.given
 want (TakeAll run) = reset_all_want run.call
+want (IsSet run) = is_set_want run.call run.given
+want (CountOf run) = count_want run.call run.given
 
 -- whether the call begins a turn of its loop again once it is handed this old value
 abbrev pub goes_back : BitsFlight → ℕ → Bool
@@ -56,6 +71,8 @@ goes_back (ResetNext run) old = reset_turns_back run.call.stage old
 goes_back (ResetAll run) old = false
 goes_back (Count run) old = false
 goes_back (TakeAll run) old = false
+goes_back (IsSet run) old = false
+goes_back (CountOf run) old = false
 
 -- its next step writes at most so many events, apart from the end of the call
 abbrev pub most_effects : BitsFlight → ℕ
@@ -84,6 +101,12 @@ module _ {T : Type 0} where
   after (TakeAll run) old =
       as_call TakeAll (λ _. answers.Done)
       (went_on as_it_is run.given (reset_all_kept run.room old) (reset_all_after run.call old))
+  after (IsSet run) old =
+      as_call IsSet answers.Truth
+      (went_on as_it_is run.given run.room (is_set_after run.call run.given old))
+  after (CountOf run) old =
+      as_call CountOf answers.Number
+      (went_on as_it_is run.given run.room (count_after run.call old))
 
   -- the family's call under way, as one of a machine
   abbrev pub going : BitsFlight → Going (Flight T) T

@@ -6,7 +6,7 @@ use Rattle.model.specs.declared.families.Flight.TheVariants as flights
 use Rattle.model.specs.declared.families.Registry.{Registry}
 use Rattle.model.specs.declared.families.Registry.TheVariants as registries
 use Rattle.model.specs.declared.families.bits.BitsStart.{BitsStart}
-use Rattle.model.specs.declared.families.bits.BitsStart.TheVariants.{Set, ResetNext, ResetAll}
+use Rattle.model.specs.declared.families.bits.BitsStart.TheVariants.{Set, ResetNext, ResetAll, IsSet, Count}
 use Rattle.model.specs.declared.turn.Kind.{Kind}
 use Rattle.model.specs.declared.turn.Refusal.{Refusal}
 use Rattle.model.specs.declared.turn.Refusal.TheVariants.{WrongCall, BadIndex}
@@ -42,6 +42,8 @@ abbrev pub is_past : ℕ → BitsStart → Bool
 is_past capacity (Set place) = nat_le capacity place
 is_past capacity ResetNext = false
 is_past capacity ResetAll = false
+is_past capacity (IsSet bit) = nat_le capacity bit
+is_past capacity (Count place) = nat_le capacity place
 
 -- what is tested of a party that is to begin a call
 abbrev pub call_rows : ℕ → BitsStart → List (Bool × Refusal)

@@ -10,7 +10,7 @@ use Rattle.model.specs.declared.event.Event.TheVariants as events
 use Rattle.model.specs.declared.event.Event.TheVariants.{Cleared, Counted, TakenOut, Finished}
 use Rattle.model.specs.declared.event.Start.{Start}
 use Rattle.model.specs.declared.event.Start.TheVariants.{Bits}
-use Rattle.model.specs.declared.families.bits.BitsStart.TheVariants.{Set, ResetNext, ResetAll}
+use Rattle.model.specs.declared.families.bits.BitsStart.TheVariants.{Set, ResetNext, ResetAll, IsSet, Count}
 use Rattle.model.specs.Families.Bits.Bounds.{most_bits_steps, most_counts_steps}
 use Rattle.model.specs.Families.Bits.Reading.{sets, clears, counts, takes, standing, position_of, count_at}
 use Rattle.model.specs.Moments.{HeldSometime, SinceBegin}
@@ -44,7 +44,7 @@ module _ {T : Type 0} where
 
   -- A set answers false only if the bit stood at a moment of the call. A reset of the next one
   -- begins at the reset position, and answers None only if each bit was clear at some moment of it.
-  -- A reset of all clears what stood.
+  -- A reset of all clears what stood. A look answers whether its bit stands as it ends.
   abbrev pub BitsAnswerRight : ℕ → List (Event T) → Event T → Type 0
   BitsAnswerRight capacity before (Finished p (Bits (Set bit)) (Truth false)) =
       HeldSometime p (λ part. standing bit part ≡ 1) before
@@ -54,6 +54,8 @@ module _ {T : Type 0} where
       (b : ℕ) → b < capacity → HeldSometime p (λ part. standing b part ≡ 0) before
   BitsAnswerRight capacity before (Finished p (Bits ResetAll) answer) =
       SinceBegin p (HasCleared capacity) before
+  BitsAnswerRight capacity before (Finished p (Bits (IsSet bit)) (Truth answer)) =
+      (bit < capacity) × (standing bit before ≡ one_if answer)
   BitsAnswerRight capacity before e = Unit {0}
 
   -- each bit was set as often as it was cleared, and once more if it stands
@@ -78,7 +80,7 @@ module _ {T : Type 0} where
   bits_stand e span = ⊥
 
   -- a set that answers true has set its bit, and one that answers false nothing; a reset of the
-  -- next one has cleared the bit that it answers, or nothing
+  -- next one has cleared the bit that it answers, or nothing; a look does nothing
   abbrev pub BitsWrote : ℕ → Start T → Answer T → List (Event T) → Type 0
   BitsWrote capacity (Bits (Set bit)) (Truth true) wrote =
       (length wrote ≡ 1) × (sets bit wrote ≡ 1)
@@ -87,6 +89,7 @@ module _ {T : Type 0} where
       (length wrote ≡ 1) × (clears bit wrote ≡ 1)
   BitsWrote capacity (Bits ResetNext) ResetNone wrote = wrote ≡ []
   BitsWrote capacity (Bits ResetAll) Done wrote = Unit {0}
+  BitsWrote capacity (Bits (IsSet bit)) (Truth answer) wrote = wrote ≡ []
   BitsWrote capacity start answer wrote = ⊥
 
   abbrev pub most_of_bits : ℕ → ℕ → Start T → ℕ → ℕ
@@ -118,12 +121,14 @@ module _ {T : Type 0} where
     pub is : events ≡ before ++ Counted p place ∷ []
     pub count : number ≡ count_at place before
 
-  -- A reset of all takes out what counted.
+  -- A reset of all takes out what counted. A look answers the count of its place as it ends.
   abbrev pub CountsAnswerRight : ℕ → List (Event T) → Event T → Type 0
   CountsAnswerRight capacity before (Finished p (Bits (Set place)) (Number number)) =
       AnswersCount p place number before
   CountsAnswerRight capacity before (Finished p (Bits ResetAll) answer) =
       SinceBegin p (HasTaken capacity) before
+  CountsAnswerRight capacity before (Finished p (Bits (Count place)) (Number number)) =
+      (place < capacity) × (number ≡ count_at place before)
   CountsAnswerRight capacity before e = Unit {0}
 
   -- each place was counted as often as was taken out of it in all, and as its count says
@@ -151,6 +156,8 @@ module _ {T : Type 0} where
       AnswersCountOn p place number before
   CountsAnswerOn capacity before (Finished p (Bits ResetAll) answer) =
       SinceBegin p (HasTakenOn capacity) before
+  CountsAnswerOn capacity before (Finished p (Bits (Count place)) (Number number)) =
+      (place < capacity) × (number ≡ count_at place before % 2 ^ 64)
   CountsAnswerOn capacity before e = Unit {0}
 
   -- each place was counted as often as was taken out of it in all, and as its count says, and
@@ -177,11 +184,12 @@ module _ {T : Type 0} where
   counts_stand (TakenOut p place number) (Open start wrote) = MayTake place number start wrote
   counts_stand e span = ⊥
 
-  -- a set has counted its place once
+  -- a set has counted its place once, and a look does nothing
   abbrev pub CountsWrote : ℕ → Start T → Answer T → List (Event T) → Type 0
   CountsWrote capacity (Bits (Set place)) (Number number) wrote =
       (length wrote ≡ 1) × (counts place wrote ≡ 1)
   CountsWrote capacity (Bits ResetAll) Done wrote = Unit {0}
+  CountsWrote capacity (Bits (Count place)) (Number number) wrote = wrote ≡ []
   CountsWrote capacity start answer wrote = ⊥
 
   abbrev pub most_of_counts : ℕ → ℕ → Start T → ℕ → ℕ

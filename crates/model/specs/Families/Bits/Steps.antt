@@ -9,7 +9,7 @@ use Rattle.steps.specs.declared.bits.bit_set.ResetNextStage.TheVariants as reset
 use Rattle.model.specs.declared.event.Event.{Event}
 use Rattle.model.specs.declared.event.Event.TheVariants as events
 use Rattle.model.specs.declared.families.bits.calls.BitsFlight.{BitsFlight}
-use Rattle.model.specs.declared.families.bits.calls.BitsFlight.TheVariants.{Set, ResetNext, ResetAll, Count, TakeAll}
+use Rattle.model.specs.declared.families.bits.calls.BitsFlight.TheVariants.{Set, ResetNext, ResetAll, Count, TakeAll, IsSet, CountOf}
 use Rattle.model.specs.Families.Bits.Calls.{after, goes_back}
 use Rattle.model.specs.Step.{Step}
 
@@ -43,6 +43,8 @@ module _ {T : Type 0} where
   effects_of p (ResetAll run) old = clear_events p run.call.word old
   effects_of p (Count run) old = events.Counted p run.given ∷ []
   effects_of p (TakeAll run) old = take_events p run.call.word old
+  effects_of p (IsSet run) old = []
+  effects_of p (CountOf run) old = []
 
   -- ---- all that a step comes to
 

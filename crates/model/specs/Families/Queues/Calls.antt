@@ -6,8 +6,9 @@ use Rattle.steps.specs.declared.copied.OneWord.{OneWord}
 use Rattle.steps.specs.declared.copied.Buffer as buffers
 use Rattle.steps.specs.Copied.{kept_in_one, value_in}
 use Rattle.steps.specs.Routine.{went_on}
-use Rattle.steps.specs.Queues.Roles.{acquire_want, acquire_after, release_want, release_after}
+use Rattle.steps.specs.Queues.Roles.{acquire_want, acquire_after, release_want, release_after, look_want, look_after}
 use Rattle.steps.specs.Queues.Ring.{first_push, push_want, push_after, first_pop, pop_want, pop_after, pop_kept, pop_answer}
+use Rattle.steps.specs.Queues.Peek.{first_peek, peek_want, peek_after, peek_kept}
 use Rattle.steps.specs.Queues.Lengths.{first_len, len_want, len_after, turns_back}
 use Rattle.steps.specs.Queues.Overflow as overflow
 use Rattle.model.specs.declared.event.Answer.{Answer}
@@ -16,7 +17,7 @@ use Rattle.model.specs.declared.families.Flight.{Flight}
 use Rattle.model.specs.declared.families.Flight.TheVariants as flights
 use Rattle.model.specs.declared.families.queues.QueueStart.{QueueStart}
 use Rattle.model.specs.declared.families.queues.QueueStart.TheVariants as starts
-use Rattle.model.specs.declared.families.queues.calls.RoleCall.TheVariants.{Acquire, Release}
+use Rattle.model.specs.declared.families.queues.calls.RoleCall.TheVariants.{Acquire, Release, Look}
 use Rattle.model.specs.declared.families.queues.calls.RingCall.TheVariants as rings
 use Rattle.model.specs.declared.families.queues.calls.OverflowCall.TheVariants as overflows
 use Rattle.model.specs.declared.families.queues.calls.LengthOf.{LengthOf}
@@ -54,6 +55,9 @@ acquire_of word = Role (Acquire (record { call = record { word = word }; given =
 abbrev pub release_of : {T : Type 0} → ℕ → QueueFlight T
 release_of word = Role (Release (record { call = record { word = word }; given = tt; room = tt }))
 
+abbrev pub look_of : {T : Type 0} → ℕ → QueueFlight T
+look_of word = Role (Look (record { call = record { word = word }; given = tt; room = tt }))
+
 -- a room in which nothing was put
 abbrev pub fresh : OneWord
 fresh = record { 0 = 0 }
@@ -88,6 +92,16 @@ pop_of kinds.Queue capacity =
     Values (rings.Pop
     (record { call = first_pop capacity; given = tt; room = fresh_cell }))
 
+-- a bounded queue has a look at its oldest value
+abbrev pub peek_of : {T : Type 0} → QueueKind → ℕ → Option (QueueFlight T)
+peek_of kinds.IndexQueue capacity =
+    Some (Indices (rings.Peek
+    (record { call = first_peek capacity; given = tt; room = fresh })))
+peek_of kinds.Overflow capacity = None
+peek_of kinds.Queue capacity =
+    Some (Values (rings.Peek
+    (record { call = first_peek capacity; given = tt; room = fresh_cell })))
+
 abbrev pub length_of : {T : Type 0} → LengthOf → ℕ → QueueFlight T
 length_of which capacity =
     Length which (record { call = first_len capacity; given = tt; room = tt })
@@ -102,6 +116,9 @@ module _ {T : Type 0} where
   first kind capacity (starts.PushIndex index) = push_index_of kind capacity index
   first kind capacity (starts.Push value) = push_value_of kind capacity value
   first kind capacity starts.Pop = Some (pop_of kind capacity)
+  first kind capacity starts.Peek = peek_of kind capacity
+  first kind capacity starts.HasProducer = Some (look_of producer_word)
+  first kind capacity starts.HasConsumer = Some (look_of consumer_word)
   first kind capacity starts.Len = Some (length_of measures.Len capacity)
   first kind capacity starts.IsEmpty =
       Some (length_of measures.IsEmpty capacity)
@@ -115,10 +132,13 @@ module _ {T : Type 0} where
   abbrev pub want : Coding T → QueueFlight T → Want (Unit {0})
   want code (Role (Acquire run)) = acquire_want run.call
   want code (Role (Release run)) = release_want run.call
+  want code (Role (Look run)) = look_want run.call
   want code (Indices (rings.Push run)) = push_want words_of_index run.call run.given
   want code (Indices (rings.Pop run)) = pop_want run.call
+  want code (Indices (rings.Peek run)) = peek_want run.call
   want code (Values (rings.Push run)) = push_want code.words_of run.call run.given
   want code (Values (rings.Pop run)) = pop_want run.call
+  want code (Values (rings.Peek run)) = peek_want run.call
   want code (Overflow (overflows.Push run)) = overflow.push_want run.call run.given
   want code (Overflow (overflows.Pop run)) = overflow.pop_want run.call
   want code (Length which run) = len_want run.call
@@ -168,6 +188,9 @@ module _ {T : Type 0} where
   after code (Role (Release run)) old =
       as_call (λ r. Role (Release r)) (λ _. answers.Done)
       (went_on as_it_is run.given run.room (release_after run.call old))
+  after code (Role (Look run)) old =
+      as_call (λ r. Role (Look r)) answers.Truth
+      (went_on as_it_is run.given run.room (look_after run.call old))
   after code (Indices (rings.Push run)) old =
       as_call (λ r. Indices (rings.Push r)) answers.Truth
       (went_on as_it_is run.given run.room (push_after 1 run.call old))
@@ -175,6 +198,10 @@ module _ {T : Type 0} where
       as_call (λ r. Indices (rings.Pop r)) popped
       (went_on (λ end given room. pop_answer room.0 end) run.given
       (pop_kept kept_in_one run.call run.room old) (pop_after 1 run.call old))
+  after code (Indices (rings.Peek run)) old =
+      as_call (λ r. Indices (rings.Peek r)) popped
+      (went_on (λ end given room. pop_answer room.0 end) run.given
+      (peek_kept kept_in_one run.call run.room old) (peek_after 1 run.call old))
   after code (Values (rings.Push run)) old =
       as_call (λ r. Values (rings.Push r)) answers.Truth
       (went_on as_it_is run.given run.room (push_after code.size run.call old))
@@ -182,6 +209,10 @@ module _ {T : Type 0} where
       as_call (λ r. Values (rings.Pop r)) popped_value
       (went_on (λ end given room. pop_answer (read_in code room) end) run.given
       (pop_kept kept_at run.call run.room old) (pop_after code.size run.call old))
+  after code (Values (rings.Peek run)) old =
+      as_call (λ r. Values (rings.Peek r)) popped_value
+      (went_on (λ end given room. pop_answer (read_in code room) end) run.given
+      (peek_kept kept_at run.call run.room old) (peek_after code.size run.call old))
   after code (Overflow (overflows.Push run)) old =
       as_call (λ r. Overflow (overflows.Push r)) popped
       (went_on (λ end given room. overflow.push_answer given room.0 end) run.given

@@ -7,7 +7,7 @@ use Rattle.model.specs.declared.families.Registry.TheVariants as registries
 use Rattle.model.specs.declared.families.queues.QueueStart.{QueueStart}
 use Rattle.model.specs.declared.families.queues.QueueStart.TheVariants.{AcquireProducer, ReleaseProducer}
 use Rattle.model.specs.declared.families.queues.QueueStart.TheVariants.{AcquireConsumer, ReleaseConsumer, PushIndex}
-use Rattle.model.specs.declared.families.queues.QueueStart.TheVariants.{Push, Pop, Len, IsEmpty, IsFull}
+use Rattle.model.specs.declared.families.queues.QueueStart.TheVariants.{Push, Pop, Peek, HasProducer, HasConsumer, Len, IsEmpty, IsFull}
 use Rattle.model.specs.declared.families.queues.Roles.{Roles}
 use Rattle.model.specs.declared.families.queues.calls.QueueFlight.{QueueFlight}
 use Rattle.model.specs.declared.turn.Kind.{Kind}
@@ -76,6 +76,9 @@ module _ {T : Type 0} where
   lacks_role roles p (PushIndex index) = not (holds roles.producer p)
   lacks_role roles p (Push value) = not (holds roles.producer p)
   lacks_role roles p Pop = not (holds roles.consumer p)
+  lacks_role roles p Peek = not (holds roles.consumer p)
+  lacks_role roles p HasProducer = false
+  lacks_role roles p HasConsumer = false
   lacks_role roles p Len = false
   lacks_role roles p IsEmpty = false
   lacks_role roles p IsFull = false

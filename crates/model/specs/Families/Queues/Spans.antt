@@ -8,7 +8,7 @@ use Rattle.model.specs.declared.event.Answer.{Answer}
 use Rattle.model.specs.declared.event.Answer.TheVariants.{Truth, PoppedIndex, Popped}
 use Rattle.model.specs.declared.event.Event.{Event}
 use Rattle.model.specs.declared.families.queues.QueueStart.{QueueStart}
-use Rattle.model.specs.declared.families.queues.QueueStart.TheVariants.{PushIndex, Push, Pop}
+use Rattle.model.specs.declared.families.queues.QueueStart.TheVariants.{PushIndex, Push, Pop, Peek}
 use Rattle.model.specs.declared.families.queues.QueueKind.{QueueKind}
 use Rattle.model.specs.declared.families.queues.QueueKind.TheVariants.{IndexQueue, Overflow, Queue}
 use Rattle.model.specs.Families.Queues.Reading.{published, handed_out}
@@ -46,18 +46,23 @@ module _ {T : Type 0} where
       published_by_push kind capacity (Value value) answer
   published_by kind capacity start answer = []
 
-  -- the values that it handed out
+  -- the values that a push or a pop with this answer handed out
   abbrev pub handed_out_by : QueueKind → ℕ → Answer T → List (Item T)
   handed_out_by kind capacity (PoppedIndex index) = through_cells kind capacity (Index index)
   handed_out_by kind capacity (Popped value) = through_cells kind capacity (Value value)
   handed_out_by kind capacity answer = []
+
+  -- the values that a call handed out; a peek leaves its value
+  abbrev pub handed_out_in : QueueKind → ℕ → QueueStart T → Answer T → List (Item T)
+  handed_out_in kind capacity Peek answer = []
+  handed_out_in kind capacity start answer = handed_out_by kind capacity answer
 
   -- what a finished call has written in its span
   pub record Wrote (kind : QueueKind) (capacity : ℕ) (start : QueueStart T) (answer : Answer T)
       (wrote : List (Event T)) : Type 0 where
     pub moments : moments wrote ≡ moments_of start answer
     pub published : published wrote ≡ published_by kind capacity start answer
-    pub handed_out : handed_out wrote ≡ handed_out_by kind capacity answer
+    pub handed_out : handed_out wrote ≡ handed_out_in kind capacity start answer
 
   -- ---- where an event may stand
 

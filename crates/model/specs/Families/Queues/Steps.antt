@@ -119,10 +119,12 @@ module _ {T : Type 0} where
       push_effect (Index run.given) run.call.stage
   effect_of code words push (Indices (rings.Pop run)) old =
       pop_effect (Index run.room.0) run.call.stage
+  effect_of code words push (Indices (rings.Peek run)) old = Quiet
   effect_of code words push (Values (rings.Push run)) old =
       push_effect (Value run.given) run.call.stage
   effect_of code words push (Values (rings.Pop run)) old =
       pop_effect (Value (read_in code run.room)) run.call.stage
+  effect_of code words push (Values (rings.Peek run)) old = Quiet
   effect_of code words push (Overflow (overflows.Push run)) old =
       overflow_push_effect words run.call.capacity (Index run.given) run.call.stage old
   effect_of code words push (Overflow (overflows.Pop run)) old =

@@ -1,7 +1,8 @@
 //! The calls of the single value under way.
 use crate::room::Apart;
+use steps::atomic::version::Version;
 use steps::atomic::{Load, Store};
-use steps::queues::roles::{AcquireRole, ReleaseRole};
+use steps::queues::roles::{AcquireRole, LookRole, ReleaseRole};
 use steps::routine::Running;
 
 /// A call of the single value under way.
@@ -11,4 +12,7 @@ pub enum AtomicFlight<T> {
     Release(Running<ReleaseRole, (), ()>),
     Store(Running<Store<T>, T, ()>),
     Load(Running<Load<T, Apart>, (), Apart>),
+    /// Asks whether the producer's role is taken.
+    Look(Running<LookRole, (), ()>),
+    Version(Running<Version, (), ()>),
 }

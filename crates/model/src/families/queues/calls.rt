@@ -3,8 +3,9 @@ use crate::room::Apart;
 use steps::copied::OneWord;
 use steps::queues::lengths::Len;
 use steps::queues::overflow;
+use steps::queues::peek::Peek;
 use steps::queues::ring::{Pop, Push};
-use steps::queues::roles::{AcquireRole, ReleaseRole};
+use steps::queues::roles::{AcquireRole, LookRole, ReleaseRole};
 use steps::routine::Running;
 
 /// A call on a role.
@@ -12,13 +13,16 @@ use steps::routine::Running;
 pub enum RoleCall {
     Acquire(Running<AcquireRole, (), ()>),
     Release(Running<ReleaseRole, (), ()>),
+    /// Asks whether it is taken.
+    Look(Running<LookRole, (), ()>),
 }
 
-/// A call on a bounded queue of the values V, which a pop reads by way of a room R.
+/// A call on a bounded queue of the values V, which a pop and a peek read by way of a room R.
 #[derive(Drop)]
 pub enum RingCall<V, R> {
     Push(Running<Push<V>, V, ()>),
     Pop(Running<Pop<V, R>, (), R>),
+    Peek(Running<Peek<V, R>, (), R>),
 }
 
 /// A call on an overflowing queue.

@@ -10,8 +10,9 @@ use model::families::atomic::calls::AtomicFlight;
 use model::room::Apart;
 use std::alloc::{AllocError, Global};
 use steps::ask::Want;
+use steps::atomic::version::Version;
 use steps::atomic::{Load, PRODUCER, Store};
-use steps::queues::roles::{AcquireRole, ReleaseRole};
+use steps::queues::roles::{AcquireRole, LookRole, ReleaseRole};
 use steps::routine::Running;
 use steps::words::Words;
 
@@ -40,6 +41,16 @@ pub fn first<T: Words>(alloc: Global, start: &AtomicStart<T>) -> Result<AtomicFl
             given: (),
             room: Apart::new(alloc)?,
         }),
+        AtomicStart::HasProducer => AtomicFlight::Look(Running {
+            call: LookRole { word: PRODUCER },
+            given: (),
+            room: (),
+        }),
+        AtomicStart::Version => AtomicFlight::Version(Running {
+            call: Version,
+            given: (),
+            room: (),
+        }),
     };
     Ok(flight)
 }
@@ -53,6 +64,8 @@ pub fn want<T: Words>(flight: &AtomicFlight<T>) -> Want<()>
         AtomicFlight::Release(run) => run.want(),
         AtomicFlight::Store(run) => run.want(),
         AtomicFlight::Load(run) => run.want(),
+        AtomicFlight::Look(run) => run.want(),
+        AtomicFlight::Version(run) => run.want(),
     }
 }
 
@@ -92,6 +105,18 @@ pub fn feed<T: Words>(flight: &mut AtomicFlight<T>, answer: u64) -> Option<Answe
         AtomicFlight::Load(run) => {
             match run.go_on(answer) {
                 Some(value) => Some(Answer::Loaded(value)),
+                None => None
+            }
+        }
+        AtomicFlight::Look(run) => {
+            match run.go_on(answer) {
+                Some(taken) => Some(Answer::Truth(taken)),
+                None => None
+            }
+        }
+        AtomicFlight::Version(run) => {
+            match run.go_on(answer) {
+                Some(version) => Some(Answer::Number(version)),
                 None => None
             }
         }

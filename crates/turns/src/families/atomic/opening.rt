@@ -37,6 +37,8 @@ fn lacks_role<T: Copy>(producer: Option<u32>, number: u32, start: &AtomicStart<T
         AtomicStart::ReleaseProducer => !holds(producer, number),
         AtomicStart::Store(_) => !holds(producer, number),
         AtomicStart::Load => false,
+        AtomicStart::HasProducer => false,
+        AtomicStart::Version => false,
     }
 }
 

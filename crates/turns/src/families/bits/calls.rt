@@ -10,6 +10,7 @@ use model::turn::Kind;
 use steps::ask::Want;
 use steps::bits::bit_set::{ResetNext, Set};
 use steps::bits::counting_bit_set;
+use steps::bits::looks::{Count, IsSet};
 use steps::bits::reset_all::ResetAll;
 use steps::copied::OneWord;
 use steps::routine::Running;
@@ -34,6 +35,11 @@ pub fn first(kind: Kind, capacity: u32, start: BitsStart) -> Option<BitsFlight>
             given: (),
             room: OneWord(0),
         })),
+        (Kind::Bits, BitsStart::IsSet(bit)) => Some(BitsFlight::IsSet(Running {
+            call: IsSet,
+            given: bit,
+            room: (),
+        })),
         (Kind::Counts, BitsStart::Set(place)) => Some(BitsFlight::Count(Running {
             call: counting_bit_set::Set,
             given: place,
@@ -43,6 +49,11 @@ pub fn first(kind: Kind, capacity: u32, start: BitsStart) -> Option<BitsFlight>
             call: ResetAll::counts(capacity),
             given: (),
             room: OneWord(0),
+        })),
+        (Kind::Counts, BitsStart::Count(place)) => Some(BitsFlight::CountOf(Running {
+            call: Count,
+            given: place,
+            room: (),
         })),
         _ => None,
     }
@@ -68,6 +79,8 @@ pub fn want(flight: &BitsFlight) -> Want<()>
         BitsFlight::ResetAll(run) => run.want(),
         BitsFlight::Count(run) => run.want(),
         BitsFlight::TakeAll(run) => run.want(),
+        BitsFlight::IsSet(run) => run.want(),
+        BitsFlight::CountOf(run) => run.want(),
     }
 }
 
@@ -106,6 +119,14 @@ pub fn feed<T>(flight: &mut BitsFlight, answer: u64) -> Option<Answer<T>>
         BitsFlight::TakeAll(run) => {
             let () = run.go_on(answer)?;
             Some(Answer::Done)
+        }
+        BitsFlight::IsSet(run) => {
+            let set = run.go_on(answer)?;
+            Some(Answer::Truth(set))
+        }
+        BitsFlight::CountOf(run) => {
+            let count = run.go_on(answer)?;
+            Some(Answer::Number(count))
         }
     }
 }

@@ -81,6 +81,8 @@ fn tell<T>(flight: &BitsFlight, number: u32, answer: u64, events: &mut Vec<Event
                 events.push_reserved(Event::TakenOut(number, run.call.word as u64, answer));
             }
         }
+        BitsFlight::IsSet(_) => {}
+        BitsFlight::CountOf(_) => {}
     }
 }
 

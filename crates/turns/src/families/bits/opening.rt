@@ -41,6 +41,8 @@ fn is_past(capacity: u32, start: BitsStart) -> bool
 {
     match start {
         BitsStart::Set(place) => place >= capacity as u64,
+        BitsStart::IsSet(place) => place >= capacity as u64,
+        BitsStart::Count(place) => place >= capacity as u64,
         _ => false,
     }
 }

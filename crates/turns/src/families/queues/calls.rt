@@ -1,8 +1,8 @@
 //! The calls of the queues under way: what each wants, and how it goes on.
 ghost use Rattle.std.specs.Prelude.{◌≡◌, ◌≢◌, false, Some, is_none, IfOk};
 ghost use Rattle.steps.specs.Ask.{CameTo};
-ghost use Rattle.model.specs.declared.families.queues.QueueKind.TheVariants.{Queue};
-ghost use Rattle.model.specs.Families.Queues.Calls.{acquire_of, release_of, push_index_of, push_value_of, pop_of};
+ghost use Rattle.model.specs.declared.families.queues.QueueKind.TheVariants.{Overflow, Queue};
+ghost use Rattle.model.specs.Families.Queues.Calls.{acquire_of, release_of, look_of, push_index_of, push_value_of, pop_of, peek_of};
 ghost use Rattle.model.specs.Families.Queues.Calls.{length_of, first, want, after, goes_back, popped, popped_value};
 ghost use Rattle.model.specs.Families.Queues.Calls.{length_answer};
 ghost use Rattle.model.specs.Coding.{coding_by};
@@ -16,8 +16,9 @@ use steps::ask::Want;
 use steps::copied::OneWord;
 use steps::queues::lengths::Len;
 use steps::queues::overflow;
+use steps::queues::peek::Peek;
 use steps::queues::ring::{CONSUMER, PRODUCER, Pop, Push};
-use steps::queues::roles::{AcquireRole, ReleaseRole};
+use steps::queues::roles::{AcquireRole, LookRole, ReleaseRole};
 use steps::routine::Running;
 use steps::words::Words;
 
@@ -38,6 +39,17 @@ fn release_of<T>(word: usize) -> QueueFlight<T>
 {
     QueueFlight::Role(RoleCall::Release(Running {
         call: ReleaseRole { word },
+        given: (),
+        room: (),
+    }))
+}
+
+/// A look at the role with this word.
+fn look_of<T>(word: usize) -> QueueFlight<T>
+    ensures { result ≡ look_of word }
+{
+    QueueFlight::Role(RoleCall::Look(Running {
+        call: LookRole { word },
         given: (),
         room: (),
     }))
@@ -101,6 +113,31 @@ fn pop_of<T: Words>(
     Ok(flight)
 }
 
+/// A look at the oldest value, which the overflowing queue does not have.
+fn peek_of<T: Words>(
+    alloc: Global,
+    kind: QueueKind,
+    capacity: u32,
+) -> Result<QueueFlight<T>, AllocError>
+    requires { kind ≢ Overflow }
+    ensures { IfOk result (λ flight. peek_of kind capacity ≡ Some flight) }
+{
+    let flight = match kind {
+        QueueKind::IndexQueue => QueueFlight::Indices(RingCall::Peek(Running {
+            call: Peek::new(capacity),
+            given: (),
+            room: OneWord(0),
+        })),
+        QueueKind::Overflow => unreachable!(),
+        QueueKind::Queue => QueueFlight::Values(RingCall::Peek(Running {
+            call: Peek::new(capacity),
+            given: (),
+            room: Apart::new(alloc)?,
+        })),
+    };
+    Ok(flight)
+}
+
 fn length_of<T>(which: LengthOf, capacity: u32) -> QueueFlight<T>
     ensures { result ≡ length_of which capacity }
 {
@@ -132,6 +169,9 @@ pub fn first<T: Words>(
         QueueStart::PushIndex(index) => push_index_of(kind, capacity, index),
         QueueStart::Push(value) => push_value_of(capacity, value),
         QueueStart::Pop => pop_of(alloc, kind, capacity)?,
+        QueueStart::Peek => peek_of(alloc, kind, capacity)?,
+        QueueStart::HasProducer => look_of(PRODUCER),
+        QueueStart::HasConsumer => look_of(CONSUMER),
         QueueStart::Len => length_of(LengthOf::Len, capacity),
         QueueStart::IsEmpty => length_of(LengthOf::IsEmpty, capacity),
         QueueStart::IsFull => length_of(LengthOf::IsFull, capacity),
@@ -175,10 +215,13 @@ pub fn want<T: Words>(flight: &QueueFlight<T>) -> Want<()>
     match flight {
         QueueFlight::Role(RoleCall::Acquire(run)) => run.want(),
         QueueFlight::Role(RoleCall::Release(run)) => run.want(),
+        QueueFlight::Role(RoleCall::Look(run)) => run.want(),
         QueueFlight::Indices(RingCall::Push(run)) => run.want(),
         QueueFlight::Indices(RingCall::Pop(run)) => run.want(),
+        QueueFlight::Indices(RingCall::Peek(run)) => run.want(),
         QueueFlight::Values(RingCall::Push(run)) => run.want(),
         QueueFlight::Values(RingCall::Pop(run)) => run.want(),
+        QueueFlight::Values(RingCall::Peek(run)) => run.want(),
         QueueFlight::Overflow(OverflowCall::Push(run)) => run.want(),
         QueueFlight::Overflow(OverflowCall::Pop(run)) => run.want(),
         QueueFlight::Length(_, run) => run.want(),
@@ -213,6 +256,10 @@ pub fn feed<T: Words>(flight: &mut QueueFlight<T>, answer: u64) -> Option<Answer
                 Some(()) => Some(Answer::Done),
                 None => None,
             },
+            RoleCall::Look(run) => match run.go_on(answer) {
+                Some(taken) => Some(Answer::Truth(taken)),
+                None => None,
+            },
         },
         QueueFlight::Indices(call) => match call {
             RingCall::Push(run) => match run.go_on(answer) {
@@ -223,6 +270,10 @@ pub fn feed<T: Words>(flight: &mut QueueFlight<T>, answer: u64) -> Option<Answer
                 Some(value) => Some(popped(value)),
                 None => None,
             },
+            RingCall::Peek(run) => match run.go_on(answer) {
+                Some(value) => Some(popped(value)),
+                None => None,
+            },
         },
         QueueFlight::Values(call) => match call {
             RingCall::Push(run) => match run.go_on(answer) {
@@ -230,6 +281,10 @@ pub fn feed<T: Words>(flight: &mut QueueFlight<T>, answer: u64) -> Option<Answer
                 None => None,
             },
             RingCall::Pop(run) => match run.go_on(answer) {
+                Some(value) => Some(popped_value(value)),
+                None => None,
+            },
+            RingCall::Peek(run) => match run.go_on(answer) {
                 Some(value) => Some(popped_value(value)),
                 None => None,
             },

@@ -178,12 +178,14 @@ fn effect_of<T: Words>(
         QueueFlight::Indices(RingCall::Pop(run)) => {
             pop_effect(Item::Index(run.room.0), &run.call.stage)
         }
+        QueueFlight::Indices(RingCall::Peek(_)) => Effect::Quiet,
         QueueFlight::Values(RingCall::Push(run)) => {
             push_effect(Item::Value(run.given), &run.call.stage)
         }
         QueueFlight::Values(RingCall::Pop(run)) => {
             pop_effect(Item::Value(run.room.value()), &run.call.stage)
         }
+        QueueFlight::Values(RingCall::Peek(_)) => Effect::Quiet,
         QueueFlight::Overflow(OverflowCall::Push(run)) => {
             let item = Item::Index(run.given);
             overflow_push_effect(words, run.call.capacity, item, &run.call.stage, answer)

@@ -82,6 +82,9 @@ fn lacks_role<T: Copy>(roles: &Roles, number: u32, start: &QueueStart<T>) -> boo
         QueueStart::PushIndex(_) => !holds(roles.producer, number),
         QueueStart::Push(_) => !holds(roles.producer, number),
         QueueStart::Pop => !holds(roles.consumer, number),
+        QueueStart::Peek => !holds(roles.consumer, number),
+        QueueStart::HasProducer => false,
+        QueueStart::HasConsumer => false,
         QueueStart::Len => false,
         QueueStart::IsEmpty => false,
         QueueStart::IsFull => false,
@@ -89,7 +92,7 @@ fn lacks_role<T: Copy>(roles: &Roles, number: u32, start: &QueueStart<T>) -> boo
 }
 
 /// The queue that a machine of this kind has, if it has this call: a queue of indices pushes indices, and one of values
-/// pushes values.
+/// pushes values. The overflowing queue has no peek.
 fn queue_with<T: Words>(kind: Kind, start: &QueueStart<T>) -> Option<QueueKind>
     ensures some { IfSome result (λ queue. queue_kind kind ≡ Some queue) }
     ensures has { IfSome result
@@ -103,6 +106,7 @@ fn queue_with<T: Words>(kind: Kind, start: &QueueStart<T>) -> Option<QueueKind>
         },
         Kind::Overflow => match start {
             QueueStart::Push(_) => None,
+            QueueStart::Peek => None,
             _ => Some(QueueKind::Overflow),
         },
         Kind::Queue => match start {

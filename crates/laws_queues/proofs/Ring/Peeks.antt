@@ -1,0 +1,156 @@
+-- The steps of a peek of a bounded queue: those of a pop without the last, which moves the read position.
+use Rattle.laws_queues.proofs.Names.{◌≡◌, ℕ, ◌+◌, ◌^◌, ◌<◌, ◌≤◌, ◌==◌, nat_lt, Bool, true, false, ◌||◌, Option, Some}
+use Rattle.laws_queues.proofs.Names.{List, [], length, get_or, map, slice_get, refl, sym, ap, subst, ◌∙◌, set-get_or}
+use Rattle.laws_queues.proofs.Names.{nat_tests, Ask, Load, After, GoOn, Done, QueueFlight, RingCall, Quiet, Item}
+use Rattle.laws_queues.proofs.Names.{Peek, Answer, Queues, Coding, IsCoding, ask_of, answer_of_item, load_of_write}
+use Rattle.laws_queues.proofs.Names.{load_of_read, Open, old_of, words_after, change_of, step_count}
+use Rattle.std.proofs.Common.{arith}
+use Rattle.steps.specs.declared.queues.peek.PeekStage.{PeekStage}
+use Rattle.steps.specs.declared.queues.peek.PeekStage.TheVariants as peeks
+use Rattle.steps.specs.Queues.Ring.{cell_word}
+use Rattle.model.specs.declared.event.Answer.TheVariants as answers
+use Rattle.laws_queues.proofs.Queues.Core.{Good}
+use Rattle.laws_queues.proofs.Queues.Invariant.{Scene, Inv, waiting_is}
+use Rattle.laws_queues.proofs.Queues.Knows.{layout}
+use Rattle.laws_queues.proofs.Queues.Stages.{IsCalm, first_of_some, cell_asked, DoesStep, quiet, ends}
+use Rattle.laws_queues.proofs.Queues.Values.{Val, encoded, item}
+use Rattle.laws_queues.proofs.Ring.Kinds.{Ring, kind_of, Room, words_in, with_word, flight, got, read_in}
+use Rattle.laws_queues.proofs.Ring.Kinds.{ring_want, ring_after, are_words, calm, wrote_none, knows, number}
+use Rattle.laws_queues.proofs.Ring.Kinds.{peek_here, none_hangs, cells_are, answer_is, most_peek}
+use Rattle.laws_queues.proofs.Ring.Knows.{peek_at, KnowsPeek, peek_number}
+use Rattle.laws_queues.proofs.Ring.Words.{none_waits, some_waits, loads_more, loads_last}
+
+module _ {T : Type 0} (en : Coding T) (r : Ring) (law : IsCoding en) (scene : Scene T (kind_of r))
+    (inv : Inv en (kind_of r) scene) (small : scene.core.write < 2 ^ 64)
+    (before : IsCalm en (kind_of r) scene scene.core.read) (room : Room r)
+    (holds : scene.roles.consumer ≡ Some scene.party) (b : scene.backs ≡ 0) where
+  open scene use {capacity as c, roles as ro, core as k, party as p, steps, backs, since, changes, events}
+
+  abbrev size : ℕ
+  size = (encoded en (kind_of r)).size
+
+  abbrev words_of : Val T (kind_of r) → List ℕ
+  words_of = (encoded en (kind_of r)).words_of
+
+  abbrev items : List (Val T (kind_of r)) → List (Item T)
+  items xs = map (item (kind_of r)) xs
+
+  lawful : IsCoding (encoded en (kind_of r))
+  lawful = are_words en r law
+
+  g : Good size words_of c k
+  g = subst (λ n. Good size words_of n k) (cells_are r c) inv.queue.good
+
+  fits : c < 2 ^ 32
+  fits = inv.queue.fits
+
+  abbrev at : PeekStage → RingCall (Val T (kind_of r)) (Room r)
+  at stage = peek_at c room stage
+
+  abbrev Does : Option Ask → After (QueueFlight T) (Answer T) → Type 0
+  Does ask after = DoesStep en (kind_of r) scene [] Peek ask false after Quiet
+
+  abbrev DoesOf : PeekStage → Type 0
+  DoesOf stage =
+      Does (ask_of (ring_want en r (at stage)))
+      (ring_after en r (at stage) (old_of (layout ro k) (ask_of (ring_want en r (at stage)))))
+
+  abbrev Knows : Room r → PeekStage → Type 0
+  Knows there stage = KnowsPeek (encoded en (kind_of r)) c k (words_in r there) stage
+
+  -- a step after which the peek stands here with this room, and the queue is as it was
+  goes_on : (ask : Option Ask) (room' : Room r) (stage : PeekStage)
+      → words_after (layout ro k) ask ≡ layout ro k → Knows room' stage → steps + step_count ask ≤ peek_number size stage
+      → Does ask (GoOn (flight r (peek_at c room' stage)))
+  goes_on ask room' stage words known most =
+      quiet en (kind_of r) scene inv small before false Peek ask (flight r (peek_at c room' stage)) k
+      (calm T r k.read (peek_at c room' stage)) refl refl refl inv.queue.good words
+      (record {
+        span = ap (λ es. Open (Queues Peek) es) (sym (wrote_none r c k p (peek_at c room' stage)));
+        steps = subst (λ n. steps + step_count ask ≤ n) (sym (number en r (peek_at c room' stage) (backs + 0))) most;
+        at = peek_here en r c ro k p (peek_at c room' stage) (holds, refl, known);
+      })
+      (knows r c k p events (since + change_of (layout ro k) ask) (changes + change_of (layout ro k) ask) (backs + 0) (peek_at c room' stage) (omega arith))
+      (λ q ne st f h. (h, refl))
+
+  -- a step with which it ends, and answers the oldest that waits
+  tells : (ask : Option Ask) (answer : Answer T) → words_after (layout ro k) ask ≡ layout ro k
+      → answer ≡ answer_of_item (slice_get (items k.waiting) 0) → steps + step_count ask ≤ 2 + size → Does ask (Done answer)
+  tells ask answer words right most = (
+    k,
+    words,
+    ends en (kind_of r) scene inv small ro false Peek answer ask
+        (record { moments = refl; published = refl; handed_out = refl })
+        (right ∙ ap (λ (xs : List (Item T)). answer_of_item (slice_get xs 0)) (sym (waiting_is events (items k.waiting) inv.queue.book)))
+        tt
+        (refl, refl)
+        (subst (λ n. steps + step_count ask ≤ n) (sym (most_peek en r (backs + 0))) most)
+        (omega arith)
+        (none_hangs T r c k _)
+        (λ q ne st f h. (h, refl)),
+  )
+
+  loads_read : size ≤ length (words_in r room) → steps ≤ 0 → DoesOf peeks.LoadsRead
+  loads_read long s = goes_on (Some load_of_read) room (peeks.LoadsWrite k.read) refl (long, refl) (omega arith)
+
+  abbrev loads_cell : ℕ → PeekStage
+  loads_cell i = peeks.LoadsCell (cell_word c size k.read) i
+
+  loads_write : size ≤ length (words_in r room) → steps ≤ 1 → DoesOf (peeks.LoadsWrite k.read)
+  loads_write long s = go (c == 0 || k.write == k.read) refl
+    where
+      go : (t : Bool) → (c == 0 || k.write == k.read) ≡ t → DoesOf (peeks.LoadsWrite k.read)
+      go true t =
+          let goes : ring_after en r (at (peeks.LoadsWrite k.read)) k.write ≡ Done (answers.PoppedNone) = rw t refl in
+          let none = none_waits size words_of c k g t in
+          subst (λ a. Does (Some load_of_write) a) (sym goes)
+          (tells (Some load_of_write) answers.PoppedNone refl
+          (sym (ap (λ (xs : List (Val T (kind_of r))). answer_of_item {T = T} (slice_get (items xs) 0)) none)) (omega arith))
+      go false t =
+          let goes : ring_after en r (at (peeks.LoadsWrite k.read)) k.write ≡ GoOn (flight r (at (loads_cell 0))) = rw t refl in
+          let first = first_of_some k.waiting (some_waits size words_of c k g t) in
+          let one = lawful.some in
+          let known : Knows room (loads_cell 0) =
+          (long, first.0, first.1, refl, first.2, refl, omega arith, λ i h. absurd (omega arith)) in
+          subst (λ a. Does (Some load_of_write) a) (sym goes) (goes_on (Some load_of_write) room (loads_cell 0) refl known (omega arith))
+
+  -- the words loaded so far are those of the front value
+  loads_word : (i : ℕ) → Knows room (loads_cell i) → steps ≤ 2 + i → DoesOf (loads_cell i)
+  loads_word i known s = go (nat_lt (i + 1) size) refl
+    where
+      ask : Option Ask
+      ask = Some (record { word = cell_asked size c k.read i; op = Load })
+
+      old : ℕ
+      old = get_or (layout ro k) (cell_asked size c k.read i) 0
+
+      next : Room r
+      next = with_word r room i old
+
+      same : words_after (layout ro k) ask ≡ layout ro k
+      same = set-get_or (layout ro k) (cell_asked size c k.read i) 0
+
+      go : (t : Bool) → nat_lt (i + 1) size ≡ t → DoesOf (loads_cell i)
+      go true t =
+          let goes : ring_after en r (at (loads_cell i)) old ≡ GoOn (flight r (peek_at c next (loads_cell (i + 1)))) = rw t refl in
+          let further : i + 1 < size = grind (arith, nat_tests) in
+          subst (λ a. Does ask a) (sym goes)
+          (goes_on ask next (loads_cell (i + 1)) same (loads_more en r law c ro k fits g room i known further) (omega arith))
+      go false t =
+          let v : Val T (kind_of r) = read_in en r next in
+          let goes : ring_after en r (at (loads_cell i)) old ≡ Done (got r v) = rw t refl in
+          let below = known.6 in
+          let last : size ≡ i + 1 = (let over : size ≤ i + 1 = grind (arith, nat_tests) in omega arith) in
+          let has = loads_last en r law c ro k fits g room i known last in
+          subst (λ a. Does ask a) (sym goes)
+          (tells ask (got r v) same
+          (sym (ap (λ (xs : List (Val T (kind_of r))). answer_of_item {T = T} (slice_get (items xs) 0)) has.2 ∙ answer_is r v))
+          (omega arith))
+
+  pub peek_step : (stage : PeekStage) → Knows room stage → steps ≤ peek_number size stage → DoesOf stage
+  peek_step peeks.LoadsRead known s = loads_read known s
+  peek_step (peeks.LoadsWrite read) known s =
+      subst (λ q. DoesOf (peeks.LoadsWrite q)) (sym known.1) (loads_write known.0 s)
+  peek_step (peeks.LoadsCell cell i) known s =
+      subst (λ n. DoesOf (peeks.LoadsCell n i)) (sym known.5)
+      (loads_word i (known.0, known.1, known.2, refl, known.4, refl, known.6, known.7) s)

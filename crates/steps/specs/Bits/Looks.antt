@@ -1,0 +1,23 @@
+-- The calls of the bit sets that look at one place and change nothing.
+use Rattle.std.specs.Prelude.{ℕ, Bool}
+use Rattle.steps.specs.Queues.Ring.{load}
+use Rattle.steps.specs.Bits.Words.{element_of, has_flag}
+use Rattle.steps.specs.declared.ask.Want.{Want}
+use Rattle.steps.specs.declared.ask.After.{After}
+use Rattle.steps.specs.declared.ask.After.TheVariants.{Done}
+use Rattle.steps.specs.declared.bits.looks.IsSet.{IsSet}
+use Rattle.steps.specs.declared.bits.looks.Count.{Count}
+
+-- load the element of the place
+abbrev pub is_set_want : IsSet → ℕ → Want (Unit {0})
+is_set_want call place = load (element_of place)
+
+abbrev pub is_set_after : IsSet → ℕ → ℕ → After IsSet Bool
+is_set_after call place old = Done (has_flag old place)
+
+-- load the count of the place
+abbrev pub count_want : Count → ℕ → Want (Unit {0})
+count_want call place = load place
+
+abbrev pub count_after : Count → ℕ → After Count ℕ
+count_after call old = Done old
