@@ -5,8 +5,8 @@ use Rattle.history.proofs.Names.{QueueKind, Roles, LengthOf, Coding, first_of, o
 use Rattle.steps.specs.declared.queues.roles.Role.{Role}
 use Rattle.model.specs.Families.Queues.Opening.{lacks_role}
 use Rattle.history.specs.declared.view.View.{View}
-use Rattle.history.specs.Queues.{takes_role, gives_role, length_start, counts_waiting}
-use Rattle.history.specs.Roles.{role_word, holder, acquire_start, release_start, HasRole}
+use Rattle.history.specs.Queues.{takes_role, gives_role, looks_role, length_start, counts_waiting}
+use Rattle.history.specs.Roles.{role_word, holder, acquire_start, release_start, look_start, HasRole}
 use Rattle.history.specs.Stages.{At}
 use Rattle.history.proofs.Drives.{Driven, IsCallBy}
 use Rattle.history.proofs.Queues.{plain_starts, role_starts}
@@ -27,6 +27,11 @@ module _ {T : Type 0} where
       (Some ((gives_role r).flight (record { word = role_word r }) m))
   release_is = grind arith
 
+  look_is : (kd : QueueKind) (r : Role) (c : ℕ) (m : Unit {0}) (kept : Registry T)
+      → ◌≡◌ {A = Option (Flight T)} (first_of (machine_kind kd) c (Queues (look_start r)) kept)
+      (Some ((looks_role r).flight (record { word = role_word r }) m))
+  look_is = grind arith
+
   len_is : (kd : QueueKind) (which : LengthOf) (c : ℕ) (m : Unit {0}) (kept : Registry T)
       → ◌≡◌ {A = Option (Flight T)} (first_of (machine_kind kd) c (Queues (length_start which)) kept)
       (Some ((counts_waiting which c).flight (first_len c) m))
@@ -40,6 +45,10 @@ acquire_lacks T Consumer roles p = refl
 
 release_lacks : (T : Type 0) (r : Role) (roles : Roles) (p : ℕ) → holder r roles ≡ Some p → lacks_role {T = T} roles p (release_start r) ≡ false
 release_lacks = grind arith
+
+look_lacks : (T : Type 0) (r : Role) (roles : Roles) (p : ℕ) → lacks_role {T = T} roles p (look_start r) ≡ false
+look_lacks T Producer roles p = refl
+look_lacks T Consumer roles p = refl
 
 len_lacks : (T : Type 0) (which : LengthOf) (roles : Roles) (p : ℕ) → lacks_role {T = T} roles p (length_start which) ≡ false
 len_lacks = grind arith
@@ -73,6 +82,21 @@ module _ {T : Type 0} (code : Coding T) (kd : QueueKind) (x : View T) (m : Unit 
         starts =
             role_starts code kd x (gives_role role) (release_start role) (record { word = role_word role }) m refl
             (release_is kd role x.capacity m) role (λ o p. tt) (release_lacks T role) has;
+        wrote = λ p. refl;
+      })
+
+  pub look_first_on : (role : Role) → At code (machine_kind kd) (looks_role role) x x (record { word = role_word role }) m
+  look_first_on role =
+      inl (record {
+        is = refl;
+        idle = idle;
+        fresh = alone;
+        standing = refl;
+        some = any;
+        first = look_is kd role x.capacity m ((opening_of (machine_kind kd)).kept x.capacity);
+        starts =
+            plain_starts code kd x (looks_role role) (look_start role) (record { word = role_word role }) m refl
+            (look_is kd role x.capacity m) (λ o p h. h) (look_lacks T role);
         wrote = λ p. refl;
       })
 

@@ -14,7 +14,7 @@ use Rattle.history.proofs.Known.{by_more, nil_right, idle_seat, none_late}
 use Rattle.history.proofs.AllSeen.{known_whole}
 use Rattle.history.proofs.Calls.{begins_no_look}
 use Rattle.history.proofs.OneRun.{first_all}
-use Rattle.history.proofs.Turns.{Machines, Between, Beginning, at_first, begun, begun_at, begun_kept, begun_steps, begun_took, begins_free}
+use Rattle.history.proofs.Turns.{Machines, Between, Beginning, at_first, begun, begun_at, begun_kept, begun_steps, begun_took, begins_free, turning_at}
 use Rattle.history.proofs.Asked.{asked_at}
 use Rattle.history.proofs.CallsIn.{no_rest, same_rest, none_after, Prior}
 
@@ -214,21 +214,7 @@ module _ {T C M E : Type 0} (machines : Machines T) (call : Calling T C M E) whe
         omega arith)) in
         let beginning : Beginning T =
         record {
-          turning = record {
-            code = code;
-            kind = kind;
-            capacity = key;
-            words = size_of key;
-            effects = effects;
-            laws = laws key;
-            owner = r.owner;
-            s = s;
-            id = id;
-            p = p;
-            gained = [];
-            u = r.trace;
-            b = before;
-          };
+          turning = turning_at (laws key) before;
           start = call.start;
           flight = call.flight c m;
           idle = idle p starts.mine;

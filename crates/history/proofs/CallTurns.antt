@@ -16,7 +16,7 @@ use Rattle.history.specs.Stages.{Calling, LeavesState, Since, opened, IsUnderWay
 use Rattle.history.proofs.Known.{by_more}
 use Rattle.history.proofs.Calls.{stands, call_then, next_no_look}
 use Rattle.history.proofs.Reached.{next_as}
-use Rattle.history.proofs.Turns.{Machines, Between, Going, want_for, at_ask, goes_free, gone, gone_named, gone_steps, gone_took, kept_then, goes_to}
+use Rattle.history.proofs.Turns.{Machines, Between, Going, want_for, at_ask, goes_free, gone, gone_named, gone_steps, gone_took, kept_then, goes_to, turning_at}
 use Rattle.history.proofs.Turns.{told as turn_told, own_told, found_old, made_between}
 use Rattle.history.proofs.Steps.{view_after}
 use Rattle.history.proofs.CallsIn.{regroup, Prior, span_since, Met}
@@ -68,21 +68,7 @@ module _ {T C M E : Type 0} (machines : Machines T) (call : Calling T C M E) whe
     abbrev turn_next : Going T
     turn_next =
         record {
-          turning = record {
-            code = code;
-            kind = kind;
-            capacity = key;
-            words = size_of key;
-            effects = effects;
-            laws = laws key;
-            owner = y.owner;
-            s = s;
-            id = id;
-            p = y.p;
-            gained = y.gained;
-            u = y.u;
-            b = y.between;
-          };
+          turning = turning_at (laws key) y.between;
           start = call.start;
           flight = call.flight c m;
           ask = ask;

@@ -13,7 +13,7 @@ use Rattle.history.specs.History.{IsRun, IsMachine, IsLate, call_in}
 use Rattle.history.specs.Stages.{Calling, At, Ends, Over, opened}
 use Rattle.history.proofs.Known.{AreOf, by_mine}
 use Rattle.history.proofs.KindLaws.{Machines, SteadyMachines}
-pub use Rattle.history.proofs.Cases.{by_bool}
+pub use Rattle.laws_robust.proofs.Cases.{by_bool}
 
 pub no_rest : {A : Type 0} → (xs rest : List A) → xs ≡ xs ++ rest → rest ≡ []
 no_rest [] rest e = sym e

@@ -32,7 +32,7 @@ use Rattle.history.proofs.Decisions.{IsAskingIn, keeps_said, keeps_word, hears_s
 use Rattle.history.proofs.Rooms.{room_set, room_read}
 use Rattle.history.proofs.Written.{same_written}
 use Rattle.history.specs.Stages.{Calling, IsUnderWay, Ends, AtAsked}
-use Rattle.history.proofs.Cases.{by_bool}
+use Rattle.laws_robust.proofs.Cases.{by_bool}
 
 find_words : (capacity size : ℕ) (stage : FindStage) → FindIn size capacity stage → is_question (find_asks size capacity stage) ≡ false
     → AsksFor (total_words capacity size) (find_asks size capacity stage)

@@ -21,7 +21,7 @@ use Rattle.history.proofs.CallsIn.{AsksFor}
 use Rattle.history.proofs.ContainerCalls.{change_low, count_low}
 use Rattle.history.proofs.Containers.{container_effects}
 use Rattle.history.proofs.Drives.{goes}
-use Rattle.history.proofs.Cases.{by_bool}
+use Rattle.laws_robust.proofs.Cases.{by_bool}
 
 -- ---- what it asks for
 

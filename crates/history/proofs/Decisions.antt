@@ -19,7 +19,7 @@ use Rattle.history.specs.Stages.{LeavesState, Since, IsUnderWay, At, Ends, HasHe
 use Rattle.history.proofs.Known.{by_more, within}
 use Rattle.history.proofs.Reached.{MayDecide, decide_as}
 use Rattle.history.proofs.Calls.{stands, flight_is}
-use Rattle.history.proofs.Turns.{Machines, Between, Answering, heard, decided, decided_at, decided_steps, decided_took, made_between}
+use Rattle.history.proofs.Turns.{Machines, Between, Answering, heard, decided, decided_at, decided_steps, decided_took, made_between, turning_at}
 use Rattle.history.proofs.OneRun.{continues_all, continues_further}
 use Rattle.history.proofs.Steps.{view_after, settle}
 use Rattle.history.proofs.CallsIn.{by_bool, Driven, goes, AsksFor, KeepsSo, StepsOf, StepsThere, ActsAlone, written_alone, steps_alone}
@@ -101,21 +101,7 @@ module _ {T C M E : Type 0} (machines : Machines T) (decides : MayDecide machine
     abbrev answering : Answering T
     answering =
         record {
-          turning = record {
-            code = code;
-            kind = kind;
-            capacity = key;
-            words = size_of key;
-            effects = effects;
-            laws = laws key;
-            owner = y.owner;
-            s = s;
-            id = id;
-            p = y.p;
-            gained = y.gained;
-            u = y.u;
-            b = y.between;
-          };
+          turning = turning_at (laws key) y.between;
           start = call.start;
           flight = from;
           next = GoOn (call.flight c m);

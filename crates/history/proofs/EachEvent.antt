@@ -1,10 +1,10 @@
 -- What holds of each event of a run, where it holds of what each step of a call writes, and of every begin and end.
 use Rattle.std.proofs.Common.{arith}
-use Rattle.history.proofs.Names.{◌≡◌, ◌⊎◌, inl, ℕ, Bool, true, Option, Some, None, List, [], ◌∷◌}
+use Rattle.history.proofs.Names.{◌≡◌, ◌⊎◌, inl, inr, ℕ, Bool, true, Option, Some, None, List, [], ◌∷◌}
 use Rattle.history.proofs.Names.{◌++◌, refl, Answer, Event, Begun, Finished, Died, Start, Flight, Doing, Going, Over}
 use Rattle.history.proofs.Names.{Party, Refusal, Turn, Decide, want_of, ask_of}
 use Rattle.history.proofs.Names.{party_of, doing_of, flight_of, Each, call_refusal, is_due, after_turn}
-use Rattle.history.proofs.Names.{events_of, events_of_next, events_of_decision, events_of_answer, ending_of, old_of}
+use Rattle.history.proofs.Names.{events_of, events_of_next, events_of_decision, events_of_answer, ending_of, old_of, number_of}
 use Rattle.history.proofs.Names.{ask_of_doing, unless_refused, attempt_on, run_on, step_in, Trace}
 use Rattle.history.proofs.Names.{flight_in, Family, Sound, AreRight, Each-append, LawsWhere, AllMay}
 use Rattle.history.proofs.Names.{attempt_sound}
@@ -49,7 +49,12 @@ module _ {T : Type 0} (F : Family T) (May : Trace T → Turn T → Type 0) (laws
     decision_right : (p : ℕ) (said : Bool) (o : Option (Party T)) → party_of p t.world.latest ≡ o
         → is_due t.world.coding (flight_of (doing_of o)) ≡ true
         → AreRight P t.events (events_of_decision t.world p said o)
-    decision_right = grind arith
+    decision_right p said None e due = tt
+    decision_right p said (Some x) e due = answer_right p (number_of said) x e x.doing refl (handed x.doing due)
+      where
+        handed : (doing : Doing T) → is_due t.world.coding (flight_of (Some doing)) ≡ true → HandedAt (number_of said) doing
+        handed (Over others) due = tt
+        handed (Going flight since) due = inr due
 
     -- a decision is only taken where one is due
     due_of : (p : ℕ) (said : Bool) → call_refusal t.world (Decide p said) ≡ None → is_due t.world.coding (flight_in t.world p) ≡ true

@@ -24,7 +24,7 @@ use Rattle.steps.specs.declared.queues.ring.PopStage.TheVariants as pops
 use Rattle.model.specs.declared.families.Flight.TheVariants as flights
 use Rattle.model.specs.declared.families.Registry.TheVariants as registries
 use Rattle.model.specs.declared.families.queues.QueueKind.TheVariants.{IndexQueue, Queue}
-use Rattle.model.specs.declared.families.queues.QueueStart.TheVariants.{Push}
+use Rattle.model.specs.declared.families.queues.QueueStart.TheVariants.{Push, Peek}
 use Rattle.model.specs.declared.families.queues.calls.RingCall.TheVariants as rings
 use Rattle.model.specs.declared.families.queues.calls.QueueFlight.TheVariants.{Role, Indices, Overflow}
 use Rattle.model.specs.Families.Queues.Roles.{GrantsRight}
@@ -114,6 +114,7 @@ module _ {T : Type 0} (c : ℕ) where
         push_right of_indices p v _ run.call.stage _ before (producers ∙ at.0)
         (room_at one_word (values.item IndexQueue) k before same v run.call.stage at.3)
     flight_right of_indices k same Pop (Indices (rings.Pop run)) at = grind (arith, pop_right, first_at, one_word)
+    flight_right of_indices k same Peek (Indices (rings.Peek run)) at = tt
     flight_right of_indices k same start (Indices call) at = absurd at
     flight_right of_indices k same start (Values call) at = absurd at
     flight_right of_indices k same start (Overflow call) at = absurd at
@@ -121,6 +122,7 @@ module _ {T : Type 0} (c : ℕ) where
         push_right of_values p v _ run.call.stage _ before (producers ∙ at.0)
         (room_at en (values.item Queue) k before same v run.call.stage at.3)
     flight_right of_values k same Pop (Values (rings.Pop run)) at = grind (arith, pop_right, first_at)
+    flight_right of_values k same Peek (Values (rings.Peek run)) at = tt
     flight_right of_values k same start (Indices call) at = absurd at
     flight_right of_values k same start (Values call) at = absurd at
     flight_right of_values k same start (Overflow call) at = absurd at

@@ -3,7 +3,6 @@ pub mod Known
 pub mod Locks
 pub mod AllSeen
 mod Names
-pub mod Cases
 pub mod Reached
 pub mod Calls
 pub mod StillFits
@@ -56,6 +55,8 @@ pub mod Queues
 pub mod Overflows
 pub mod QueueLaws
 pub mod QueueCalls
+pub mod Peeks
+pub mod PeekHolders
 pub mod QueueRoles
 pub mod OverflowCalls
 pub mod AnyRoles

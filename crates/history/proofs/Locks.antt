@@ -4,7 +4,7 @@ use Rattle.std.proofs.Common.{true≢false}
 use Rattle.model.specs.Families.Indices.Reading.{is_locked}
 use Rattle.model.proofs.Locks.{locked_later}
 use Rattle.history.specs.History.{IsBeginning}
-use Rattle.history.proofs.Cases.{by_bool}
+use Rattle.laws_robust.proofs.Cases.{by_bool}
 
 module _ {T : Type 0} where
   pub lock_stays : {seen events : List (Event T)} → IsBeginning seen events → is_locked seen ≡ true → is_locked events ≡ true

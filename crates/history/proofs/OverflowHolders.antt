@@ -38,7 +38,7 @@ use Rattle.history.specs.Roles.{ByHolderOf}
 use Rattle.history.proofs.EachEvent.{each_event, IsHanded}
 use Rattle.history.proofs.Holders.{KeepsList, IsListed, listed_in}
 use Rattle.history.proofs.Overflows.{IsOwn, push_effect_own, over_effects, facts, beside_waits}
-use Rattle.history.proofs.Cases.{on_bool}
+use Rattle.laws_robust.proofs.Cases.{on_bool}
 
 module _ {T : Type 0} (c : ℕ) where
   abbrev Rightly : List (Event T) → Event T → Type 0

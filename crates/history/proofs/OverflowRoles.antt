@@ -14,7 +14,7 @@ use Rattle.history.proofs.AnyRoles.{wider}
 use Rattle.history.proofs.Drives.{IsCallIn, KeepsEnds, in_machine, keeps_all_in, keeps_sized}
 use Rattle.history.proofs.Overflows.{over_effects, overflow_machines}
 use Rattle.history.proofs.Passes.{opens}
-use Rattle.history.proofs.QueueRoles.{acquire_driven, release_driven, len_driven, len_is_call}
+use Rattle.history.proofs.QueueRoles.{acquire_driven, release_driven, look_driven, len_driven, len_is_call}
 use Rattle.history.proofs.Queues.{queue_effects}
 
 module _ {T : Type 0} (code : Coding T) where
@@ -36,6 +36,12 @@ module _ {T : Type 0} (code : Coding T) where
 
     pub over_release_keeps : KeepsEnds code kinds.Overflow words_of (release_driven code role)
     over_release_keeps = keeps_all_in (overflow_machines code) (release_driven code role) releases (λ c n. refl)
+
+    looks : IsCallIn (overflow_machines code) (look_driven code role)
+    looks = grind arith
+
+    pub over_look_keeps : KeepsEnds code kinds.Overflow words_of (look_driven code role)
+    over_look_keeps = keeps_all_in (overflow_machines code) (look_driven code role) looks (λ c n. refl)
 
   module _ (which : LengthOf) where
     counts : (size : ℕ) → IsCallIn (overflow_machines code) (len_driven code which size)

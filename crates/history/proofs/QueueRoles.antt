@@ -11,17 +11,18 @@ use Rattle.model.specs.declared.turn.Kind.TheVariants as kinds
 use Rattle.history.specs.declared.view.View.{View}
 use Rattle.history.specs.History.{IsMachine}
 use Rattle.history.specs.Roles.{role_word, holder, acquire_start, release_start, HasRole}
-use Rattle.steps.specs.Queues.Roles.{acquire_want, acquire_after, release_want, release_after}
+use Rattle.steps.specs.Queues.Roles.{acquire_want, acquire_after, release_want, release_after, look_want, look_after}
 use Rattle.steps.specs.declared.queues.lengths.Len.{Len}
 use Rattle.steps.specs.declared.queues.lengths.LenStage.{LenStage}
 use Rattle.steps.specs.declared.queues.lengths.LenStage.TheVariants as lengths
 use Rattle.steps.specs.declared.queues.roles.AcquireRole.{AcquireRole}
+use Rattle.steps.specs.declared.queues.roles.LookRole.{LookRole}
 use Rattle.steps.specs.declared.queues.roles.ReleaseRole.{ReleaseRole}
 use Rattle.steps.specs.declared.queues.roles.Role.{Role}
 use Rattle.model.specs.declared.families.queues.QueueKind.TheVariants.{IndexQueue}
 use Rattle.model.specs.declared.families.queues.calls.LengthOf.TheVariants as measures
 use Rattle.model.specs.Families.Queues.Opening.{lacks_role}
-use Rattle.history.specs.Queues.{takes_role, gives_role, length_start, counts_waiting}
+use Rattle.history.specs.Queues.{takes_role, gives_role, looks_role, length_start, counts_waiting}
 use Rattle.history.proofs.Drives.{goes, keeps_sized, keeps_to_end}
 use Rattle.history.proofs.Queues.{queue_effects, plain_starts, role_starts, index_queue_machines}
 use Rattle.history.proofs.QueueCalls.{holds_it}
@@ -105,6 +106,16 @@ module _ {T : Type 0} (code : Coding T) (role : Role) where
       free : (r : Role) (roles : Roles) (p : ℕ) → holder r roles ≡ Some p → lacks_role {T = T} roles p (release_start r) ≡ false
       free Producer roles p is = holds_it roles.producer p is
       free Consumer roles p is = holds_it roles.consumer p is
+
+  -- whether it is held
+  abbrev pub look_driven : Driven T LookRole (Unit {0}) Bool
+  look_driven = record { want = look_want; after = look_after; kept = λ c m n. m; call = looks_role role }
+
+  pub look_is_call : IsCallBy code (queue_effects code) (λ capacity. 4 + capacity) look_driven
+  look_is_call = grind arith
+
+  pub look_keeps : KeepsEnds code kinds.IndexQueue (λ capacity. 4 + capacity) look_driven
+  look_keeps = keeps_to_end (index_queue_machines code) look_driven look_is_call (λ c n. refl)
 
 -- ---- how many wait
 

@@ -36,7 +36,7 @@ use Rattle.history.proofs.Drives.{goes, acts_alone, lone_machines}
 use Rattle.history.proofs.RobustParts.{LockOn, lock_on}
 use Rattle.history.proofs.RobustVisits.{same_before, none_yet, wider, one_more, came_past, comes_on, wrote_last, wrote_on, same_visits}
 use Rattle.history.proofs.Robusts.{robust_effects, cells_and_counter, robust_starts, robust_machines}
-use Rattle.history.proofs.Cases.{by_bool}
+use Rattle.laws_robust.proofs.Cases.{by_bool}
 
 -- ---- what it asks for
 

@@ -19,7 +19,7 @@ use Rattle.history.proofs.Known.{by_more, within}
 use Rattle.history.proofs.AllSeen.{known_whole}
 use Rattle.history.proofs.Reached.{MayDecide, decide_as}
 use Rattle.history.proofs.Calls.{stands, flight_is}
-use Rattle.history.proofs.Turns.{Machines, Between, Answering, at_first, heard, own_heard, decided, decided_at, decided_took, made_between}
+use Rattle.history.proofs.Turns.{Machines, Between, Answering, at_first, heard, own_heard, decided, decided_at, decided_took, made_between, turning_at}
 use Rattle.history.proofs.Asked.{Gains, gains_has, asked_at}
 use Rattle.history.proofs.Passes.{set_same}
 use Rattle.history.proofs.OneRun.{continues_all}
@@ -93,21 +93,7 @@ module _ {T : Type 0} (hearing : Hearing T) where
     abbrev answering : Answering T
     answering =
         record {
-          turning = record {
-            code = code;
-            kind = kind;
-            capacity = key;
-            words = size_of key;
-            effects = effects;
-            laws = laws key;
-            owner = r.owner;
-            s = s;
-            id = id;
-            p = h.party;
-            gained = [];
-            u = r.trace;
-            b = between;
-          };
+          turning = turning_at (laws key) between;
           start = h.start;
           flight = h.flight;
           next = Done h.answer;

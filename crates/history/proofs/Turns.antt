@@ -130,6 +130,27 @@ pub record Turning (T : Type 0) : Type 0 where
   pub u : Trace T
   pub b : Between code kind capacity owner s id p gained u
 
+module _ {T : Type 0} {code : Coding T} {kind : Kind} {capacity words : ℕ} {effects : World T → ℕ → Flight T → ℕ → List (Event T)}
+    (laws : KeptLaws code kind capacity words effects) {owner : ℕ → ℕ} {s : State (Unit {0}) (View T)} {id p : ℕ}
+    {gained : List (Event T)} {u : Trace T} (b : Between code kind capacity owner s id p gained u) where
+  abbrev pub turning_at : Turning T
+  turning_at =
+      record {
+        code = code;
+        kind = kind;
+        capacity = capacity;
+        words = words;
+        effects = effects;
+        laws = laws;
+        owner = owner;
+        s = s;
+        id = id;
+        p = p;
+        gained = gained;
+        u = u;
+        b = b;
+      }
+
 module _ {T : Type 0} (turning : Turning T) where
   open turning use {code, kind, capacity, words, effects, laws, owner, s, id, p, gained, u, b}
 

@@ -16,10 +16,12 @@ use Rattle.steps.specs.declared.atomic.Store.{Store as Storing}
 use Rattle.steps.specs.declared.atomic.StoreStage.{StoreStage}
 use Rattle.steps.specs.declared.atomic.StoreStage.TheVariants as stores
 use Rattle.steps.specs.declared.copied.Buffer as buffers
-use Rattle.steps.specs.Atomic.{cell_word}
+use Rattle.steps.specs.declared.atomic.version.Version.{Version as Looking}
+use Rattle.steps.specs.Atomic.{cell_word, version_want, version_after}
 use Rattle.steps.specs.Queues.Ring.{word_at}
-use Rattle.steps.specs.Queues.Roles.{acquire_want, acquire_after, release_want, release_after}
+use Rattle.steps.specs.Queues.Roles.{acquire_want, acquire_after, release_want, release_after, look_want, look_after}
 use Rattle.steps.specs.declared.queues.roles.AcquireRole.{AcquireRole}
+use Rattle.steps.specs.declared.queues.roles.LookRole.{LookRole}
 use Rattle.steps.specs.declared.queues.roles.ReleaseRole.{ReleaseRole}
 use Rattle.model.specs.declared.event.Answer.TheVariants as answers
 use Rattle.model.specs.declared.event.Start.TheVariants.{Atomic}
@@ -28,11 +30,12 @@ use Rattle.model.specs.declared.families.atomic.AtomicStart.TheVariants.{Release
 use Rattle.model.specs.declared.families.atomic.AtomicStart.TheVariants.{Load}
 use Rattle.model.specs.declared.families.atomic.calls.AtomicFlight.TheVariants as calls
 use Rattle.model.specs.declared.turn.Kind.TheVariants as kinds
-use Rattle.model.specs.Families.Atomic.Calls.{fresh}
+use Rattle.model.specs.Families.Atomic.Calls.{fresh, look_version}
 use Rattle.history.specs.declared.view.View.{View}
 use Rattle.history.specs.Rooms.{room_of}
 use Rattle.history.specs.Stages.{Calling, At}
-use Rattle.history.specs.Value.{HasProducer, acquires_producer, releases_producer, store_skips, StoreStands}
+use Rattle.history.specs.Value.{HasProducer, acquires_producer, releases_producer, looks_at_producer, looks_at_version}
+use Rattle.history.specs.Value.{store_skips, StoreStands}
 use Rattle.history.specs.Value.{stores_value, LoadStands, value_of_room, loads_value}
 use Rattle.history.proofs.Drives.{goes, keeps, keeps_to_end}
 use Rattle.history.proofs.QueueCalls.{holds_it}
@@ -40,7 +43,7 @@ use Rattle.history.proofs.Rooms.{room_set, room_read}
 use Rattle.history.proofs.Values.{value_effects, plain_starts, producer_starts}
 use Rattle.history.proofs.CallsIn.{Driven, IsCallBy, KeepsEnds, KeepsOver}
 use Rattle.history.proofs.Values.{value_machines}
-use Rattle.history.proofs.Cases.{by_bool}
+use Rattle.laws_robust.proofs.Cases.{by_bool}
 
 module _ {T : Type 0} (code : Coding T) where
   abbrev size_of : ℕ → ℕ
@@ -89,6 +92,34 @@ module _ {T : Type 0} (code : Coding T) where
             (λ kept. refl) (λ o p. tt) (λ holder p is. holds_it holder p is) has;
         wrote = λ p. refl;
       })
+
+  -- ---- the looks, of which each is one load
+
+  abbrev pub look_driven : Driven T LookRole (Unit {0}) Bool
+  look_driven = record { want = look_want; after = look_after; kept = λ c m n. m; call = looks_at_producer }
+
+  look_is_call : IsCallBy code (value_effects code) size_of look_driven
+  look_is_call = grind arith
+
+  pub look_keeps : KeepsEnds code kinds.Atomic size_of look_driven
+  look_keeps = keeps_to_end (value_machines code) look_driven look_is_call (λ c n. refl)
+
+  pub look_first : (x : View T) (m : Unit {0}) → x.going ≡ None → x.other ≡ [] → 0 < x.share.part
+      → At code kinds.Atomic looks_at_producer x x (record { word = producer_word }) m
+  look_first = grind (arith, inl, fresh, plain_starts, looks_at_producer)
+
+  abbrev pub version_driven : Driven T Looking (Unit {0}) ℕ
+  version_driven = record { want = version_want; after = version_after; kept = λ c m n. m; call = looks_at_version }
+
+  version_is_call : IsCallBy code (value_effects code) size_of version_driven
+  version_is_call = grind arith
+
+  pub version_keeps : KeepsEnds code kinds.Atomic size_of version_driven
+  version_keeps = keeps_to_end (value_machines code) version_driven version_is_call (λ c n. refl)
+
+  pub version_first : (x : View T) (m : Unit {0}) → x.going ≡ None → x.other ≡ [] → 0 < x.share.part
+      → At code kinds.Atomic looks_at_version x x look_version m
+  version_first = grind (arith, inl, fresh, plain_starts, looks_at_version)
 
 -- ---- stores
 

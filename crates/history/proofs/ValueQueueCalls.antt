@@ -36,7 +36,7 @@ use Rattle.history.proofs.QueueCalls.{holds_it}
 use Rattle.history.proofs.Queues.{queue_effects, role_starts, queue_machines}
 use Rattle.history.proofs.Rooms.{room_set, room_read}
 use Rattle.history.proofs.CallsIn.{Driven, IsCallBy, KeepsEnds, KeepsOver}
-use Rattle.history.proofs.Cases.{by_bool}
+use Rattle.laws_robust.proofs.Cases.{by_bool}
 
 -- a word of a cell is one of the queue's words
 cell_low : (size capacity position cell at : ℕ) → IsWordOf size capacity position cell at → word_at cell at < 4 + size * capacity

@@ -15,7 +15,8 @@ use Rattle.history.proofs.AnyRoles.{wider, acquire_first_on, release_first_on, l
 use Rattle.history.proofs.Drives.{keeps_sized, keeps_to_end}
 use Rattle.history.specs.Views.{first_view}
 use Rattle.history.proofs.Passes.{opens}
-use Rattle.history.proofs.QueueRoles.{acquire_driven, release_driven, len_driven, acquire_is_call, release_is_call, len_is_call}
+use Rattle.history.proofs.QueueRoles.{acquire_driven, release_driven, look_driven, len_driven}
+use Rattle.history.proofs.QueueRoles.{acquire_is_call, release_is_call, look_is_call, len_is_call}
 use Rattle.history.proofs.Queues.{queue_effects}
 use Rattle.history.proofs.CallsIn.{KeepsEnds}
 use Rattle.history.proofs.Queues.{queue_machines}
@@ -45,6 +46,11 @@ module _ {T : Type 0} (code : Coding T) (law : IsCoding code) where
     pub value_release_first : (x : View T) (m : Unit {0}) → x.going ≡ None → x.other ≡ [] → 0 < x.share.part
         → HasRole role x.made → At code kinds.Queue (gives_role role) x x (record { word = role_word role }) m
     value_release_first x m idle alone any has = release_first_on code queues.Queue x m idle alone any role has
+
+    pub value_look_keeps : KeepsEnds code kinds.Queue words_of (look_driven code role)
+    value_look_keeps =
+        keeps_to_end (queue_machines code) (look_driven code role)
+        (wider code (queue_effects code) (λ capacity. 4 + capacity) words_of (look_driven code role) low (look_is_call code role)) (λ c n. refl)
 
   module _ (which : LengthOf) where
     len_keeps : (size : ℕ) → KeepsEnds code kinds.Queue words_of (len_driven code which size)

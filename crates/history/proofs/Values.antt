@@ -7,6 +7,7 @@ use Rattle.history.proofs.Names.{Each, first_row, answer_in, Trace, stands_there
 use Rattle.model.specs.declared.event.Start.TheVariants.{Atomic}
 use Rattle.model.specs.declared.families.Flight.TheVariants as flights
 use Rattle.model.specs.declared.families.Registry.TheVariants as registries
+use Rattle.model.specs.declared.families.atomic.AtomicStart.TheVariants as starts
 use Rattle.model.specs.declared.families.atomic.AtomicStart.TheVariants.{AcquireProducer, ReleaseProducer, Store}
 use Rattle.model.specs.declared.families.atomic.AtomicStart.TheVariants.{Load}
 use Rattle.model.specs.declared.families.atomic.calls.AtomicFlight.TheVariants as calls
@@ -36,6 +37,8 @@ module _ {T : Type 0} where
   start_of (calls.Release run) = ReleaseProducer
   start_of (calls.Store run) = Store run.given
   start_of (calls.Load run) = Load
+  start_of (calls.Look run) = starts.HasProducer
+  start_of (calls.Version run) = starts.Version
 
   -- what a step of a call on the single value writes
   abbrev pub value_effects : Coding T → ℕ → Flight T → ℕ → List (Event T)

@@ -1,5 +1,5 @@
 -- The calls of the bit sets as acts on single places, each at one moment of its call.
-use Rattle.std.specs.Prelude.{◌≡◌, ◌≢◌, ◌≤◌, ◌<◌, ℕ, ◌+◌, ◌^◌, ◌%◌, ◌==◌, ◌&&◌, Bool, true, false, Option, Some, None, List, [], ◌∷◌, if◌then◌else◌}
+use Rattle.std.specs.Prelude.{◌≡◌, ◌≢◌, ◌≤◌, ◌<◌, ℕ, ◌+◌, ◌^◌, ◌%◌, ◌==◌, ◌&&◌, Bool, true, false, not, Option, Some, None, List, [], ◌∷◌, if◌then◌else◌}
 use Rattle.model.specs.declared.event.Answer.{Answer}
 use Rattle.model.specs.declared.event.Answer.TheVariants.{Done, Truth, Number, ResetNone, Reset}
 use Rattle.model.specs.declared.event.Event.{Event}
@@ -7,6 +7,7 @@ use Rattle.model.specs.declared.event.Event.TheVariants as events
 use Rattle.model.specs.declared.event.Event.TheVariants.{Begun, Cleared, Counted, TakenOut, Finished}
 use Rattle.model.specs.declared.event.Start.{Start}
 use Rattle.model.specs.declared.event.Start.TheVariants.{Bits}
+use Rattle.model.specs.declared.families.bits.BitsStart.TheVariants as calls
 use Rattle.model.specs.declared.families.bits.BitsStart.TheVariants.{Set, ResetNext, ResetAll}
 use Rattle.model.specs.declared.turn.Kind.{Kind}
 use Rattle.model.specs.declared.turn.Kind.TheVariants as kinds
@@ -35,9 +36,11 @@ Found P None = ⊥
 Found P (Some n) = P n
 
 module _ {T : Type 0} where
-  -- the number that the call leaves where it finds this one; a reset leaves 0
+  -- the number that the call leaves where it finds this one; a reset leaves 0, and a look leaves it
   abbrev pub left_by : Kind → Start T → ℕ → ℕ
   left_by kind (Bits (Set place)) n = after_set kind n
+  left_by kind (Bits (calls.IsSet place)) n = n
+  left_by kind (Bits (calls.Count place)) n = n
   left_by kind start n = 0
 
   -- ---- marks
@@ -74,11 +77,13 @@ module _ {T : Type 0} where
 
   -- ---- one party's call and one place
 
-  -- a set acts on its own place alone
+  -- a set acts on its own place alone, and so does a look
   abbrev pub MayAct : ℕ → Start T → Type 0
   MayAct b (Bits (Set place)) = place ≡ b
   MayAct b (Bits ResetNext) = Unit {0}
   MayAct b (Bits ResetAll) = Unit {0}
+  MayAct b (Bits (calls.IsSet place)) = place ≡ b
+  MayAct b (Bits (calls.Count place)) = place ≡ b
   MayAct b start = ⊥
 
   -- The call acts now where this number stands, and leaves that one: a call acts on a place at most once.
@@ -89,7 +94,7 @@ module _ {T : Type 0} where
 
   -- What a call that ends has found at the place. A set: what it answers, at its place. A reset of the next place: 1
   -- at the place that it answers, and it acted on no other; where it answers none, 0 at each place. A reset of all:
-  -- whatever it found at each place of which it is sure.
+  -- whatever it found at each place of which it is sure. A look: what it answers, at its place.
   abbrev pub Answers : ℕ → Type 0 → ℕ → Start T → Answer T → Option ℕ → Type 0
   Answers capacity Sure b (Bits (Set place)) (Truth answer) found =
       place ≡ b → Found (λ n. answer ≡ (n == 0)) found
@@ -99,6 +104,10 @@ module _ {T : Type 0} where
       (place ≡ b → found ≡ Some 1) × (place ≢ b → found ≡ None)
   Answers capacity Sure b (Bits ResetNext) ResetNone found = b < capacity → found ≡ Some 0
   Answers capacity Sure b (Bits ResetAll) Done found = Sure → b < capacity → Found (λ n. Unit {0}) found
+  Answers capacity Sure b (Bits (calls.IsSet place)) (Truth answer) found =
+      place ≡ b → Found (λ n. answer ≡ not (n == 0)) found
+  Answers capacity Sure b (Bits (calls.Count place)) (Number number) found =
+      place ≡ b → Found (λ n. number ≡ n) found
   Answers capacity Sure b start answer found = ⊥
 
   abbrev pub Ends : ℕ → Type 0 → ℕ → Start T → Answer T → Way T → Type 0

@@ -10,20 +10,23 @@ use Rattle.model.specs.declared.event.Item.TheVariants.{Index}
 use Rattle.model.specs.declared.event.Start.TheVariants.{Queues}
 use Rattle.model.specs.declared.families.Flight.TheVariants as flights
 use Rattle.model.specs.declared.families.queues.QueueStart.{QueueStart}
-use Rattle.model.specs.declared.families.queues.QueueStart.TheVariants.{PushIndex, Pop, Len, IsEmpty, IsFull}
+use Rattle.model.specs.declared.families.queues.QueueStart.TheVariants.{PushIndex, Pop, Peek, Len, IsEmpty, IsFull}
 use Rattle.model.specs.declared.families.queues.calls.LengthOf.{LengthOf}
 use Rattle.model.specs.declared.families.queues.calls.LengthOf.TheVariants as measures
 use Rattle.model.specs.declared.families.queues.calls.QueueFlight.TheVariants as flying
 use Rattle.model.specs.declared.families.queues.calls.RoleCall.TheVariants as roles
 use Rattle.steps.specs.declared.queues.lengths.Len.{Len as Counting}
 use Rattle.steps.specs.declared.queues.roles.AcquireRole.{AcquireRole}
+use Rattle.steps.specs.declared.queues.roles.LookRole.{LookRole}
 use Rattle.steps.specs.declared.queues.roles.ReleaseRole.{ReleaseRole}
 use Rattle.steps.specs.declared.queues.roles.Role.{Role}
-use Rattle.history.specs.Roles.{role_word, acquire_start, release_start}
+use Rattle.history.specs.Roles.{role_word, acquire_start, release_start, look_start}
 use Rattle.model.specs.declared.families.queues.calls.QueueFlight.TheVariants.{Indices}
 use Rattle.model.specs.declared.families.queues.calls.RingCall.TheVariants as rings
 use Rattle.steps.specs.Queues.Ring.{cell_word, pop_answer}
 use Rattle.steps.specs.declared.copied.OneWord.{OneWord}
+use Rattle.steps.specs.declared.queues.peek.Peek as peek_calls
+use Rattle.steps.specs.declared.queues.peek.PeekStage as peeks
 use Rattle.steps.specs.declared.queues.ring.Pop as pop_calls
 use Rattle.steps.specs.declared.queues.ring.PopStage as pops
 use Rattle.steps.specs.declared.queues.ring.Push.{Push}
@@ -70,6 +73,17 @@ PopStage capacity stage = Unit {0}
 abbrev pub PopStands : ℕ → Taking → Type 0
 PopStands capacity c = (capacity < 2 ^ 32) × (c.capacity ≡ capacity) × PopStage capacity c.stage
 
+abbrev pub Peeking : Type 0
+Peeking = peek_calls.Peek ℕ OneWord
+
+abbrev pub PeekStage : ℕ → peeks.PeekStage → Type 0
+PeekStage capacity (peeks.TheVariants.LoadsCell cell at) =
+    (position : ℕ) × (0 < capacity) × (cell ≡ cell_word capacity 1 position) × (at ≡ 0)
+PeekStage capacity stage = Unit {0}
+
+abbrev pub PeekStands : ℕ → Peeking → Type 0
+PeekStands capacity c = (capacity < 2 ^ 32) × (c.capacity ≡ capacity) × PeekStage capacity c.stage
+
 module _ {T : Type 0} where
   abbrev pub pop_wrote : ℕ → ℕ → Bool → List (Event T)
   pop_wrote p v true = HandedOut p (Index v) ∷ Acted p (Queues Pop) (answers.PoppedIndex v) ∷ []
@@ -87,6 +101,21 @@ module _ {T : Type 0} where
         answer = λ e m. popped (pop_answer m.0 e);
         wrote = λ capacity p from c m es. es ≡ [];
         wrote_all = λ capacity p from e m es. es ≡ pop_wrote p m.0 e;
+      }
+
+  -- a peek writes nothing
+  abbrev pub peeks_index : Calling T Peeking OneWord Bool
+  peeks_index =
+      record {
+        start = Queues Peek;
+        by = λ was p. Unit {0};
+        stands = PeekStands;
+        skips = λ c n. false;
+        left = λ e. ⊥;
+        flight = λ c m. flights.Queues (Indices (rings.Peek (record { call = c; given = tt; room = m })));
+        answer = λ e m. popped (pop_answer m.0 e);
+        wrote = λ capacity p from c m es. es ≡ [];
+        wrote_all = λ capacity p from e m es. es ≡ [];
       }
 
   -- ---- the calls on roles
@@ -118,6 +147,21 @@ module _ {T : Type 0} where
         left = λ e. ⊥;
         wrote = λ capacity p from c m es. es ≡ [];
         wrote_all = λ capacity p from e m es. es ≡ [];
+      }
+
+  -- whether it is held
+  abbrev pub looks_role : Role → Calling T LookRole (Unit {0}) Bool
+  looks_role role =
+      record {
+        start = Queues (look_start role);
+        by = λ was p. IfSome was (λ q. q ≡ p);
+        stands = λ capacity c. c.word ≡ role_word role;
+        flight = λ c m. flights.Queues (flying.Role (roles.Look (record { call = c; given = tt; room = m })));
+        answer = λ b m. Truth b;
+        skips = λ c n. false;
+        left = λ e. ⊥;
+        wrote = λ capacity p from c m es. es ≡ [];
+        wrote_all = λ capacity p from b m es. es ≡ [];
       }
 
   -- ---- how many wait

@@ -10,7 +10,7 @@ use Rattle.model.specs.declared.event.Start.TheVariants.{Queues}
 use Rattle.model.specs.declared.families.queues.QueueStart.{QueueStart}
 use Rattle.model.specs.declared.families.queues.QueueStart.TheVariants.{AcquireProducer, ReleaseProducer}
 use Rattle.model.specs.declared.families.queues.QueueStart.TheVariants.{AcquireConsumer, ReleaseConsumer, PushIndex}
-use Rattle.model.specs.declared.families.queues.QueueStart.TheVariants.{Push, Pop}
+use Rattle.model.specs.declared.families.queues.QueueStart.TheVariants.{Push, Pop, HasProducer, HasConsumer}
 use Rattle.model.specs.declared.families.queues.Roles.{Roles}
 use Rattle.model.specs.Families.Queues.Reading.{publishes, hands_out, producer_after, consumer_after, producer_of, consumer_of}
 
@@ -32,6 +32,10 @@ module _ {T : Type 0} where
   release_start Producer = ReleaseProducer
   release_start Consumer = ReleaseConsumer
 
+  abbrev pub look_start : Role → QueueStart T
+  look_start Producer = HasProducer
+  look_start Consumer = HasConsumer
+
   -- an acquire that answers true
   abbrev pub takes : Role → Event T → ℕ
   takes Producer (Finished p (Queues AcquireProducer) (Truth true)) = 1
@@ -46,6 +50,11 @@ module _ {T : Type 0} where
   abbrev pub role_after : Role → Option ℕ → Event T → Option ℕ
   role_after Producer = producer_after
   role_after Consumer = consumer_after
+
+  -- who holds it after these events
+  abbrev pub holder_by : Role → List (Event T) → Option ℕ
+  holder_by Producer events = producer_of events
+  holder_by Consumer events = consumer_of events
 
   -- what the holder of the role alone writes
   abbrev pub marks : Role → Event T → List (Item T)

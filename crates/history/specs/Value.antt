@@ -6,7 +6,9 @@ use Rattle.steps.specs.declared.atomic.LoadStage.TheVariants as loads
 use Rattle.steps.specs.declared.atomic.Store.{Store as Storing}
 use Rattle.steps.specs.declared.atomic.StoreStage.{StoreStage}
 use Rattle.steps.specs.declared.atomic.StoreStage.TheVariants as stores
+use Rattle.steps.specs.declared.atomic.version.Version.{Version as Looking}
 use Rattle.steps.specs.declared.queues.roles.AcquireRole.{AcquireRole}
+use Rattle.steps.specs.declared.queues.roles.LookRole.{LookRole}
 use Rattle.steps.specs.declared.queues.roles.ReleaseRole.{ReleaseRole}
 use Rattle.steps.specs.Atomic.{cell_word, before_version}
 use Rattle.steps.specs.Copied.{value_in}
@@ -16,6 +18,7 @@ use Rattle.model.specs.declared.event.Event.{Event}
 use Rattle.model.specs.declared.event.Event.TheVariants.{Acted, Finished}
 use Rattle.model.specs.declared.event.Start.TheVariants.{Atomic}
 use Rattle.model.specs.declared.families.Flight.TheVariants as flights
+use Rattle.model.specs.declared.families.atomic.AtomicStart.TheVariants as starts
 use Rattle.model.specs.declared.families.atomic.AtomicStart.TheVariants.{AcquireProducer, ReleaseProducer, Store, Load}
 use Rattle.model.specs.declared.families.atomic.calls.AtomicFlight.TheVariants as calls
 use Rattle.model.specs.Coding.{Coding}
@@ -72,6 +75,20 @@ module _ {T : Type 0} where
         left = λ e. ⊥;
         wrote = λ capacity p from c m es. es ≡ [];
         wrote_all = λ capacity p from e m es. es ≡ [];
+      }
+
+  abbrev pub looks_at_producer : Calling T LookRole (Unit {0}) Bool
+  looks_at_producer =
+      record {
+        start = Atomic starts.HasProducer;
+        by = λ was p. IfSome was (λ q. q ≡ p);
+        stands = λ capacity c. c.word ≡ producer_word;
+        flight = λ c m. flights.Atomic (calls.Look (record { call = c; given = tt; room = m }));
+        answer = λ b m. Truth b;
+        skips = λ c n. false;
+        left = λ e. ⊥;
+        wrote = λ capacity p from c m es. es ≡ [];
+        wrote_all = λ capacity p from b m es. es ≡ [];
       }
 
 -- ---- stores
@@ -133,6 +150,23 @@ module _ {T R : Type 0} (code : Coding T) (words_in : R → List ℕ) where
         wrote = λ capacity p from c m es. es ≡ [];
         wrote_all = λ capacity p from e m es.
             es ≡ Acted p (Atomic Load) (answers.Loaded (value_of_room m)) ∷ [];
+      }
+
+-- ---- the version
+
+module _ {T : Type 0} where
+  abbrev pub looks_at_version : Calling T Looking (Unit {0}) ℕ
+  looks_at_version =
+      record {
+        start = Atomic starts.Version;
+        by = λ was p. IfSome was (λ q. q ≡ p);
+        stands = λ capacity c. Unit {0};
+        flight = λ c m. flights.Atomic (calls.Version (record { call = c; given = tt; room = m }));
+        answer = λ n m. answers.Number n;
+        skips = λ c n. false;
+        left = λ e. ⊥;
+        wrote = λ capacity p from c m es. es ≡ [];
+        wrote_all = λ capacity p from n m es. es ≡ [];
       }
 
 -- ---- the values that were stored

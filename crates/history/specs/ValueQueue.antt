@@ -1,5 +1,8 @@
 -- The calls on a queue of values as calls of the model; those on its roles and its lengths are any queue's.
 use Rattle.std.specs.Prelude.{◌≡◌, ℕ, ◌^◌, ◌<◌, Bool, true, false, List, [], ◌∷◌}
+use Rattle.steps.specs.declared.queues.peek.Peek.{Peek as Peeking}
+use Rattle.steps.specs.declared.queues.peek.PeekStage.{PeekStage}
+use Rattle.steps.specs.declared.queues.peek.PeekStage.TheVariants as peeks
 use Rattle.steps.specs.declared.queues.ring.Pop.{Pop as Popping}
 use Rattle.steps.specs.declared.queues.ring.PopStage.{PopStage}
 use Rattle.steps.specs.declared.queues.ring.PopStage.TheVariants as pops
@@ -14,7 +17,7 @@ use Rattle.model.specs.declared.event.Event.TheVariants.{Published, HandedOut, A
 use Rattle.model.specs.declared.event.Item.TheVariants.{Value}
 use Rattle.model.specs.declared.event.Start.TheVariants.{Queues}
 use Rattle.model.specs.declared.families.Flight.TheVariants as flights
-use Rattle.model.specs.declared.families.queues.QueueStart.TheVariants.{Push, Pop}
+use Rattle.model.specs.declared.families.queues.QueueStart.TheVariants.{Push, Pop, Peek}
 use Rattle.model.specs.declared.families.queues.calls.QueueFlight.TheVariants.{Values}
 use Rattle.model.specs.declared.families.queues.calls.RingCall.TheVariants as rings
 use Rattle.model.specs.Coding.{Coding}
@@ -37,6 +40,10 @@ abbrev pub PopPlace : ℕ → ℕ → PopStage → Type 0
 PopPlace size capacity (pops.LoadsCell read cell at) =
     IsWordOf size capacity read cell at
 PopPlace size capacity stage = Unit {0}
+
+abbrev pub PeekPlace : ℕ → ℕ → PeekStage → Type 0
+PeekPlace size capacity (peeks.LoadsCell cell at) = (position : ℕ) × IsWordOf size capacity position cell at
+PeekPlace size capacity stage = Unit {0}
 
 module _ {T : Type 0} where
   -- what a push has written once it has ended
@@ -66,7 +73,7 @@ module _ {T : Type 0} (code : Coding T) where
         wrote_all = λ capacity p from e m es. es ≡ value_push_wrote p v e;
       }
 
--- a pop reads by way of a room that has these words
+-- a pop and a peek read by way of a room that has these words
 module _ {T R : Type 0} (code : Coding T) (words_in : R → List ℕ) where
   abbrev pub value_there : R → T
   value_there room = value_in code.value_of code.size (words_in room)
@@ -90,4 +97,26 @@ module _ {T R : Type 0} (code : Coding T) (words_in : R → List ℕ) where
         answer = λ e m. popped_value (pop_answer (value_there m) e);
         wrote = λ capacity p from c m es. es ≡ [];
         wrote_all = λ capacity p from e m es. es ≡ value_pop_wrote p (value_there m) e;
+      }
+
+  -- a peek writes nothing
+  abbrev pub peeks_value : Calling T (Peeking T R) R Bool
+  peeks_value =
+      record {
+        start = Queues Peek;
+        by = λ was p. Unit {0};
+        stands = λ capacity c.
+            (capacity < 2 ^ 32) × (c.capacity ≡ capacity) × PeekPlace code.size capacity c.stage;
+        skips = λ c n. false;
+        left = λ e. ⊥;
+        flight = λ c m. flights.Queues
+            (Values (rings.Peek
+            (record {
+              call = record { capacity = c.capacity; stage = c.stage; of = record {} };
+              given = tt;
+              room = room_of code.size (words_in m);
+            })));
+        answer = λ e m. popped_value (pop_answer (value_there m) e);
+        wrote = λ capacity p from c m es. es ≡ [];
+        wrote_all = λ capacity p from e m es. es ≡ [];
       }

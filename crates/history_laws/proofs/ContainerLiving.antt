@@ -36,13 +36,10 @@ use Rattle.laws_container.proofs.CallProgress.{At}
 use Rattle.history_laws.specs.Containers.{is_for, is_acting, BeginsRight, IsFaithful}
 use Rattle.lock_free_owners.proofs.Worn.ContainerWorn.{Sound, terms}
 use Rattle.laws_robust.proofs.Counter.{tested}
+use Rattle.laws_robust.proofs.Cases.{on_bool}
 
 differs : (o owner : ℕ) → (o ≡ owner → ⊥) → ((o == owner) || false) ≡ false
-differs o owner ne = go (o == owner) refl
-  where
-    go : (b : Bool) → (o == owner) ≡ b → (b || false) ≡ false
-    go true e = absurd (ne (tested o owner e))
-    go false e = refl
+differs o owner ne = on_bool (λ b. (b || false) ≡ false) (o == owner) (λ e. absurd (ne (tested o owner e))) (λ e. refl)
 
 module _ {T : Type 0} where
   -- who acts is not gone

@@ -28,6 +28,7 @@ use Rattle.history_laws.specs.Grants.{is_at, MayFree, FreesRightAt, IsFreedRight
 use Rattle.history_laws.proofs.GrantsClaims.{Claim, Apart, Filling, Held, Giving, fill_claim, give_claim, claim_by, claim}
 use Rattle.history_laws.proofs.GrantsClaims.{Good, quiet, fills, grants, finishes, begins, frees, recovers}
 use Rattle.laws_robust.proofs.Counter.{tested}
+use Rattle.laws_robust.proofs.Cases.{by_bool, on_bool}
 
 -- a claim of the index j is one of i
 abbrev here : ℕ → ℕ → Claim → Claim
@@ -49,11 +50,7 @@ give_more i j o [] one = refl
 give_more i j o (a ∷ rest) one = refl
 
 differ : (p q : ℕ) → q ≢ p → (p == q) ≡ false
-differ p q ne = go (p == q) refl
-  where
-    go : (b : Bool) → (p == q) ≡ b → (p == q) ≡ false
-    go true e = absurd (ne (sym (tested p q e)))
-    go false e = e
+differ p q ne = by_bool (p == q) (λ e. absurd (ne (sym (tested p q e)))) (λ e. e)
 
 module _ {T : Type 0} (i : ℕ) where
   -- ---- what both structures say of an event
@@ -274,29 +271,27 @@ module _ {T : Type 0} (i : ℕ) where
     at_here j to c same h = h ∙ ap (λ b. if b then to else Apart) same
 
     step_fill : (c p j o : ℕ) → SetDoes c events (Filled p j o) → Says events (Filled p j o) → Then (Filled p j o)
-    step_fill c p j o does says = go (j == i) refl
+    step_fill c p j o does says =
+        on_bool (λ b. Good (if b then Some o else filled) holder settled (if b then By p else right)
+        (claims_then (Filled p j o)) (Began (events ++ Filled p j o ∷ [])))
+        (j == i)
+        (λ same.
+        fills filled holder settled right claims (claims_then (Filled p j o)) (Began events) (Began (events ++ Filled p j o ∷ [])) g p o
+        (others p (Filled p j o) refl) (subst (λ n. filled_of n events ≡ None) (tested j i same) does.1)
+        (mine_then p (Filled p j o) (Filling o) refl (at_here j (Filling o) _ same says)))
+        (λ other. quietly (Filled p j o) (elsewhere p j (Filled p j o) (Filling o) refl other says))
       where
         e : Event T
         e = Filled p j o
 
-        go : (b : Bool) → (j == i) ≡ b
-            → Good (if b then Some o else filled) holder settled (if b then By p else right) (claims_then (Filled p j o)) (Began (events ++ Filled p j o ∷ []))
-        go true same =
-            fills filled holder settled right claims (claims_then (Filled p j o)) (Began events) (Began (events ++ Filled p j o ∷ [])) g p o
-            (others p (Filled p j o) refl) (subst (λ n. filled_of n events ≡ None) (tested j i same) does.1)
-            (mine_then p (Filled p j o) (Filling o) refl (at_here j (Filling o) _ same says))
-        go false other = quietly (Filled p j o) (elsewhere p j (Filled p j o) (Filling o) refl other says)
-
     step_grant : (p j o : ℕ) → Says events (Granted p j o) → Then (Granted p j o)
-    step_grant p j o says = go (j == i) refl
-      where
-        go : (b : Bool) → (j == i) ≡ b
-            → Good filled (if b then Some o else holder) settled right (claims_then (Granted p j o)) (Began (events ++ Granted p j o ∷ []))
-        go true same =
-            grants filled holder settled right claims (claims_then (Granted p j o)) (Began events) (Began (events ++ Granted p j o ∷ [])) g p o
-            (others p (Granted p j o) refl) (at_here j (Filling o) _ same says.0)
-            (mine_then p (Granted p j o) (Held o) refl (at_here j (Held o) _ same says.1))
-        go false other = quietly (Granted p j o) (elsewhere p j (Granted p j o) (Held o) refl other says.1)
+    step_grant p j o says =
+        on_bool (λ b. Good filled (if b then Some o else holder) settled right (claims_then (Granted p j o)) (Began (events ++ Granted p j o ∷ []))) (j == i)
+        (λ same.
+        grants filled holder settled right claims (claims_then (Granted p j o)) (Began events) (Began (events ++ Granted p j o ∷ [])) g p o
+        (others p (Granted p j o) refl) (at_here j (Filling o) _ same says.0)
+        (mine_then p (Granted p j o) (Held o) refl (at_here j (Held o) _ same says.1)))
+        (λ other. quietly (Granted p j o) (elsewhere p j (Granted p j o) (Held o) refl other says.1))
 
     -- the index is granted where nobody holds it
     grant_right : (p j o : ℕ) → Says events (Granted p j o) → GrantsRightAt i events (Granted p j o)
@@ -308,24 +303,23 @@ module _ {T : Type 0} (i : ℕ) where
     not_at span none = grind arith
 
     step_free : (p j o : ℕ) → Says events (FreedOf p j o) → FreesRightAt i events (FreedOf p j o) → Then (FreedOf p j o)
-    step_free p j o says may = go (j == i) refl
-      where
-        go : (b : Bool) → (j == i) ≡ b
-            → Good (if b then None else filled) (if b then None else holder) (if b then None else settled) (if b then Nobody else right)
-            (claims_then (FreedOf p j o)) (Began (events ++ FreedOf p j o ∷ []))
-        go false other =
-            quietly (FreedOf p j o) (all_stay p (FreedOf p j o) refl (inl (mine_then p (FreedOf p j o) Apart refl says.0)))
-        go true same =
-            let is = tested j i same in
-            ⊎_elim
-            (λ gave. frees filled holder settled right claims (claims_then (FreedOf p j o)) (Began events) (Began (events ++ FreedOf p j o ∷ [])) g p o
-            (others p (FreedOf p j o) refl) (mine_then p (FreedOf p j o) Apart refl says.0) (at_here j (Giving o) _ same gave.0)
-            (subst (λ n. SinceBegin p (λ part since. settled_of n part ≡ Some o) events) is gave.1))
-            (λ none. recovers filled holder settled right claims (claims_then (FreedOf p j o)) (Began events) (Began (events ++ FreedOf p j o ∷ [])) g
-            (λ q. ⊎_elim (λ own. subst (λ n. claims_then (FreedOf p j o) n ≡ Apart) (sym own) (mine_then p (FreedOf p j o) Apart refl says.0))
-            (λ ne. ap (claim i) (other_span p q (FreedOf p j o) (span_of q events) refl ne)
-            ∙ not_at (span_of q events) (subst (λ n. is_at n (span_of q events) ≡ false) is (none q))) (cases_eq q p)))
-            (says.1 (may is))
+    step_free p j o says may =
+        on_bool (λ b. Good (if b then None else filled) (if b then None else holder) (if b then None else settled)
+        (if b then Nobody else right) (claims_then (FreedOf p j o)) (Began (events ++ FreedOf p j o ∷ [])))
+        (j == i)
+        (λ same.
+        let is = tested j i same in
+        ⊎_elim
+        (λ gave. frees filled holder settled right claims (claims_then (FreedOf p j o)) (Began events) (Began (events ++ FreedOf p j o ∷ [])) g p o
+        (others p (FreedOf p j o) refl) (mine_then p (FreedOf p j o) Apart refl says.0) (at_here j (Giving o) _ same gave.0)
+        (subst (λ n. SinceBegin p (λ part since. settled_of n part ≡ Some o) events) is gave.1))
+        (λ none. recovers filled holder settled right claims (claims_then (FreedOf p j o)) (Began events) (Began (events ++ FreedOf p j o ∷ [])) g
+        (λ q. ⊎_elim (λ own. subst (λ n. claims_then (FreedOf p j o) n ≡ Apart) (sym own) (mine_then p (FreedOf p j o) Apart refl says.0))
+        (λ ne. ap (claim i) (other_span p q (FreedOf p j o) (span_of q events) refl ne)
+        ∙ not_at (span_of q events) (subst (λ n. is_at n (span_of q events) ≡ false) is (none q))) (cases_eq q p)))
+        (says.1 (may is)))
+        (λ other.
+        quietly (FreedOf p j o) (all_stay p (FreedOf p j o) refl (inl (mine_then p (FreedOf p j o) Apart refl says.0))))
 
     -- a call that was granted an index ends
     step_end : (p j o : ℕ) (e : Event T) → whose e ≡ Some p → claim i (own_after (span_of p events) e) ≡ Apart → claims p ≡ here i j (Held o)

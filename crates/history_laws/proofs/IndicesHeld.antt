@@ -18,6 +18,7 @@ use Rattle.laws_indices.proofs.Sums.{sum_below, sum_moved, sum_same, sum_none}
 use Rattle.history.proofs.Acts.Marks.{same_number, other_number, is_number}
 use Rattle.history.proofs.Acts.Ways.{along}
 use Rattle.history_laws.specs.Indices.{held_below}
+use Rattle.laws_robust.proofs.Cases.{by_bool}
 
 module _ {T : Type 0} where
   abbrev is_held : List (Event T) → ℕ → ℕ
@@ -44,19 +45,14 @@ module _ {T : Type 0} where
 
     -- nobody holds an index behind the last
     behind : (i : ℕ) → c ≤ i → (e : Event T) → HoldsRight c before e → holder_of i before ≡ None → holder_after i (holder_of i before) e ≡ None
-    behind i past (Claimed p index) right none = go (index == i) refl
-      where
-        go : (b : Bool) → (index == i) ≡ b → holder_after {T = T} i (holder_of i before) (Claimed p index) ≡ None
-        go true t =
-            let same : index ≡ i = is_number index i t in
-            let low = right.0 in
-            absurd (omega arith)
-        go false t = rw t none
-    behind i past (Freed p index) right none = go (index == i) refl
-      where
-        go : (b : Bool) → (index == i) ≡ b → holder_after {T = T} i (holder_of i before) (Freed p index) ≡ None
-        go true t = rw t refl
-        go false t = rw t none
+    behind i past (Claimed p index) right none =
+        by_bool (index == i)
+        (λ t.
+        let same : index ≡ i = is_number index i t in
+        let low = right.0 in
+        absurd (omega arith))
+        (λ t. rw t none)
+    behind i past (Freed p index) right none = by_bool (index == i) (λ t. rw t refl) (λ t. rw t none)
     behind i past e right none = none
 
     counts_on : ((i : ℕ) → c ≤ i → holder_of i before ≡ None) → (tally_of before).held ≡ sum_below (is_held before) c

@@ -27,6 +27,7 @@ use Rattle.history.proofs.Indices.{is_index_set}
 use Rattle.history_laws.specs.Indices.{held_below, DidAsAnswered, IsSound}
 use Rattle.history_laws.proofs.IndicesHeld.{held_is}
 use Rattle.history_laws.proofs.IndicesSpans.{IsSince, since_of}
+use Rattle.laws_robust.proofs.Cases.{by_bool}
 
 -- ---- one event
 
@@ -40,32 +41,29 @@ module _ {T : Type 0} where
 
     -- an index is claimed once more than it is freed where it has a holder
     moves : (e : Event T) → HoldsRight c before e → claims i e + held_once i before ≡ frees i e + after e
-    moves (Claimed p index) h = go (index == i) refl
-      where
-        go : (b : Bool) → (index == i) ≡ b → claims {T = T} i (Claimed p index) + held_once i before ≡ 0 + after (Claimed p index)
-        go true t =
-            let none : held_once i before ≡ 0 = ap (λ (o : Option ℕ). one_if (is_some o)) (subst (λ n. holder_of n before ≡ None) (is_number index i t) h.1) in
-            rw t (omega arith)
-        go false t = rw t refl
-    moves (Freed p index) h = go (index == i) refl
-      where
-        go : (b : Bool) → (index == i) ≡ b → 0 + held_once i before ≡ frees {T = T} i (Freed p index) + after (Freed p index)
-        go true t =
-            let some : held_once i before ≡ 1 = ap (λ (o : Option ℕ). one_if (is_some o)) (subst (λ n. holder_of n before ≡ Some p) (is_number index i t) h) in
-            rw t (omega arith)
-        go false t = rw t (omega arith)
+    moves (Claimed p index) h =
+        by_bool (index == i)
+        (λ t.
+        let none : held_once i before ≡ 0 = ap (λ (o : Option ℕ). one_if (is_some o)) (subst (λ n. holder_of n before ≡ None) (is_number index i t) h.1) in
+        rw t (omega arith))
+        (λ t. rw t refl)
+    moves (Freed p index) h =
+        by_bool (index == i)
+        (λ t.
+        let some : held_once i before ≡ 1 = ap (λ (o : Option ℕ). one_if (is_some o)) (subst (λ n. holder_of n before ≡ Some p) (is_number index i t) h) in
+        rw t (omega arith))
+        (λ t. rw t (omega arith))
     moves e h = refl
 
     -- no index behind the last is claimed
     behind : c ≤ i → (e : Event T) → HoldsRight c before e → claims i e ≡ 0
-    behind past (Claimed p index) h = go (index == i) refl
-      where
-        go : (b : Bool) → (index == i) ≡ b → claims {T = T} i (Claimed p index) ≡ 0
-        go true t =
-            let same : index ≡ i = is_number index i t in
-            let low = h.0 in
-            absurd (omega arith)
-        go false t = rw t refl
+    behind past (Claimed p index) h =
+        by_bool (index == i)
+        (λ t.
+        let same : index ≡ i = is_number index i t in
+        let low = h.0 in
+        absurd (omega arith))
+        (λ t. rw t refl)
     behind past e h = refl
 
     -- none is claimed where the set is locked
@@ -78,11 +76,7 @@ module _ {T : Type 0} where
         → locked_after (is_locked before) e ≡ true → holder_after i (holder_of i before) e ≡ None
     unheld none (Locked p) h shut = h.0 i
     unheld none (Claimed p index) h shut = let open_is = h.2 in absurd (cc)
-    unheld none (Freed p index) h shut = go (index == i) refl
-      where
-        go : (b : Bool) → (index == i) ≡ b → holder_after {T = T} i (holder_of i before) (Freed p index) ≡ None
-        go true t = rw t refl
-        go false t = rw t (none shut)
+    unheld none (Freed p index) h shut = by_bool (index == i) (λ t. rw t refl) (λ t. rw t (none shut))
     unheld none e h shut = none shut
 
   -- ---- all events
@@ -129,11 +123,7 @@ module _ {T : Type 0} where
   own_one : (p : ℕ) (f : Event T → ℕ) (e : Event T) (o : Option ℕ)
       → sum_by f (if is_party p o then e ∷ [] else []) ≡ if_owned (λ q. q) p o (f e)
   own_one p f e None = refl
-  own_one p f e (Some q) = go (q == p) refl
-    where
-      go : (b : Bool) → (q == p) ≡ b → sum_by f (if q == p then e ∷ [] else []) ≡ (if q == p then f e else 0)
-      go true t = rw t (omega arith)
-      go false t = rw t refl
+  own_one p f e (Some q) = by_bool (q == p) (λ t. rw t (omega arith)) (λ t. rw t refl)
 
   -- what a party's events come to
   own_sum : (p : ℕ) (f : Event T → ℕ) (events : List (Event T)) → sum_by f (events_by p events) ≡ sum_by (owned (λ q. q) p f) events

@@ -13,6 +13,7 @@ use Rattle.history.specs.Known.{own_of, events_by}
 use Rattle.history.proofs.Acts.Marks.{is_number, no_number}
 use Rattle.history.proofs.Acts.Ways.{along}
 use Rattle.history.proofs.Known.{by_more}
+use Rattle.laws_robust.proofs.Cases.{by_bool}
 
 module _ {T : Type 0} (p : ℕ) where
   -- the party's latest call, and what the party wrote since it began
@@ -72,29 +73,27 @@ module _ {T : Type 0} (p : ℕ) where
   over events (Ended start first wrote) answer = tt
 
   one_more : (events : List (Event T)) (e : Event T) (span : Span T) → Tells events span → Tells (events ++ e ∷ []) (span_after p span e)
-  one_more events (Begun q start) span s = go (q == p) refl
-    where
-      go : (b : Bool) → (q == p) ≡ b → Tells (events ++ Begun q start ∷ []) (span_after p span (Begun q start))
-      go true t =
-          let same : q ≡ p = is_number q p t in
-          let here : span_after p span (Begun q start) ≡ Open start [] = rw t refl in
-          let begun : IsSince start [] (events ++ Begun q start ∷ []) =
-          record { before = events; since = []; is = ap (λ n. events ++ Begun n start ∷ []) same; within = tt; own = refl } in
-          subst (Tells (events ++ Begun q start ∷ [])) (sym here) begun
-      go false t =
-          let other : own_of p (Begun q start) ≡ [] = rw t refl in
-          let here : span_after p span (Begun q start) ≡ span = rw t refl in
-          subst (Tells (events ++ Begun q start ∷ [])) (sym here) (still events (Begun q start) (no_number q p t, tt) other span s)
-  one_more events (Finished q start answer) span s = go (q == p) refl
-    where
-      go : (b : Bool) → (q == p) ≡ b → Tells (events ++ Finished q start answer ∷ []) (span_after p span (Finished q start answer))
-      go true t =
-          let here : span_after p span (Finished q start answer) ≡ ended span answer = rw t refl in
-          subst (Tells (events ++ Finished q start answer ∷ [])) (sym here) (over (events ++ Finished q start answer ∷ []) span answer)
-      go false t =
-          let other : own_of p (Finished q start answer) ≡ [] = rw t refl in
-          let here : span_after p span (Finished q start answer) ≡ span = rw t refl in
-          subst (Tells (events ++ Finished q start answer ∷ [])) (sym here) (still events (Finished q start answer) tt other span s)
+  one_more events (Begun q start) span s =
+      by_bool (q == p)
+      (λ t.
+      let same : q ≡ p = is_number q p t in
+      let here : span_after p span (Begun q start) ≡ Open start [] = rw t refl in
+      let begun : IsSince start [] (events ++ Begun q start ∷ []) =
+      record { before = events; since = []; is = ap (λ n. events ++ Begun n start ∷ []) same; within = tt; own = refl } in
+      subst (Tells (events ++ Begun q start ∷ [])) (sym here) begun)
+      (λ t.
+      let other : own_of p (Begun q start) ≡ [] = rw t refl in
+      let here : span_after p span (Begun q start) ≡ span = rw t refl in
+      subst (Tells (events ++ Begun q start ∷ [])) (sym here) (still events (Begun q start) (no_number q p t, tt) other span s))
+  one_more events (Finished q start answer) span s =
+      by_bool (q == p)
+      (λ t.
+      let here : span_after p span (Finished q start answer) ≡ ended span answer = rw t refl in
+      subst (Tells (events ++ Finished q start answer ∷ [])) (sym here) (over (events ++ Finished q start answer ∷ []) span answer))
+      (λ t.
+      let other : own_of p (Finished q start answer) ≡ [] = rw t refl in
+      let here : span_after p span (Finished q start answer) ≡ span = rw t refl in
+      subst (Tells (events ++ Finished q start answer ∷ [])) (sym here) (still events (Finished q start answer) tt other span s))
   one_more events e span s = writes events e tt (λ z. refl) span s (is_party p (whose e)) refl
 
   tells : (events : List (Event T)) → Tells events (span_of p events)

@@ -6,6 +6,7 @@ pub use Rattle.history.proofs.Holders as HistoryHolders
 pub use Rattle.history.proofs.Locks as HistoryLocks
 pub use Rattle.history.proofs.Ranks as HistoryRanks
 pub use Rattle.history.proofs.Acts as HistoryActs
+pub use Rattle.lock_free_queues.proofs.Queues.Peeks as QueuePeeks
 pub use Rattle.lock_free_queues.proofs.Queues.Positions as QueuePositions
 pub use Rattle.lock_free_queues.proofs.Queues.Promised as QueuePromises
 pub use Rattle.lock_free_queues.proofs.Queues.Sums as QueueSums

@@ -24,3 +24,4 @@ pub mod Changes
 pub mod UpdateAnswers
 pub mod Steps
 pub mod CallAnswers
+pub mod Entries

@@ -17,3 +17,4 @@ pub mod Questions
 pub mod Calls
 pub mod Handles
 pub mod Steps
+pub mod Entries

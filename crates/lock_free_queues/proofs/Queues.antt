@@ -1,6 +1,7 @@
 -- What is known of whole calls, how a queue opens and closes, and the laws.
 pub mod Facts
 pub mod Ended
+pub mod Peeks
 pub mod Indices
 pub mod Values
 pub mod Tests

@@ -2,7 +2,7 @@
 //! of any kind, and with `IsBounded` of those that refuse a push where they are full. These functions do nothing: the
 //! contract of each is a law, whose proof is a lemma that a client's proof can cite.
 ghost use Rattle.std.specs.Prelude.{◌≡◌, ◌⊎◌, ◌<◌, ◌≤◌, ◌+◌, ◌-◌, ◌^◌, ◌++◌, ◌∷◌, [], ℕ, Bool, true, false};
-ghost use Rattle.std.specs.Prelude.{Option, Some, None, IfNone, List, length, map, take, sum_by, is_some};
+ghost use Rattle.std.specs.Prelude.{Option, Some, None, IfSome, IfNone, List, length, map, take, sum_by, is_some};
 ghost use Rattle.steps.specs.declared.queues.roles.Role.{Role};
 ghost use Rattle.model.specs.declared.event.Answer.{Answer};
 ghost use Rattle.model.specs.declared.event.Event.{Event};
@@ -32,7 +32,7 @@ ghost use Rattle.lock_free_queues.specs.Queues.Sums.{puts, gets, HasDone};
 ghost use Rattle.lock_free_queues.specs.Queues.Contracts.{HasPushed, HasPublished, WasFull, HasPopped};
 ghost use Rattle.lock_free_queues.specs.Queues.Contracts.{PushDone, PushRefused, PopDone, PopEmpty};
 ghost use Rattle.lock_free_queues.specs.Queues.Contracts.{HasTakenOut, HasTakenFirst, WasEmpty, FoundNone, HasMeasured};
-ghost use Rattle.lock_free_queues.specs.Queues.Contracts.{HasAcquired, HasReleased, HasSplit, HasJoined};
+ghost use Rattle.lock_free_queues.specs.Queues.Contracts.{HasAcquired, HasReleased, HasSplit, HasJoined, HasPeeked, HasSeenRole};
 
 pub mod relays;
 
@@ -45,8 +45,9 @@ pub fn histories_are_linearizable<T>()
 {}
 
 /// Pops take out what was published, in order, and no more waits than the capacity. A push answers false only where the
-/// capacity waits, a pop None only where nothing does, and lengths are those of a moment of the call. Roles are granted
-/// to one at a time, who alone publishes, or takes out. The lemma is `sound` there.
+/// capacity waits, a pop None only where nothing does, a peek the oldest that waits. Lengths are those of a moment of the
+/// call. Roles are granted to one at a time, who alone publishes, or takes out. A look tells whether a role is held. The
+/// lemma is `sound` there.
 pub fn histories_are_sound<T>()
     ensures { (code : Coding T) (kind : QueueKind) (capacity : ℕ) (v : View T) → IsBounded kind
         → IsHistory code (machine_kind kind) capacity v.seen → IsSound capacity v.seen }
@@ -149,6 +150,9 @@ pub fn calls_are_counted<T>()
         → HasDone 1 1 old new }
     ensures popped { (item : Item T) (old new : View T) → HasPopped (Some item) old new → HasDone 0 1 old new }
     ensures none { (old new : View T) → HasPopped None old new → HasDone 0 0 old new }
+    ensures peeked { (answer : Option (Item T)) (old new : View T) → HasPeeked answer old new → HasDone 0 0 old new }
+    ensures seen { (role : Role) (taken : Bool) (old new : View T) → HasSeenRole role taken old new
+        → HasDone 0 0 old new }
     ensures acquired { (role : Role) (taken : Bool) (old new : View T) → HasAcquired role taken old new
         → HasDone 0 0 old new }
     ensures released { (role : Role) (old new : View T) → HasReleased role old new → HasDone 0 0 old new }
@@ -184,7 +188,7 @@ pub fn pushes_are_sent<T, V>()
 {}
 
 /// A pop that finds a value appends it to those that its pass has received. Nothing is appended as the role is taken or
-/// given back, or where a pop finds none. The lemmas are `received_none` and those beside it there.
+/// given back, where a pop finds none, or by a peek. The lemmas are `received_none` and those beside it there.
 pub fn pops_are_received<T, V>()
     ensures acquired { (named : V
         → Item T) (role : Role) (old new : View T)
@@ -196,6 +200,10 @@ pub fn pops_are_received<T, V>()
     ensures none { (named : V
         → Item T) (values : List V) (old was new : View T)
         → HasReceived named values old was → Goes was new → PopEmpty was new
+        → HasReceived named values old new }
+    ensures peeked { (named : V
+        → Item T) (values : List V) (answer : Option (Item T)) (old was new : View T)
+        → HasReceived named values old was → Goes was new → HasPeeked answer was new
         → HasReceived named values old new }
     ensures released { (named : V
         → Item T) (role : Role) (values : List V) (old was new : View T)
@@ -281,6 +289,15 @@ pub fn pushes_succeed<T>()
 pub fn pops_succeed<T, V>()
     ensures { (answer : Option V) (old new : View T) → 0 < length (waiting old.seen) → IfNone answer (PopEmpty old new)
         → is_some answer ≡ true }
+{}
+
+/// A pop right after a peek that answered a value answers the same value, whatever was pushed since. The lemma is
+/// `pop_answers_it` of `proofs/Queues/Peeks.antt`.
+pub fn peeks_tell_pops<T>()
+    ensures { (code : Coding T) (kind : QueueKind) (capacity : ℕ) (item : Item T) (answer : Option (Item T))
+        (old was new : View T)
+        → IsHistory code (machine_kind kind) capacity new.seen → HasPeeked (Some item) old was
+        → IfSome answer (λ x. HasTakenOut x was new) → IfNone answer (WasEmpty was new) → answer ≡ Some item }
 {}
 
 /// No number that is pushed into an overflowing queue is lost. If one half of a first pass pushed these numbers and got

@@ -1,5 +1,6 @@
 -- The calls on counting bit sets as calls of the model, and what follows from its laws.
 pub mod Handed
 pub mod Counting
+pub mod Looks
 pub mod Taken
 pub mod Sums

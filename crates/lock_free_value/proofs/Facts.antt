@@ -1,7 +1,8 @@
 -- What is known of whole calls on a value.
 use Rattle.std.proofs.Common.{◌≡◌, ◌≤◌, inl, inr, ℕ, ◌+◌, ◌-◌, ◌^◌, ◌<◌, Bool, true, false, Some, None, List, [], ◌∷◌}
 use Rattle.std.proofs.Common.{◌++◌, length, replicate, slice_index, sum_by, refl, sym, ap, subst, ◌∙◌, append_assoc}
-use Rattle.std.proofs.Common.{append-nil, length-append, arith}
+use Rattle.std.proofs.Common.{append-nil, length-append, arith, not, is_none}
+use Rattle.std.proofs.lemmas.List.Sums.{fold-append}
 use Rattle.model.proofs.Readings.{Each-less}
 use Rattle.lock_free_value.proofs.Names.{nat_tests, flat_map-append, sum_by-append, Truth, Loaded, Done, Event, Begun}
 use Rattle.lock_free_value.proofs.Names.{Acted, Finished, Atomic, Coding, GrantsRight, stores, stored, IsAll, View}
@@ -15,26 +16,28 @@ use Rattle.steps.specs.declared.atomic.StoreStage.TheVariants as stages
 use Rattle.steps.specs.Atomic.{store_asks}
 use Rattle.model.specs.declared.event.Answer.{Answer}
 use Rattle.model.specs.declared.event.Start.{Start}
+use Rattle.model.specs.declared.event.Answer.TheVariants.{Number}
+use Rattle.model.specs.declared.families.atomic.AtomicStart.TheVariants as starts
 use Rattle.model.specs.declared.families.atomic.AtomicStart.TheVariants.{AcquireProducer, ReleaseProducer, Store, Load}
 use Rattle.model.specs.declared.turn.Kind.TheVariants as kinds
-use Rattle.model.specs.Families.Atomic.Reading.{holder_of}
+use Rattle.model.specs.Families.Atomic.Reading.{holder_after, holder_of}
 use Rattle.model.specs.Reading.{Each}
 use Rattle.history.specs.History.{Called, Knows}
 use Rattle.history.specs.Passes.{Goes}
 use Rattle.history.specs.Stages.{Calling, opened, Ends, Over}
 use Rattle.history.specs.Steps.{TakesAtMost}
 use Rattle.model.specs.Progress.{guarantee_of}
-use Rattle.history.specs.Value.{ByProducer, acquires_producer}
+use Rattle.history.specs.Value.{ByProducer, acquires_producer, looks_at_producer, looks_at_version}
 use Rattle.history.specs.Value.{releases_producer, store_skips, value_of_room, loads_value}
 use Rattle.history.proofs.Drives.{called}
 use Rattle.history.proofs.OneHolder.{first_wrote, listed, none_looked, none_since, none_to_end}
 use Rattle.history.proofs.ValueHolders.{history_by_producers, one_holder, value_role}
-use Rattle.history.proofs.ValueLaws.{load_tells, last_is, version_is_count}
+use Rattle.history.proofs.ValueLaws.{answers_right, load_tells, last_is, version_is_count}
 use Rattle.history.proofs.Paid.{AllowsOne, TakesBy, takes, left_takes}
 use Rattle.history.proofs.Values.{value_goes_on, value_pays, producer_by}
 use Rattle.lock_free_value.specs.Calls.{WasAtEnd}
 use Rattle.lock_free_value.specs.Roles.{Moved}
-use Rattle.lock_free_value.specs.ValueContracts.{HasAcquired, HasReleased, HasStored, HasLoaded}
+use Rattle.lock_free_value.specs.ValueContracts.{HasAcquired, HasReleased, HasStored, HasLoaded, HasSeenProducer, HasSeenVersion}
 
 module _ {T : Type 0} where
   -- ---- what the role came to, by what was made
@@ -156,6 +159,55 @@ module _ {T : Type 0} (code : Coding T) (base w : View T) (idle : base.going ≡
       let right : Each GrantsRight w.seen = grants l.history in
       let by = producer_by l.parties.owner l.parties.seat w.seen w.made right l.parties.sums (subst HasProducer (sym l.made) has) in
       none_looked value_role one_holder by.0 base.seen l.mine.rest w.seen l.mine.is (producers l.history) (l.apart alone some by.0 by.1) by.2
+
+  -- ---- the looks
+
+  -- all that was seen before the end of a call
+  abbrev before_end : {p : ℕ} {start : Start T} {answer : Answer T} → Called p start answer [] base w → List (Event T)
+  before_end {p} {start} {answer} c = (base.seen ++ c.others) ++ Begun p start ∷ c.during
+
+  to_end : {p : ℕ} {start : Start T} {answer : Answer T} (c : Called p start answer [] base w) → w.seen ≡ before_end c ++ Finished p start answer ∷ []
+  to_end {p} {start} {answer} c = c.is ∙ sym (append_assoc (base.seen ++ c.others) (Begun p start ∷ c.during) (Finished p start answer ∷ []))
+
+  pub seen_producer : (b : Bool) (m : Unit {0}) → Ends code kinds.Atomic looks_at_producer base b m w → HasSeenProducer b base w
+  seen_producer b m ends =
+      let p = ends.party in
+      let last : Event T = Finished p (Atomic starts.HasProducer) (Truth b) in
+      let c : Called p (Atomic starts.HasProducer) (Truth b) [] base w =
+      subst (λ es. Called p (Atomic starts.HasProducer) (Truth b) es base w) ends.tells (called code kinds.Atomic looks_at_producer base w b m idle ends) in
+      let xs : List (Event T) = before_end c in
+      let is : w.seen ≡ xs ++ last ∷ [] = to_end c in
+      let right : Truth b ≡ Truth (not (is_none (holder_of xs))) = grants ends.history xs [] last is in
+      let taken : b ≡ not (is_none (holder_of xs)) = cc in
+      let same : holder_of w.seen ≡ holder_of xs = ap holder_of is ∙ fold-append holder_after None xs (last ∷ []) in
+      record { by = p; mine = ends.mine; called = c; holder = taken ∙ ap (λ o. not (is_none o)) (sym same) }
+
+  pub seen_producer_moves : (b : Bool) (m : Unit {0}) → Ends code kinds.Atomic looks_at_producer base b m w → Moved 0 0 base.made w.made
+  unfolding seen_producer
+  seen_producer_moves b m ends =
+      let p = ends.party in
+      moved 0 0 base.made w.made (Begun p (Atomic starts.HasProducer) ∷ Finished p (Atomic starts.HasProducer) (Truth b) ∷ [])
+      (seen_producer b m ends).called.made refl refl
+
+  pub seen_version : (n : ℕ) (m : Unit {0}) → Ends code kinds.Atomic looks_at_version base n m w → HasSeenVersion n base w
+  seen_version n m ends =
+      let p = ends.party in
+      let last : Event T = Finished p (Atomic starts.Version) (Number n) in
+      let c : Called p (Atomic starts.Version) (Number n) [] base w =
+      subst (λ es. Called p (Atomic starts.Version) (Number n) es base w) ends.tells (called code kinds.Atomic looks_at_version base w n m idle ends) in
+      let xs : List (Event T) = before_end c in
+      let is : w.seen ≡ xs ++ last ∷ [] = to_end c in
+      let right : Number n ≡ Number (length (stored xs) + 1) = answers_right code base.capacity w.seen ends.history xs [] last is in
+      let counted : n ≡ length (stored xs) + 1 = cc in
+      let same : stored w.seen ≡ stored xs = ap stored is ∙ (flat_map-append stores xs (last ∷ []) ∙ append-nil (stored xs)) in
+      record { by = p; mine = ends.mine; called = c; count = counted ∙ ap (λ zs. length zs + 1) (sym same) }
+
+  pub seen_version_moves : (n : ℕ) (m : Unit {0}) → Ends code kinds.Atomic looks_at_version base n m w → Moved 0 0 base.made w.made
+  unfolding seen_version
+  seen_version_moves n m ends =
+      let p = ends.party in
+      moved 0 0 base.made w.made (Begun p (Atomic starts.Version) ∷ Finished p (Atomic starts.Version) (Number n) ∷ [])
+      (seen_version n m ends).called.made refl refl
 
   -- ---- stores
 

@@ -13,7 +13,7 @@ use Rattle.history.proofs.Ranks.{same_place, hits_split, before_low, hits_grow}
 use Rattle.history.proofs.ValueHolders.{history_by_producers}
 use Rattle.history.proofs.ValueLaws.{answers_right, load_tells}
 use Rattle.history.proofs.Values.{value_goes_on}
-use Rattle.lock_free_value.specs.ValueContracts.{HasStored, HasLoaded}
+use Rattle.lock_free_value.specs.ValueContracts.{HasStored, HasLoaded, HasSeenVersion}
 use Rattle.lock_free_value.specs.Versions.{IsStored, IsLoaded, IsSound}
 
 -- lists that begin with as many of the same are the same so far
@@ -123,6 +123,18 @@ module _ {T : Type 0} where
         λ q v y a. (let low = known_stored q v y old.seen a in omega arith),
         λ q v y a. (let low = known_loaded q v y old.seen a in omega arith),
       )
+
+  -- equal versions count the same stores
+  pub equal_tell : (v : ℕ) (a b c d : View T) → HasSeenVersion v a b → HasSeenVersion v c d → IsBeginning b.seen d.seen
+      → stored d.seen ≡ stored b.seen
+  equal_tell v a b c d first later h =
+      let one = first.count in
+      let two = later.count in
+      let since : stored d.seen ≡ stored b.seen ++ stored h.rest = ap stored h.is ∙ flat_map-append stores b.seen h.rest in
+      let long = ap length since in
+      let more = length-append (stored b.seen) (stored h.rest) in
+      let none : stored h.rest ≡ [] = none_left (stored h.rest) (omega arith) in
+      since ∙ (ap (λ zs. stored b.seen ++ zs) none ∙ append-nil (stored b.seen))
 
   -- ---- who has the whole share
 

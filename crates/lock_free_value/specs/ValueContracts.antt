@@ -1,12 +1,14 @@
 -- What the calls on a value add to the history, and what they answer. (The checker has a module `contracts` of its own,
 -- so this one cannot be `Contracts`, as `lock_free` passes it on.)
-use Rattle.std.specs.Prelude.{◌≡◌, ℕ, Bool, true, Some, List, [], ◌∷◌, ◌++◌}
+use Rattle.std.specs.Prelude.{◌≡◌, ℕ, ◌+◌, Bool, true, not, Some, is_none, List, [], ◌∷◌, ◌++◌, length}
 use Rattle.laws_value.specs.Stored.{stored}
-use Rattle.model.specs.declared.event.Answer.TheVariants.{Truth, Loaded, Done}
+use Rattle.model.specs.declared.event.Answer.TheVariants.{Truth, Loaded, Number, Done}
 use Rattle.model.specs.declared.event.Event.{Event}
 use Rattle.model.specs.declared.event.Event.TheVariants.{Acted}
 use Rattle.model.specs.declared.event.Start.TheVariants.{Atomic}
 use Rattle.model.specs.declared.families.atomic.AtomicStart.TheVariants.{AcquireProducer, ReleaseProducer, Store, Load}
+use Rattle.model.specs.declared.families.atomic.AtomicStart.TheVariants.{HasProducer, Version}
+use Rattle.model.specs.Families.Atomic.Reading.{holder_of}
 use Rattle.history.specs.declared.view.View.{View}
 use Rattle.history.specs.History.{Called, IsBeginning}
 pub use Rattle.history.specs.Passes.{HasSplit, HasJoined}
@@ -47,3 +49,17 @@ module _ {T : Type 0} where
     pub is : new.seen ≡ before ++ Acted by (Atomic Load) (Loaded x) ∷ after
     pub since : IsBeginning old.seen before
     pub last : IsLast x (stored before)
+
+  -- the call changed nothing, and answered whether a party had the role as it ended
+  pub record HasSeenProducer (taken : Bool) (old new : View T) : Type 0 where
+    pub by : ℕ
+    pub mine : new.party ≡ Some by
+    pub called : Called by (Atomic HasProducer) (Truth taken) [] old new
+    pub holder : taken ≡ not (is_none (holder_of new.seen))
+
+  -- the call changed nothing, and answered 1 more than the number of the values that were stored as it ended
+  pub record HasSeenVersion (version : ℕ) (old new : View T) : Type 0 where
+    pub by : ℕ
+    pub mine : new.party ≡ Some by
+    pub called : Called by (Atomic Version) (Number version) [] old new
+    pub count : version ≡ length (stored new.seen) + 1

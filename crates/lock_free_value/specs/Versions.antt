@@ -28,7 +28,8 @@ module _ {T : Type 0} where
     pub rank : version ≡ length (stored before) + 1
 
   -- what every history of a value says of itself: a load answers the value that stands, an acquire
-  -- whether nobody holds the role, and who stores holds it
+  -- whether nobody holds the role, a look whether somebody holds it, or the version, and who stores
+  -- holds the role
   pub record IsSound (code : Coding T) (events : List (Event T)) : Type 0 where
     pub answers : Each (AnswersRight code) events
     pub roles : Each GrantsRight events

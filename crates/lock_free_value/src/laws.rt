@@ -13,7 +13,7 @@ ghost use Rattle.history.specs.History.{IsBeginning, IsHistory};
 ghost use Rattle.threaded.specs.Shares.{IsAll};
 ghost use Rattle.history.specs.Value.{IsLast};
 ghost use Rattle.lock_free_value.specs.Calls.{MissesNothing};
-ghost use Rattle.lock_free_value.specs.ValueContracts.{HasStored, HasLoaded};
+ghost use Rattle.lock_free_value.specs.ValueContracts.{HasStored, HasLoaded, HasSeenVersion};
 ghost use Rattle.lock_free_value.specs.Versions.{IsStored, IsLoaded, IsSound};
 
 /// A history of a value is linearizable as one value.
@@ -70,6 +70,12 @@ pub fn versions_rise<T>()
         → IsLoaded h.by (length (stored h.before) + 1) x new.seen
         × ((q v : ℕ) (y : T) → IsStored q v y old.seen → v ≤ length (stored h.before) + 1)
         × ((q v : ℕ) (y : T) → IsLoaded q v y old.seen → v ≤ length (stored h.before) + 1) }
+{}
+
+/// Where two looks at the version answer the same, nothing was stored between their ends.
+pub fn equal_versions_tell<T>()
+    ensures { (v : ℕ) (a b c d : View T) → HasSeenVersion v a b → HasSeenVersion v c d → IsBeginning b.seen d.seen
+        → stored d.seen ≡ stored b.seen }
 {}
 
 /// Who has the whole share loads the last value that it knows.

@@ -1,3 +1,4 @@
+-- What the calls of one caller do to a structure.
 pub mod Alone
 pub mod Bits
 pub mod Callable

@@ -13,6 +13,7 @@ use std::alloc::Global;
 use std::marker::Model;
 use steps::bits::bit_set::{ResetNext, Set};
 use steps::bits::flags::{FIRST_ELEMENT, elements};
+use steps::bits::looks::IsSet;
 use steps::bits::reset_all::ResetAll;
 use steps::enums::{UniqueIndexCreationError, capacity_refusal};
 
@@ -56,6 +57,17 @@ fn reset_next(words: &mut Vec<u64>, capacity: u32) -> Option<u64>
 {
     let mut room = ();
     drive(words, ResetNext::new(capacity), &(), &mut room)
+}
+
+/// A look at a place, over the words of a set.
+fn is_set(words: &mut Vec<u64>, capacity: u32, place: u64) -> bool
+    requires fits { Represents capacity words.old.items }
+    requires below { place < capacity }
+    ensures { BehavesAs (Represents capacity) (places_in capacity) (λ s. has s place) (λ s. s) words.old.items
+        result words.new.items }
+{
+    let mut room = ();
+    drive(words, IsSet, &place, &mut room)
 }
 
 /// An emptying, over the words of a set.
@@ -106,6 +118,15 @@ impl BitSet {
         ensures calls { WasCalled F.step (standing self.old) visit.old visit.new }
     {
         empty(&mut self.words, self.capacity, visit);
+    }
+
+    /// Returns whether the place stands. This project's own.
+    pub fn is_set(&mut self, place: usize) -> bool
+        requires { place < length self.old.flags }
+        ensures answer { result ≡ has self.old place }
+        ensures places { self.new ≡ self.old }
+    {
+        is_set(&mut self.words, self.capacity, place as u64)
     }
 
     /// Returns how many places there are.

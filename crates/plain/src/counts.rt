@@ -10,6 +10,7 @@ use crate::swaps::{call_counted, swap_next};
 use std::alloc::Global;
 use std::marker::Model;
 use steps::bits::counting_bit_set::{BitState, MAX_COUNT, Set};
+use steps::bits::looks::Count;
 use steps::bits::reset_all::ResetAll;
 use steps::enums::{UniqueIndexCreationError, capacity_refusal};
 
@@ -46,6 +47,15 @@ fn set(words: &mut Vec<u64>, place: u64) -> u64
     drive(words, Set, &place, &mut room)
 }
 
+/// A look at a count, over the words of a set.
+fn count(words: &mut Vec<u64>, place: u64) -> u64
+    ensures answer { result ≡ slice_index words.old.items place }
+    ensures counts { words.new.items ≡ words.old.items }
+{
+    let mut room = ();
+    drive(words, Count, &place, &mut room)
+}
+
 /// An emptying, over the words of a set.
 fn empty<F: FnMut(BitState)>(words: &mut Vec<u64>, capacity: u32, visit: &mut F)
     requires long { length words.old.items ≡ capacity }
@@ -77,6 +87,15 @@ impl CountingBitSet {
         ensures calls { WasCalled F.step (states self.old) visit.old visit.new }
     {
         empty(&mut self.words, self.capacity, visit);
+    }
+
+    /// Returns the count of the place. This project's own.
+    pub fn count(&mut self, place: usize) -> u64
+        requires { place < length self.old }
+        ensures answer { result ≡ slice_index self.old place }
+        ensures counts { self.new ≡ self.old }
+    {
+        count(&mut self.words, place as u64)
     }
 
     /// Returns how many places there are.

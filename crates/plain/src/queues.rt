@@ -12,6 +12,7 @@ use std::marker::{Model, PhantomData};
 use steps::copied::Copied;
 use steps::enums::{UniqueIndexCreationError, capacity_refusal};
 use steps::queues::lengths::Len;
+use steps::queues::peek::Peek;
 use steps::queues::ring::{CONSUMER, FIRST_CELL, PRODUCER, Pop, Push, READ, WRITE};
 use steps::routine::Routine;
 use steps::words::Words;
@@ -38,6 +39,7 @@ pub struct List<E: Copy, T: Words> {
 /// ```rust
 /// let mut queue = Queue::new(rt.alloc(), 2)?;
 /// assert!(rt; queue.push(&7u32) && queue.len() == 1);
+/// assert!(rt; queue.peek() == Some(7));
 /// assert!(rt; queue.pop() == Some(7) && queue.pop().is_none());
 /// ```
 pub type Queue<T> = List<Values, T>;
@@ -80,6 +82,17 @@ fn pop<T: Words>(words: &mut Vec<u64>, capacity: u32) -> Option<T>
     Pop::<T, Copied>::answer(end, &(), &room)
 }
 
+/// A look at the oldest value, over the words of a queue.
+fn peek<T: Words>(words: &mut Vec<u64>, capacity: u32) -> Option<T>
+    requires { Represents T.WORDS capacity words.old.items }
+    ensures { BehavesAs (Represents T.WORDS capacity) (list_in T.value_of T.WORDS capacity) front (λ q. q)
+        words.old.items result words.new.items }
+{
+    let mut room = Copied::new();
+    let end = drive(words, Peek::<T, Copied>::new(capacity), &(), &mut room);
+    Peek::<T, Copied>::answer(end, &(), &room)
+}
+
 /// A count of the values, over the words of a queue.
 fn len<T: Words>(words: &mut Vec<u64>, capacity: u32) -> u64
     requires { Represents T.WORDS capacity words.old.items }
@@ -117,6 +130,14 @@ impl<E: Copy, T: Words> List<E, T> {
         ensures list { self.new ≡ popped self.old }
     {
         pop::<T>(&mut self.words, self.capacity)
+    }
+
+    /// Returns the oldest value, which stays, or None if there is none. This project's own.
+    pub fn peek(&mut self) -> Option<T>
+        ensures answer { result ≡ front self.old }
+        ensures list { self.new ≡ self.old }
+    {
+        peek::<T>(&mut self.words, self.capacity)
     }
 
     /// Returns the number of values.

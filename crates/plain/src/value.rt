@@ -1,5 +1,5 @@
 //! The single value of one caller, of any number of words.
-ghost use Rattle.std.specs.Prelude.{◌≡◌, ◌≤◌, IfOk, IfErr};
+ghost use Rattle.std.specs.Prelude.{◌≡◌, ◌≤◌, IfOk, IfErr, slice_index};
 ghost use Rattle.steps.specs.Objects.Values.{Versioned, has_version, stored};
 ghost use Rattle.steps.specs.declared.enums.UniqueIndexCreationError.TheVariants.{NoMemory};
 ghost use Rattle.plain.specs.Alone.{BehavesAs};
@@ -8,6 +8,7 @@ ghost use Rattle.plain.specs.Value.{value_in, Represents};
 use crate::drive::drive;
 use std::alloc::Global;
 use std::marker::{Model, PhantomData};
+use steps::atomic::version::Version;
 use steps::atomic::{FIRST_CELL, Load, PRODUCER, Store, VERSION};
 use steps::copied::Copied;
 use steps::enums::UniqueIndexCreationError;
@@ -20,7 +21,7 @@ use steps::words::Words;
 /// ```rust
 /// let mut value = UnrestrictedAtomic::new(rt.alloc(), (7u64, 1u64))?;
 /// assert!(rt; value.store((8, 2)));
-/// assert!(rt; value.load() == (8, 2));
+/// assert!(rt; value.load() == (8, 2) && value.version() == 2);
 /// ```
 #[derive(Drop)]
 pub struct UnrestrictedAtomic<T: Words> {
@@ -57,6 +58,15 @@ fn load<T: Words>(words: &mut Vec<u64>) -> T
     Load::<T, Copied>::answer((), &(), &room)
 }
 
+/// A look at the version, over the words of a value.
+fn version(words: &mut Vec<u64>) -> u64
+    ensures answer { result ≡ slice_index words.old.items 0 }
+    ensures words { words.new.items ≡ words.old.items }
+{
+    let mut room = ();
+    drive(words, Version, &(), &mut room)
+}
+
 impl<T: Words> UnrestrictedAtomic<T> {
     /// Replaces the value and returns true, or returns false at the last version.
     pub fn store(&mut self, value: T) -> bool
@@ -72,6 +82,14 @@ impl<T: Words> UnrestrictedAtomic<T> {
         ensures value { self.new ≡ self.old }
     {
         load::<T>(&mut self.words)
+    }
+
+    /// Returns the version. This project's own.
+    pub fn version(&mut self) -> u64
+        ensures answer { result ≡ self.old.version }
+        ensures value { self.new ≡ self.old }
+    {
+        version(&mut self.words)
     }
 
     /// Makes a value of version 1. Refused is memory (`NoMemory`).

@@ -10,8 +10,13 @@ pub mod Whole
 pub mod Running
 pub mod Parting
 pub mod Firsts
+pub mod Unchanged
 pub mod Worked
 pub mod WrongBodies
+pub mod WrongLooks
+pub mod WrongEntries
+pub mod WrongPeeks
+pub mod WrongValueLooks
 pub mod WrongHistories
 pub mod Moments
 pub mod WrongAnswers

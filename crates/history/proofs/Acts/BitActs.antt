@@ -6,9 +6,12 @@ use Rattle.history.proofs.Names.{Finished, Start, Set, ResetNext, ResetAll, HasC
 use Rattle.history.proofs.Names.{BitsAnswerRight, BitsWrote, bits_promise, sets, clears, counts, standing}
 use Rattle.history.proofs.Names.{BeginsNone, HeldSometime, SinceBegin, Stands, StandsRight, Each, Span, Open}
 use Rattle.history.proofs.Names.{span_of, sets_more}
+use Rattle.history.proofs.Names.{Bool, one_if}
+use Rattle.std.specs.Prelude.{not}
 use Rattle.model.specs.declared.event.Answer.TheVariants.{Done}
 use Rattle.model.specs.declared.event.Event.TheVariants as event
 use Rattle.model.specs.declared.event.Start.TheVariants.{Bits}
+use Rattle.model.specs.declared.families.bits.BitsStart.TheVariants.{IsSet}
 use Rattle.model.specs.declared.turn.Kind.TheVariants as kinds
 use Rattle.history.specs.Acts.{Way, MayAct, Acts, Found, Tells, Ends, number_after, left_by, ActsByPlace}
 use Rattle.history.proofs.Acts.BitWays.{only_clears, cleared_in, Numbers, numbers_more, Fit, one_fits, at_place}
@@ -28,6 +31,14 @@ module _ {T : Type 0} where
 
   abbrev all_call : Start T
   all_call = Bits ResetAll
+
+  abbrev look_call : ℕ → Start T
+  look_call k = Bits (IsSet k)
+
+-- a number that is 1 or 0 tells what the look answers
+look_tells : (answer : Bool) (n : ℕ) → n ≡ one_if answer → answer ≡ not (n == 0)
+look_tells true n is = rw is refl
+look_tells false n is = rw is refl
 
 -- ---- the whole history
 
@@ -275,8 +286,42 @@ module _ {T : Type 0} (c : ℕ) (events : List (Event T)) (spans : Each (StandsR
                       under tt refl
                       (number_more b 0 to (Cleared out.by b ∷ []) ∙ ap (λ z. cond z 0 (number_in b 0 to)) (same_number b)) (refl, λ sure lt. tt)
 
+      end_look : (q k : ℕ) (answer : Bool) → events ≡ h ++ Finished q (Bits (IsSet k)) (Truth answer) ∷ after
+          → M (h ++ Finished q (Bits (IsSet k)) (Truth answer) ∷ [])
+      end_look q k answer is =
+          finishes kinds.Bits c Sure h q (look_call k) (Truth answer) m facts (λ b le. elsewhere b (λ same. past b same le))
+        where
+          opened : OpenFor (look_call k) (BitsWrote c (look_call k) (Truth answer)) (span_of q h)
+          opened =
+              open_for (look_call k) (BitsWrote c (look_call k) (Truth answer)) (span_of q h) (spans h after (Finished q (look_call k) (Truth answer)) is)
+
+          seen : (k < c) × (standing k h ≡ one_if answer)
+          seen = answers h after (Finished q (look_call k) (Truth answer)) is
+
+          under : (b : ℕ) → way q b ≡ Some (look_call k, None)
+          under b =
+              let fits = here q (look_call k) (Truth answer) is b opened.wrote opened.is in
+              fits.is ∙ ap (λ d. Some (look_call k, d)) (fits.fit.0 (ap (clears b) opened.holds))
+
+          number_is : number_in k 0 h ≡ one_if answer
+          number_is = let both = (numbered k).0 in let low = (numbered k).1 in let right = seen.1 in omega arith
+
+          elsewhere : (b : ℕ) → (k ≡ b → ⊥) → Ends c (Sure b) b (look_call k) (Truth answer) (way q b)
+          elsewhere b ne = subst (λ w. Ends c (Sure b) b (look_call k) (Truth answer) w) (sym (under b)) (refl, λ same. absurd (ne same))
+
+          past : (b : ℕ) → k ≡ b → c ≤ b → ⊥
+          past b same le = let low = seen.0 in absurd (omega arith)
+
+          facts : (b : ℕ) → b < c → Fact kinds.Bits c Sure h q (look_call k) (Truth answer) b
+          facts b lt =
+              ⊎_elim (λ same. subst (Fact kinds.Bits c Sure h q (look_call k) (Truth answer)) same mine)
+              (λ ne. Stays (elsewhere b ne)) (cases_eq k b)
+            where
+              mine : Fact kinds.Bits c Sure h q (look_call k) (Truth answer) k
+              mine = Silent h [] (sym (append-nil h)) tt (under k) refl refl (refl, λ same. look_tells answer (number_in k 0 h) number_is)
+
       ends : (q : ℕ) (s : Start T) (a : Answer T) → events ≡ h ++ Finished q s a ∷ after → M (h ++ Finished q s a ∷ [])
-      ends x0 x1 x2 x3 = grind (arith, end_set_true, end_set_false, end_next, end_none, end_all, open_for)
+      ends x0 x1 x2 x3 = grind (arith, end_set_true, end_set_false, end_next, end_none, end_all, end_look, open_for)
 
       more_marks : (e : Event T) → events ≡ h ++ e ∷ after → M (h ++ e ∷ [])
       more_marks x0 x1 = grind (arith, goes_on, shut_way, ends, set_goes, clear_goes)

@@ -10,6 +10,8 @@ use Rattle.model.specs.declared.event.Answer.TheVariants.{Done}
 use Rattle.model.specs.declared.event.Event.TheVariants as event
 use Rattle.model.specs.declared.event.Event.TheVariants.{Counted}
 use Rattle.model.specs.declared.event.Start.TheVariants.{Bits}
+use Rattle.model.specs.declared.families.bits.BitsStart.TheVariants.{Count}
+use Rattle.model.specs.Families.Bits.Reading.{count_at}
 use Rattle.model.specs.declared.turn.Kind.TheVariants as kinds
 use Rattle.laws_bits.proofs.Counts.Core.{counts_more, takes_more}
 use Rattle.history.specs.Acts.{Way, Acts, Found, Tells, Ends, number_after, way_after, found_now, ActsByPlace}
@@ -186,6 +188,9 @@ module _ {T : Type 0} where
   abbrev all_call : Start T
   all_call = Bits ResetAll
 
+  abbrev look_call : ℕ → Start T
+  look_call k = Bits (Count k)
+
 -- ---- the whole history
 
 module _ {T : Type 0} (c : ℕ) (events : List (Event T)) (spans : Each (StandsRight counts_promise c) events)
@@ -301,6 +306,38 @@ module _ {T : Type 0} (c : ℕ) (events : List (Event T)) (spans : Each (StandsR
                   (sym counted ∙ fits.is) in
                   subst (λ w. Ends c (Sure k) k (set_call k) (Number n) w) (sym (fits.is ∙ ap (λ d. Some ((set_call k), d)) found)) (refl, λ same. told)
 
+      end_look : (q k n : ℕ) → events ≡ h ++ Finished q (Bits (Count k)) (Number n) ∷ after → M (h ++ Finished q (Bits (Count k)) (Number n) ∷ [])
+      end_look q k n is =
+          finishes kinds.Counts c Sure h q (look_call k) (Number n) m facts (λ b le. elsewhere b (λ same. past b same le))
+        where
+          opened : OpenFor (look_call k) (CountsWrote c (look_call k) (Number n)) (span_of q h)
+          opened = open_for (look_call k) (CountsWrote c (look_call k) (Number n)) (span_of q h) (spans h after (Finished q (look_call k) (Number n)) is)
+
+          seen : (k < c) × (n ≡ count_at k h % 2 ^ 64)
+          seen = answers h after (Finished q (look_call k) (Number n)) is
+
+          under : (b : ℕ) → way q b ≡ Some (look_call k, None)
+          under b =
+              let fits = here q b (look_call k) opened.wrote opened.is in
+              fits.is ∙ ap (λ d. Some (look_call k, d)) (fits.fit.0 (ap (takes b) opened.holds))
+
+          told : n ≡ number_in k 0 h
+          told = seen.1 ∙ rest_is (number_in k 0 h) (takes k h) (counts k h) (numbered k).wraps (numbered k).low (numbered k).whole
+
+          elsewhere : (b : ℕ) → (k ≡ b → ⊥) → Ends c (Sure b) b (look_call k) (Number n) (way q b)
+          elsewhere b ne = subst (λ w. Ends c (Sure b) b (look_call k) (Number n) w) (sym (under b)) (refl, λ same. absurd (ne same))
+
+          past : (b : ℕ) → k ≡ b → c ≤ b → ⊥
+          past b same le = let low = seen.0 in absurd (omega arith)
+
+          facts : (b : ℕ) → b < c → Fact kinds.Counts c Sure h q (look_call k) (Number n) b
+          facts b lt =
+              ⊎_elim (λ same. subst (Fact kinds.Counts c Sure h q (look_call k) (Number n)) same mine)
+              (λ ne. Stays (elsewhere b ne)) (cases_eq k b)
+            where
+              mine : Fact kinds.Counts c Sure h q (look_call k) (Number n) k
+              mine = Silent h [] (sym (append-nil h)) tt (under k) refl refl (refl, λ same. told)
+
       -- a place that the call left silently, where its count was 0
       clear_there : (q b : ℕ) (part rest : List (Event T)) → h ≡ part ++ rest → BeginsNone q rest
           → way q b ≡ Some (Bits ResetAll, None) → number_in b 0 part ≡ 0
@@ -379,7 +416,7 @@ module _ {T : Type 0} (c : ℕ) (events : List (Event T)) (spans : Each (StandsR
                           (refl, λ (sure : counts b events < 2 ^ 64). λ lt. absurd (omega arith)))
 
       ends : (q : ℕ) (s : Start T) (a : Answer T) → events ≡ h ++ Finished q s a ∷ after → M (h ++ Finished q s a ∷ [])
-      ends x0 x1 x2 x3 = grind (arith, end_set, end_all, open_for)
+      ends x0 x1 x2 x3 = grind (arith, end_set, end_all, end_look, open_for)
 
       more_marks : (e : Event T) → events ≡ h ++ e ∷ after → M (h ++ e ∷ [])
       more_marks x0 x1 = grind (arith, goes_on, shut_way, ends, count_goes, take_goes)

@@ -7,7 +7,7 @@ use Rattle.history.specs.Acts.{Mark, Happens, Leaves, left_by, told, MayAct, Way
 use Rattle.history.proofs.Acts.Marks.{same_number, is_number, both_true, number_at, way_at, number_in}
 use Rattle.history.proofs.Acts.Marks.{way_in, number_told, way_at_more, way_more, told_more, Cut, cut, Right}
 use Rattle.history.proofs.Acts.Marks.{right_more, put_else, way_else, put_here, way_here}
-use Rattle.history.proofs.Cases.{by_bool}
+use Rattle.laws_robust.proofs.Cases.{by_bool}
 
 module _ {T : Type 0} (kind : Kind) (capacity : ℕ) (Sure : ℕ → Type 0) where
   abbrev IsGood : ℕ → ℕ → List (Mark T) → Type 0

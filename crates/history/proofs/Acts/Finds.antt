@@ -6,7 +6,7 @@ use Rattle.history.proofs.Names.{append_assoc, append-nil, arith, nat_tests, sta
 use Rattle.history.proofs.Names.{TakenOut, Finished, Start, Flight, Registry, BitsStart, BitsFlight, Doing, Going}
 use Rattle.history.proofs.Names.{Over, Party, Turn, Begin, Next, Decide, Die, step_of, want_of, ask_of}
 use Rattle.history.proofs.Names.{beside_of, sets, clears, counts, takes, party_of, Each, span_of, call_refusal}
-use Rattle.history.proofs.Names.{is_due, answer_in, one_if, old_of, ask_of_doing, number_of, step_in, events_of}
+use Rattle.history.proofs.Names.{is_due, answer_in, one_if, old_of, doing_of, flight_of, ask_of_doing, number_of, step_in, events_of}
 use Rattle.history.proofs.Names.{events_of_answer, events_of_next, events_of_decision, ending_of, after_turn}
 use Rattle.history.proofs.Names.{IsReachedOn, Trace, flight_in, is_true, turn_making, reached_on_more}
 use Rattle.history.proofs.Names.{reached_on_opening, kept_by_runs_on, AreRight, Each-append, Each-nil, must_be_due}
@@ -30,7 +30,7 @@ use Rattle.laws_bits.proofs.Bits.Knows as bit_calls
 use Rattle.laws_bits.proofs.Bits.Lists.{sets_none}
 use Rattle.laws_bits.proofs.Counts.Invariant as counting
 use Rattle.history.proofs.Acts.Marks.{same_number}
-use Rattle.history.proofs.Cases.{by_bool}
+use Rattle.laws_robust.proofs.Cases.{by_bool}
 
 one_low : (b : Bool) → one_if b ≤ 1
 one_low true = omega arith
@@ -118,6 +118,7 @@ module _ {T : Type 0} where
   sided c p old wrote (starts.Set bit) (calls.Set run) at = inr (set_sided T p run.given run.call.stage old)
   sided c p old wrote starts.ResetNext (calls.ResetNext run) at = inl (next_sided T p run.call.capacity run.call.stage old)
   sided c p old wrote starts.ResetAll (calls.ResetAll run) at = inl (λ b. sets_none T p b (places_in run.call.word old))
+  sided c p old wrote (starts.IsSet bit) (calls.IsSet run) at = inl (λ b. refl)
   sided c p old wrote start flight at = absurd at
 
   sided_more : (p : ℕ) (start : Start T) (o : Option (Answer T)) (es : List (Event T)) → OneSided es → OneSided (es ++ ending_of p start o)
@@ -257,10 +258,20 @@ module _ {T : Type 0} where
     next_counts : (p : ℕ) (o : Option (Party T)) → party_of p t.world.latest ≡ o → AreRight CountFinds t.events (events_of_next t.world p o)
     next_counts = grind (arith, counts_go, hears_next)
 
+    -- a call that takes out asks no question
+    not_heard : (flight : Flight T) (n : ℕ) → is_due t.world.coding (Some flight) ≡ true → Hears flight n
+    not_heard (flights.Bits (calls.TakeAll run)) n due = grind arith
+    not_heard flight n due = tt
+
     decide_counts : (p : ℕ) (said : Bool) → is_due t.world.coding (flight_in t.world p) ≡ true
         → (o : Option (Party T)) → party_of p t.world.latest ≡ o
         → AreRight CountFinds t.events (events_of_decision t.world p said o)
-    decide_counts = grind arith
+    decide_counts p said due None found = tt
+    decide_counts p said due (Some x) found =
+        counts_go p (number_of said) x found x.doing refl
+        (λ flight since d.
+        let here : flight_in t.world p ≡ Some flight = ap (λ o. flight_of (doing_of o)) found ∙ ap (λ d. flight_of (Some d)) d in
+        not_heard flight (number_of said) (rw here at due))
 
     counts_events : (turn : Turn T) → call_refusal t.world turn ≡ None → AreRight CountFinds t.events (events_of t.world turn)
     counts_events = grind (arith, next_counts, decide_counts, is_true, must_be_due)

@@ -9,6 +9,7 @@ use Rattle.model.specs.declared.event.Answer.TheVariants.{Done}
 use Rattle.model.specs.declared.event.Event.TheVariants as told
 use Rattle.model.specs.declared.event.Event.TheVariants.{Counted}
 use Rattle.model.specs.declared.event.Start.TheVariants.{Bits}
+use Rattle.model.specs.declared.families.bits.BitsStart.TheVariants.{IsSet}
 use Rattle.model.specs.declared.turn.Kind.TheVariants as kinds
 use Rattle.model.specs.Objects.{Object, IsLegal}
 use Rattle.model.specs.World.{opening}
@@ -28,6 +29,16 @@ no_act h = (h.1.0 refl).1 refl
 
 clear_is_left : of_party_0 kinds.Bits 1 (Happens (Begun 0 set_1) ∷ Leaves 0 1 ∷ Happens (Finished 0 set_1 (Truth false)) ∷ []) → ⊥
 clear_is_left h = let e = (h.1.0 refl).1 in cc
+
+-- a look has found what it answers
+abbrev look_at_1 : Start ℕ
+look_at_1 = Bits (IsSet 1)
+
+looks_nowhere : of_party_0 kinds.Bits 1 (Happens (Begun 0 look_at_1) ∷ Happens (Finished 0 look_at_1 (Truth false)) ∷ []) → ⊥
+looks_nowhere h = (h.1.0 refl).1 refl
+
+clear_is_seen_set : of_party_0 kinds.Bits 1 (Happens (Begun 0 look_at_1) ∷ Leaves 0 1 ∷ Happens (Finished 0 look_at_1 (Truth true)) ∷ []) → ⊥
+clear_is_seen_set h = let e = (h.1.1.0 refl).1 refl in cc
 
 -- a count is what stood before, and a set of counts leaves no place as it was
 count_after : of_party_0 kinds.Counts 1 (Happens (Begun 0 set_1) ∷ Happens (Counted 0 1) ∷ Happens (Finished 0 set_1 (Number 1)) ∷ []) → ⊥

@@ -16,6 +16,7 @@ mod drives;
 mod elements;
 mod fixed;
 mod handles;
+mod listing;
 mod looks;
 mod make;
 mod passes;
@@ -25,6 +26,7 @@ pub mod token;
 mod visits;
 
 pub use handles::Handle;
+pub use listing::{StateEntries, entries};
 pub use steps::container::enums::{ContainerAddFailure, ContainerRemoveError, ContainerStateError};
 pub use steps::container::handle::ContainerHandle;
 pub use steps::container::state::ContainerState;

@@ -1,13 +1,14 @@
--- The push and the pop of an index queue.
+-- The push, the pop and the peek of an index queue.
 use Rattle.lock_free_queues.proofs.Names.{◌≡◌, ℕ, Bool, true, false, Option, Some, None, List, refl, ◌∙◌}
 use Rattle.lock_free_queues.proofs.Names.{◌-◌, ◌^◌, arith, nat_tests, option_map, Ask, OneWord, Item, Index}
 use Rattle.lock_free_queues.proofs.Names.{IsCoding, one_word, popped, push_skips, push_wrote, pop_wrote, pushes_index}
-use Rattle.lock_free_queues.proofs.Names.{pops_index}
+use Rattle.lock_free_queues.proofs.Names.{pops_index, peeks_index}
 use Rattle.steps.specs.declared.ask.Want.TheVariants as wants
 use Rattle.steps.specs.declared.queues.ring.PushStage as pushes
 use Rattle.steps.specs.Queues.Ring.{pop_answer, push_asks}
 use Rattle.lock_free_queues.specs.Queues.Contracts.{push_events, popped_item, pop_events}
 use Rattle.lock_free_queues.proofs.Queues.Ended.{IsPush, IsPop}
+use Rattle.lock_free_queues.proofs.Queues.Peeks.{IsPeek}
 
 pub is_coding : IsCoding one_word
 is_coding = grind arith
@@ -37,18 +38,21 @@ index_push v =
 abbrev pub in_room : OneWord → ℕ
 in_room m = m.0
 
+pops_so : (o : Option ℕ) → popped {T = ℕ} o ≡ popped_item (option_map index_of o)
+pops_so None = refl
+pops_so (Some x) = refl
+
 pub index_pop : IsPop index_of in_room pops_index
 index_pop =
     record {
       start = refl;
-      answer = λ e m. answers (pop_answer m.0 e);
+      answer = λ e m. pops_so (pop_answer m.0 e);
       tells = λ n p from e m es h. h ∙ told p m.0 e;
     }
   where
-    answers : (o : Option ℕ) → popped {T = ℕ} o ≡ popped_item (option_map index_of o)
-    answers None = refl
-    answers (Some x) = refl
-
     told : (p x : ℕ) (e : Bool) → pop_wrote p x e ≡ pop_events p (option_map index_of (pop_answer x e))
     told p x true = refl
     told p x false = refl
+
+pub index_peek : IsPeek index_of in_room peeks_index
+index_peek = record { start = refl; answer = λ e m. pops_so (pop_answer m.0 e); tells = λ n p from e m es h. h }

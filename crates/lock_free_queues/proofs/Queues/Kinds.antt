@@ -4,13 +4,13 @@ use Rattle.lock_free_queues.proofs.Names.{◌≡◌, ℕ, ◌+◌, length, After
 use Rattle.lock_free_queues.proofs.Names.{Consumer, len_want, len_after}
 use Rattle.lock_free_queues.proofs.Names.{QueueKind, IndexQueue, Overflow, Queue, LengthOf, Coding, IsCoding}
 use Rattle.lock_free_queues.proofs.Names.{Trace, machine_kind, KeepsRule, View, IsMachine, IsRun, takes_role}
-use Rattle.lock_free_queues.proofs.Names.{gives_role, counts_waiting, Calling, At, Ends, overflow_owes}
+use Rattle.lock_free_queues.proofs.Names.{gives_role, looks_role, counts_waiting, Calling, At, Ends, overflow_owes}
 use Rattle.lock_free_queues.proofs.Names.{index_owes, values_owe}
 use Rattle.steps.specs.declared.ask.Want.{Want}
-use Rattle.steps.specs.Queues.Roles.{acquire_want, acquire_after, release_want, release_after}
-use Rattle.history.proofs.OverflowRoles.{over_acquire_keeps, over_release_keeps, over_lens_keep}
-use Rattle.history.proofs.QueueRoles.{acquire_keeps, release_keeps, lens_keep}
-use Rattle.history.proofs.ValueQueueRoles.{value_acquire_keeps, value_release_keeps, value_lens_keep}
+use Rattle.steps.specs.Queues.Roles.{acquire_want, acquire_after, release_want, release_after, look_want, look_after}
+use Rattle.history.proofs.OverflowRoles.{over_acquire_keeps, over_release_keeps, over_look_keeps, over_lens_keep}
+use Rattle.history.proofs.QueueRoles.{acquire_keeps, release_keeps, look_keeps, lens_keep}
+use Rattle.history.proofs.ValueQueueRoles.{value_acquire_keeps, value_release_keeps, value_look_keeps, value_lens_keep}
 use Rattle.lock_free_queues.specs.Queues.Kinds.{words_in_cells, opened_by}
 use Rattle.lock_free_queues.specs.Queues.Opened.{position_at}
 use Rattle.lock_free_queues.specs.Queues.Roles.{LacksRole}
@@ -43,6 +43,11 @@ module _ {T : Type 0} (code : Coding T) (law : IsCoding code) where
   releases_keep IndexQueue role = release_keeps code role
   releases_keep Overflow role = over_release_keeps code role
   releases_keep Queue role = value_release_keeps code law role
+
+  pub looks_keep : (kd : QueueKind) (role : Role) → Keeps kd (looks_role role) look_want look_after (λ c m n. m)
+  looks_keep IndexQueue role = look_keeps code role
+  looks_keep Overflow role = over_look_keeps code role
+  looks_keep Queue role = value_look_keeps code law role
 
   pub lengths_keep : (kd : QueueKind) (which : LengthOf)
       → KeepsRule (λ (z : View T). z.asked) (λ (z : View T). z.capacity)

@@ -2,7 +2,8 @@
 use Rattle.lock_free_queues.proofs.Names.{◌≡◌, inl, inr, ℕ, ◌+◌, Bool, None, List, arith, Role, Producer, Consumer}
 use Rattle.lock_free_queues.proofs.Names.{OneWord, PushEnd, QueueKind, IndexQueue, Overflow, Queue, LengthOf}
 use Rattle.lock_free_queues.proofs.Names.{Coding, machine_kind, View, Calling, Ends, Over, takes_role, gives_role}
-use Rattle.lock_free_queues.proofs.Names.{counts_waiting, pushes_index, pops_index, pushes_value, pops_value, pops_over}
+use Rattle.lock_free_queues.proofs.Names.{looks_role, counts_waiting, pushes_index, pops_index, peeks_index}
+use Rattle.lock_free_queues.proofs.Names.{pushes_value, pops_value, peeks_value, pops_over}
 use Rattle.model.specs.declared.families.queues.calls.LengthOf.TheVariants as measures
 use Rattle.model.specs.declared.turn.Kind.TheVariants as kinds
 use Rattle.model.specs.Progress.{guarantee_of}
@@ -37,6 +38,14 @@ module _ {T : Type 0} (code : Coding T) (base w : View T) (idle : base.going ≡
   release_takes Queue Producer e m ends = takes_here code Queue base w idle (gives_role Producer) e m (omega arith) ends
   release_takes Queue Consumer e m ends = takes_here code Queue base w idle (gives_role Consumer) e m (omega arith) ends
 
+  pub look_takes : (kd : QueueKind) (role : Role) (e : Bool) (m : Unit {0}) → Ends code (machine_kind kd) (looks_role role) base e m w → TakesAtMost 1 base w
+  look_takes IndexQueue Producer e m ends = takes_here code IndexQueue base w idle (looks_role Producer) e m (omega arith) ends
+  look_takes IndexQueue Consumer e m ends = takes_here code IndexQueue base w idle (looks_role Consumer) e m (omega arith) ends
+  look_takes Overflow Producer e m ends = takes_here code Overflow base w idle (looks_role Producer) e m (omega arith) ends
+  look_takes Overflow Consumer e m ends = takes_here code Overflow base w idle (looks_role Consumer) e m (omega arith) ends
+  look_takes Queue Producer e m ends = takes_here code Queue base w idle (looks_role Producer) e m (omega arith) ends
+  look_takes Queue Consumer e m ends = takes_here code Queue base w idle (looks_role Consumer) e m (omega arith) ends
+
   abbrev Counts : QueueKind → LengthOf → ℕ → Unit {0} → Type 0
   Counts kd which n m = Ends code (machine_kind kd) (counts_waiting which base.capacity) base n m w
 
@@ -54,7 +63,7 @@ module _ {T : Type 0} (code : Coding T) (base w : View T) (idle : base.going ≡
   length_takes Queue measures.IsEmpty n m ends = takes_here code Queue base w idle (counts_waiting measures.IsEmpty base.capacity) n m (omega arith) ends
   length_takes Queue measures.IsFull n m ends = takes_here code Queue base w idle (counts_waiting measures.IsFull base.capacity) n m (omega arith) ends
 
-  -- ---- pushes and pops
+  -- ---- pushes, pops and peeks
 
   pub push_takes : (v : ℕ) (e : Bool) (m : Unit {0}) → Over code kinds.IndexQueue (pushes_index v) base e m w → TakesAtMost 4 base w
   push_takes v e m (inl ends) = takes_here code IndexQueue base w idle (pushes_index v) e m (omega arith) ends
@@ -63,6 +72,9 @@ module _ {T : Type 0} (code : Coding T) (base w : View T) (idle : base.going ≡
   pub pop_takes : (e : Bool) (m : OneWord) → Ends code kinds.IndexQueue pops_index base e m w → TakesAtMost 4 base w
   pop_takes e m ends = takes_here code IndexQueue base w idle pops_index e m (omega arith) ends
 
+  pub peek_takes : (e : Bool) (m : OneWord) → Ends code kinds.IndexQueue peeks_index base e m w → TakesAtMost 3 base w
+  peek_takes e m ends = takes_here code IndexQueue base w idle peeks_index e m (omega arith) ends
+
   pub value_push_takes : (x : T) (e : Bool) (m : Unit {0}) → Over code kinds.Queue (pushes_value code x) base e m w → TakesAtMost (3 + code.size) base w
   value_push_takes x e m (inl ends) = takes_here code Queue base w idle (pushes_value code x) e m (omega arith) ends
   value_push_takes x e m (inr left) = left_takes code kinds.Queue (pushes_value code x) base w e m (3 + code.size) (omega arith) left
@@ -70,6 +82,10 @@ module _ {T : Type 0} (code : Coding T) (base w : View T) (idle : base.going ≡
   pub value_pop_takes : {R : Type 0} (words_in : R → List ℕ) (e : Bool) (m : R) → Ends code kinds.Queue (pops_value code words_in) base e m w
       → TakesAtMost (3 + code.size) base w
   value_pop_takes words_in e m ends = takes_here code Queue base w idle (pops_value code words_in) e m (omega arith) ends
+
+  pub value_peek_takes : {R : Type 0} (words_in : R → List ℕ) (e : Bool) (m : R) → Ends code kinds.Queue (peeks_value code words_in) base e m w
+      → TakesAtMost (2 + code.size) base w
+  value_peek_takes words_in e m ends = takes_here code Queue base w idle (peeks_value code words_in) e m (omega arith) ends
 
   pub over_push_takes : (v : ℕ) (e : PushEnd) (m : OneWord) → Over code kinds.Overflow (pushes_over v) base e m w → TakesAtMost 6 base w
   over_push_takes v e m (inl ends) = takes_here code Overflow base w idle (pushes_over v) e m (omega arith) ends

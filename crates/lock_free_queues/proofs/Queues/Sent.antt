@@ -1,5 +1,5 @@
 -- For clients: what each call adds to what a pass has sent and received.
-use Rattle.lock_free_queues.proofs.Names.{◌≡◌, inl, inr, ℕ, ◌+◌, ◌<◌, ◌≤◌, true, List, []}
+use Rattle.lock_free_queues.proofs.Names.{◌≡◌, inl, inr, ℕ, ◌+◌, ◌<◌, ◌≤◌, true, Option, List, []}
 use Rattle.lock_free_queues.proofs.Names.{◌∷◌, ◌++◌, length, map, get_or, take, refl, sym, ap, subst, ◌∙◌, arith}
 use Rattle.lock_free_queues.proofs.Names.{append-nil, append_assoc, flat_map, flat_map-append, Role, Event, Item}
 use Rattle.lock_free_queues.proofs.Names.{publishes, hands_out, published, handed_out, View, IsBeginning, Goes}
@@ -9,8 +9,8 @@ use mathlib.Core.List.{map-append}
 use Rattle.lock_free_queues.specs.Queues.Sent.{HasAppended, HasSent, HasReceived}
 use Rattle.lock_free_queues.specs.Queues.Sums.{HasDone}
 use Rattle.lock_free_queues.specs.Queues.Contracts.{PushDone, PushRefused, PopDone, PopEmpty}
-use Rattle.lock_free_queues.specs.Queues.Contracts.{HasAcquired, HasReleased}
-use Rattle.lock_free_queues.proofs.Queues.Sums.{done_pushed, done_refused, done_popped, done_none, done_acquired, done_released, done_then}
+use Rattle.lock_free_queues.specs.Queues.Contracts.{HasPeeked, HasAcquired, HasReleased}
+use Rattle.lock_free_queues.proofs.Queues.Sums.{done_pushed, done_refused, done_popped, done_none, done_peeked, done_acquired, done_released, done_then}
 
 -- ---- a list that grows
 
@@ -152,6 +152,11 @@ module _ {T V : Type 0} {named : V → Item T} where
       → PopEmpty was new → HasReceived named values old new
   received_still {old} {was} {new} {values} k goes h =
       appended_same hands_out named values 0 (length values) old was new k goes.share (done_none was new h.0) h.1.list
+
+  pub received_peeked : {old was new : View T} {values : List V} (answer : Option (Item T)) → HasReceived named values old was → Goes was new
+      → HasPeeked answer was new → HasReceived named values old new
+  received_peeked {old} {was} {new} {values} answer k goes h =
+      appended_same hands_out named values 0 (length values) old was new k goes.share (done_peeked was new answer h) h.list
 
   pub received_done : {role : Role} {old was new : View T} {values : List V} → HasReceived named values old was → Goes was new
       → HasReleased role was new → handed_out new.seen ≡ handed_out was.seen → HasReceived named values old new

@@ -9,7 +9,8 @@ use Rattle.std.proofs.Common.{length-append}
 use Rattle.lock_free_queues.specs.Queues.Overflowing.{HasOverflowed}
 use Rattle.lock_free_queues.specs.Queues.Roles.{Moved, other_role}
 use Rattle.lock_free_queues.specs.Queues.Sums.{puts, gets, HasDone}
-use Rattle.lock_free_queues.specs.Queues.Contracts.{HasPushed, PushRefused, WasAtEnd, HasPopped, HasMeasured, HasAcquired, HasReleased}
+use Rattle.lock_free_queues.specs.Queues.Contracts.{HasPushed, PushRefused, WasAtEnd, HasPopped, HasPeeked, HasMeasured, HasAcquired}
+use Rattle.lock_free_queues.specs.Queues.Contracts.{HasReleased, HasSeenRole}
 
 module _ {T : Type 0} where
   -- ---- by the call
@@ -47,11 +48,17 @@ module _ {T : Type 0} where
     pub done_none : HasPopped None old new → HasDone 0 0 old new
     done_none h = (let d = done h.by _ _ _ old new h.called in record { puts_more = d.puts_more; gets_more = d.gets_more })
 
+    pub done_peeked : (answer : Option (Item T)) → HasPeeked answer old new → HasDone 0 0 old new
+    done_peeked answer h = (let d = done h.by _ _ _ old new h.called in record { puts_more = d.puts_more; gets_more = d.gets_more })
+
     pub done_acquired : (role : Role) (taken : Bool) → HasAcquired role taken old new → HasDone 0 0 old new
     done_acquired role taken h = (let d = done h.by _ _ _ old new h.called in record { puts_more = d.puts_more; gets_more = d.gets_more })
 
     pub done_released : (role : Role) → HasReleased role old new → HasDone 0 0 old new
     done_released role h = (let d = done h.by _ _ _ old new h.called in record { puts_more = d.puts_more; gets_more = d.gets_more })
+
+    pub done_seen : (role : Role) (taken : Bool) → HasSeenRole role taken old new → HasDone 0 0 old new
+    done_seen role taken h = (let d = done h.by _ _ _ old new h.called in record { puts_more = d.puts_more; gets_more = d.gets_more })
 
     pub done_measured : (which : LengthOf) (capacity : ℕ) (answer : Answer T) → HasMeasured which capacity answer old new → HasDone 0 0 old new
     done_measured which capacity answer h = (let d = done h.by _ _ _ old new h.called in record { puts_more = d.puts_more; gets_more = d.gets_more })
@@ -93,6 +100,16 @@ module _ {T : Type 0} where
     pub released_moves : (role : Role) → HasReleased role old new → Moved role 0 1 old.made new.made × Moved (other_role role) 0 0 old.made new.made
     released_moves Producer h = (moves h.by _ _ h.called Producer 0 1 refl refl refl refl, moves h.by _ _ h.called Consumer 0 0 refl refl refl refl)
     released_moves Consumer h = (moves h.by _ _ h.called Consumer 0 1 refl refl refl refl, moves h.by _ _ h.called Producer 0 0 refl refl refl refl)
+
+    pub peeked_moves : (answer : Option (Item T)) → HasPeeked answer old new → (q : Role) → Moved q 0 0 old.made new.made
+    peeked_moves answer h Producer = moves h.by _ _ h.called Producer 0 0 refl refl refl refl
+    peeked_moves answer h Consumer = moves h.by _ _ h.called Consumer 0 0 refl refl refl refl
+
+    pub seen_moves : (role : Role) (taken : Bool) → HasSeenRole role taken old new → (q : Role) → Moved q 0 0 old.made new.made
+    seen_moves Producer taken h Producer = moves h.by _ _ h.called Producer 0 0 refl refl refl refl
+    seen_moves Producer taken h Consumer = moves h.by _ _ h.called Consumer 0 0 refl refl refl refl
+    seen_moves Consumer taken h Producer = moves h.by _ _ h.called Producer 0 0 refl refl refl refl
+    seen_moves Consumer taken h Consumer = moves h.by _ _ h.called Consumer 0 0 refl refl refl refl
 
     -- a push into an overflowing queue moves none
     none_moved : (p : ℕ) (start : Start T) (answer : Answer T) (wrote : List (Event T)) → Called p start answer wrote old new → (q : Role)

@@ -1,11 +1,12 @@
--- The push and the pop of a queue of values.
+-- The push, the pop and the peek of a queue of values.
 use Rattle.lock_free_queues.proofs.Names.{◌≡◌, ℕ, Bool, true, false, Option, Some, None, List, refl, ◌∙◌, option_map}
 use Rattle.lock_free_queues.proofs.Names.{Item, Value, Coding, popped_value, value_push_wrote, value_pop_wrote}
-use Rattle.lock_free_queues.proofs.Names.{pushes_value, value_there, pops_value}
+use Rattle.lock_free_queues.proofs.Names.{pushes_value, value_there, pops_value, peeks_value}
 use Rattle.steps.specs.Queues.Ring.{pop_answer}
 use Rattle.lock_free_queues.specs.Queues.Contracts.{push_events, popped_item, pop_events}
 use Rattle.lock_free_queues.proofs.Queues.Ended.{IsPush, IsPop}
 use Rattle.lock_free_queues.proofs.Queues.Indices.{ends_at}
+use Rattle.lock_free_queues.proofs.Queues.Peeks.{IsPeek}
 
 module _ {T : Type 0} (code : Coding T) where
   abbrev pub value_of : T → Item T
@@ -25,18 +26,22 @@ module _ {T : Type 0} (code : Coding T) where
       told p true = refl
       told p false = refl
 
+  pops_so : (o : Option T) → popped_value o ≡ popped_item (option_map value_of o)
+  pops_so None = refl
+  pops_so (Some x) = refl
+
   pub value_pop : {R : Type 0} (words_in : R → List ℕ) → IsPop value_of (value_there code words_in) (pops_value code words_in)
   value_pop words_in =
       record {
         start = refl;
-        answer = λ e m. answers (pop_answer (value_there code words_in m) e);
+        answer = λ e m. pops_so (pop_answer (value_there code words_in m) e);
         tells = λ n p from e m es h. h ∙ told p (value_there code words_in m) e;
       }
     where
-      answers : (o : Option T) → popped_value o ≡ popped_item (option_map value_of o)
-      answers None = refl
-      answers (Some x) = refl
-
       told : (p : ℕ) (x : T) (e : Bool) → value_pop_wrote p x e ≡ pop_events p (option_map value_of (pop_answer x e))
       told p x true = refl
       told p x false = refl
+
+  pub value_peek : {R : Type 0} (words_in : R → List ℕ) → IsPeek value_of (value_there code words_in) (peeks_value code words_in)
+  value_peek words_in =
+      record { start = refl; answer = λ e m. pops_so (pop_answer (value_there code words_in m) e); tells = λ n p from e m es h. h }

@@ -1,5 +1,5 @@
 -- What the calls on a queue add to its history, and what they answer, of queues of any items.
-use Rattle.std.specs.Prelude.{◌≡◌, ◌⊎◌, ℕ, ◌-◌, ◌^◌, Bool, true, false, Option, Some, None, List, [], ◌∷◌, ◌++◌, length}
+use Rattle.std.specs.Prelude.{◌≡◌, ◌⊎◌, ℕ, ◌-◌, ◌^◌, Bool, true, false, Option, Some, None, is_none, not, List, [], ◌∷◌, ◌++◌, length, slice_get}
 use Rattle.steps.specs.declared.queues.roles.Role.{Role}
 use Rattle.model.specs.declared.event.Answer.{Answer}
 use Rattle.model.specs.declared.event.Answer.TheVariants.{Truth, Done, PoppedNone, PoppedIndex, Popped}
@@ -9,7 +9,7 @@ use Rattle.model.specs.declared.event.Item.{Item}
 use Rattle.model.specs.declared.event.Item.TheVariants.{Index, Value}
 use Rattle.model.specs.declared.event.Start.TheVariants.{Queues}
 use Rattle.model.specs.declared.families.queues.QueueStart.{QueueStart}
-use Rattle.model.specs.declared.families.queues.QueueStart.TheVariants.{PushIndex, Push, Pop}
+use Rattle.model.specs.declared.families.queues.QueueStart.TheVariants.{PushIndex, Push, Pop, Peek}
 use Rattle.model.specs.declared.families.queues.calls.LengthOf.{LengthOf}
 use Rattle.model.specs.Families.Queues.Calls.{length_answer}
 use Rattle.model.specs.Families.Queues.Reading.{published, handed_out, waiting}
@@ -19,7 +19,7 @@ use Rattle.history.specs.declared.view.View.{View}
 use Rattle.history.specs.History.{Called, IsBeginning}
 pub use Rattle.history.specs.Passes.{HasSplit, HasJoined}
 use Rattle.history.specs.Queues.{length_start}
-use Rattle.history.specs.Roles.{acquire_start, release_start}
+use Rattle.history.specs.Roles.{acquire_start, release_start, look_start, holder_by}
 
 module _ {T : Type 0} where
   -- ---- pushes
@@ -79,7 +79,7 @@ module _ {T : Type 0} where
 
   -- ---- pops
 
-  -- the answer of a pop
+  -- the answer of a pop, and of a peek
   abbrev pub popped_item : Option (Item T) → Answer T
   popped_item None = PoppedNone
   popped_item (Some (Index index)) = PoppedIndex index
@@ -152,6 +152,17 @@ module _ {T : Type 0} where
   abbrev pub PopFoundNone : View T → View T → Type 0
   PopFoundNone old new = HasPopped None old new × FoundNone old new
 
+  -- ---- peeks
+
+  -- The peek is a call of the history that writes nothing. It answers the oldest value that waits as it ends, if one does,
+  -- and since all that was seen no value was taken out.
+  pub record HasPeeked (answer : Option (Item T)) (old new : View T) : Type 0 where
+    pub by : ℕ
+    pub mine : new.party ≡ Some by
+    pub called : Called by (Queues Peek) (popped_item answer) [] old new
+    pub oldest : answer ≡ slice_get (waiting new.seen) 0
+    pub list : handed_out new.seen ≡ handed_out old.seen
+
   -- ---- lengths
 
   -- the answer is that of the number that waited at one moment of the call
@@ -175,6 +186,13 @@ module _ {T : Type 0} where
     pub by : ℕ
     pub mine : new.party ≡ Some by
     pub called : Called by (Queues (release_start role)) Done [] old new
+
+  -- the call writes nothing, and answers whether somebody holds the role as it ends
+  pub record HasSeenRole (role : Role) (taken : Bool) (old new : View T) : Type 0 where
+    pub by : ℕ
+    pub mine : new.party ≡ Some by
+    pub called : Called by (Queues (look_start role)) (Truth taken) [] old new
+    pub holder : taken ≡ not (is_none (holder_by role new.seen))
 
   -- ---- passes
 

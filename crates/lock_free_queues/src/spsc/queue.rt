@@ -11,6 +11,7 @@ mod close;
 mod drives;
 mod ends;
 mod make;
+mod peeks;
 mod pops;
 
 /// A bounded queue of values, which threads share by reference. It holds at most CAPACITY values, from 0 to 2^32 - 1.

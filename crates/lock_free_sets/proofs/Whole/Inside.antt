@@ -8,7 +8,7 @@ use Rattle.model.specs.declared.families.Flight.{Flight}
 use Rattle.model.specs.declared.families.Registry.{Registry}
 use Rattle.model.specs.declared.families.atomic.AtomicStart.{AtomicStart}
 use Rattle.model.specs.declared.families.bits.calls.BitsFlight.{BitsFlight}
-use Rattle.model.specs.declared.families.bits.calls.BitsFlight.TheVariants.{Set, ResetNext, ResetAll, Count, TakeAll}
+use Rattle.model.specs.declared.families.bits.calls.BitsFlight.TheVariants.{Set, ResetNext, ResetAll, Count, TakeAll, IsSet, CountOf}
 use Rattle.model.specs.declared.families.container.calls.ContainerFlight.{ContainerFlight}
 use Rattle.model.specs.declared.families.container.calls.ContainerFlight.TheVariants.{Recover}
 use Rattle.model.specs.declared.families.indices.robust.calls.RobustFlight.{RobustFlight}
@@ -72,6 +72,8 @@ module _ (T : Type 0) where
   of_bits p (ResetNext run) old = of_reset p run.call.capacity run.call.stage old
   of_bits p (ResetAll run) old = of_cleared p (places_in run.call.word old)
   of_bits p (Count run) old = (tt, tt)
+  of_bits p (IsSet run) old = tt
+  of_bits p (CountOf run) old = tt
   of_bits p (TakeAll run) old = either (old == 0) [] _ tt (tt, tt)
 
   of_indices : (p : ℕ) (index : Option ℕ) (o : Option (Answer T)) → AllInside {T = T} (indices.effects p index o)

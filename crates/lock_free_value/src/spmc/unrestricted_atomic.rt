@@ -38,6 +38,7 @@ pub use handles::Handle;
 /// let writer = reader.split().ok_or("no further handle")?;
 /// let mut producer = writer.acquire_producer().map_err(|_| "taken")?;
 /// assert!(rt; producer.store((8, 2)) && reader.load(&rt) == (8, 2));
+/// assert!(rt; reader.version() == 3 && reader.has_producer());
 /// ```
 pub struct UnrestrictedAtomic<T: Words> {
     home: Home<View<T>, Origin<T>, ValueRule<T>>,

@@ -1,19 +1,22 @@
 //! The same of a container.
-ghost use Rattle.std.specs.Prelude.{◌≡◌, ◌≤◌, true, false, Ok, Err, IfOk, IfErr, OnOk};
+ghost use Rattle.std.specs.Prelude.{◌≡◌, ◌≤◌, ◌<◌, ◌^◌, ◌∷◌, length, true, false, Ok, Err, List, MatchOption, IfOk, IfErr, OnOk, []};
 ghost use Rattle.lock_free.specs.IndexReading.{is_locked as has_lock};
 ghost use Rattle.lock_free.specs.Container.Bare.{IsCounted};
 ghost use Rattle.lock_free.specs.Container.Callable.{TakesVisits};
 ghost use Rattle.lock_free.specs.Container.Calls.{given_back, put_at};
+ghost use Rattle.lock_free.specs.Container.Entries.{entries_of};
 ghost use Rattle.lock_free.specs.Container.Contracts.{HasCounted, HasGotState, HasLooked, HasMet, HasRemoved, HasReplaced, HasTested};
 ghost use Rattle.lock_free.specs.Container.Contracts.{IsRightLength, IsRightLook, IsRightRecovery, IsRightRemove, IsRightReplace, IsRightTest};
 ghost use Rattle.lock_free.specs.Container.Names.{capacity_of, history, view, IsHandleFor, IsLatestState, IsOwn, IsPassOf, IsStateOf};
 ghost use Rattle.lock_free.specs.Container.Questions.{TakesValues};
 ghost use Rattle.lock_free.specs.Container.Steps.{FewAside};
+ghost use Rattle.lock_free.specs.ContainerState.{shown_from};
 ghost use Rattle.lock_free.specs.Robust.Contracts.{FoundLock, FoundState, WasFilled, WasGranted};
 
+use lock_free::mpmc::container;
 use lock_free::mpmc::container::{
     CallbackProgression, Container, ContainerAddFailure, ContainerHandle, ContainerRemoveError,
-    ContainerState, ContainerStateError, OwnerId, Pass,
+    ContainerState, ContainerStateError, OwnerId, Pass, StateEntries,
 };
 use lock_free::words::Words;
 use std::sync::Wait;
@@ -162,4 +165,22 @@ pub fn update_state<T: Words>(
     ensures beside { (IsLatestState pass.old state.old → ⊥) → IsCounted (view pass.old) (view pass.new) }
 {
     container.update_state(rt, state, pass)
+}
+
+/// What a state shows comes entry by entry, and no entry is left out, where the state has no element past its capacity.
+pub fn entries<'a, T: Words>(state: &'a ContainerState<T>) -> StateEntries<'a, T>
+    ensures entries { result ≡ entries_of state.now }
+    ensures all { length state.now.shown.elements ≤ state.now.capacity
+        → result ≡ shown_from 0 state.now.shown.elements }
+    ensures most { length result < 2 ^ 32 }
+{
+    container::entries(state)
+}
+
+/// The first entry, if there is one.
+pub fn first<'a, T: Words>(state: &'a ContainerState<T>) -> Option<(usize, &'a T)>
+    ensures { MatchOption result (entries_of state.now ≡ [])
+        (λ item. (rest : List _) × (entries_of state.now ≡ (item.0, item.1.now) ∷ rest)) }
+{
+    entries(state).next()
 }

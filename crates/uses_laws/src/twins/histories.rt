@@ -3,7 +3,7 @@
 //! emptied unnoticed. `BitsAnswerRight`, `CountsAnswerOn` and `MeetsChanges` are cited as they are, since what they say is
 //! held elsewhere. What has been seen are the calls of all threads.
 ghost use Rattle.std.specs.Prelude.{◌≡◌, ◌⊎◌, ◌<◌, ◌≤◌, ◌+◌, ◌-◌, ◌*◌, ◌^◌, ◌++◌, ◌∷◌, [], ℕ, Bool, false};
-ghost use Rattle.std.specs.Prelude.{Some, None, is_none, List, length};
+ghost use Rattle.std.specs.Prelude.{Some, None, is_none, not, List, length, slice_get};
 ghost use Rattle.laws_machine.specs.Changes.{changes_of, MeetsChanges};
 ghost use Rattle.model.specs.declared.event.Answer.{Answer};
 ghost use Rattle.model.specs.declared.event.Answer.TheVariants.{Truth, Number, Index, Loaded, PoppedNone};
@@ -27,6 +27,7 @@ ghost use Rattle.model.specs.Families.Container.Promises.{WasShown};
 ghost use Rattle.model.specs.Families.Indices.Reading.{holder_of, is_locked, tally_of};
 ghost use Rattle.model.specs.Families.Indices.Robust.Promises.{IsFilledWith, IsWellFormed};
 ghost use Rattle.model.specs.Families.Indices.Robust.Reading.{filled_of, set_acts_of, IsOneOf, Yes, holder_of as owner_of};
+ghost use Rattle.model.specs.Families.Queues.Objects.{answer_of_item};
 ghost use Rattle.model.specs.Families.Queues.Reading.{published, handed_out, waiting, producer_of, consumer_of};
 ghost use Rattle.model.specs.Moments.{HeldSometime};
 ghost use Rattle.model.specs.Reading.{Each, Open, span_of};
@@ -44,6 +45,7 @@ ghost use Rattle.lock_free.specs.Robust.Contracts as set_contracts;
 ghost use Rattle.lock_free.specs.Sets.Calls.{history, set_of};
 ghost use Rattle.lock_free.specs.UniqueIndexSet as indices;
 ghost use Rattle.lock_free.specs.Value.Calls as values;
+ghost use Rattle.lock_free.specs.Value.Stored as values_stored;
 ghost use Rattle.uses_laws.specs.Events.{Whenever};
 
 use lock_free::laws::{
@@ -109,6 +111,10 @@ pub fn of_queue(pass: &index_queue::Pass)
         (λ before. answer ≡ Truth (is_none (producer_of before))) }
     ensures consumer { (p : ℕ) (answer : Answer ℕ) → Whenever (ends.view pass.now).seen (Finished p (Queues queue_calls.AcquireConsumer) answer)
         (λ before. answer ≡ Truth (is_none (consumer_of before))) }
+    ensures peeked { (p : ℕ) (answer : Answer ℕ) → Whenever (ends.view pass.now).seen (Finished p (Queues queue_calls.Peek) answer)
+        (λ before. answer ≡ answer_of_item (slice_get (waiting before) 0)) }
+    ensures looked { (p : ℕ) (answer : Answer ℕ) → Whenever (ends.view pass.now).seen (Finished p (Queues queue_calls.HasConsumer) answer)
+        (λ before. answer ≡ Truth (not (is_none (consumer_of before)))) }
     ensures pushed { (p : ℕ) (item : Item ℕ) → Whenever (ends.view pass.now).seen (Published p item) (λ before. producer_of before ≡ Some p) }
     ensures popped { (p : ℕ) (item : Item ℕ) → Whenever (ends.view pass.now).seen (HandedOut p item) (λ before. consumer_of before ≡ Some p) }
 {
@@ -138,14 +144,20 @@ pub fn of_overflowing_queue(pass: &safely_overflowing_index_queue::Pass)
     pass.history();
 }
 
-/// Each load has answered the value that stood then. An acquire of the role answered whether nobody had it, and who stored had
-/// it.
+/// Each load has answered the value that stood then. An acquire of the role answered whether nobody had it, a look at it whether
+/// somebody had it, and who stored had it. A look at the version answered 1 more than the number of the stores.
 pub fn of_value(pass: &unrestricted_atomic::Pass<u64>)
     ensures loaded { (p : ℕ) (answer : Answer ℕ) → Whenever (values.view pass.now).seen (Acted p (Atomic value_calls.Load) answer)
         (λ before. answer ≡ Loaded (value_in one_word before)) }
     ensures acquired { (p : ℕ) (answer : Answer ℕ)
         → Whenever (values.view pass.now).seen (Finished p (Atomic value_calls.AcquireProducer) answer)
         (λ before. answer ≡ Truth (is_none (storer_of before))) }
+    ensures looked { (p : ℕ) (answer : Answer ℕ)
+        → Whenever (values.view pass.now).seen (Finished p (Atomic value_calls.HasProducer) answer)
+        (λ before. answer ≡ Truth (not (is_none (storer_of before)))) }
+    ensures counted { (p : ℕ) (answer : Answer ℕ)
+        → Whenever (values.view pass.now).seen (Finished p (Atomic value_calls.Version) answer)
+        (λ before. answer ≡ Number (length (values_stored.stored before) + 1)) }
     ensures stored { (p x : ℕ) (answer : Answer ℕ) → Whenever (values.view pass.now).seen (Acted p (Atomic (value_calls.Store x)) answer)
         (λ before. storer_of before ≡ Some p) }
 {

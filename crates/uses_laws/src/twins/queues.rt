@@ -1,17 +1,20 @@
 //! Laws of an index queue that no other client has a use for, at single calls and of all that a pass has seen.
-ghost use Rattle.std.specs.Prelude.{◌≡◌, ◌<◌, ◌+◌, ◌-◌, ◌^◌, ◌++◌, ◌∷◌, ℕ, Some, None, List, length, sum_by, IsSome, IsTrue};
+ghost use Rattle.std.specs.Prelude.{◌≡◌, ◌<◌, ◌+◌, ◌-◌, ◌^◌, ◌++◌, ◌∷◌, [], ℕ, Some, None, List, length, sum_by, IsSome, IsTrue};
 ghost use Rattle.model.specs.declared.event.Event.{Event};
 ghost use Rattle.model.specs.declared.event.Event.TheVariants.{Published, HandedOut};
 ghost use Rattle.model.specs.declared.event.Item.{Item};
 ghost use Rattle.model.specs.declared.event.Item.TheVariants.{Index};
+ghost use Rattle.steps.specs.declared.queues.roles.Role.TheVariants as roles;
 ghost use Rattle.model.specs.Families.Queues.Reading.{published, handed_out, waiting};
-ghost use Rattle.lock_free.specs.Queues.Calls.{producer_queue, producer_view, consumer_view, queue_of, view, MissesNothing};
+ghost use Rattle.lock_free.specs.HistorySteps.{TakesAtMost};
+ghost use Rattle.lock_free.specs.Queues.Calls.{producer_queue, producer_view, consumer_view, queue_of, view, IsPassOf, MissesNothing};
+ghost use Rattle.lock_free.specs.Queues.Contracts.{HasSeenRole};
 ghost use Rattle.lock_free.specs.Queues.Positions.{IsPublished, IsTaken};
 ghost use Rattle.lock_free.specs.Queues.Sums.{gets, puts};
 ghost use Rattle.lock_free.specs.Shares.{IsAll};
 
 use lock_free::laws::queues;
-use lock_free::spsc::index_queue::{Consumer, Pass, Producer};
+use lock_free::spsc::index_queue::{Consumer, IndexQueue, Pass, Producer};
 
 /// Pushes a number where the producer has seen room, and not the last position: it is taken, at the position after all that it
 /// had seen published.
@@ -61,6 +64,43 @@ pub fn pop_of_all(consumer: &mut Consumer<'_>) -> Option<u64>
     let popped = consumer.pop();
     consumer.history();
     popped
+}
+
+/// Peeks, and then pops, in 7 steps at most. If the peek found a number, the pop takes that one, and nothing else was taken.
+pub fn peek_and_pop(consumer: &mut Consumer<'_>) -> (Option<u64>, Option<u64>)
+    ensures same { (number : ℕ) → result.0 ≡ Some number → result.1 ≡ Some number }
+    ensures taken { (number : ℕ) → result.1 ≡ Some number
+        → handed_out (consumer_view consumer.new).seen ≡ handed_out (consumer_view consumer.old).seen ++ Index number ∷ [] }
+    ensures counted { (number : ℕ) → result.1 ≡ Some number
+        → sum_by gets (consumer_view consumer.new).made ≡ sum_by gets (consumer_view consumer.old).made + 1 }
+    ensures steps { TakesAtMost 7 (consumer_view consumer.old) (consumer_view consumer.new) }
+{
+    queues::peeks_tell_pops::<u64>();
+    queues::calls_are_counted::<u64>();
+    let seen = consumer.peek();
+    let popped = consumer.pop();
+    consumer.history();
+    (seen, popped)
+}
+
+/// Looks whether somebody produces, in one step. It publishes nothing.
+pub fn has_producer(queue: &IndexQueue, pass: &mut Pass) -> bool
+    requires { IsPassOf queue.now pass.old }
+    ensures answer { HasSeenRole roles.Producer result (view pass.old) (view pass.new) }
+    ensures counted { sum_by puts (view pass.new).made ≡ sum_by puts (view pass.old).made }
+    ensures steps { TakesAtMost 1 (view pass.old) (view pass.new) }
+{
+    queues::calls_are_counted::<u64>();
+    queue.has_producer(pass)
+}
+
+/// Looks whether somebody consumes, in one step.
+pub fn has_consumer(queue: &IndexQueue, pass: &mut Pass) -> bool
+    requires { IsPassOf queue.now pass.old }
+    ensures answer { HasSeenRole roles.Consumer result (view pass.old) (view pass.new) }
+    ensures steps { TakesAtMost 1 (view pass.old) (view pass.new) }
+{
+    queue.has_consumer(pass)
 }
 
 /// Takes the other pass in. What was published and taken, as far as this one had seen, stays so.

@@ -1,10 +1,12 @@
-//! The same of the unique index set, and of a bit set.
-ghost use Rattle.std.specs.Prelude.{◌≡◌, ◌≤◌, false, IfSome, IsFalse, IsTrue};
+//! The same of the unique index set, and of both bit sets.
+ghost use Rattle.std.specs.Prelude.{◌≡◌, ◌<◌, ◌≤◌, false, IfSome, IsFalse, IsTrue};
 ghost use Rattle.model.specs.declared.event.Answer.TheVariants.{Number, State};
 ghost use Rattle.model.specs.declared.families.indices.IndexStart.TheVariants as starts;
 ghost use Rattle.lock_free.specs.Bits.Calls as bits;
 ghost use Rattle.lock_free.specs.Bits.Callable.{TakesPlaces};
 ghost use Rattle.lock_free.specs.Bits.Contracts.{CameFromPosition, MissedNoPlace};
+ghost use Rattle.lock_free.specs.Bits.Looks.{IsSetDone};
+ghost use Rattle.lock_free.specs.Counts.Looks.{CountDone};
 ghost use Rattle.lock_free.specs.HistoryHeld.{Holds};
 ghost use Rattle.lock_free.specs.HistorySteps.{TakesAlone, TakesAtMost};
 ghost use Rattle.lock_free.specs.IndexReading.{is_locked as has_lock};
@@ -16,9 +18,10 @@ ghost use Rattle.lock_free.specs.Unique.Handles.{knows, pass_in, set_in, SameHan
 ghost use Rattle.lock_free.specs.Unique.Held.{HoldsNothing, HoldsSome};
 ghost use Rattle.lock_free.specs.UniqueIndexSet.{capacity_of, history, index_pass, index_view, made, value_of, view, IsPassOf, SamePass};
 
-use lock_free::mpmc::bit_set;
 use lock_free::mpmc::bit_set::BitSet;
+use lock_free::mpmc::counting_bit_set::CountingBitSet;
 use lock_free::mpmc::unique_index_set::{Handle, Pass, UniqueIndex, UniqueIndexSet};
+use lock_free::mpmc::{bit_set, counting_bit_set};
 use std::sync::Wait;
 use steps::indices::enums::ReleaseState;
 
@@ -104,4 +107,24 @@ pub fn reset_all<F: FnMut(usize)>(set: &BitSet, visit: &mut F, pass: &mut bit_se
     ensures stood { MissedNoPlace (bits.capacity_of set.now) (bits.view pass.new) }
 {
     set.reset_all(visit, pass)
+}
+
+/// A look at a flag answers whether it is set as the look ends, in one step.
+pub fn is_set(set: &BitSet, id: usize, pass: &mut bit_set::Pass) -> bool
+    requires pass { bits.IsPassOf set.now pass.old }
+    requires place { id < bits.capacity_of set.now }
+    ensures answer { IsSetDone id result (bits.view pass.old) (bits.view pass.new) }
+    ensures steps { TakesAtMost 1 (bits.view pass.old) (bits.view pass.new) }
+{
+    set.is_set(id, pass)
+}
+
+/// A look at a count answers it as the look ends, in one step.
+pub fn count(set: &CountingBitSet, id: usize, pass: &mut counting_bit_set::Pass) -> u64
+    requires pass { bits.IsPassOf set.now pass.old }
+    requires place { id < bits.capacity_of set.now }
+    ensures answer { CountDone id result (bits.view pass.old) (bits.view pass.new) }
+    ensures steps { TakesAtMost 1 (bits.view pass.old) (bits.view pass.new) }
+{
+    set.count(id, pass)
 }

@@ -1,11 +1,14 @@
 //! Laws of a value that no other client has a use for, at single calls and of all that a pass has seen.
-ghost use Rattle.std.specs.Prelude.{◌≡◌, ◌<◌, ◌≤◌, ◌+◌, ◌++◌, ◌∷◌, ℕ, true, List, length, IsTrue};
+ghost use Rattle.std.specs.Prelude.{◌≡◌, ◌<◌, ◌≤◌, ◌+◌, ◌++◌, ◌∷◌, ℕ, true, not, is_none, List, length, IfSome, IsTrue};
 ghost use Rattle.model.specs.declared.event.Answer.TheVariants.{Loaded, Truth};
 ghost use Rattle.model.specs.declared.event.Event.{Event};
 ghost use Rattle.model.specs.declared.event.Event.TheVariants.{Acted};
 ghost use Rattle.model.specs.declared.event.Start.TheVariants.{Atomic};
 ghost use Rattle.model.specs.declared.families.atomic.AtomicStart.TheVariants.{Load, Store};
+ghost use Rattle.model.specs.Families.Atomic.Reading.{holder_of};
+ghost use Rattle.lock_free.specs.HistorySteps.{TakesAtMost};
 ghost use Rattle.lock_free.specs.Value.Calls.{producer_view, view, IsPassOf};
+ghost use Rattle.lock_free.specs.Value.Reading.{IsLast};
 ghost use Rattle.lock_free.specs.Value.Stored.{stored};
 ghost use Rattle.lock_free.specs.Value.Versions.{IsLoaded, IsStored};
 
@@ -31,6 +34,41 @@ pub fn load_next(rt: &impl Wait, value: &UnrestrictedAtomic<u64>, pass: &mut Pas
 {
     value::versions_rise::<u64>();
     value.load(rt, pass)
+}
+
+/// A look at the role answers whether a producer has it as the look ends, in one step.
+pub fn has_producer(value: &UnrestrictedAtomic<u64>, pass: &mut Pass<u64>) -> bool
+    requires { IsPassOf value.now pass.old }
+    ensures answer { result ≡ not (is_none (holder_of (view pass.new).seen)) }
+    ensures steps { TakesAtMost 1 (view pass.old) (view pass.new) }
+{
+    value.has_producer(pass)
+}
+
+/// A look at the version answers 1 more than the number of the stores as the look ends, in one step.
+pub fn version(value: &UnrestrictedAtomic<u64>, pass: &mut Pass<u64>) -> u64
+    requires { IsPassOf value.now pass.old }
+    ensures answer { result ≡ length (stored (view pass.new).seen) + 1 }
+    ensures steps { TakesAtMost 1 (view pass.old) (view pass.new) }
+{
+    value.version(pass)
+}
+
+/// Loads the value between two looks at the version. Where both answer the same, the value is the last that was stored as the
+/// second look ends; else None.
+pub fn load_still(
+    rt: &impl Wait,
+    value: &UnrestrictedAtomic<u64>,
+    pass: &mut Pass<u64>,
+) -> Option<u64>
+    requires { IsPassOf value.now pass.old }
+    ensures { IfSome result (λ x. IsLast x (stored (view pass.new).seen)) }
+{
+    value::equal_versions_tell::<u64>();
+    let first = value.version(pass);
+    let loaded = value.load(rt, pass);
+    let later = value.version(pass);
+    if first == later { Some(loaded) } else { None }
 }
 
 /// No two values were stored after equally many others. What was loaded after so many stores is what the last of them stored.

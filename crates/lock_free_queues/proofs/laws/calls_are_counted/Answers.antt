@@ -1,5 +1,5 @@
 use Rattle.lock_free_queues.proofs.Queues.Sums.{done_pushed, done_refused, done_added, done_replaced, done_popped}
-use Rattle.lock_free_queues.proofs.Queues.Sums.{done_none, done_acquired, done_released, done_measured}
+use Rattle.lock_free_queues.proofs.Queues.Sums.{done_none, done_peeked, done_seen, done_acquired, done_released, done_measured}
 use Rattle.lock_free_queues.proofs.laws.calls_are_counted.Goals as goal
 
 pub returns-clause-pushed : goal.returns-clause-pushed
@@ -19,6 +19,12 @@ returns-clause-popped g c value old new h = done_popped old new value h
 
 pub returns-clause-none : goal.returns-clause-none
 returns-clause-none g c old new h = done_none old new h
+
+pub returns-clause-peeked : goal.returns-clause-peeked
+returns-clause-peeked g c answer old new h = done_peeked old new answer h
+
+pub returns-clause-seen : goal.returns-clause-seen
+returns-clause-seen g c role taken old new h = done_seen old new role taken h
 
 pub returns-clause-acquired : goal.returns-clause-acquired
 returns-clause-acquired g c role taken old new h = done_acquired old new role taken h

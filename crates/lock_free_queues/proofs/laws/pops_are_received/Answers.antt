@@ -1,5 +1,5 @@
 use Rattle.lock_free_queues.proofs.Names.{refl, []}
-use Rattle.lock_free_queues.proofs.Queues.Sent.{received_none, received_one, received_still, received_done}
+use Rattle.lock_free_queues.proofs.Queues.Sent.{received_none, received_one, received_still, received_peeked, received_done}
 use Rattle.lock_free_queues.proofs.laws.pops_are_received.Goals as goal
 
 pub returns-clause-acquired : goal.returns-clause-acquired
@@ -13,6 +13,10 @@ returns-clause-popped g c named values value old was new got goes h =
 pub returns-clause-none : goal.returns-clause-none
 returns-clause-none g c named values old was new got goes h =
     received_still {named = named} {old = old} {was = was} {new = new} {values = values} got goes h
+
+pub returns-clause-peeked : goal.returns-clause-peeked
+returns-clause-peeked g c named values answer old was new got goes h =
+    received_peeked {named = named} {old = old} {was = was} {new = new} {values = values} answer got goes h
 
 pub returns-clause-released : goal.returns-clause-released
 returns-clause-released g c named role values old was new got goes h is =

@@ -1,4 +1,4 @@
-//! The push and the pop of `steps`, which a seat drives.
+//! The push, the pop and the peek of `steps`, which a seat drives.
 ghost use Rattle.std.specs.Prelude.{◌≡◌, ◌⊎◌, false, IsTrue, IsFalse, IfSome, IfNone};
 ghost use Rattle.std.specs.Option.{option_map};
 ghost use Rattle.steps.specs.declared.queues.roles.Role.{Role};
@@ -8,12 +8,13 @@ ghost use Rattle.history.specs.Roles.{HasRole};
 ghost use Rattle.history.specs.Steps.{TakesAtMost};
 ghost use Rattle.lock_free_queues.specs.Queues.Calls.{token_queue, token_view, IsSameQueue};
 ghost use Rattle.lock_free_queues.specs.Queues.Roles.{Moved};
-ghost use Rattle.lock_free_queues.specs.Queues.Contracts.{HasPushed, HasPublished, WasAtEnd, WasFull, HasPopped, HasTakenOut, WasEmpty};
+ghost use Rattle.lock_free_queues.specs.Queues.Contracts.{HasPushed, HasPublished, WasAtEnd, WasFull, HasPopped, HasTakenOut, WasEmpty, HasPeeked};
 
-use super::drives::{Pops, Pushes};
+use super::drives::{Peeks, Pops, Pushes};
 use crate::spsc::ring::Held;
 use crate::spsc::ring::rule::{Numbers, RingRule};
 use steps::copied::OneWord;
+use steps::queues::peek::Peek;
 use steps::queues::ring::{Pop, Push};
 use steps::routine::Routine;
 
@@ -54,5 +55,21 @@ impl Held<Numbers, u64, RingRule<Numbers, u64>> {
             .seated
             .drive::<Pop<u64, OneWord>, Pops>(call, &(), &mut room);
         Pop::<u64, OneWord>::answer(end, &(), &room)
+    }
+
+    /// Returns the oldest number, which stays, or None where the queue is empty.
+    pub fn peek(&mut self) -> Option<u64>
+        requires { HasRole roles.Consumer (token_view self.old).made }
+        ensures same { IsSameQueue self.old self.new }
+        ensures peeked { HasPeeked (option_map Index result) (token_view self.old) (token_view self.new) }
+        ensures roles { (r : Role) → Moved r 0 0 (token_view self.old).made (token_view self.new).made }
+        ensures steps { TakesAtMost 3 (token_view self.old) (token_view self.new) }
+    {
+        let call = Peek::new(self.capacity);
+        let mut room = OneWord(0);
+        let end = self
+            .seated
+            .drive::<Peek<u64, OneWord>, Peeks>(call, &(), &mut room);
+        Peek::<u64, OneWord>::answer(end, &(), &room)
     }
 }

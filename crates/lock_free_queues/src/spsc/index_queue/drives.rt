@@ -1,9 +1,10 @@
-//! What a push and a pop say of the views at their steps. These types are for the proofs alone.
+//! What a push, a pop and a peek say of the views at their steps. These types are for the proofs alone.
 ghost use Rattle.model.specs.Coding.{one_word};
 ghost use Rattle.model.specs.declared.turn.Kind.TheVariants as kinds;
 
 use history::view::View;
 use steps::copied::OneWord;
+use steps::queues::peek::Peek;
 use steps::queues::ring::{Pop, Push};
 use threaded::driver::rule::Drives;
 
@@ -29,4 +30,16 @@ impl Drives<View<u64>, Pop<u64, OneWord>> for Pops {
     ghost at = { λ given. At one_word kinds.IndexQueue pops_index };
 
     ghost ends = { λ given. Ends one_word kinds.IndexQueue pops_index };
+}
+
+/// Peeking.
+pub struct Peeks;
+
+impl Drives<View<u64>, Peek<u64, OneWord>> for Peeks {
+    ghost use Rattle.history.specs.Stages.{At, Ends};
+    ghost use Rattle.history.specs.Queues.{peeks_index};
+
+    ghost at = { λ given. At one_word kinds.IndexQueue peeks_index };
+
+    ghost ends = { λ given. Ends one_word kinds.IndexQueue peeks_index };
 }

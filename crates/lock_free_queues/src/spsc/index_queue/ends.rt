@@ -1,9 +1,10 @@
 //! The calls of those that have a role.
 ghost use Rattle.std.specs.Prelude.{IsTrue, IsFalse, IfSome, IfNone};
+ghost use Rattle.std.specs.Option.{option_map};
 ghost use Rattle.model.specs.declared.event.Item.TheVariants.{Index};
 ghost use Rattle.history.specs.Steps.{TakesAtMost};
 ghost use Rattle.lock_free_queues.specs.Queues.Calls.{producer_queue, producer_view, consumer_view, SameProducer, SameConsumer};
-ghost use Rattle.lock_free_queues.specs.Queues.Contracts.{PushDone, PushRefused, PopDone, PopEmpty};
+ghost use Rattle.lock_free_queues.specs.Queues.Contracts.{PushDone, PushRefused, PopDone, PopEmpty, HasPeeked};
 
 use super::{Consumer, Producer};
 
@@ -31,5 +32,15 @@ impl<'a> Consumer<'a> {
         ensures steps { TakesAtMost 4 (consumer_view self.old) (consumer_view self.new) }
     {
         self.token.pop()
+    }
+
+    /// Returns the oldest number, which stays, or None where the queue is empty. So a pop right after it returns the same
+    /// number, if there is one. At most 3 atomic steps. This project's own.
+    pub fn peek(&mut self) -> Option<u64>
+        ensures same { SameConsumer self.old self.new }
+        ensures peeked { HasPeeked (option_map Index result) (consumer_view self.old) (consumer_view self.new) }
+        ensures steps { TakesAtMost 3 (consumer_view self.old) (consumer_view self.new) }
+    {
+        self.token.peek()
     }
 }

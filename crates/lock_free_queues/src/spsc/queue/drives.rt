@@ -1,10 +1,11 @@
-//! What a push and a pop say of the views at their steps. These types are for the proofs alone.
+//! What a push, a pop and a peek say of the views at their steps. These types are for the proofs alone.
 ghost use Rattle.model.specs.Coding.{coding_by};
 ghost use Rattle.model.specs.declared.turn.Kind.TheVariants as kinds;
 
 use history::view::View;
 use std::marker::PhantomData;
 use steps::copied::Room;
+use steps::queues::peek::Peek;
 use steps::queues::ring::{Pop, Push};
 use steps::words::Words;
 use threaded::driver::rule::Drives;
@@ -39,4 +40,20 @@ impl<T: Words, R: Room<T> + Drop> Drives<View<T>, Pop<T, R>> for Pops<T, R> {
 
     ghost ends = { λ given. Ends (coding_by T.Words) kinds.Queue
         (pops_value (coding_by T.Words) R.words_in) };
+}
+
+/// Peeking at a value by way of a room R.
+pub struct Peeks<T, R> {
+    of: PhantomData<(T, R)>,
+}
+
+impl<T: Words, R: Room<T> + Drop> Drives<View<T>, Peek<T, R>> for Peeks<T, R> {
+    ghost use Rattle.history.specs.Stages.{At, Ends};
+    ghost use Rattle.history.specs.ValueQueue.{peeks_value};
+
+    ghost at = { λ given. At (coding_by T.Words) kinds.Queue
+        (peeks_value (coding_by T.Words) R.words_in) };
+
+    ghost ends = { λ given. Ends (coding_by T.Words) kinds.Queue
+        (peeks_value (coding_by T.Words) R.words_in) };
 }

@@ -1,9 +1,10 @@
 //! The calls of those that have a role.
 ghost use Rattle.std.specs.Prelude.{◌+◌, IsTrue, IsFalse, IfSome, IfNone};
+ghost use Rattle.std.specs.Option.{option_map};
 ghost use Rattle.model.specs.declared.event.Item.TheVariants.{Value};
 ghost use Rattle.history.specs.Steps.{TakesAtMost};
 ghost use Rattle.lock_free_queues.specs.Queues.Values.{producer_queue, producer_view, consumer_view, SameProducer, SameConsumer};
-ghost use Rattle.lock_free_queues.specs.Queues.Contracts.{PushDone, PushRefused, PopDone, PopEmpty};
+ghost use Rattle.lock_free_queues.specs.Queues.Contracts.{PushDone, PushRefused, PopDone, PopEmpty, HasPeeked};
 
 use super::{Consumer, Producer};
 use steps::words::Words;
@@ -32,5 +33,15 @@ impl<'a, T: Words> Consumer<'a, T> {
         ensures steps { TakesAtMost (3 + T.WORDS) (consumer_view self.old) (consumer_view self.new) }
     {
         self.token.pop()
+    }
+
+    /// Returns the oldest value, which stays, or None where the queue is empty. So a pop right after it returns the same
+    /// value, if there is one. At most 2 + `T::WORDS` atomic steps. This project's own.
+    pub fn peek(&mut self) -> Option<T>
+        ensures same { SameConsumer self.old self.new }
+        ensures peeked { HasPeeked (option_map Value result) (consumer_view self.old) (consumer_view self.new) }
+        ensures steps { TakesAtMost (2 + T.WORDS) (consumer_view self.old) (consumer_view self.new) }
+    {
+        self.token.peek()
     }
 }

@@ -13,7 +13,7 @@ use history::view::View;
 use std::marker::PhantomData;
 use steps::queues::lengths::Len;
 use steps::queues::ring::{CONSUMER, PRODUCER};
-use steps::queues::roles::{AcquireRole, ReleaseRole};
+use steps::queues::roles::{AcquireRole, LookRole, ReleaseRole};
 use steps::words::Words;
 use threaded::driver::rule::Drives;
 
@@ -81,6 +81,20 @@ impl<E: Kind, R: Side, T: Words> Drives<View<T>, ReleaseRole> for Leaves<E, R> {
     ghost at = { λ given. At (coding_by T.Words) (machine_kind E.KIND) (gives_role R.ROLE) };
 
     ghost ends = { λ given. Ends (coding_by T.Words) (machine_kind E.KIND) (gives_role R.ROLE) };
+}
+
+/// Looking whether a role is taken.
+pub struct Looks<E, R> {
+    of: PhantomData<(E, R)>,
+}
+
+impl<E: Kind, R: Side, T: Words> Drives<View<T>, LookRole> for Looks<E, R> {
+    ghost use Rattle.history.specs.Stages.{At, Ends};
+    ghost use Rattle.history.specs.Queues.{looks_role};
+
+    ghost at = { λ given. At (coding_by T.Words) (machine_kind E.KIND) (looks_role R.ROLE) };
+
+    ghost ends = { λ given. Ends (coding_by T.Words) (machine_kind E.KIND) (looks_role R.ROLE) };
 }
 
 /// What is asked of how many values wait, as a type.

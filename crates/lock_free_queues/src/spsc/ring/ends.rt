@@ -6,7 +6,7 @@ ghost use Rattle.history.specs.Steps.{TakesAtMost};
 ghost use Rattle.lock_free_queues.specs.Queues.Kinds.{NoneTaken};
 ghost use Rattle.lock_free_queues.specs.Queues.Rings.{view, producer_view, consumer_view, IsPassOf};
 ghost use Rattle.lock_free_queues.specs.Queues.Rings.{SamePass, ToProducer, ToConsumer, FromProducer, FromConsumer};
-ghost use Rattle.lock_free_queues.specs.Queues.Contracts.{HasAcquired, HasReleased};
+ghost use Rattle.lock_free_queues.specs.Queues.Contracts.{HasAcquired, HasReleased, HasSeenRole};
 ghost use Rattle.lock_free_queues.specs.Queues.Ends.{AreEnds};
 
 use super::drives::{Popping, Pushing};
@@ -51,6 +51,26 @@ impl<E: Kind, T: Words> Ring<E, T> {
         } else {
             Err(Pass { token })
         }
+    }
+
+    /// Returns whether the producer's role is taken as the call ends. At most one atomic step. This project's own.
+    pub fn has_producer(&self, pass: &mut Pass<E, T>) -> bool
+        requires { IsPassOf self.now pass.old }
+        ensures same { SamePass pass.old pass.new }
+        ensures answer { HasSeenRole roles.Producer result (view pass.old) (view pass.new) }
+        ensures steps { TakesAtMost 1 (view pass.old) (view pass.new) }
+    {
+        pass.token.is_taken::<Pushing>()
+    }
+
+    /// Returns whether the consumer's role is taken as the call ends. At most one atomic step. This project's own.
+    pub fn has_consumer(&self, pass: &mut Pass<E, T>) -> bool
+        requires { IsPassOf self.now pass.old }
+        ensures same { SamePass pass.old pass.new }
+        ensures answer { HasSeenRole roles.Consumer result (view pass.old) (view pass.new) }
+        ensures steps { TakesAtMost 1 (view pass.old) (view pass.new) }
+    {
+        pass.token.is_taken::<Popping>()
     }
 
     /// Splits the pass, takes the producer's role with one part and the consumer's with the other, and returns both

@@ -11,9 +11,10 @@ ghost use Rattle.lock_free_sets.specs.Driven.{IsIdle, HasDone};
 ghost use Rattle.lock_free_sets.specs.Sets.Calls.{capacity_of, IsPassOf, view, SamePass};
 ghost use Rattle.lock_free_sets.specs.Bits.Callable.{TakesPlaces, Visited};
 ghost use Rattle.lock_free_sets.specs.Bits.Contracts.{HasCleanedOut, SetDone, ResetDone, ResetNothing, ResetAllDone};
+ghost use Rattle.lock_free_sets.specs.Bits.Looks.{IsSetDone};
 ghost use Rattle.history.specs.Steps.{TakesAtMost, TakesAlone};
 
-use super::drives::{ResetsNext, SetsPlace};
+use super::drives::{LooksAt, ResetsNext, SetsPlace};
 use super::{BitSet, Pass};
 use crate::mpmc::sets::calls::empty_none;
 use crate::mpmc::sets::drives::Empties;
@@ -23,6 +24,7 @@ use std::sync::Wait;
 use steps::ask::After;
 use steps::bits::bit_set::{ResetNext, Set};
 use steps::bits::flags::{has_flag, without_flag};
+use steps::bits::looks::IsSet;
 use steps::bits::reset_all::ResetAll;
 use steps::copied::OneWord;
 use steps::routine::Routine;
@@ -104,6 +106,20 @@ impl BitSet {
             .seated
             .drive_on::<Set, SetsPlace>(rt, Set::new(), &place, &mut ());
         Set::answer(end, &place, &())
+    }
+
+    /// Returns whether the place `id`, which is below the capacity, stands as the call ends. It changes nothing. At most
+    /// one step. This project's own.
+    pub fn is_set(&self, id: usize, pass: &mut Pass) -> bool
+        requires pass { IsPassOf self.now pass.old }
+        requires place { id < capacity_of self.now }
+        ensures same { SamePass pass.old pass.new }
+        ensures answer { IsSetDone id result (view pass.old) (view pass.new) }
+        ensures steps { TakesAtMost 1 (view pass.old) (view pass.new) }
+    {
+        let place = id as u64;
+        let end = pass.seated.drive::<IsSet, LooksAt>(IsSet, &place, &mut ());
+        IsSet::answer(end, &place, &())
     }
 
     /// Resets the next place that stands and returns it, or None if each was clear at some moment. It looks from the

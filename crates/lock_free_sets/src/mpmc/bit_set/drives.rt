@@ -4,6 +4,7 @@ ghost use Rattle.model.specs.declared.turn.Kind.TheVariants as kinds;
 
 use history::view::View;
 use steps::bits::bit_set::{ResetNext, ResetNextStage, Set};
+use steps::bits::looks::IsSet;
 use threaded::driver::rule::Drives;
 
 /// Setting a place.
@@ -33,4 +34,16 @@ impl Drives<View<u64>, ResetNext> for ResetsNext {
     fn repeats(call: ResetNext) -> bool {
         matches!(call.stage, ResetNextStage::LoadsElement { .. })
     }
+}
+
+/// Looking at a place.
+pub struct LooksAt;
+
+impl Drives<View<u64>, IsSet> for LooksAt {
+    ghost use Rattle.history.specs.Stages.{At, Ends};
+    ghost use Rattle.lock_free_sets.specs.Bits.Looks.{looks_at};
+
+    ghost at = { λ place. At one_word kinds.Bits (looks_at place) };
+
+    ghost ends = { λ place. Ends one_word kinds.Bits (looks_at place) };
 }

@@ -3,6 +3,7 @@ ghost use Rattle.std.specs.Prelude.{◌≡◌, ◌+◌, ◌<◌, IfSome, IfNone}
 ghost use Rattle.lock_free_sets.specs.Sets.Calls.{capacity_of};
 ghost use Rattle.lock_free_sets.specs.Bits.Callable.{TakesPlaces};
 ghost use Rattle.lock_free_sets.specs.Bits.Contracts.{SetDone, ResetDone, ResetNothing, ResetAllDone};
+ghost use Rattle.lock_free_sets.specs.Bits.Looks.{IsSetDone};
 ghost use Rattle.lock_free_sets.specs.Sets.Handles.{set_in, knows, SameHandle};
 ghost use Rattle.steps.specs.Bits.Words.{elements};
 ghost use Rattle.history.specs.Steps.{TakesAtMost, TakesAlone};
@@ -19,6 +20,16 @@ impl<'a> Handle<'a> {
         ensures steps { TakesAlone 2 1 (knows self.old) (knows self.new) }
     {
         self.set.set(rt, id, &mut self.pass)
+    }
+
+    /// Calls `BitSet::is_set`, with its pass.
+    pub fn is_set(&mut self, id: usize) -> bool
+        requires { id < capacity_of (set_in self.old) }
+        ensures same { SameHandle self.old self.new }
+        ensures answer { IsSetDone id result (knows self.old) (knows self.new) }
+        ensures steps { TakesAtMost 1 (knows self.old) (knows self.new) }
+    {
+        self.set.is_set(id, &mut self.pass)
     }
 
     /// Calls `BitSet::reset_next`, with its pass.

@@ -6,10 +6,11 @@ ghost use Rattle.history.specs.declared.view.View.{View as Views};
 ghost use Rattle.lock_free_sets.specs.Sets.Calls.{capacity_of, IsPassOf, view, SamePass};
 ghost use Rattle.lock_free_sets.specs.Counts.Callable.{TakesCounts};
 ghost use Rattle.lock_free_sets.specs.Counts.Contracts.{HasTakenOut, SetDone, ResetAllDone};
+ghost use Rattle.lock_free_sets.specs.Counts.Looks.{CountDone};
 ghost use Rattle.lock_free_sets.specs.Driven.{IsIdle, HasDone};
 ghost use Rattle.history.specs.Steps.{TakesAtMost};
 
-use super::drives::CountsPlace;
+use super::drives::{CountsPlace, LooksAt};
 use super::{CountingBitSet, Pass};
 use crate::mpmc::sets::calls::empty_none;
 use crate::mpmc::sets::drives::Empties;
@@ -17,6 +18,7 @@ use crate::mpmc::sets::rule::{Counts, SetRule};
 use history::view::View;
 use steps::ask::After;
 use steps::bits::counting_bit_set::{BitState, MAX_COUNT, Set};
+use steps::bits::looks::Count;
 use steps::bits::reset_all::ResetAll;
 use steps::copied::OneWord;
 use steps::routine::Routine;
@@ -86,6 +88,20 @@ impl CountingBitSet {
         let place = id as u64;
         let old = pass.seated.drive::<Set, CountsPlace>(Set, &place, &mut ());
         Set::answer(old, &place, &())
+    }
+
+    /// Returns the count of the place `id`, which is below the capacity, as the call ends. It changes nothing. At most one
+    /// step. This project's own.
+    pub fn count(&self, id: usize, pass: &mut Pass) -> u64
+        requires pass { IsPassOf self.now pass.old }
+        requires place { id < capacity_of self.now }
+        ensures same { SamePass pass.old pass.new }
+        ensures answer { CountDone id result (view pass.old) (view pass.new) }
+        ensures steps { TakesAtMost 1 (view pass.old) (view pass.new) }
+    {
+        let place = id as u64;
+        let end = pass.seated.drive::<Count, LooksAt>(Count, &place, &mut ());
+        Count::answer(end, &place, &())
     }
 
     /// Takes all counts out, and calls `visit` with each place whose count was above 0, and the count. The places

@@ -1,9 +1,10 @@
-//! What the call that counts says of the views at its step. This type is for the proofs alone.
+//! What the calls on one count say of the views at their step. These types are for the proofs alone.
 ghost use Rattle.model.specs.Coding.{one_word};
 ghost use Rattle.model.specs.declared.turn.Kind.TheVariants as kinds;
 
 use history::view::View;
 use steps::bits::counting_bit_set;
+use steps::bits::looks::Count;
 use threaded::driver::rule::Drives;
 
 /// Counting a place.
@@ -16,4 +17,16 @@ impl Drives<View<u64>, counting_bit_set::Set> for CountsPlace {
     ghost at = { λ place. At one_word kinds.Counts (counts_place place) };
 
     ghost ends = { λ place. Ends one_word kinds.Counts (counts_place place) };
+}
+
+/// Looking at a count.
+pub struct LooksAt;
+
+impl Drives<View<u64>, Count> for LooksAt {
+    ghost use Rattle.history.specs.Stages.{At, Ends};
+    ghost use Rattle.lock_free_sets.specs.Counts.Looks.{looks_at};
+
+    ghost at = { λ place. At one_word kinds.Counts (looks_at place) };
+
+    ghost ends = { λ place. Ends one_word kinds.Counts (looks_at place) };
 }

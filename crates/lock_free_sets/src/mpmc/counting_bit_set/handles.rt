@@ -3,6 +3,7 @@ ghost use Rattle.std.specs.Prelude.{◌≡◌, ◌<◌};
 ghost use Rattle.lock_free_sets.specs.Sets.Calls.{capacity_of};
 ghost use Rattle.lock_free_sets.specs.Counts.Callable.{TakesCounts};
 ghost use Rattle.lock_free_sets.specs.Counts.Contracts.{SetDone, ResetAllDone};
+ghost use Rattle.lock_free_sets.specs.Counts.Looks.{CountDone};
 ghost use Rattle.lock_free_sets.specs.Sets.Handles.{set_in, knows, SameHandle};
 ghost use Rattle.history.specs.Steps.{TakesAtMost};
 
@@ -17,6 +18,16 @@ impl<'a> Handle<'a> {
         ensures steps { TakesAtMost 1 (knows self.old) (knows self.new) }
     {
         self.set.set(id, &mut self.pass)
+    }
+
+    /// Calls `CountingBitSet::count`, with its pass.
+    pub fn count(&mut self, id: usize) -> u64
+        requires { id < capacity_of (set_in self.old) }
+        ensures same { SameHandle self.old self.new }
+        ensures answer { CountDone id result (knows self.old) (knows self.new) }
+        ensures steps { TakesAtMost 1 (knows self.old) (knows self.new) }
+    {
+        self.set.count(id, &mut self.pass)
     }
 
     /// Calls `CountingBitSet::reset_all`, with its pass.

@@ -4,13 +4,14 @@ ghost use Rattle.history.specs.Steps.{TakesAtMost};
 ghost use Rattle.history.specs.Value.{HasProducer};
 ghost use Rattle.lock_free_value.specs.Calls.{seen, IsSame, WasAtEnd};
 ghost use Rattle.lock_free_value.specs.Roles.{Moved};
-ghost use Rattle.lock_free_value.specs.ValueContracts.{HasAcquired, HasReleased, HasStored};
+ghost use Rattle.lock_free_value.specs.ValueContracts.{HasAcquired, HasReleased, HasStored, HasSeenProducer, HasSeenVersion};
 
 use super::Held;
-use super::drives::{LeavesProducer, Stores, TakesProducer};
+use super::drives::{LeavesProducer, LooksAtProducer, LooksAtVersion, Stores, TakesProducer};
 use super::rule::ValueRule;
+use steps::atomic::version::Version;
 use steps::atomic::{PRODUCER, Store};
-use steps::queues::roles::{AcquireRole, ReleaseRole};
+use steps::queues::roles::{AcquireRole, LookRole, ReleaseRole};
 use steps::routine::Routine;
 use steps::words::Words;
 
@@ -54,5 +55,28 @@ impl<T: Words> Held<T, ValueRule<T>> {
             .seated
             .drive::<Store<T>, Stores<T>>(Store::new(), value, &mut ());
         Store::<T>::answer(end, value, &())
+    }
+
+    /// Returns whether the producer's role is taken.
+    pub fn see_producer(&mut self) -> bool
+        ensures same { IsSame self.old self.new }
+        ensures answer { HasSeenProducer result (seen self.old) (seen self.new) }
+        ensures role { Moved 0 0 (seen self.old).made (seen self.new).made }
+        ensures steps { TakesAtMost 1 (seen self.old) (seen self.new) }
+    {
+        let call = LookRole { word: PRODUCER };
+        self.seated
+            .drive::<LookRole, LooksAtProducer>(call, &(), &mut ())
+    }
+
+    /// Returns the version.
+    pub fn see_version(&mut self) -> u64
+        ensures same { IsSame self.old self.new }
+        ensures answer { HasSeenVersion result (seen self.old) (seen self.new) }
+        ensures role { Moved 0 0 (seen self.old).made (seen self.new).made }
+        ensures steps { TakesAtMost 1 (seen self.old) (seen self.new) }
+    {
+        self.seated
+            .drive::<Version, LooksAtVersion>(Version, &(), &mut ())
     }
 }

@@ -4,9 +4,10 @@ ghost use Rattle.model.specs.declared.turn.Kind.TheVariants as kinds;
 
 use history::view::View;
 use std::marker::PhantomData;
+use steps::atomic::version::Version;
 use steps::atomic::{Load, Store};
 use steps::copied::Room;
-use steps::queues::roles::{AcquireRole, ReleaseRole};
+use steps::queues::roles::{AcquireRole, LookRole, ReleaseRole};
 use steps::words::Words;
 use threaded::driver::rule::{Drives, Tells};
 
@@ -64,6 +65,30 @@ impl<T: Words, R: Room<T> + Drop> Drives<View<T>, Load<T, R>> for Loads<T, R> {
 
     ghost ends = { λ given. Ends (coding_by T.Words) kinds.Atomic
         (loads_value (coding_by T.Words) R.words_in) };
+}
+
+/// Looking at the producer's role.
+pub struct LooksAtProducer;
+
+impl<T: Words> Drives<View<T>, LookRole> for LooksAtProducer {
+    ghost use Rattle.history.specs.Stages.{At, Ends};
+    ghost use Rattle.history.specs.Value.{looks_at_producer};
+
+    ghost at = { λ given. At (coding_by T.Words) kinds.Atomic looks_at_producer };
+
+    ghost ends = { λ given. Ends (coding_by T.Words) kinds.Atomic looks_at_producer };
+}
+
+/// Looking at the version.
+pub struct LooksAtVersion;
+
+impl<T: Words> Drives<View<T>, Version> for LooksAtVersion {
+    ghost use Rattle.history.specs.Stages.{At, Ends};
+    ghost use Rattle.history.specs.Value.{looks_at_version};
+
+    ghost at = { λ given. At (coding_by T.Words) kinds.Atomic looks_at_version };
+
+    ghost ends = { λ given. Ends (coding_by T.Words) kinds.Atomic looks_at_version };
 }
 
 /// A look at the whole history.

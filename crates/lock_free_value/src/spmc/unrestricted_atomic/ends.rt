@@ -4,6 +4,7 @@ ghost use Rattle.lock_free_value.specs.Calls.{view, IsPassOf, producer_view, Was
 ghost use Rattle.lock_free_value.specs.Calls.{SamePass, SameProducer, ToProducer, FromProducer};
 ghost use Rattle.history.specs.Steps.{TakesAtMost, TakesAlone};
 ghost use Rattle.lock_free_value.specs.ValueContracts.{HasAcquired, HasReleased, HasStored, HasLoaded};
+ghost use Rattle.lock_free_value.specs.ValueContracts.{HasSeenProducer, HasSeenVersion};
 
 use super::{Pass, Producer, UnrestrictedAtomic};
 use std::sync::Wait;
@@ -39,6 +40,29 @@ impl<T: Words> UnrestrictedAtomic<T> {
         ensures steps { TakesAlone (2 + T.WORDS) (1 + T.WORDS) (view pass.old) (view pass.new) }
     {
         pass.token.load(rt)
+    }
+
+    /// Returns whether a producer has the role as the call ends. It changes nothing. At most one atomic step. This
+    /// project's own.
+    pub fn has_producer(&self, pass: &mut Pass<T>) -> bool
+        requires { IsPassOf self.now pass.old }
+        ensures same { SamePass pass.old pass.new }
+        ensures answer { HasSeenProducer result (view pass.old) (view pass.new) }
+        ensures steps { TakesAtMost 1 (view pass.old) (view pass.new) }
+    {
+        pass.token.see_producer()
+    }
+
+    /// Returns the version as the call ends. It is 1 more than the number of the stores by then, among them that of `new`.
+    /// So between two calls that return the same version nothing was stored. It changes nothing. At most one atomic step.
+    /// This project's own.
+    pub fn version(&self, pass: &mut Pass<T>) -> u64
+        requires { IsPassOf self.now pass.old }
+        ensures same { SamePass pass.old pass.new }
+        ensures answer { HasSeenVersion result (view pass.old) (view pass.new) }
+        ensures steps { TakesAtMost 1 (view pass.old) (view pass.new) }
+    {
+        pass.token.see_version()
     }
 }
 

@@ -9,7 +9,7 @@ ghost use Rattle.lock_free_queues.specs.Queues.Bounded.{machine_kind};
 ghost use Rattle.lock_free_queues.specs.Queues.Kinds.{most_waiting};
 ghost use Rattle.lock_free_queues.specs.Queues.Rings.{HasHistory, capacity_of, code_of, queue_of, producer_view};
 ghost use Rattle.lock_free_queues.specs.Queues.Rings.{consumer_view, IsPassOf, ToProducer, ToConsumer};
-ghost use Rattle.lock_free_queues.specs.Queues.Contracts.{HasAcquired, HasMeasured, HasSplit, HasLooked};
+ghost use Rattle.lock_free_queues.specs.Queues.Contracts.{HasAcquired, HasSeenRole, HasMeasured, HasSplit, HasLooked};
 ghost use Rattle.lock_free_queues.specs.Queues.Ends.{AreEnds};
 ghost use Rattle.lock_free_queues.specs.Queues.Handles.{ring_in, pass_in, knows, SameHandle};
 
@@ -93,6 +93,24 @@ impl<'a, E: Kind, T: Words> Handle<'a, E, T> {
             Ok(consumer) => Ok(consumer),
             Err(pass) => Err(ring.handle(pass)),
         }
+    }
+
+    /// Calls `has_producer` of its queue, with its pass.
+    pub fn has_producer(&mut self) -> bool
+        ensures same { SameHandle self.old self.new }
+        ensures answer { HasSeenRole roles.Producer result (knows self.old) (knows self.new) }
+        ensures steps { TakesAtMost 1 (knows self.old) (knows self.new) }
+    {
+        self.ring.has_producer(&mut self.pass)
+    }
+
+    /// Calls `has_consumer` of its queue, with its pass.
+    pub fn has_consumer(&mut self) -> bool
+        ensures same { SameHandle self.old self.new }
+        ensures answer { HasSeenRole roles.Consumer result (knows self.old) (knows self.new) }
+        ensures steps { TakesAtMost 1 (knows self.old) (knows self.new) }
+    {
+        self.ring.has_consumer(&mut self.pass)
     }
 
     /// Calls `ends` of its queue, and returns both guards, or None, and then the pass is gone.

@@ -4,7 +4,7 @@ ghost use Rattle.model.specs.declared.turn.Kind.TheVariants as kinds;
 ghost use Rattle.history.specs.History.{Knows};
 ghost use Rattle.history.specs.Steps.{TakesAtMost, TakesAlone};
 ghost use Rattle.lock_free_value.specs.Calls.{HasHistory, IsPassOf, code_of, value_of_pass, producer_view, ToProducer};
-ghost use Rattle.lock_free_value.specs.ValueContracts.{HasAcquired, HasLoaded, HasSplit};
+ghost use Rattle.lock_free_value.specs.ValueContracts.{HasAcquired, HasLoaded, HasSeenProducer, HasSeenVersion, HasSplit};
 ghost use Rattle.lock_free_value.specs.Handles.{value_in, pass_in, knows, SameHandle};
 
 use super::Handle;
@@ -79,6 +79,24 @@ impl<'a, T: Words> Handle<'a, T> {
         ensures steps { TakesAlone (2 + T.WORDS) (1 + T.WORDS) (knows self.old) (knows self.new) }
     {
         self.value.load(rt, &mut self.pass)
+    }
+
+    /// Calls `UnrestrictedAtomic::has_producer`, with its pass.
+    pub fn has_producer(&mut self) -> bool
+        ensures same { SameHandle self.old self.new }
+        ensures answer { HasSeenProducer result (knows self.old) (knows self.new) }
+        ensures steps { TakesAtMost 1 (knows self.old) (knows self.new) }
+    {
+        self.value.has_producer(&mut self.pass)
+    }
+
+    /// Calls `UnrestrictedAtomic::version`, with its pass.
+    pub fn version(&mut self) -> u64
+        ensures same { SameHandle self.old self.new }
+        ensures answer { HasSeenVersion result (knows self.old) (knows self.new) }
+        ensures steps { TakesAtMost 1 (knows self.old) (knows self.new) }
+    {
+        self.value.version(&mut self.pass)
     }
 
     /// Calls `Pass::look`, with its pass.

@@ -3,7 +3,7 @@ use Rattle.model.specs.declared.event.Answer.TheVariants.{Truth, PoppedNone}
 use Rattle.model.specs.declared.event.Event.TheVariants.{Published, HandedOut, Acted, Finished}
 use Rattle.model.specs.declared.event.Start.TheVariants.{Queues}
 use Rattle.model.specs.declared.families.queues.QueueKind.TheVariants.{IndexQueue}
-use Rattle.model.specs.declared.families.queues.QueueStart.TheVariants.{AcquireProducer, AcquireConsumer, PushIndex, Pop, Len}
+use Rattle.model.specs.declared.families.queues.QueueStart.TheVariants.{AcquireProducer, AcquireConsumer, PushIndex, Pop, Peek, HasConsumer, Len}
 use Rattle.lock_free.specs.Coding.{one_word}
 use Rattle.lock_free.specs.Queues.Calls.{queue_of, view}
 use Rattle.uses_laws.proofs.twins.histories.of_queue.Goals as goal
@@ -47,6 +47,18 @@ returns-clause-consumer c p answer before after is =
     let pass = c.args.pass.now in
     let sound = c.histories_are_sound.ensures one_word IndexQueue (queue_of pass).capacity (view pass) tt c.history.ensures.history in
     sound.roles before after (Finished p (Queues AcquireConsumer) answer) is
+
+pub returns-clause-peeked : goal.returns-clause-peeked
+returns-clause-peeked c p answer before after is =
+    let pass = c.args.pass.now in
+    let sound = c.histories_are_sound.ensures one_word IndexQueue (queue_of pass).capacity (view pass) tt c.history.ensures.history in
+    sound.lengths before after (Finished p (Queues Peek) answer) is
+
+pub returns-clause-looked : goal.returns-clause-looked
+returns-clause-looked c p answer before after is =
+    let pass = c.args.pass.now in
+    let sound = c.histories_are_sound.ensures one_word IndexQueue (queue_of pass).capacity (view pass) tt c.history.ensures.history in
+    sound.roles before after (Finished p (Queues HasConsumer) answer) is
 
 pub returns-clause-pushed : goal.returns-clause-pushed
 returns-clause-pushed c p item before after is =

@@ -1,0 +1,82 @@
+-- Who peeks into a bounded queue holds the consumer's role as the peek ends.
+use Rattle.history.proofs.Names.{◌≡◌, ℕ, ◌+◌, Option, Some, None, List, [], ◌∷◌, ◌++◌, refl, sym, ap, subst, ◌∙◌}
+use Rattle.history.proofs.Names.{append-nil, arith, sum_by-append, Answer, Event, Finished, Start, Queues, Flight, QueueKind}
+use Rattle.history.proofs.Names.{Doing, Going, Over, Party, Roles, World, Coding, step_of, beside_of, party_of, ask_of_doing, answer_in}
+use Rattle.history.proofs.Names.{ending_of, events_of_answer, events_of_next, old_of, step_in, consumer_of, stands_there, machine_kind, Val}
+use Rattle.std.proofs.lemmas.List.{same_from_push}
+use Rattle.model.specs.declared.families.Registry.TheVariants as registries
+use Rattle.model.specs.declared.families.queues.QueueStart.TheVariants.{Peek}
+use Rattle.model.specs.LockFree.{ends}
+use Rattle.model.proofs.LockFree.Writes.{writes_no_end}
+use Rattle.laws_queues.proofs.Queues.Core.{Core}
+use Rattle.laws_queues.proofs.Queues.Invariant.{family}
+use Rattle.history.specs.History.{LastStep}
+use Rattle.history.proofs.Queues.{sound_of}
+
+module _ {T : Type 0} where
+  -- a step that writes an end last ends its own call, and wrote all before that itself
+  last_is : (p q : ℕ) (start begun : Start T) (answer : Answer T) (o : Option (Answer T)) (wrote es : List (Event T)) → ends es ≡ 0
+      → es ++ ending_of q begun o ≡ wrote ++ Finished p start answer ∷ [] → (begun ≡ start) × (wrote ≡ es)
+  last_is p q start begun answer None wrote es none is =
+      let same : es ≡ wrote ++ Finished p start answer ∷ [] = sym (append-nil es) ∙ is in
+      let one : ends es ≡ ends wrote + 1 = ap ends same ∙ sum_by-append _ wrote (Finished p start answer ∷ []) in
+      absurd (omega arith)
+  last_is p q start begun answer (Some other) wrote es none is =
+      let both = same_from_push es wrote (Finished q begun other) (Finished p start answer) is in
+      let last = both.1 in
+      (cc, sym both.0)
+
+  none_last : (wrote : List (Event T)) (e : Event T) → [] ≡ wrote ++ e ∷ [] → ⊥
+  none_last [] e is = absurd (cc)
+  none_last (x ∷ xs) e is = absurd (cc)
+
+  -- a peek that stands so is of the party that holds the role, and its step writes nothing
+  peek_at : (z en : Coding T) (c p n : ℕ) (words : List ℕ) (waits : Option (ℕ × ℕ)) (kd : QueueKind) (ro : Roles) (k : Core (Val T kd)) (flight : Flight T)
+      → (family en kd c).At (record { roles = ro; core = k }) p (Queues Peek) flight
+      → (ro.consumer ≡ Some p) × ((step_of z words waits p (Queues Peek) flight n (registries.Queues ro)).wrote ≡ [])
+  peek_at = grind arith
+
+module _ {T : Type 0} (code : Coding T) (kd : QueueKind) (capacity p : ℕ) (answer : Answer T) where
+  abbrev last : Event T
+  last = Finished p (Queues Peek) answer
+
+  module _ (events before : List (Event T)) (l : LastStep code (machine_kind kd) capacity p last events) (is : events ≡ before ++ last ∷ []) where
+    abbrev w : World T
+    w = l.old.world
+
+    abbrev Holds : Type 0
+    Holds = consumer_of before ≡ Some p
+
+    at_end : l.wrote ≡ [] → consumer_of l.old.events ≡ Some p → Holds
+    at_end none holds =
+        let whole : before ++ last ∷ [] ≡ l.old.events ++ last ∷ [] =
+        sym is ∙ (l.is ∙ (ap (λ es. l.old.events ++ es) (l.writes ∙ ap (λ es. es ++ last ∷ []) none))) in
+        ap consumer_of (same_from_push before l.old.events last last whole).0 ∙ holds
+
+    stands : (x : Party T) (flight : Flight T) (since n : ℕ) → party_of p w.latest ≡ Some x → x.doing ≡ Going flight since
+        → (step_in w p x flight n).wrote ++ ending_of p x.start (answer_in (step_in w p x flight n).after) ≡ l.wrote ++ last ∷ [] → Holds
+    stands x flight since n found doing writes =
+        let s = sound_of code capacity kd l.old l.run in
+        let beside = beside_of w.words w.kept w.latest p in
+        let there = stands_there (family w.coding kd w.capacity) l.old s p x since flight found doing in
+        let it = last_is p p (Queues Peek) x.start answer (answer_in (step_in w p x flight n).after) l.wrote (step_in w p x flight n).wrote
+        (writes_no_end T w.coding w.words beside p x.start flight n w.kept) writes in
+        let at = subst (λ st. (family w.coding kd w.capacity).At s.state p st flight) it.0 there.at in
+        let quiet = peek_at w.coding w.coding w.capacity p n w.words beside kd s.state.roles s.state.core flight at in
+        let same : (step_in w p x flight n).wrote ≡ [] =
+        ap (λ st. (step_of w.coding w.words beside p st flight n w.kept).wrote) it.0
+        ∙ (ap (λ k. (step_of w.coding w.words beside p (Queues Peek) flight n k).wrote) s.fit.kept ∙ quiet.1) in
+        at_end (it.1 ∙ same) (s.holds.consumers ∙ quiet.0)
+
+    does : (x : Party T) (n : ℕ) → party_of p w.latest ≡ Some x → (doing : Doing T) → x.doing ≡ doing
+        → events_of_answer w p x n doing ≡ l.wrote ++ last ∷ [] → Holds
+    does x n found (Over others) e writes = absurd (none_last l.wrote last writes)
+    does x n found (Going flight since) e writes = stands x flight since n found e writes
+
+    goes : (o : Option (Party T)) → party_of p w.latest ≡ o → events_of_next w p o ≡ l.wrote ++ last ∷ [] → Holds
+    goes None found writes = absurd (none_last l.wrote last writes)
+    goes (Some x) found writes = does x (old_of w.words (ask_of_doing w.coding x.doing)) found x.doing refl writes
+
+    -- before its last event the party holds the role
+    pub peeker : Holds
+    peeker = goes (party_of p w.latest) refl l.writes

@@ -1,0 +1,239 @@
+-- The peeks of the bounded queues as calls of the model.
+use Rattle.history.proofs.Names.{inl, ◌≡◌, nat_lt, ℕ, ◌+◌, ◌^◌, ◌%◌, ◌*◌, ◌<◌, ◌==◌, ◌||◌, Bool}
+use Rattle.history.proofs.Names.{true, false, Option, Some, None, List, [], ◌++◌, slice_set, refl}
+use Rattle.history.proofs.Names.{sym, ap, subst, ◌∙◌, arith, nat_tests, Ask, After, GoOn, OneWord, read_in}
+use Rattle.history.proofs.Names.{Flight, Values, Coding, IsCoding, after_of, fresh_cell, kept_at, answered, Consumer}
+use Rattle.steps.specs.declared.ask.After.TheVariants.{Done}
+use Rattle.steps.specs.declared.ask.Op.TheVariants.{Load}
+use Rattle.steps.specs.declared.ask.Want.TheVariants as wants
+use Rattle.steps.specs.declared.copied.Buffer as buffers
+use Rattle.steps.specs.declared.queues.peek.Peek.{Peek as Peeking}
+use Rattle.steps.specs.declared.queues.peek.PeekStage.{PeekStage}
+use Rattle.steps.specs.declared.queues.peek.PeekStage.TheVariants as peeks
+use Rattle.steps.specs.Copied.{kept_in_one}
+use Rattle.steps.specs.Queues.Peek.{first_peek, at_peek, peek_asks, peek_want, peek_takes, peek_after, peek_kept, peek_keeps}
+use Rattle.steps.specs.Queues.Ring.{cell_word, word_at}
+use Rattle.model.specs.declared.event.Answer.TheVariants.{Popped}
+use Rattle.model.specs.declared.families.Flight.TheVariants as flights
+use Rattle.model.specs.declared.families.queues.QueueKind.TheVariants as queues
+use Rattle.model.specs.declared.families.queues.QueueStart.TheVariants.{Peek}
+use Rattle.model.specs.declared.families.queues.calls.RingCall.TheVariants as rings
+use Rattle.model.specs.declared.turn.Kind.TheVariants as kinds
+use Rattle.history.specs.declared.view.View.{View}
+use Rattle.history.specs.Queues as indices
+use Rattle.history.specs.Queues.{peeks_index}
+use Rattle.history.specs.Roles.{HasRole}
+use Rattle.history.specs.Rooms.{room_of}
+use Rattle.history.specs.Stages.{Calling, At}
+use Rattle.history.specs.ValueQueue.{IsWordOf, PeekPlace, peeks_value}
+use Rattle.history.proofs.Drives.{goes, keeps_to_end}
+use Rattle.history.proofs.QueueCalls.{holds_it}
+use Rattle.history.proofs.Queues.{queue_effects, role_starts, index_queue_machines, queue_machines}
+use Rattle.history.proofs.Rooms.{room_set, room_read}
+use Rattle.history.proofs.CallsIn.{Driven, IsCallBy, KeepsEnds}
+use Rattle.laws_robust.proofs.Cases.{by_bool}
+
+-- ---- of an index queue
+
+module _ {T : Type 0} (code : Coding T) where
+  abbrev index_looking : Calling T indices.Peeking OneWord Bool
+  index_looking = peeks_index
+
+  abbrev keeps_it : indices.Peeking → OneWord → ℕ → OneWord
+  keeps_it = peek_kept kept_in_one
+
+  index_same_after : (c : indices.Peeking) (m : OneWord) (n : ℕ)
+      → after_of code (index_looking.flight c m) n ≡ goes index_looking (peek_after 1 c n) (keeps_it c m n)
+  index_same_after = grind arith
+
+  index_stays : (capacity : ℕ) (c d : indices.Peeking) (n : ℕ) (stage : PeekStage) → c.capacity ≡ capacity
+      → indices.PeekStage capacity stage → peek_takes 1 c stage n ≡ GoOn d
+      → (d.capacity ≡ capacity) × indices.PeekStage capacity d.stage
+  index_stays capacity c d n peeks.LoadsRead size h e = let same : at_peek c (peeks.LoadsWrite n) ≡ d = cc in
+      subst (λ z. (z.capacity ≡ capacity) × indices.PeekStage capacity z.stage) same (size, tt)
+  index_stays capacity c d n (peeks.LoadsWrite read) size h e =
+      by_bool (c.capacity == 0 || n == read)
+      (λ t. let no : ◌≡◌ {A = After indices.Peeking Bool} (Done false) (GoOn d) = rw t at e in absurd (cc))
+      (λ t.
+      let is : ◌≡◌ {A = After indices.Peeking Bool} (GoOn (at_peek c (peeks.LoadsCell (cell_word c.capacity 1 read) 0))) (GoOn d) = rw t at e in
+      let same : at_peek c (peeks.LoadsCell (cell_word c.capacity 1 read) 0) ≡ d = cc in
+      let some : 0 < capacity = grind (arith, nat_tests) in
+      subst (λ z. (z.capacity ≡ capacity) × indices.PeekStage capacity z.stage) same
+      (size, (read, some, ap (λ k. cell_word k 1 read) size, refl)))
+  index_stays capacity c d n (peeks.LoadsCell cell at) size h e =
+      let t : nat_lt (at + 1) 1 ≡ false = (let none = h.3 in grind (arith, nat_tests)) in
+      let no : ◌≡◌ {A = After indices.Peeking Bool} (Done true) (GoOn d) = rw t at e in
+      absurd (cc)
+
+  index_finds_word : (capacity : ℕ) (stage : PeekStage) → capacity < 2 ^ 32 → indices.PeekStage capacity stage
+      → (a : Ask) × (a.word < 4 + capacity) × (peek_asks stage ≡ wants.Ask a)
+  index_finds_word capacity peeks.LoadsRead fits h = (record { word = 1; op = Load }, omega arith, refl)
+  index_finds_word capacity (peeks.LoadsWrite read) fits h = (record { word = 0; op = Load }, omega arith, refl)
+  index_finds_word capacity (peeks.LoadsCell cell at) fits h =
+      let t : (capacity == 0) ≡ false = (let some = h.1 in grind (arith, nat_tests)) in
+      let place : cell_word capacity 1 h.0 ≡ 4 + 1 * (h.0 % capacity) = rw t refl in
+      let is = h.2 in
+      let none = h.3 in
+      let some = h.1 in
+      (record { word = word_at cell at; op = Load }, (let low : h.0 % capacity < capacity = omega arith in omega arith), refl)
+
+  index_hears : (c : indices.Peeking) (m : OneWord) (a : Ask) (n : ℕ) (stage : PeekStage) → peek_asks stage ≡ wants.Ask a
+      → (peek_takes 1 c stage (answered a.op n) ≡ peek_takes 1 c stage n)
+      × (peek_keeps kept_in_one m stage (answered a.op n) ≡ peek_keeps kept_in_one m stage n)
+  index_hears = grind arith
+
+  abbrev pub peek_driven : Driven T indices.Peeking OneWord Bool
+  peek_driven = record { want = λ (c : indices.Peeking). peek_want c; after = λ c n. peek_after 1 c n; kept = keeps_it; call = index_looking }
+
+  peek_is_call : IsCallBy code (queue_effects code) (λ capacity. 4 + capacity) peek_driven
+  peek_is_call =
+      record {
+        same_want = λ c m. refl;
+        same_after = λ capacity c m n h. index_same_after c m n;
+        hears = λ c m a n e. index_hears c m a n c.stage e;
+        stays = λ capacity c d n h e. (let next = index_stays capacity c d n c.stage h.1 h.2 e in (h.0, next.0, next.1));
+        asks = λ capacity c h. index_finds_word capacity c.stage h.0 h.2;
+        past = λ capacity c d n k h e. refl;
+        finds = λ c m n small t. tt;
+        leaves = λ c a n t e. absurd (cc);
+        tells = λ capacity p from c d m n es h wrote e. ap (λ zs. zs ++ queue_effects code p (index_looking.flight c m) n) wrote;
+        tells_all = λ capacity p from c b m n es h skip wrote e still. ap (λ zs. zs ++ queue_effects code p (index_looking.flight c m) n) wrote;
+      }
+
+  pub peek_keep_all : KeepsEnds code kinds.IndexQueue (λ capacity. 4 + capacity) peek_driven
+  peek_keep_all = keeps_to_end (index_queue_machines code) peek_driven peek_is_call (λ c n. refl)
+
+  pub peek_first : (x : View T) → x.going ≡ None → x.other ≡ [] → 0 < x.share.part → x.capacity < 2 ^ 32
+      → HasRole Consumer x.made → At code kinds.IndexQueue peeks_index x x (first_peek x.capacity) (record { 0 = 0 })
+  peek_first x idle alone any small has =
+      inl (record {
+        is = refl;
+        idle = idle;
+        fresh = alone;
+        standing = (small, refl, tt);
+        some = any;
+        first = refl;
+        starts =
+            role_starts code queues.IndexQueue x peeks_index Peek (first_peek x.capacity) (record { 0 = 0 }) refl (λ kept. refl)
+            Consumer (λ o p. tt) (λ roles p is. holds_it roles.consumer p is) has;
+        wrote = λ p. refl;
+      })
+
+-- ---- of a queue of values
+
+-- a word of a cell is one of the queue's words
+cell_low : (size capacity position cell at : ℕ) → IsWordOf size capacity position cell at → word_at cell at < 4 + size * capacity
+cell_low = grind arith
+
+module _ {T R : Type 0} (code : Coding T) (law : IsCoding code) (words_in : R → List ℕ) (with_word : R → ℕ → ℕ → R)
+    (put_in : (x : R) (at word : ℕ) → words_in (with_word x at word) ≡ slice_set (words_in x) at word) where
+  abbrev looking : Calling T (Peeking T R) R Bool
+  looking = peeks_value code words_in
+
+  abbrev keeps_word : Peeking T R → R → ℕ → R
+  keeps_word = peek_kept with_word
+
+  -- a peek at this stage, with this room
+  abbrev flight_at : ℕ → PeekStage → buffers.Buffer 128 → Flight T
+  flight_at capacity stage room =
+      flights.Queues
+      (Values
+      (rings.Peek (record { call = record { capacity = capacity; stage = stage; of = record {} }; given = tt; room = room })))
+
+  abbrev room_in : R → buffers.Buffer 128
+  room_in m = room_of code.size (words_in m)
+
+  put_there : (m : R) (at n : ℕ) → at < code.size → kept_at (room_in m) at n ≡ room_in (with_word m at n)
+  put_there m at n below = grind (arith, room_set, room_of)
+
+  peek_same_after : (capacity : ℕ) (c : Peeking T R) (m : R) (n : ℕ) (stage : PeekStage)
+      → PeekPlace code.size capacity stage
+      → after_of code (flight_at c.capacity stage (room_in m)) n
+      ≡ goes looking (peek_takes code.size c stage n) (peek_keeps with_word m stage n)
+  peek_same_after capacity c m n peeks.LoadsRead h = refl
+  peek_same_after capacity c m n (peeks.LoadsWrite read) h =
+      by_bool (c.capacity == 0 || n == read)
+      (λ t. rw t refl)
+      (λ t. rw t refl)
+  peek_same_after capacity c m n (peeks.LoadsCell cell at) h =
+      by_bool (nat_lt (at + 1) code.size)
+      (λ t. rw t (ap (λ r. GoOn (flight_at c.capacity (peeks.LoadsCell cell (at + 1)) r)) (put_there m at n h.1.2)))
+      (λ t. rw t (ap (λ x. Done (Popped x)) (ap (read_in code) (put_there m at n h.1.2) ∙ room_read code (words_in (with_word m at n)))))
+
+  module _ (capacity : ℕ) where
+    abbrev PeeksNext : Peeking T R → Type 0
+    PeeksNext d = (d.capacity ≡ capacity) × PeekPlace code.size capacity d.stage
+
+    peek_stays : (c d : Peeking T R) (n : ℕ) (stage : PeekStage) → c.capacity ≡ capacity
+        → PeekPlace code.size capacity stage → peek_takes code.size c stage n ≡ GoOn d → PeeksNext d
+    peek_stays c d n peeks.LoadsRead size h e = let same : at_peek c (peeks.LoadsWrite n) ≡ d = cc in subst PeeksNext same (size, tt)
+    peek_stays c d n (peeks.LoadsWrite read) size h e =
+        by_bool (c.capacity == 0 || n == read)
+        (λ t. let no : ◌≡◌ {A = After (Peeking T R) Bool} (Done false) (GoOn d) = rw t at e in absurd (cc))
+        (λ t.
+        let is : ◌≡◌ {A = After (Peeking T R) Bool} (GoOn (at_peek c (peeks.LoadsCell (cell_word c.capacity code.size read) 0))) (GoOn d) = rw t at e in
+        let same : at_peek c (peeks.LoadsCell (cell_word c.capacity code.size read) 0) ≡ d = cc in
+        let some : 0 < capacity = grind (arith, nat_tests) in
+        subst PeeksNext same (size, (read, (some, ap (λ k. cell_word k code.size read) size, law.some))))
+    peek_stays c d n (peeks.LoadsCell cell at) size h e =
+        by_bool (nat_lt (at + 1) code.size)
+        (λ t.
+        let is : ◌≡◌ {A = After (Peeking T R) Bool} (GoOn (at_peek c (peeks.LoadsCell cell (at + 1)))) (GoOn d) = rw t at e in
+        let same : at_peek c (peeks.LoadsCell cell (at + 1)) ≡ d = cc in
+        let low : at + 1 < code.size = grind (arith, nat_tests) in
+        subst PeeksNext same (size, (h.0, (h.1.0, h.1.1, low))))
+        (λ t. let no : ◌≡◌ {A = After (Peeking T R) Bool} (Done true) (GoOn d) = rw t at e in absurd (cc))
+
+  peek_finds_word : (capacity : ℕ) (stage : PeekStage) → PeekPlace code.size capacity stage
+      → (a : Ask) × (a.word < 4 + code.size * capacity) × (peek_asks stage ≡ wants.Ask a)
+  peek_finds_word capacity peeks.LoadsRead h = (record { word = 1; op = Load }, omega arith, refl)
+  peek_finds_word capacity (peeks.LoadsWrite read) h = (record { word = 0; op = Load }, omega arith, refl)
+  peek_finds_word capacity (peeks.LoadsCell cell at) h =
+      (record { word = word_at cell at; op = Load }, cell_low code.size capacity h.0 cell at h.1, refl)
+
+  peek_hears : (c : Peeking T R) (m : R) (a : Ask) (n : ℕ) (stage : PeekStage) → peek_asks stage ≡ wants.Ask a
+      → (peek_takes code.size c stage (answered a.op n) ≡ peek_takes code.size c stage n)
+      × (peek_keeps with_word m stage (answered a.op n) ≡ peek_keeps with_word m stage n)
+  peek_hears = grind arith
+
+  abbrev pub value_peek_driven : Driven T (Peeking T R) R Bool
+  value_peek_driven = record { want = λ (c : Peeking T R). peek_want c; after = λ c n. peek_after code.size c n; kept = keeps_word; call = looking }
+
+  value_peek_is_call : IsCallBy code (queue_effects code) (λ capacity. 4 + code.size * capacity) value_peek_driven
+  value_peek_is_call =
+      record {
+        same_want = λ c m. refl;
+        same_after = λ capacity c m n h. peek_same_after capacity c m n c.stage h.2;
+        hears = λ c m a n e. peek_hears c m a n c.stage e;
+        stays = λ capacity c d n h e. (let next = peek_stays capacity c d n c.stage h.1 h.2 e in (h.0, next.0, next.1));
+        asks = λ capacity c h. peek_finds_word capacity c.stage h.2;
+        past = λ capacity c d n k h e. refl;
+        finds = λ c m n small t. tt;
+        leaves = λ c a n t e. absurd (cc);
+        tells = λ capacity p from c d m n es h wrote e. ap (λ zs. zs ++ queue_effects code p (looking.flight c m) n) wrote;
+        tells_all = λ capacity p from c b m n es h skip wrote e still. ap (λ zs. zs ++ queue_effects code p (looking.flight c m) n) wrote;
+      }
+
+  pub value_peek_keeps : KeepsEnds code kinds.Queue (λ capacity. 4 + code.size * capacity) value_peek_driven
+  value_peek_keeps = keeps_to_end (queue_machines code) value_peek_driven value_peek_is_call (λ c n. refl)
+
+  -- in a room of zeros in which a value fits
+  pub value_peek_first : (x : View T) (m : R) → room_in m ≡ fresh_cell → x.going ≡ None → x.other ≡ []
+      → 0 < x.share.part → x.capacity < 2 ^ 32 → HasRole Consumer x.made
+      → At code kinds.Queue looking x x (first_peek x.capacity) m
+  value_peek_first x m zeros idle alone any small has =
+      inl (record {
+        is = refl;
+        idle = idle;
+        fresh = alone;
+        standing = (small, refl, tt);
+        some = any;
+        first = named;
+        starts =
+            role_starts code queues.Queue x looking Peek (first_peek x.capacity) m refl (λ kept. named)
+            Consumer (λ o p. tt) (λ roles p is. holds_it roles.consumer p is) has;
+        wrote = λ p. refl;
+      })
+    where
+      named : ◌≡◌ {A = Option (Flight T)} (Some (flight_at x.capacity peeks.LoadsRead fresh_cell)) (Some (looking.flight (first_peek x.capacity) m))
+      named = ap (λ r. Some (flight_at x.capacity peeks.LoadsRead r)) (sym zeros)

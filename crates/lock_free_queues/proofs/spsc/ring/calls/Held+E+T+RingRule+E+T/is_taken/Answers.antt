@@ -1,0 +1,41 @@
+use Rattle.lock_free_queues.proofs.Names.{sym, subst, ◌∙◌, Coding, IsCoding, coding_by, looks_role, At}
+use Rattle.lock_free_queues.proofs.Names.{look_first_on}
+use Rattle.lock_free_queues.specs.Queues.Bounded.{machine_kind}
+use Rattle.lock_free_queues.proofs.Queues.Kinds.{looks_keep}
+use Rattle.lock_free_queues.specs.Queues.Rings.{token_view}
+use Rattle.lock_free_queues.proofs.Queues.Peeks.{seen_role}
+use Rattle.lock_free_queues.proofs.Queues.Sums.{seen_moves}
+use Rattle.lock_free_queues.proofs.Queues.Paid.{look_takes}
+use Rattle.lock_free_queues.proofs.spsc.ring.calls.Held+E+T+RingRule+E+T.is_taken.Goals as goal
+
+pub drive-requires-clause-rule : goal.drive-requires-clause-rule
+drive-requires-clause-rule g c base v call m key =
+    let met = g.met.T.Words in
+    let code : Coding g.row.T.Denot = coding_by g.T.Words in
+    let law : IsCoding code = record { some = met.some; few = met.few; sized = met.sized; given_back = met.given_back } in
+    looks_keep code law g.E.Kind.KIND g.R.Side.ROLE base v call m key.capacity
+
+pub drive-requires-clause-at : goal.drive-requires-clause-at
+drive-requires-clause-at g c =
+    let mine = c.args.self.now in
+    let v = token_view mine in
+    let code : Coding g.row.T.Denot = coding_by g.T.Words in
+    subst (λ n. At code (machine_kind g.E.Kind.KIND) (looks_role g.R.Side.ROLE) v v (record { word = n }) tt)
+    (sym (c.WORD.ensures ∙ g.R.Side.there))
+    (look_first_on code g.E.Kind.KIND v tt mine.idle mine.alone mine.some.0 g.R.Side.ROLE)
+
+pub returns-clause-answer : goal.returns-clause-answer
+returns-clause-answer g c =
+    let mine = c.args.self.now in
+    seen_role (coding_by g.T.Words) g.E.Kind.KIND (token_view mine)
+    c.drive.new.self.seat.me.0 mine.idle g.R.Side.ROLE c.drive.result tt c.drive.ensures.end
+
+pub returns-clause-roles : goal.returns-clause-roles
+returns-clause-roles g c r =
+    seen_moves (token_view c.args.self.now) c.drive.new.self.seat.me.0 g.R.Side.ROLE c.drive.result (returns-clause-answer g c) r
+
+pub returns-clause-steps : goal.returns-clause-steps
+returns-clause-steps g c =
+    let mine = c.args.self.now in
+    look_takes (coding_by g.T.Words) (token_view mine)
+    c.drive.new.self.seat.me.0 mine.idle g.E.Kind.KIND g.R.Side.ROLE c.drive.result tt c.drive.ensures.end

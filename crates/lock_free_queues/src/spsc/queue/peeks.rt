@@ -1,0 +1,57 @@
+//! The peek at a seat, by way of a room.
+ghost use Rattle.std.specs.Prelude.{◌≡◌, ◌≤◌, ◌+◌, ℕ, replicate};
+ghost use Rattle.std.specs.Option.{option_map};
+ghost use Rattle.steps.specs.declared.queues.roles.Role.{Role};
+ghost use Rattle.steps.specs.declared.queues.roles.Role.TheVariants as roles;
+ghost use Rattle.model.specs.declared.event.Item.TheVariants.{Value};
+ghost use Rattle.history.specs.Roles.{HasRole};
+ghost use Rattle.history.specs.Steps.{TakesAtMost};
+ghost use Rattle.lock_free_queues.specs.Queues.Roles.{Moved};
+ghost use Rattle.lock_free_queues.specs.Queues.Contracts.{HasPeeked};
+ghost use Rattle.lock_free_queues.specs.Queues.Values.{token_view, IsSameQueue};
+
+use super::drives::Peeks;
+use crate::spsc::ring::Held;
+use crate::spsc::ring::rule::{RingRule, Values};
+use steps::copied::{Buffer, Room};
+use steps::queues::peek::Peek;
+use steps::routine::Routine;
+use steps::words::Words;
+
+impl<T: Words> Held<Values, T, RingRule<Values, T>> {
+    /// Returns the oldest value, which stays, or None where the queue is empty.
+    pub fn peek(&mut self) -> Option<T>
+        requires { HasRole roles.Consumer (token_view self.old).made }
+        ensures same { IsSameQueue self.old self.new }
+        ensures peeked { HasPeeked (option_map Value result) (token_view self.old) (token_view self.new) }
+        ensures roles { (r : Role) → Moved r 0 0 (token_view self.old).made (token_view self.new).made }
+        ensures steps { TakesAtMost (2 + T.WORDS) (token_view self.old) (token_view self.new) }
+    {
+        // a room is filled with zeros: the smallest that the words fit in
+        if T::WORDS <= 2 {
+            self.peek_by(Buffer::<2> { words: [0; 2] })
+        } else if T::WORDS <= 16 {
+            self.peek_by(Buffer::<16> { words: [0; 16] })
+        } else {
+            self.peek_by(Buffer::<128> { words: [0; 128] })
+        }
+    }
+
+    /// Peeks by way of this room.
+    #[inline(always)]
+    pub fn peek_by<R: Room<T> + Drop>(&mut self, room: R) -> Option<T>
+        requires role { HasRole roles.Consumer (token_view self.old).made }
+        requires room { (n : ℕ) × (T.WORDS ≤ n) × (n ≤ 128) × (R.words_in room ≡ replicate n 0) }
+        ensures same { IsSameQueue self.old self.new }
+        ensures peeked { HasPeeked (option_map Value result) (token_view self.old) (token_view self.new) }
+        ensures roles { (r : Role) → Moved r 0 0 (token_view self.old).made (token_view self.new).made }
+        ensures steps { TakesAtMost (2 + T.WORDS) (token_view self.old) (token_view self.new) }
+    {
+        let call = Peek::<T, R>::new(self.capacity);
+        let mut room = room;
+        let end = self
+            .seated
+            .drive::<Peek<T, R>, Peeks<T, R>>(call, &(), &mut room);
+        Peek::<T, R>::answer(end, &(), &room)
+    }
+}

@@ -1,0 +1,37 @@
+use Rattle.lock_free_sets.proofs.Names.{rules, ◌<◌, refl, sym, subst, seen, arith}
+use Rattle.model.specs.declared.turn.Kind.TheVariants as kinds
+use Rattle.lock_free_sets.specs.Bits.Looks.{looks_at, IsSetDone}
+use Rattle.lock_free_sets.proofs.Bits.Looks.{look_keeps, look_first, looked}
+use Rattle.lock_free_sets.proofs.Ends.{done}
+use Rattle.lock_free_sets.proofs.Sets.Passes.{same_pass, same_size}
+use Rattle.lock_free_sets.proofs.Steps.{bits_take}
+use Rattle.lock_free_sets.proofs.mpmc.bit_set.calls.BitSet.is_set.Goals as goal
+
+pub drive-end-requires-clause-rule : goal.drive-end-requires-clause-rule
+drive-end-requires-clause-rule c = look_keeps c.args.id
+
+pub drive-end-requires-clause-at : goal.drive-end-requires-clause-at
+drive-end-requires-clause-at c =
+    let mine = c.args.pass.now in
+    look_first c.args.id (seen mine.seated) _ _
+    (record { known = refl; idle = mine.idle; alone = mine.alone; some = mine.some.0 })
+    (subst (λ n. c.args.id < n) (sym (same_size c.args.self.now mine c.requires.pass)) c.requires.place)
+
+pub returns-clause-same : goal.returns-clause-same
+returns-clause-same c =
+    let end = c.drive-end in
+    same_pass (search rules)
+    (done kinds.Bits (looks_at c.args.id) (λ o p h. h) (seen c.args.pass.now.seated) (seen end.new.self) end.result end.new.room end.ensures.end)
+
+pub returns-clause-answer : goal.returns-clause-answer
+returns-clause-answer c =
+    let base = seen c.args.pass.now.seated in
+    let w = seen c.drive-end.new.self in
+    subst (λ answer. IsSetDone c.args.id answer base w) (sym c.answer.ensures)
+    (looked c.args.id base w c.drive-end.result c.drive-end.new.room c.args.pass.now.idle c.drive-end.ensures.end)
+
+pub returns-clause-steps : goal.returns-clause-steps
+returns-clause-steps c =
+    let mine = c.args.pass.now in
+    bits_take (looks_at c.args.id) (seen mine.seated) (seen c.drive-end.new.self) c.drive-end.result c.drive-end.new.room
+    mine.idle _ mine.known (omega arith) c.drive-end.ensures.end

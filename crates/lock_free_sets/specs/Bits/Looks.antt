@@ -1,0 +1,40 @@
+-- A look at a place of a bit set as a call of the model, and what it answers.
+use Rattle.std.specs.Prelude.{◌≡◌, ℕ, ◌<◌, Bool, false, IfSome, List, [], ◌∷◌, ◌++◌}
+use Rattle.steps.specs.declared.bits.looks.IsSet.{IsSet as Looking}
+use Rattle.model.specs.declared.event.Answer.TheVariants.{Truth}
+use Rattle.model.specs.declared.event.Event.{Event}
+use Rattle.model.specs.declared.event.Event.TheVariants.{Finished}
+use Rattle.model.specs.declared.event.Start.TheVariants.{Bits}
+use Rattle.model.specs.declared.families.Flight.TheVariants as flights
+use Rattle.model.specs.declared.families.bits.BitsStart.TheVariants.{IsSet}
+use Rattle.model.specs.declared.families.bits.calls.BitsFlight.TheVariants as calls
+use Rattle.model.specs.Families.Bits.Reading.{standing}
+use Rattle.model.specs.Turns.{one_if}
+use Rattle.history.specs.declared.view.View.{View}
+use Rattle.history.specs.Stages.{Calling}
+use Rattle.lock_free_sets.specs.Driven.{HasMade}
+
+module _ {T : Type 0} where
+  abbrev pub looks_at : ℕ → Calling T Looking (Unit {0}) Bool
+  looks_at place =
+      record {
+        start = Bits (IsSet place);
+        by = λ was p. IfSome was (λ q. q ≡ p);
+        stands = λ capacity c. place < capacity;
+        flight = λ c m.
+            flights.Bits
+            (calls.IsSet (record { call = c; given = place; room = m }));
+        answer = λ b m. Truth b;
+        skips = λ c n. false;
+        left = λ e. ⊥;
+        wrote = λ capacity p from c m es. es ≡ [];
+        wrote_all = λ capacity p from b m es. es ≡ [];
+      }
+
+-- the call changed nothing, and answered whether the place stood as it ended, after all events before its end
+pub record IsSetDone (place : ℕ) (answer : Bool) (old new : View ℕ) : Type 0 where
+  pub made : HasMade (Bits (IsSet place)) (Truth answer) (λ by. []) old new
+  pub by : ℕ
+  pub before : List (Event ℕ)
+  pub is : new.seen ≡ before ++ Finished by (Bits (IsSet place)) (Truth answer) ∷ []
+  pub stood : standing place before ≡ one_if answer

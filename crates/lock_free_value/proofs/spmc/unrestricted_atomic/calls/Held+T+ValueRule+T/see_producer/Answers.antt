@@ -1,0 +1,33 @@
+use Rattle.std.proofs.Common.{arith}
+use Rattle.lock_free_value.proofs.Names.{coding_by}
+use Rattle.history.specs.Value.{looks_at_producer}
+use Rattle.lock_free_value.specs.Calls.{seen}
+use Rattle.history.proofs.ValueCalls.{look_keeps, look_first}
+use Rattle.lock_free_value.proofs.Facts.{seen_producer, seen_producer_moves, takes_here}
+use Rattle.lock_free_value.proofs.spmc.unrestricted_atomic.calls.Held+T+ValueRule+T.see_producer.Goals as goal
+
+pub drive-requires-clause-rule : goal.drive-requires-clause-rule
+drive-requires-clause-rule g c base v call m key = look_keeps (coding_by g.T.Words) base v call m 1
+
+pub drive-requires-clause-at : goal.drive-requires-clause-at
+drive-requires-clause-at g c =
+    let mine = c.args.self.now in
+    look_first (coding_by g.T.Words) (seen mine) tt mine.idle mine.alone mine.some.0
+
+pub returns-clause-answer : goal.returns-clause-answer
+returns-clause-answer g c =
+    let mine = c.args.self.now in
+    seen_producer (coding_by g.T.Words) (seen mine)
+    c.drive.new.self.seat.me.0 mine.idle mine.known c.drive.result tt c.drive.ensures.end
+
+pub returns-clause-role : goal.returns-clause-role
+returns-clause-role g c =
+    let mine = c.args.self.now in
+    seen_producer_moves (coding_by g.T.Words) (seen mine)
+    c.drive.new.self.seat.me.0 mine.idle mine.known c.drive.result tt c.drive.ensures.end
+
+pub returns-clause-steps : goal.returns-clause-steps
+returns-clause-steps g c =
+    let mine = c.args.self.now in
+    takes_here (coding_by g.T.Words) (seen mine)
+    c.drive.new.self.seat.me.0 mine.idle mine.known looks_at_producer c.drive.result tt (omega arith) c.drive.ensures.end

@@ -1,0 +1,33 @@
+use Rattle.std.proofs.Common.{arith}
+use Rattle.lock_free_value.proofs.Names.{coding_by}
+use Rattle.history.specs.Value.{looks_at_version}
+use Rattle.lock_free_value.specs.Calls.{seen}
+use Rattle.history.proofs.ValueCalls.{version_keeps, version_first}
+use Rattle.lock_free_value.proofs.Facts.{seen_version, seen_version_moves, takes_here}
+use Rattle.lock_free_value.proofs.spmc.unrestricted_atomic.calls.Held+T+ValueRule+T.see_version.Goals as goal
+
+pub drive-requires-clause-rule : goal.drive-requires-clause-rule
+drive-requires-clause-rule g c base v call m key = version_keeps (coding_by g.T.Words) base v call m 1
+
+pub drive-requires-clause-at : goal.drive-requires-clause-at
+drive-requires-clause-at g c =
+    let mine = c.args.self.now in
+    version_first (coding_by g.T.Words) (seen mine) tt mine.idle mine.alone mine.some.0
+
+pub returns-clause-answer : goal.returns-clause-answer
+returns-clause-answer g c =
+    let mine = c.args.self.now in
+    seen_version (coding_by g.T.Words) (seen mine)
+    c.drive.new.self.seat.me.0 mine.idle mine.known c.drive.result tt c.drive.ensures.end
+
+pub returns-clause-role : goal.returns-clause-role
+returns-clause-role g c =
+    let mine = c.args.self.now in
+    seen_version_moves (coding_by g.T.Words) (seen mine)
+    c.drive.new.self.seat.me.0 mine.idle mine.known c.drive.result tt c.drive.ensures.end
+
+pub returns-clause-steps : goal.returns-clause-steps
+returns-clause-steps g c =
+    let mine = c.args.self.now in
+    takes_here (coding_by g.T.Words) (seen mine)
+    c.drive.new.self.seat.me.0 mine.idle mine.known looks_at_version c.drive.result tt (omega arith) c.drive.ensures.end

@@ -1,0 +1,14 @@
+use Rattle.plain.proofs.Alone.{can_end, ends_so}
+use Rattle.plain.proofs.Places.Looks.{look_runs}
+use Rattle.plain.proofs.bits.is_set.Goals as goal
+
+pub drive-requires : goal.drive-requires
+drive-requires c = record {
+  ends = can_end _ _ _ _ _ _ _ _
+      (look_runs c.args.capacity c.args.place c.requires.below c.args.words.now.items c.requires.fits _);
+}
+
+pub returns : goal.returns
+returns c = ends_so _ _ _ _ _ _ _ _
+    (look_runs c.args.capacity c.args.place c.requires.below c.args.words.now.items c.requires.fits _)
+    _ _ _ c.drive.ensures.alone

@@ -1,0 +1,40 @@
+-- What a wrong body of a look at the single value would answer, and which of the call's clauses refuses that. It is said of every
+-- history. A name says what the body does.
+use Rattle.std.proofs.Common.{◌≡◌, ℕ, ◌<◌, ◌≤◌, Bool, true, false, not, Some, None, is_none, [], ◌∷◌, length, refl, ap, ◌∙◌}
+use Rattle.std.proofs.Common.{length-append, arith}
+use Rattle.model.specs.Families.Atomic.Reading.{holder_of}
+use Rattle.lock_free.specs.HistoryView.View.{View}
+use Rattle.lock_free.specs.Value.Contracts.{HasSeenProducer, HasSeenVersion, HasStored}
+use Rattle.lock_free.specs.Value.Stored.{stored}
+use Rattle.uses_laws.proofs.WrongBodies.{no_call}
+
+module _ {T : Type 0} where
+  -- a look at the version that answers the word of the role, which is 0 or 1
+  pub version_answers_the_role : (word : ℕ) (v w : View T) → word ≤ 1 → 0 < length (stored w.seen) → HasSeenVersion word v w → ⊥
+  version_answers_the_role word v w few some k = let e = k.count in absurd (omega arith)
+
+  -- one that answers the version that it found before a store, of which its pass knows
+  pub version_keeps_the_old_one : (x : T) (version : ℕ) (u v w : View T) → HasSeenVersion version u v → HasStored x v w
+      → HasSeenVersion version v w
+      → ⊥
+  version_keeps_the_old_one x version u v w old store k =
+      let a = old.count in
+      let b = k.count in
+      let c = ap length store.list in
+      let d = length-append (stored v.seen) (x ∷ []) in
+      absurd (omega arith)
+
+  -- one that answers and has not called
+  pub version_without_a_step : (version : ℕ) (v : View T) → HasSeenVersion version v v → ⊥
+  version_without_a_step version v k = no_call _ _ _ _ v v refl k.called
+
+  -- a look at the role that answers false, though a party has the role as it ends
+  pub has_producer_answers_false : (p : ℕ) (v w : View T) → holder_of w.seen ≡ Some p → HasSeenProducer false v w → ⊥
+  has_producer_answers_false p v w has k = let e = k.holder ∙ ap (λ o. not (is_none o)) has in cc
+
+  -- or true, though nobody has it
+  pub has_producer_answers_true : (v w : View T) → holder_of w.seen ≡ None → HasSeenProducer true v w → ⊥
+  has_producer_answers_true v w none k = let e = k.holder ∙ ap (λ o. not (is_none o)) none in cc
+
+  pub has_producer_without_a_step : (taken : Bool) (v : View T) → HasSeenProducer taken v v → ⊥
+  has_producer_without_a_step taken v k = no_call _ _ _ _ v v refl k.called
