@@ -98,6 +98,9 @@ pub fn publishes(
     if !writes(&mut loan.value, number) {
         return Err(Failure::NoMemory);
     }
+    if loan.number != number || !is_whole(&*loan, number, loan.all.len()) {
+        return Err(Failure::Wrong);
+    }
     Ok(publisher.publish(loan))
 }
 
@@ -112,7 +115,11 @@ pub fn reads(
     let sample = subscriber.receive(rt)?;
     let published = sample.number();
     let is_right = match subscriber.read(&sample) {
-        Ok(reading) => reading.number() == published && is_whole(reading.get(), number, words),
+        Ok(reading) => {
+            reading.number() == published
+                && is_whole(reading.get(), number, words)
+                && is_whole(&*reading, number, reading.all.len())
+        }
         Err(_) => false,
     };
     if is_right & subscriber.give_back(sample) {

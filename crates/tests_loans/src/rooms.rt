@@ -85,14 +85,11 @@ fn texts(alloc: Global, number: usize) -> Result<Vec<String>, AllocError> {
     Ok(texts)
 }
 
-/// Sends a text: the answer of the channel. None where there is no place, or no memory, or the loan is another's.
+/// Sends a text: the answer of the channel. None where there is no place, or no memory.
 fn sends(rt: &impl Wait, sender: &mut Sender<'_, String>, text: &str) -> Option<Option<u64>> {
     let mut loan = sender.loan(rt).ok()?;
     loan.value.clear();
     loan.value.push_str(text).ok()?;
-    if !sender.is_loaned(&loan) {
-        return None;
-    }
     match sender.send(loan) {
         Some(back) => Some(Some(back.place as u64)),
         None => Some(None),
@@ -188,12 +185,8 @@ impl<'a> Room<'a> {
             },
             Step::GivesUpOne => match self.one.take() {
                 Some(loan) => {
-                    if self.sender.is_loaned(&loan) {
-                        self.sender.give_up(loan);
-                        true
-                    } else {
-                        false
-                    }
+                    self.sender.give_up(loan);
+                    true
                 }
                 None => false,
             },

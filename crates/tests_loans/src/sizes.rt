@@ -94,7 +94,7 @@ fn sends(rt: &impl Wait, sender: &mut Sender<'_, u64>) -> bool
         return false;
     };
     loan.value = number.wrapping_mul(3);
-    sender.is_loaned(&loan) && sender.send(loan).is_none()
+    sender.send(loan).is_none()
 }
 
 /// The next sample, if it has this number and can be read.

@@ -88,7 +88,7 @@ fn sends_next<'a>(
     let number = sender.next_number();
     let is_written = writes_text(&mut loan.value.text, number);
     loan.value.number = number;
-    is_written && sender.is_loaned(&loan) && sender.send(loan).is_none()
+    is_written && sender.send(loan).is_none()
 }
 
 /// Sends all notes: whether none was handed back.

@@ -8,7 +8,7 @@ ghost use Rattle.zero_copy_bus.specs.Ends.{place_at, place_before, place_left, r
 ghost use Rattle.zero_copy_bus.specs.Ends.{spares_in, table_of, IsAgain, IsOfLane, IsTakenFor, WasKept, WasNotSubscribed, WasSeated};
 ghost use Rattle.zero_copy_bus.specs.Outlets.{open_in, AtLane, EachLane, StaysOrLost, WasRejoined};
 ghost use Rattle.zero_copy_bus.specs.Rolls.{HasLooked, HasNotLooked, HasRecovered};
-ghost use Rattle.zero_copy_slots.specs.Slots.{slot_in};
+ghost use Rattle.zero_copy_slots.specs.Slots.{number_in, slot_in, value_in};
 
 use lock_free::mpmc::container::{ContainerAddFailure, ContainerRemoveError, OwnerId};
 use std::sync::Wait;
@@ -89,6 +89,21 @@ pub fn loan<'a, X: Drop, K: Keeps<X>>(
     ensures refused { IfErr result (IsTakenFor (spares_in publisher.old) (table_of publisher.old) (table_of publisher.new)) }
 {
     publisher.loan(rt)
+}
+
+/// What a loan shows is its value.
+pub fn shown<'b, X: Drop, K: Keeps<X>>(loan: &'b Loan<'_, X, K>) -> &'b X
+    ensures { result.now ≡ loan.now.value }
+{
+    &**loan
+}
+
+/// What a reading shows keeps its rule, and is the value that lies there.
+pub fn read_shown<'b, X, K: Keeps<X>>(reading: &'b Reading<'_, X, K>) -> &'b X
+    ensures fits { K.holds (number_in reading.now) result.now }
+    ensures same { value_in reading.now ≡ Some result.now }
+{
+    &**reading
 }
 
 /// What is read lies in the slot of the sample.

@@ -11,4 +11,7 @@ module _ {X K : Type 0} {rule : Ghosts K X} where
       → HandsBack place back old new
       → ⊥
   no_place place back old new within past k =
-      ⊎_elim (λ sent. let below = sent.0 in absurd (omega arith)) (λ unsent. let same = unsent.2 in absurd (omega arith)) k
+      ⊎_elim (λ sent. let below = sent.0 in absurd (omega arith))
+      (λ none.
+      ⊎_elim (λ unsent. let same = unsent.2 in absurd (omega arith)) (λ foreign. let same = foreign.2 in absurd (omega arith)) none)
+      k

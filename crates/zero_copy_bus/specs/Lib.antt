@@ -1,3 +1,4 @@
+-- What the contracts of the bus speak of: its publisher, its subscribers, and the records between them.
 pub mod Books
 pub mod Bus
 pub mod Ends

@@ -2,6 +2,7 @@
 ghost use Rattle.std.specs.Prelude.{◌≡◌};
 ghost use Rattle.zero_copy_slots.specs.Slots.{slot_of};
 
+use std::ops::Deref;
 use zero_copy_slots::{Anything, Keeps, Writing};
 
 /// A slot that nobody reads, and a record for it, which the publisher writes in plain memory. It ends as it is published or given
@@ -21,6 +22,17 @@ impl<'a, X: Drop, K: Keeps<X>> Drop for Loan<'a, X, K> {
             value: _value,
             writing: _writing,
         } = self;
+    }
+}
+
+/// `*loan` is the value, to be read. It is written as `loan.value`.
+impl<'a, X: Drop, K: Keeps<X>> Deref for Loan<'a, X, K> {
+    type Target = X;
+
+    ghost deref_gives = { λ l x. x ≡ l.value };
+
+    fn deref(&self) -> &X {
+        &self.value
     }
 }
 

@@ -1,11 +1,15 @@
 -- What a wrong body of a call would leave or answer, and which of the call's clauses refuses that. A name says what the body does.
-use Rattle.std.proofs.Common.{◌≡◌, ◌≢◌, ℕ, Option, Some, None, List, [], ◌∷◌, true≢false, sym, ap, subst, ◌∙◌}
+use Rattle.std.proofs.Common.{◌≡◌, ◌≢◌, ℕ, ◌+◌, Option, Some, None, List, [], ◌∷◌, true≢false, sym, ap, subst, ◌∙◌, arith}
 use Rattle.std.specs.Prelude.{is_some, MatchOption}
 use Rattle.zero_copy_loans.specs.declared.pool.Buffer.{Buffer}
 use Rattle.zero_copy_loans.specs.declared.receiver.Sample.{Sample}
-use Rattle.zero_copy_loans.specs.Ends.{number_of, received}
+use Rattle.zero_copy_loans.specs.declared.sender.Back.{Back}
+use Rattle.zero_copy_loans.specs.declared.sender.Sender.{Sender}
+use Rattle.zero_copy_loans.specs.Ends.{next_of, number_of, received, IsForeign}
 use Rattle.zero_copy_loans.specs.Numbers.{AreTold}
-use Rattle.zero_copy_loans.specs.Pools.{place_in, IsGivenBack, IsTakenOut}
+use Rattle.zero_copy_loans.specs.Pools.{place_in, HasPlaces, IsGivenBack, IsTakenOut}
+use Rattle.zero_copy_loans.specs.declared.error.PoolFailure.TheVariants.{NoPlace}
+use Rattle.steps.specs.declared.indices.enums.UniqueIndexSetAcquireFailure.TheVariants.{OutOfIndices}
 use Rattle.zero_copy_slots.specs.declared.Keeps.{Ghosts}
 use Rattle.zero_copy_slots.specs.declared.Laid.{Laid}
 use Rattle.zero_copy_slots.specs.declared.Reading.{Reading}
@@ -18,6 +22,17 @@ use Rattle.zero_copy_slots.specs.Words.{emptied_number, emptied_slot}
 -- another slot is left empty than that of the place, as slot 0
 pub regain_empties_another_slot : (place other : ℕ) (e : Emptied) → other ≢ place → emptied_slot e ≡ other → emptied_slot e ≡ place → ⊥
 regain_empties_another_slot place other e differs is k = differs (sym is ∙ k)
+
+module _ {X K : Type 0} {rule : Ghosts K X} where
+  -- a loan of another channel is counted as sent
+  pub send_counts_a_foreign_loan : (place : ℕ) (back : Back) (old new : Sender X K rule) → next_of new ≡ next_of old + 1
+      → IsForeign place back old new → ⊥
+  send_counts_a_foreign_loan place back old new counted k = let same = k.4 in let next = counted in absurd (omega arith)
+
+  -- another place is said to come back
+  pub send_hands_another_place_back : (place : ℕ) (back : Back) (old new : Sender X K rule) → back.place ≢ place
+      → IsForeign place back old new → ⊥
+  send_hands_another_place_back place back old new differs k = differs k.2
 
 -- ---- the receiver
 
@@ -41,6 +56,10 @@ pub read_each_tells_of_another : {A : Type 0} (tells : ℕ → A → Type 0) (nu
 read_each_tells_of_another tells number numbers one told wrong k = wrong k.0
 
 -- ---- the pool
+
+-- an acquire that waits ends where no place is free
+pub acquire_waiting_finds_no_place : HasPlaces (NoPlace OutOfIndices) → ⊥
+acquire_waiting_finds_no_place k = k
 
 module _ {X K : Type 0} {rule : Ghosts K X} where
   -- the value comes out of another slot than that of the place

@@ -122,14 +122,21 @@ module _ {X K : Type 0} {rule : Ghosts K X} where
       × (back.number ≡ next_of old) × (back.place ≡ place)
       × (sends_view new ≡ sends_view old) × (next_of new ≡ next_of old)
 
+  -- its place is not Loaned here, so nothing was sent: what was to be sent comes back
+  abbrev pub IsForeign : ℕ → Back → Sender X K rule → Sender X K rule → Type 0
+  IsForeign place back old new =
+      (¬ loans.IsLoaned place (sender_of old)) × (back.number ≡ next_of old) × (back.place ≡ place)
+      × (sender_of new ≡ sender_of old) × (next_of new ≡ next_of old)
+
   -- what the queue handed back, by its number and place: the oldest that waited, or its own where the queue takes none; or there is
-  -- no such number, and nothing was sent
+  -- no such number, or the place is not Loaned here, and nothing was sent
   abbrev pub HandsBack : ℕ → Back → Sender X K rule → Sender X K rule → Type 0
   HandsBack place back old new =
       (back.place < (layout_of old).room)
       × PushHandedBack (sends_queue old).capacity (word_next old place) (word_of (layout_of old).room back.number back.place)
       (sends_view old) (sends_view new)
       ⊎ IsUnsent place back old new
+      ⊎ IsForeign place back old new
 
   -- it sends through the same queue, in the same way, and has sent nothing
   abbrev pub KeepsSends : Sender X K rule → Sender X K rule → Type 0

@@ -3,6 +3,7 @@ use Rattle.std.specs.Prelude.{◌≡◌, ℕ, ◌*◌, ◌<◌, Option, Some, No
 use Rattle.threaded.specs.declared.share.Share.{Share}
 use Rattle.lock_free_sets.specs.UniqueIndexSet.{capacity_of, share, value_of}
 use Rattle.zero_copy_loans.specs.declared.error.PoolFailure.{PoolFailure}
+use Rattle.steps.specs.declared.indices.enums.UniqueIndexSetAcquireFailure.TheVariants.{IsLocked, OutOfIndices}
 use Rattle.zero_copy_loans.specs.declared.error.PoolFailure.TheVariants.{InUse, NoPass, NoPlace}
 use Rattle.zero_copy_loans.specs.declared.pool.Buffer.{Buffer}
 use Rattle.zero_copy_loans.specs.declared.pool.Lender.{Lender}
@@ -12,6 +13,14 @@ use Rattle.zero_copy_slots.specs.Words.{emptied_number, emptied_slot}
 use Rattle.zero_copy_slots.specs.declared.error.TakeFailure.{TakeFailure}
 use Rattle.zero_copy_slots.specs.declared.Keeps.{Ghosts}
 use Rattle.zero_copy_slots.specs.declared.Laid.{Laid}
+use Rattle.zero_copy_slots.specs.declared.Slots.{Slots}
+
+-- a buffer is not refused for want of a free place
+abbrev pub HasPlaces : PoolFailure → Type 0
+HasPlaces (NoPlace OutOfIndices) = ⊥
+HasPlaces (NoPlace IsLocked) = Unit {0}
+HasPlaces NoPass = Unit {0}
+HasPlaces (InUse failure) = Unit {0}
 
 module _ {X K : Type 0} {rule : Ghosts K X} where
   -- how many places there are
@@ -20,6 +29,10 @@ module _ {X K : Type 0} {rule : Ghosts K X} where
 
   abbrev pub places_lent : Lender X K rule → ℕ
   places_lent l = capacity_of l.set.now
+
+  -- its slots
+  abbrev pub slots_lent : Lender X K rule → Slots X K rule
+  slots_lent l = l.slots.now
 
   -- the place that is taken
   abbrev pub place_in : Buffer X K rule → ℕ
@@ -37,7 +50,7 @@ module _ {X K : Type 0} {rule : Ghosts K X} where
   abbrev pub IsRefusedBuffer : Lender X K rule → PoolFailure → Type 0
   IsRefusedBuffer l (NoPlace failure) = Unit {0}
   IsRefusedBuffer l NoPass = Unit {0}
-  IsRefusedBuffer l (InUse failure) = (place : ℕ) × (place < places_lent l) × IsUntaken l.slots.now place failure
+  IsRefusedBuffer l (InUse failure) = (place : ℕ) × (place < places_lent l) × IsUntaken (slots_lent l) place failure
 
   -- the slot of its place was left empty, in which the value lay with the number; or nothing lay there
   abbrev pub IsTakenOut : Buffer X K rule → Type 0

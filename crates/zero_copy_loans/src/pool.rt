@@ -7,9 +7,12 @@ ghost use Rattle.zero_copy_slots.specs.Words.{emptied_number, emptied_slot};
 
 use crate::error::PoolFailure;
 use lock_free_sets::mpmc::unique_index_set::{Pass, UniqueIndex, UniqueIndexSet};
-use lock_free_sets::mpmc::unique_index_set_enums::UniqueIndexCreationError;
+use lock_free_sets::mpmc::unique_index_set_enums::{
+    UniqueIndexCreationError, UniqueIndexSetAcquireFailure,
+};
 use std::alloc::Global;
 use std::sync::Wait;
+use std::thread;
 use zero_copy_slots::error::TakeFailure;
 use zero_copy_slots::words::Emptied;
 use zero_copy_slots::{Anything, Keeps, Laid, Slots};
@@ -117,7 +120,7 @@ impl<'a, X: Drop, K: Keeps<X>> Drop for Buffer<'a, X, K> {
 // X need not be `Drop` from here on, so no value can be dropped: what lies in a slot is handed out, and what is given back is
 // laid down or comes back.
 impl<'a, X, K: Keeps<X>> Lender<'a, X, K> {
-    ghost use Rattle.zero_copy_loans.specs.Pools.{place_in, places_lent, IsRefusedBuffer, IsTakenOut, KeepsShare};
+    ghost use Rattle.zero_copy_loans.specs.Pools.{place_in, places_lent, slots_lent, IsRefusedBuffer, IsTakenOut, KeepsShare};
 
     /// Another one of the same pool. None where no further pass can be counted.
     pub fn split(&mut self) -> Option<Lender<'a, X, K>>
@@ -144,7 +147,7 @@ impl<'a, X, K: Keeps<X>> Lender<'a, X, K> {
         ensures out { IfOk result IsTakenOut }
         ensures refused { IfErr result (IsRefusedBuffer self.old) }
         ensures kept { IfErr result (λ _. KeepsShare self.old self.new) }
-        ensures same { places_lent self.new ≡ places_lent self.old }
+        ensures same { (places_lent self.new ≡ places_lent self.old) × (slots_lent self.new ≡ slots_lent self.old) }
     {
         let Some(pass) = self.pass.split() else {
             return Err(PoolFailure::NoPass);
@@ -169,6 +172,70 @@ impl<'a, X, K: Keeps<X>> Lender<'a, X, K> {
                 Err(PoolFailure::InUse(failure))
             }
         }
+    }
+}
+
+impl<'a, X, K: Keeps<X>> Lender<'a, X, K> {
+    ghost use Rattle.zero_copy_loans.specs.Pools.{place_in, places_lent, slots_lent, HasPlaces, IsRefusedBuffer, IsTakenOut};
+
+    /// Takes a place as soon as one is free. Between two tries another thread may run. It is refused as `acquire`, but not for want of
+    /// a free place. Where no place is given back it waits for good.
+    ///
+    /// For each try, the steps of `acquire`.
+    pub fn acquire_waiting(&mut self, rt: &impl Wait) -> Result<Buffer<'a, X, K>, PoolFailure>
+        ensures within { IfOk result (λ b. place_in b < places_lent self.old) }
+        ensures fits { IfOk result (λ b. IfSome b.value (K.holds b.number)) }
+        ensures out { IfOk result IsTakenOut }
+        ensures refused { IfErr result (IsRefusedBuffer self.old) }
+        ensures places { IfErr result HasPlaces }
+        ensures same { (places_lent self.new ≡ places_lent self.old) × (slots_lent self.new ≡ slots_lent self.old) }
+    {
+        for _ in rt.forever() {
+            match self.acquire(rt) {
+                Ok(buffer) => return Ok(buffer),
+                Err(PoolFailure::NoPlace(failure)) => match failure {
+                    UniqueIndexSetAcquireFailure::OutOfIndices => thread::yield_now(),
+                    UniqueIndexSetAcquireFailure::IsLocked => return Err(PoolFailure::NoPlace(
+                        failure,
+                    )),
+                },
+                Err(PoolFailure::NoPass) => return Err(PoolFailure::NoPass),
+                Err(PoolFailure::InUse(failure)) => return Err(PoolFailure::InUse(failure)),
+            }
+        }
+        unreachable!()
+    }
+
+    /// Takes a place by at most so many tries (by no clause), of which it makes one in any case. Between two tries another thread may
+    /// run. It is refused as `acquire`: where each place is taken, by the last try, and else by the first try that is.
+    ///
+    /// For each try, the steps of `acquire`.
+    pub fn acquire_within(
+        &mut self,
+        rt: &impl Wait,
+        tries: u64,
+    ) -> Result<Buffer<'a, X, K>, PoolFailure>
+        ensures within { IfOk result (λ b. place_in b < places_lent self.old) }
+        ensures fits { IfOk result (λ b. IfSome b.value (K.holds b.number)) }
+        ensures out { IfOk result IsTakenOut }
+        ensures refused { IfErr result (IsRefusedBuffer self.old) }
+        ensures same { (places_lent self.new ≡ places_lent self.old) × (slots_lent self.new ≡ slots_lent self.old) }
+    {
+        // The last try is made behind the loop.
+        for _ in 0..tries.saturating_sub(1) {
+            match self.acquire(rt) {
+                Ok(buffer) => return Ok(buffer),
+                Err(PoolFailure::NoPlace(failure)) => match failure {
+                    UniqueIndexSetAcquireFailure::OutOfIndices => thread::yield_now(),
+                    UniqueIndexSetAcquireFailure::IsLocked => return Err(PoolFailure::NoPlace(
+                        failure,
+                    )),
+                },
+                Err(PoolFailure::NoPass) => return Err(PoolFailure::NoPass),
+                Err(PoolFailure::InUse(failure)) => return Err(PoolFailure::InUse(failure)),
+            }
+        }
+        self.acquire(rt)
     }
 }
 

@@ -1,5 +1,5 @@
 //! The end of the channel that receives values and reads them.
-ghost use Rattle.std.specs.Prelude.{◌≡◌, ◌<◌, ℕ, IsTrue, IsFalse, IfOk, IfErr, IfSome, IfNone, []};
+ghost use Rattle.std.specs.Prelude.{◌≡◌, ◌<◌, ℕ, IsTrue, IsFalse, IfOk, IfErr, IfSome, IfNone, [], ◌∷◌};
 ghost use Rattle.model.specs.declared.event.Item.TheVariants.{Index};
 ghost use Rattle.history.specs.Passes.{Goes};
 ghost use Rattle.lock_free_queues.specs.Queues.Rings.{consumer_queue, consumer_view, producer_queue, producer_view, queue_of};
@@ -162,6 +162,21 @@ impl<'a, X: Drop, K: Keeps<X>> Receiver<'a, X, K> {
         None
     }
 
+    /// What comes next, as soon as it is there. Between two tries another thread may run. Where nothing comes it waits for good. The
+    /// steps of `receive` for each try.
+    pub fn receive_waiting(&mut self, rt: &impl Wait) -> Sample
+        ensures within { received result < places_in self.old }
+        ensures receives { HasReceived (number_of result ∷ []) self.old self.new }
+    {
+        for _ in rt.forever() {
+            if let Some(sample) = self.receive(rt) {
+                return sample;
+            }
+            thread::yield_now();
+        }
+        unreachable!()
+    }
+
     /// Reads a value that was received, where it lies: the one that was laid in its place with its number, which keeps its rule. As
     /// long as it is read, this receiver receives and gives back nothing and is not dropped, since the reading borrows it. Refused
     /// where the slot is (`Slot`): there is no such place, or its word says that it is empty or written, or that 2^30 - 1 read it;
@@ -211,8 +226,8 @@ impl<'a, X: Drop, K: Keeps<X>> Receiver<'a, X, K> {
     }
 
     /// Receives so many values, each by at most so many tries, reads them where they lie, and gives them back: what is told of each.
-    /// None where one did not come or could not be read, where nothing was told of it, or where there is no memory. The steps of
-    /// `receive_within`, of `read` and of `give_back` for each.
+    /// None where one did not come or could not be read, where nothing was told of it, or where there is no memory; each that came is
+    /// given back then too. The steps of `receive_within`, of `read` and of `give_back` for each.
     pub fn read_each<A: Drop, R: Reads<X, K, A>>(
         &mut self,
         rt: &impl Wait,
@@ -226,11 +241,12 @@ impl<'a, X: Drop, K: Keeps<X>> Receiver<'a, X, K> {
         let mut told = Vec::new(alloc);
         for _ in 0..count {
             let sample = self.receive_within(rt, tries)?;
-            let one = self.read_by(&sample, reader)?;
+            let read = self.read_by(&sample, reader);
+            self.give_back(sample);
+            let one = read?;
             let Ok(()) = told.push(one) else {
                 return None;
             };
-            self.give_back(sample);
         }
         Some(told)
     }

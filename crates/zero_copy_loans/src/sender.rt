@@ -1,5 +1,5 @@
 //! The end of the channel that loans and sends.
-ghost use Rattle.std.specs.Prelude.{◌≡◌, ◌+◌, ◌-◌, ◌^◌, ◌<◌, ◌↔◌, IsTrue, IfOk, IfErr, IfSome, IfNone};
+ghost use Rattle.std.specs.Prelude.{◌≡◌, ◌+◌, ◌-◌, ◌^◌, ◌<◌, ◌↔◌, IsTrue, IfOk, IfErr, IfSome, IsSomeAnd, IfNone};
 ghost use Rattle.std.specs.Prelude.{[], ◌++◌, count_by, map, slice_set, vec_len};
 ghost use Rattle.lock_free_loans.specs.Loan.Contracts.{HasEmptied};
 ghost use Rattle.lock_free_loans.specs.Loan.Places.{is_sent, place_at, reclaimed, returned};
@@ -23,6 +23,7 @@ use lock_free_loans::spsc::loan::LoanSender;
 use lock_free_queues::spsc::{index_queue, safely_overflowing_index_queue as overflow};
 use lock_free_sets::mpmc::unique_index_set::Pass;
 use std::alloc::Global;
+use std::ops::Deref;
 use std::sync::Wait;
 use std::thread;
 use zero_copy_slots::words::Emptied;
@@ -46,6 +47,17 @@ impl<'a, X: Drop, K: Keeps<X>> Drop for Loan<'a, X, K> {
             value: _value,
             writing: _writing,
         } = self;
+    }
+}
+
+/// `*loan` is the value, to be read. It is written as `loan.value`.
+impl<'a, X: Drop, K: Keeps<X>> Deref for Loan<'a, X, K> {
+    type Target = X;
+
+    ghost deref_gives = { λ l x. x ≡ l.value };
+
+    fn deref(&self) -> &X {
+        &self.value
     }
 }
 
@@ -139,7 +151,7 @@ impl<'a, X: Drop, K: Keeps<X>> Drop for Sender<'a, X, K> {
 impl<'a, X: Drop, K: Keeps<X>> Sender<'a, X, K> {
     ghost use Rattle.zero_copy_loans.specs.Ends.{layout_of, loaned, next_of, numbers_back, places_of, sender_of};
     ghost use Rattle.zero_copy_loans.specs.Ends.{sends_queue, sends_view, sent_queue, sent_view};
-    ghost use Rattle.zero_copy_loans.specs.Ends.{slots_of, spares_in, word_next, HandsBack, HasSent, HasSentAll, HasWord, IsRefused, KeepsSends};
+    ghost use Rattle.zero_copy_loans.specs.Ends.{slots_of, spares_in, word_next, HandsBack, HasSent, HasSentAll, HasWord, IsForeign, IsRefused, KeepsSends};
 
     /// A sender of values, over slots that are meant to be as many as the set of the `LoanSender` has indices, and with values to
     /// write, which need not keep the rule yet: one more than there are slots, and one more for each further loan that is in hand
@@ -215,8 +227,8 @@ impl<'a, X: Drop, K: Keeps<X>> Sender<'a, X, K> {
         })
     }
 
-    /// Whether the number of the loan's place is Loaned here, which `send` and `give_up` ask for. A loan of another channel is not
-    /// told apart. No atomic step.
+    /// Whether the number of the loan's place is Loaned here, as `send` and `give_up` ask. A loan of another channel with such a place
+    /// is not told apart. No atomic step.
     pub fn is_loaned(&self, loan: &Loan<'a, X, K>) -> bool
         ensures { IsTrue result ↔ IsLoaned (loaned loan.now) (sender_of self.now) }
     {
@@ -224,9 +236,8 @@ impl<'a, X: Drop, K: Keeps<X>> Sender<'a, X, K> {
     }
 
     /// A loan as soon as there is one, by at most so many tries (by no clause). After one that is refused it takes back a place, or lets another
-    /// thread run where none came. None where each try was refused. A place that is `StillRead` stays Loaned.
-    ///
-    /// For each try, the steps of `loan` and those of `take_back`.
+    /// thread run where none came. None where each try was refused. A place that is `StillRead` stays Loaned. For each try, the steps of
+    /// `loan` and those of `take_back`.
     pub fn loan_within(&mut self, rt: &impl Wait, tries: u64) -> Option<Loan<'a, X, K>>
         ensures is { IfSome result (λ l. IsLoaned (loaned l) (sender_of self.new)) }
         ensures sends { KeepsSends self.old self.new }
@@ -242,6 +253,24 @@ impl<'a, X: Drop, K: Keeps<X>> Sender<'a, X, K> {
         None
     }
 
+    /// A loan as soon as there is one. After a try that is refused it takes back a place, or lets another thread run where none came.
+    /// It waits for good where no place comes back, or no value is left to write, and a place that is `StillRead` stays Loaned. For
+    /// each try, the steps of `loan` and those of `take_back`.
+    pub fn loan_waiting(&mut self, rt: &impl Wait) -> Loan<'a, X, K>
+        ensures is { IsLoaned (loaned result) (sender_of self.new) }
+        ensures sends { KeepsSends self.old self.new }
+    {
+        for _ in rt.forever() {
+            if let Ok(loan) = self.loan(rt) {
+                return loan;
+            }
+            if self.take_back().is_none() {
+                thread::yield_now();
+            }
+        }
+        unreachable!()
+    }
+
     /// Whether there is a number for this loan. From the one past the last number on `send` sends nothing. No atomic step.
     pub fn has_number(&self, loan: &Loan<'a, X, K>) -> bool
         ensures { IsTrue result ↔ HasWord self.now (loaned loan.now) }
@@ -254,28 +283,34 @@ impl<'a, X: Drop, K: Keeps<X>> Sender<'a, X, K> {
     /// itself: its place is Free again where it is Sent, and else nothing changes. The numbers of values rise by one with each.
     ///
     /// A number and a place go into one word, so there are 2^64 numbers divided by the places rounded up to a power of two (at
-    /// least 2). From the one past the last nothing is sent any more (`IsUnsent`): each value comes back at once, its place Free.
+    /// least 2). From the one past the last nothing is sent any more (`IsUnsent`): each value comes back at once, its place Free. A
+    /// loan of another channel whose place is not Loaned here is not sent either (`IsForeign`): its place comes back with the number
+    /// that comes next, and it is given up as by `give_up`.
     ///
     /// One step on the slot, and those of `LoanSender::send`.
     pub fn send(&mut self, loan: Loan<'a, X, K>) -> Option<Back>
         requires fits { K.holds (next_of self.old) loan.value }
-        requires loaned { IsLoaned (loaned loan) (sender_of self.old) }
-        ensures sent { IfNone result
-            (places_of self.new ≡ slice_set (places_of self.old) (loaned loan.entry) Sent) }
-        ensures back { IfSome result (λ y. places_of self.new
+        ensures sent { IfNone result (places_of self.new ≡ slice_set (places_of self.old) (loaned loan.entry) Sent) }
+        ensures back { IsLoaned (loaned loan.entry) (sender_of self.old) → IfSome result (λ y. places_of self.new
             ≡ returned y.place (slice_set (places_of self.old) (loaned loan.entry) Sent)) }
+        ensures foreign { ¬ IsLoaned (loaned loan.entry) (sender_of self.old) → IsSomeAnd result (λ y. IsForeign (loaned loan.entry) y self.old self.new) }
         ensures added { IfNone result (HasWord self.old (loaned loan.entry)
             × PushAdded (word_next self.old (loaned loan.entry)) (sends_view self.old) (sends_view self.new)) }
         ensures handed_back { IfSome result (λ y. HandsBack (loaned loan.entry) y self.old self.new) }
-        ensures goes { HasWord self.old (loaned loan.entry) → 0 < (sends_queue self.old).capacity
-            → Goes (sends_view self.old) (sends_view self.new) }
-        ensures next { HasWord self.old (loaned loan.entry) → next_of self.new ≡ next_of self.old + 1 }
-        ensures sends { HasWord self.old (loaned loan.entry) → HasSent 1 (numbers_back result) self.old self.new }
+        ensures goes { IsLoaned (loaned loan.entry) (sender_of self.old) → HasWord self.old (loaned loan.entry)
+            → 0 < (sends_queue self.old).capacity → Goes (sends_view self.old) (sends_view self.new) }
+        ensures next { IsLoaned (loaned loan.entry) (sender_of self.old) → HasWord self.old (loaned loan.entry) → next_of self.new ≡ next_of self.old + 1 }
+        ensures sends { IsLoaned (loaned loan.entry) (sender_of self.old) → HasWord self.old (loaned loan.entry)
+            → HasSent 1 (numbers_back result) self.old self.new }
         ensures layout { layout_of self.new ≡ layout_of self.old }
         ensures same { IsSame (sender_of self.old) (sender_of self.new) }
     {
         let place = loan.place;
         let number = self.next;
+        if !self.loans.is_loaned(place) {
+            self.give_up(loan);
+            return Some(Back { number, place });
+        }
         if !self.layout.has(number, place) {
             self.give_up(loan);
             return Some(Back { number, place });
@@ -333,11 +368,12 @@ impl<'a, X: Drop, K: Keeps<X>> Sender<'a, X, K> {
         Some(back)
     }
 
-    /// Gives a loan up: its place is Free, and its value and what lay in its slot are kept to be written again (by no clause). One
-    /// step on the slot, and those of `LoanSender::give_up`.
+    /// Gives a loan up: its place is Free, and its value and what lay in its slot are kept to be written again (by no clause). So are
+    /// those of a loan of another channel. Where its place is not Loaned here, no place changes, and at the other channel it stays
+    /// Loaned until it is regained. One step on the slot, and those of `LoanSender::give_up`.
     pub fn give_up(&mut self, loan: Loan<'a, X, K>)
-        requires loaned { IsLoaned (loaned loan) (sender_of self.old) }
-        ensures places { places_of self.new ≡ slice_set (places_of self.old) (loaned loan.entry) Free }
+        ensures places { IsLoaned (loaned loan.entry) (sender_of self.old) → places_of self.new ≡ slice_set (places_of self.old) (loaned loan.entry) Free }
+        ensures foreign { ¬ IsLoaned (loaned loan.entry) (sender_of self.old) → sender_of self.new ≡ sender_of self.old }
         ensures next { next_of self.new ≡ next_of self.old }
         ensures same { IsSame (sender_of self.old) (sender_of self.new) }
         ensures sends { KeepsSends self.old self.new }
@@ -346,7 +382,9 @@ impl<'a, X: Drop, K: Keeps<X>> Sender<'a, X, K> {
         let (value, writing) = loan.into_parts();
         let _ = self.spares.push(value);
         keep(&mut self.spares, writing.empty());
-        self.loans.give_up(place);
+        if self.loans.is_loaned(place) {
+            self.loans.give_up(place);
+        }
     }
 
     /// Tries a place again that is Loaned without a loan, since it was `StillRead` or its loan was dropped: it is Free, and its slot
@@ -378,11 +416,9 @@ impl<'a, X: Drop, K: Keeps<X>> Sender<'a, X, K> {
     /// nothing. None where nothing waits, and then nothing changes. The steps of `LoanSender::take_back`.
     pub fn take_back(&mut self) -> Option<u64>
         ensures back { IfSome result (λ y. places_of self.new ≡ returned y (places_of self.old)) }
-        ensures popped { IfSome result
-            (λ y. PopDone (Index y) (completion_view (sender_of self.old)) (completion_view (sender_of self.new))) }
+        ensures popped { IfSome result (λ y. PopDone (Index y) (completion_view (sender_of self.old)) (completion_view (sender_of self.new))) }
         ensures none { IfNone result (places_of self.new ≡ places_of self.old) }
-        ensures empty { IfNone result
-            (PopEmpty (completion_view (sender_of self.old)) (completion_view (sender_of self.new))) }
+        ensures empty { IfNone result (PopEmpty (completion_view (sender_of self.old)) (completion_view (sender_of self.new))) }
         ensures next { next_of self.new ≡ next_of self.old }
         ensures spares { spares_in self.new ≡ spares_in self.old }
         ensures same { IsSame (sender_of self.old) (sender_of self.new) }
@@ -400,8 +436,7 @@ impl<'a, X: Drop, K: Keeps<X>> Sender<'a, X, K> {
         ensures number { result ≡ count_by is_sent (places_of self.old) }
         ensures emptied { HasEmptied (completion_view (sender_of self.old)) (completion_view (sender_of self.new)) }
         ensures receiver { SameConsumerByCapacity receiver.old receiver.new }
-        ensures receiver_emptied { 0 < (consumer_queue receiver.old).capacity
-            → HasEmptied (consumer_view receiver.old) (consumer_view receiver.new) }
+        ensures receiver_emptied { 0 < (consumer_queue receiver.old).capacity → HasEmptied (consumer_view receiver.old) (consumer_view receiver.new) }
         ensures next { next_of self.new ≡ next_of self.old }
         ensures spares { spares_in self.new ≡ spares_in self.old }
         ensures same { IsSame (sender_of self.old) (sender_of self.new) }
@@ -441,8 +476,7 @@ impl<'a, X: Drop, K: Keeps<X>> Sender<'a, X, K> {
         ensures goes { Goes (sends_view self.entry) (sent_view result.0) }
         ensures released { HasReleased roles.Producer (sends_view self.entry) (sent_view result.0) }
         ensures list { published (sent_view result.0).seen ≡ published (sends_view self.entry).seen }
-        ensures queues { (sent_queue result.0 ≡ sends_queue self.entry)
-            × (queues.queue_of result.0.completion ≡ completion_of (sender_of self.entry)) }
+        ensures queues { (sent_queue result.0 ≡ sends_queue self.entry) × (queues.queue_of result.0.completion ≡ completion_of (sender_of self.entry)) }
         ensures sends { HasSentAll 0 [] self.entry result.0 }
         ensures next { result.0.next ≡ next_of self.entry }
         ensures spares { vec_len result.1 ≡ spares_in self.entry }

@@ -16,6 +16,7 @@ use crate::words::{Emptied, Lies, clear, lay, look, turn};
 use counted_slot::{Claim, Counted, Fits, MOST_READERS, ONE_READER, PRESENT, TAKEN};
 use std::alloc::{AllocError, Global};
 use std::marker::PhantomData;
+use std::ops::Deref;
 
 /// A rule of the user's: a fact about each value and the number that it is laid down with. One type may keep different facts at
 /// two places, by two rules.
@@ -114,6 +115,20 @@ impl<'a, X, K: Keeps<X>> Reading<'a, X, K> {
             Some(kept) => &kept.value,
             None => unreachable!(),
         }
+    }
+}
+
+/// `*reading` is the value, as by `get`.
+impl<'a, X, K: Keeps<X>> Deref for Reading<'a, X, K> {
+    type Target = X;
+
+    ghost use Rattle.zero_copy_slots.specs.Slots.{number_in, value_in};
+    ghost use Rattle.std.specs.Prelude.{Some};
+
+    ghost deref_gives = { λ r x. K.holds (number_in r) x × (value_in r ≡ Some x) };
+
+    fn deref(&self) -> &X {
+        self.get()
     }
 }
 

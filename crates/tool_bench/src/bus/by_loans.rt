@@ -43,7 +43,7 @@ impl<'a> Writer for Sends<'a> {
         for (at, word) in loan.value.iter_mut().enumerate() {
             *word = word_of(number, at);
         }
-        self.sender.is_loaned(&loan) && self.sender.send(loan).is_none()
+        self.sender.send(loan).is_none()
     }
 }
 

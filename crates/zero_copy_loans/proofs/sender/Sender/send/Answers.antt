@@ -6,10 +6,10 @@ use Rattle.zero_copy_loans.proofs.Places.{unsent}
 use Rattle.zero_copy_loans.proofs.sender.Sender.send.Goals as goal
 
 pub returns-then-not-has-clause-back : goal.returns-then-not-has-clause-back
-returns-then-not-has-clause-back g c = c.give_up.ensures.places ∙ unsent _ _ c.requires.loaned
+returns-then-not-has-clause-back g c loaned = c.give_up-then-not-has.ensures.places loaned ∙ unsent _ _ loaned
 
 pub returns-in_err-back-clause-sends : goal.returns-in_err-back-clause-sends
-returns-in_err-back-clause-sends g c has =
+returns-in_err-back-clause-sends g c loaned has =
     sent_one _ c.word-word.result _ _ _ c.from_residual.ensures has c.args.self.now.layout.fits (search rules) refl refl (search rules) (search rules)
     c.in_err-back.ensures.added
 
@@ -22,7 +22,7 @@ returns-clause-handed_back g c =
     )
 
 pub returns-clause-sends : goal.returns-clause-sends
-returns-clause-sends g c has =
+returns-clause-sends g c loaned has =
     sent_back _ c.word-word.result _ _ c.in_ok-back.back _ _ has c.args.self.now.layout.fits
     c.parts-number.ensures.within (search rules) refl refl (search rules) (search rules)
     c.parts-number.ensures.is

@@ -11,7 +11,8 @@ loop-preserved g c =
     let l = c.in_ok-loan.ensures.sends in
     let w = c.in_ok-written.ensures.sends in
     sent_next _ _ _ _ _ _ _ _ c.in_ok-note.ensures c.loop.invariant
-    (w.0 ∙ l.0, (w.1.0 ∙ l.1.0, w.1.1 ∙ l.1.1, w.1.2 ∙ l.1.2), w.2 ∙ l.2, w.3 ∙ l.3) (c.send-came.ensures.sends c.in_ok-written.ensures.has)
+    (w.0 ∙ l.0, (w.1.0 ∙ l.1.0, w.1.1 ∙ l.1.1, w.1.2 ∙ l.1.2), w.2 ∙ l.2, w.3 ∙ l.3)
+    (c.send-came.ensures.sends c.in_ok-written.ensures.is c.in_ok-written.ensures.has)
 
 pub returns : goal.returns
 returns g c =

@@ -1,0 +1,223 @@
+//! Values read through their guards, loans of another channel, and calls that wait.
+ghost use Rattle.std.specs.Prelude.{◌≡◌, Some, IfErr, IsSomeAnd};
+ghost use Rattle.lock_free_loans.specs.Loan.Sender.{IsLoaned};
+ghost use Rattle.zero_copy_loans.specs.Ends.{loaned, sender_of, IsForeign, KeepsSends};
+ghost use Rattle.zero_copy_loans.specs.Pools.{HasPlaces};
+ghost use Rattle.zero_copy_slots.specs.Slots.{value_in};
+
+use std::alloc::Global;
+use std::sync::Wait;
+use std::test::Fail;
+use std::thread;
+use std::thread::Threads;
+use zero_copy_loans::channel::Channel;
+use zero_copy_loans::error::PoolFailure;
+use zero_copy_loans::pool::{Buffer, Lender, Pool};
+use zero_copy_loans::receiver::Receiver;
+use zero_copy_loans::sender::{Back, Loan, Sender};
+use zero_copy_slots::Reading;
+
+/// How many values are sent, and how often a buffer is taken.
+const VALUES: u64 = 2_000;
+
+/// A number and three times that number.
+#[derive(Drop)]
+struct Triple {
+    one: u64,
+    three: u64,
+}
+
+/// So many values to write.
+fn triples(alloc: Global, number: usize) -> Option<Vec<Triple>> {
+    let mut triples = Vec::new(alloc);
+    for _ in 0..number {
+        triples.push(Triple { one: 0, three: 0 }).ok()?;
+    }
+    Some(triples)
+}
+
+/// Whether a value is that of a number.
+fn is_triple(triple: &Triple, number: u64) -> bool {
+    triple.one == number && triple.three == number.wrapping_mul(3)
+}
+
+/// What a loan shows is its value.
+fn shown<'b>(loan: &'b Loan<'_, Triple>) -> &'b Triple
+    ensures { result.now ≡ loan.now.value }
+{
+    &**loan
+}
+
+/// What a reading shows is the value that lies there.
+fn read_shown<'b>(reading: &'b Reading<'_, Triple>) -> &'b Triple
+    ensures { value_in reading.now ≡ Some result.now }
+{
+    &**reading
+}
+
+/// Sends the value of the next number, by a loan for which it waits.
+fn sends_next(rt: &impl Wait, sender: &mut Sender<'_, Triple>) -> bool {
+    let number = sender.next_number();
+    let mut loan = sender.loan_waiting(rt);
+    loan.value.one = number;
+    loan.value.three = number.wrapping_mul(3);
+    let is_right = loan.one == number && is_triple(shown(&loan), number);
+    sender.send(loan);
+    is_right
+}
+
+/// The number of the value that comes next, for which it waits. None where it is another value.
+fn reads_next(rt: &impl Wait, receiver: &mut Receiver<'_, Triple>) -> Option<u64> {
+    let sample = receiver.receive_waiting(rt);
+    let number = sample.number();
+    let is_right = match receiver.read(&sample) {
+        Ok(reading) => reading.one == number && is_triple(read_shown(&reading), number),
+        Err(_) => false,
+    };
+    if receiver.give_back(sample) & is_right {
+        Some(number)
+    } else {
+        None
+    }
+}
+
+/// Sends all values.
+fn sends_all(rt: &impl Wait, sender: &mut Sender<'_, Triple>) -> bool {
+    let mut right = true;
+    for _ in 0..VALUES {
+        right &= sends_next(rt, sender);
+    }
+    right
+}
+
+/// Reads values until the last one comes. One that is slow misses the oldest.
+fn reads_last(rt: &impl Wait, receiver: &mut Receiver<'_, Triple>) -> Option<bool> {
+    for _ in 0..VALUES {
+        if reads_next(rt, receiver)? == VALUES - 1 {
+            return Some(true);
+        }
+    }
+    Some(false)
+}
+
+/// Both side by side. The queue has less room than there are places, so a place comes back by it or from the receiver.
+fn side_by_side<R: Threads + Wait + Sync>(rt: &R, alloc: Global) -> Option<bool> {
+    let mut channel: Channel<Triple> = Channel::new(alloc, 4, 2).ok()?;
+    let (mut sender, mut receiver) = channel.ends(alloc, triples(alloc, 5)?)?;
+    // (`join` calls its first closure last where no thread can be made)
+    let (read, sent) = thread::join(
+        rt,
+        || reads_last(rt, &mut receiver),
+        || sends_all(rt, &mut sender),
+    );
+    Some(read? && sent)
+}
+
+#[test]
+fn the_last_value_is_waited_for(rt: HostRuntime) -> Result<(), Fail> {
+    assert!(rt; side_by_side(&rt, rt.alloc()) == Some(true));
+    Ok(())
+}
+
+/// A loan of another channel is not sent.
+fn refuses<'a>(sender: &mut Sender<'a, Triple>, loan: Loan<'a, Triple>) -> Option<Back>
+    ensures { ¬ IsLoaned (loaned loan.entry) (sender_of sender.old)
+        → IsSomeAnd result (λ y. IsForeign (loaned loan.entry) y sender.old sender.new) }
+{
+    sender.send(loan)
+}
+
+/// It is given up, and no place of this sender changes.
+fn gives_up<'a>(sender: &mut Sender<'a, Triple>, loan: Loan<'a, Triple>)
+    ensures foreign { ¬ IsLoaned (loaned loan.entry) (sender_of sender.old) → sender_of sender.new ≡ sender_of sender.old }
+    ensures sends { KeepsSends sender.old sender.new }
+{
+    sender.give_up(loan);
+}
+
+/// Whether a sender does not send a loan of another channel, whose place is not loaned here, and keeps its value.
+fn sends_none<'a>(
+    rt: &impl Wait,
+    sender: &mut Sender<'a, Triple>,
+    other: &mut Sender<'a, Triple>,
+) -> Option<bool> {
+    let foreign = other.loan(rt).ok()?;
+    let mut right = !sender.is_loaned(&foreign);
+    let place = foreign.place();
+    right &= refuses(sender, foreign) == Some(Back { number: 0, place });
+    right &= sender.next_number() == 0;
+    let foreign = other.loan(rt).ok()?;
+    gives_up(sender, foreign);
+    right &= other.regain(place).is_some();
+    right &= other.regain(place).is_none();
+    // (the two values are here now)
+    for _ in 0..4 {
+        let loan = sender.loan(rt).ok()?;
+        right &= sender.is_loaned(&loan);
+        right &= sender.send(loan).is_none();
+    }
+    Some(right)
+}
+
+/// The same with two new channels. A sender has so many values to write, and the other one has three.
+fn foreign(rt: &impl Wait, alloc: Global) -> Option<bool> {
+    let mut channel: Channel<Triple> = Channel::new(alloc, 4, 4).ok()?;
+    let mut another: Channel<Triple> = Channel::new(alloc, 4, 4).ok()?;
+    let (mut sender, mut receiver) = channel.ends(alloc, triples(alloc, 2)?)?;
+    let (mut other, _) = another.ends(alloc, triples(alloc, 3)?)?;
+    let mut right = sends_none(rt, &mut sender, &mut other)?;
+    for number in 0..4u64 {
+        right &= receiver.receive(rt)?.number() == number;
+    }
+    Some(right)
+}
+
+#[test]
+fn a_loan_of_another_channel_is_not_sent(rt: HostRuntime) -> Result<(), Fail> {
+    assert!(rt; foreign(&rt, rt.alloc()) == Some(true));
+    Ok(())
+}
+
+/// A buffer as soon as there is one: a refusal is not for want of a place.
+fn waits<'a>(rt: &impl Wait, lender: &mut Lender<'a, u64>) -> Result<Buffer<'a, u64>, PoolFailure>
+    ensures { IfErr result HasPlaces }
+{
+    lender.acquire_waiting(rt)
+}
+
+/// Adds one to the buffer that comes, so often.
+fn adds(rt: &impl Wait, lender: &mut Lender<'_, u64>) -> bool {
+    for _ in 0..VALUES {
+        let Ok(mut buffer) = waits(rt, lender) else {
+            return false;
+        };
+        buffer.value = match buffer.value {
+            Some(value) => Some(value.wrapping_add(1)),
+            None => Some(1),
+        };
+        if buffer.give_back().is_err() {
+            return false;
+        }
+    }
+    true
+}
+
+/// Two threads take the one buffer of a pool by turns. Nobody gets it within a number of tries while it is out.
+fn share<R: Threads + Wait + Sync>(rt: &R, alloc: Global) -> Option<bool> {
+    let mut pool: Pool<u64> = Pool::new(alloc, 1).ok()?;
+    let mut one = pool.lender()?;
+    let mut other = one.split()?;
+    let added = thread::join(rt, || adds(rt, &mut one), || adds(rt, &mut other));
+    let buffer = one.acquire_within(rt, 3).ok()?;
+    let mut right = added == (true, true) && buffer.value == Some(2 * VALUES);
+    right &= other.acquire_within(rt, 3).is_err();
+    right &= other.acquire_within(rt, 0).is_err();
+    right &= buffer.give_back().is_ok();
+    Some(right & other.acquire_within(rt, 0).is_ok())
+}
+
+#[test]
+fn a_buffer_is_waited_for(rt: HostRuntime) -> Result<(), Fail> {
+    assert!(rt; share(&rt, rt.alloc()) == Some(true));
+    Ok(())
+}

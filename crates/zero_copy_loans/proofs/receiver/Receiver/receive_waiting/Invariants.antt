@@ -1,0 +1,6 @@
+use Rattle.std.proofs.Common.{[]}
+use Rattle.zero_copy_loans.specs.Ends.{HasReceived}
+use Rattle.zero_copy_loans.proofs.receiver.Receiver.receive_waiting.Given as given
+
+abbrev pub invariant-loop : given.invariant-loop
+invariant-loop g l = HasReceived [] l.fn.self l.self

@@ -1,0 +1,5 @@
+use Rattle.zero_copy_loans.specs.Ends.{KeepsSends}
+use Rattle.zero_copy_loans.proofs.sender.Sender.loan_waiting.Given as given
+
+abbrev pub invariant-loop : given.invariant-loop
+invariant-loop g l = KeepsSends l.fn.self l.self
