@@ -5,3 +5,5 @@
 mod queue_ends;
 #[cfg(test)]
 mod streams;
+#[cfg(test)]
+mod structs;

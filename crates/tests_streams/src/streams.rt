@@ -7,7 +7,7 @@ use std::test::Fail;
 use std::thread;
 use std::thread::Threads;
 use uses_streams::element::Element;
-use uses_streams::ends::{Arrival, Receiver, Sender, both_ends, halves};
+use uses_streams::ends::{Arrival, Receiver, Sender, Takes, both_ends, halves};
 
 /// How a sender ends.
 #[derive(Drop)]
@@ -136,6 +136,23 @@ fn receive_in_parts(rt: &impl Wait, alloc: Global, receiver: Receiver<'_, u64>) 
     Some(right && came.as_slice() == [1, 5, 7].as_slice())
 }
 
+/// Who notes so many numbers.
+#[derive(Drop)]
+struct Notes {
+    numbers: Vec<u64>,
+    most: usize,
+}
+
+impl Takes<u64> for Notes {
+    ghost use Rattle.std.specs.Prelude.{◌≡◌};
+
+    ghost has_taken = { λ numbers notes. notes.numbers.items ≡ numbers };
+
+    fn take(&mut self, number: u64) -> bool {
+        self.numbers.len() < self.most && self.numbers.push(number).is_ok()
+    }
+}
+
 /// Sends the numbers below `count`, each as soon as there is room, and then the end.
 fn send(rt: &impl Wait, sender: Sender<'_, u64>, count: u64) {
     let mut sender = sender;
@@ -226,6 +243,26 @@ fn a_stream_is_received_in_parts(rt: HostRuntime) -> Result<(), Fail> {
     sender.send_all(&rt, &[2, 3, 5, 7]);
     let _sent = sender.finish_waiting(&rt);
     assert!(rt; receive_in_parts(&rt, rt.alloc(), receiver) == Some(true));
+    Ok(())
+}
+
+#[test]
+fn a_worker_that_takes_no_more_can_go_on(rt: HostRuntime) -> Result<(), Fail> {
+    let (queue, pass) = Queue::<Element<u64>, 5>::new(rt.alloc())?;
+    let (mut sender, mut receiver) = both_ends(&queue, pass).ok_or("no ends")?;
+    sender.send_all(&rt, &[2, 3, 5, 7]);
+    let _sent = sender.finish_waiting(&rt);
+    let mut notes = Notes {
+        numbers: Vec::new(rt.alloc()),
+        most: 2,
+    };
+    // (5 was received, and not taken)
+    let stopped = !receiver.receive_each(&rt, &mut notes);
+    notes.most = 9;
+    assert!(rt; stopped && receiver.receive_each(&rt, &mut notes));
+    assert!(rt;
+        receiver.receive_each(&rt, &mut notes) && notes.numbers.as_slice() == [2, 3, 7].as_slice()
+    );
     Ok(())
 }
 

@@ -1,16 +1,22 @@
-//! Images of 64 KiB go from one thread to another, which reads them where they lie. They come whole and in order. What is proved of
-//! such a channel's ends is in `uses_values`.
+//! Images of 64 KiB go from one thread to another, which reads them where they lie. Proved: what it reads are the shades of the images
+//! 0, 1, 2 and so on, each once and in order.
+ghost use Rattle.std.specs.Prelude.{◌≡◌, length, map, IfSome};
+ghost use Rattle.std.specs.List.{range_with_len};
+ghost use Rattle.zero_copy_loans.specs.Ends.{HasRead, HasSent};
+ghost use Rattle.uses_services.specs.Images.{shade};
+
 use std::alloc::Global;
 use std::sync::Wait;
 use std::thread::Threads;
 use std::{io, thread};
 use zero_copy_loans::channel::Channel;
-use zero_copy_loans::receiver::Receiver;
-use zero_copy_loans::sender::Sender;
+use zero_copy_loans::receiver::{Reads, Receiver};
+use zero_copy_loans::sender::{Sender, Writes};
+use zero_copy_slots::Keeps;
 
 const BYTES: usize = 1 << 16;
 
-const IMAGES: u8 = 20;
+const IMAGES: u32 = 20;
 
 /// Nothing is pushed out of a queue that has room for each place.
 const PLACES: usize = 4;
@@ -18,51 +24,85 @@ const PLACES: usize = 4;
 /// How often a thread lets the other one run before it gives up.
 const TRIES: u64 = 1 << 26;
 
-/// Sends all images, each of which is full of its number: how many it sent.
-fn send(rt: &impl Wait, sender: &mut Sender<'_, Vec<u8>>) -> u8 {
-    for number in 0..IMAGES {
-        let Some(mut loan) = sender.loan_within(rt, TRIES) else {
-            return number;
-        };
-        loan.value.fill(number);
-        sender.send(loan);
-    }
-    IMAGES
+/// The rule that an image is full of its shade.
+struct Shaded;
+
+impl Keeps<Vec<u8>> for Shaded {
+    ghost use Rattle.uses_services.specs.Images.{IsImageOf};
+
+    ghost holds = { λ number image. IsImageOf number image.items };
 }
 
-/// Receives all images: how many came until one was torn, or not the next one.
-fn receive(rt: &impl Wait, receiver: &mut Receiver<'_, Vec<u8>>) -> Option<u8> {
-    for number in 0..IMAGES {
-        let sample = receiver.receive_within(rt, TRIES)?;
-        if !receiver
-            .read(&sample)
-            .ok()?
-            .get()
-            .iter()
-            .all(|byte| *byte == number)
-        {
-            return Some(number);
+/// Who fills images with their shades, and reads these.
+#[derive(Drop)]
+struct Painter;
+
+impl Writes<Vec<u8>, Shaded> for Painter {
+    /// False where the image has another size.
+    fn write(&mut self, number: u64, image: &mut Vec<u8>) -> bool {
+        if image.len() != BYTES {
+            return false;
         }
-        receiver.give_back(sample);
+        image.fill((number % 256) as u8);
+        true
     }
-    Some(IMAGES)
 }
 
-/// Sends the images from one thread to another: how many were sent, and came. None where there is no memory, or one did not come.
-fn run<R: Threads + Wait + Sync>(rt: &R, alloc: Global) -> Option<(u8, u8)> {
+impl Reads<Vec<u8>, Shaded, u8> for Painter {
+    ghost tells = { λ number byte. byte ≡ shade number };
+
+    /// The first byte.
+    fn read(&mut self, image: &Vec<u8>) -> Option<u8> {
+        image.first().copied()
+    }
+}
+
+/// Both ends at work side by side: the numbers of the images that came back, and the shades of those that were read. None where one of
+/// the two came to no end.
+fn work<R: Threads + Wait + Sync>(
+    rt: &R,
+    alloc: Global,
+    sender: &mut Sender<'_, Vec<u8>, Shaded>,
+    receiver: &mut Receiver<'_, Vec<u8>, Shaded>,
+) -> Option<(Vec<u64>, Vec<u8>)>
+    ensures sent { IfSome result (λ r. HasSent 20 r.0.items sender.old sender.new) }
+    ensures read { IfSome result (λ r. HasRead (λ n byte. byte ≡ shade n) r.1.items receiver.old receiver.new) }
+{
+    let (back, came) = thread::join_mut(
+        rt,
+        &mut || sender.send_each(rt, alloc, IMAGES, TRIES, &mut Painter),
+        &mut || receiver.read_each(rt, alloc, IMAGES as usize, TRIES, &mut Painter),
+    );
+    Some((back?, came?))
+}
+
+/// Sends the images from one thread to another: the shades that were read. None where there is no memory, or one came back or did
+/// not come.
+fn run<R: Threads + Wait + Sync>(rt: &R, alloc: Global) -> Option<Vec<u8>>
+    ensures { IfSome result (λ came. came.items ≡ map shade (range_with_len 0 (length came.items))) }
+{
     let mut images = Vec::new(alloc);
     for _ in 0..PLACES + 1 {
-        images.push(vec![in alloc; 0; BYTES].ok()?).ok()?;
+        images.push(vec![in alloc; 0u8; BYTES].ok()?).ok()?;
     }
-    let mut channel = Channel::new(alloc, PLACES, PLACES).ok()?;
-    let (mut sender, mut receiver) = channel.ends(alloc, images)?;
-    let (came, sent) = thread::join(rt, || receive(rt, &mut receiver), || send(rt, &mut sender));
-    Some((sent, came?))
+    let Ok(mut channel) = Channel::<Vec<u8>, Shaded>::new(alloc, PLACES, PLACES) else {
+        return None;
+    };
+    let (sends, receives) = channel.open()?;
+    let (mut sender, mut receiver) = channel.ends_with(alloc, images, sends, receives)?;
+    let (back, came) = work(rt, alloc, &mut sender, &mut receiver)?;
+    let (left, _) = sender.finish_all();
+    let other = receiver.finish();
+    channel.relayed(left, other);
+    if back.len() != 0 {
+        return None;
+    }
+    Some(came)
 }
 
 pub fn report<R: Threads + Wait + Print + Sync>(rt: &R, alloc: Global) -> io::Result<()> {
     match run(rt, alloc) {
-        Some((sent, came)) => println!(rt; "images sent: {sent}; whole and in order: {came}"),
+        Some(came) => println!(rt; "images sent: {IMAGES}; whole and in order: {}", came.len()),
         None => println!(rt; "no memory"),
     }
 }

@@ -12,7 +12,7 @@ use std::sync::Wait;
 use std::thread::Threads;
 use std::{io, thread};
 use uses_streams::element::Element;
-use uses_streams::ends::{Received, Receiver, Sender, Sent, halves};
+use uses_streams::ends::{Received, Receiver, Sender, Sent, Takes, halves};
 
 type Jobs = Queue<Element<u32>, 16>;
 
@@ -30,6 +30,20 @@ fn hand_out(rt: &impl Wait, queue: &Jobs, half: Half, jobs: &[u32]) -> Option<Se
     Some(sender.finish_waiting(rt))
 }
 
+/// Who does jobs, and what came of those that are done.
+#[derive(Drop)]
+struct Worker {
+    done: Vec<u64>,
+}
+
+impl Takes<u32> for Worker {
+    ghost has_taken = { λ jobs worker. worker.done.items ≡ map outcome_of jobs };
+
+    fn take(&mut self, job: u32) -> bool {
+        self.done.push(3 * job as u64 + 1).is_ok()
+    }
+}
+
 /// Does each job as it comes, until the end. What comes of them goes into a list that has room for it.
 fn work(
     rt: &impl Wait,
@@ -44,15 +58,12 @@ fn work(
     ensures done { IfSome result (λ r. r.1.items ≡ map outcome_of (received r.0)) }
     ensures end { IfSome result (λ r. has_ended r.0 ≡ true) }
 {
-    let mut done = room;
+    let mut worker = Worker { done: room };
     let mut receiver = Receiver::new(queue, half)?;
-    for _ in rt.forever() {
-        match receiver.receive_waiting(rt) {
-            Some(job) => done.push(3 * job as u64 + 1).ok()?,
-            None => return Some((receiver.leave(), done)),
-        }
+    if !receiver.receive_each(rt, &mut worker) {
+        return None;
     }
-    unreachable!()
+    Some((receiver.leave(), worker.done))
 }
 
 /// Has the jobs done by a second thread: what came of them. None where there is no memory, or no further pass. Where no second thread

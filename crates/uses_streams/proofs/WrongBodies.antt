@@ -267,6 +267,22 @@ receive_all_puts_another xs ys x y other h =
     let put = append_cancel_left ys (y ∷ []) h.0 h.2 in
     other (ap (head y) (put ∙ sym came))
 
+-- ---- `receive_each`, with a worker that notes what it takes
+
+-- it does not hand a value on
+pub receive_each_drops_a_value : {A : Type 0} (xs : List A) (x : A) → (xs ≡ xs → xs ≡ xs ++ x ∷ []) → ⊥
+receive_each_drops_a_value xs x taken = one_more xs x (taken refl)
+
+-- it hands another value on
+pub receive_each_hands_another : {A : Type 0} (xs : List A) (x y : A) → y ≢ x → (xs ≡ xs → xs ++ y ∷ [] ≡ xs ++ x ∷ []) → ⊥
+receive_each_hands_another xs x y other taken = other (ap (head y) (append_cancel_left xs (y ∷ []) (x ∷ []) (taken refl)))
+
+-- it hands a later value on first
+pub receive_each_hands_a_later_one_first : {A : Type 0} (xs : List A) (x y : A) → y ≢ x
+    → (xs ≡ xs → xs ++ y ∷ x ∷ [] ≡ xs ++ x ∷ y ∷ []) → ⊥
+receive_each_hands_a_later_one_first xs x y other taken =
+    other (ap (head y) (append_cancel_left xs (y ∷ x ∷ []) (x ∷ y ∷ []) (taken refl)))
+
 -- ---- `join`: its law is of no constants
 
 -- half of a queue's share, with these events, all of its own

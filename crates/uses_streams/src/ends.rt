@@ -15,6 +15,7 @@ mod waits;
 
 pub use calls::{both_ends, halves};
 pub use values::Values;
+pub use waits::Takes;
 
 /// The end that sends. Where it is dropped, it sends the end of the stream if there is room (no clause says so). If there is none, no
 /// end comes.

@@ -18,7 +18,7 @@ ghost use Rattle.uses_streams.specs.Tries.{WereRefused, WereEmpty, WasPushedWith
 use lock_free_queues::spsc::queue::{Pass, Queue};
 use std::sync::Wait;
 use uses_streams::element::Element;
-use uses_streams::ends::{Arrival, Received, Receiver, Sender, Sent, both_ends};
+use uses_streams::ends::{Arrival, Received, Receiver, Sender, Sent, Takes, both_ends};
 
 pub mod queue_ends;
 
@@ -144,6 +144,20 @@ pub fn receive_within(receiver: &mut Receiver<'_, u64>, tries: u64) -> Arrival<u
     ensures steps { TakesAtMost (tries * 5) (receiver_view receiver.old) (receiver_view receiver.new) }
 {
     receiver.receive_within(tries)
+}
+
+/// Once the end came, the worker has taken all that was received.
+pub fn receive_each<W: Takes<u64>>(
+    receiver: &mut Receiver<'_, u64>,
+    rt: &impl Wait,
+    worker: &mut W,
+) -> bool
+    ensures queue { receiver_queue receiver.new ≡ receiver_queue receiver.old }
+    ensures taken { IsTrue result
+        → W.has_taken (received_so_far receiver.old) worker.old → W.has_taken (received_so_far receiver.new) worker.new }
+    ensures end { IsTrue result → is_at_end receiver.new ≡ true }
+{
+    receiver.receive_each(rt, worker)
 }
 
 /// Receives one number by the iterator, and goes on with the receiver.

@@ -1,5 +1,5 @@
 //! The calls that wait: between two tries others get a turn.
-ghost use Rattle.std.specs.Prelude.{◌≡◌, ◌++◌, ◌∷◌, [], true, is_none, IfSome, IfNone, OnOk};
+ghost use Rattle.std.specs.Prelude.{◌≡◌, ◌++◌, ◌∷◌, [], List, true, is_none, IsTrue, IfSome, IfNone, OnOk};
 ghost use Rattle.uses_streams.specs.Ends.{sender_queue, receiver_queue, sent_queue, GainAlike};
 ghost use Rattle.uses_streams.specs.Ends.{sent_so_far, received_so_far, sent, has_finished, has_finished_once, is_at_end};
 
@@ -9,6 +9,15 @@ use std::alloc::AllocError;
 use std::sync::Wait;
 use std::thread;
 use steps::words::Words;
+
+/// Who is handed values one after the other, and what is known of it once it has taken these.
+pub trait Takes<T> {
+    ghost has_taken: { List T → Self → Type 0 };
+
+    /// Takes a value. False where it can take no more.
+    fn take(&mut self, value: T) -> bool
+        ensures { IsTrue result → (xs : List T) → Self.has_taken xs self.old → Self.has_taken (xs ++ value ∷ []) self.new };
+}
 
 impl<'a, T: Copy> Sender<'a, T>
 where
@@ -93,6 +102,26 @@ where
             match self.receive_waiting(rt) {
                 Some(value) => values.push_reserved(value),
                 None => return Ok(()),
+            }
+        }
+        unreachable!()
+    }
+
+    /// Receives all values until the end, and hands each to the worker as it comes. True once the end came: then the worker has taken
+    /// all that was received, in order. False where the worker did not take the value that came last (no clause says that it is
+    /// the last), and a later call can go on. Where no value comes and no end it waits for good.
+    pub fn receive_each<W: Takes<T>>(&mut self, rt: &impl Wait, worker: &mut W) -> bool
+        ensures queue { receiver_queue self.new ≡ receiver_queue self.old }
+        ensures taken { IsTrue result
+            → W.has_taken (received_so_far self.old) worker.old → W.has_taken (received_so_far self.new) worker.new }
+        ensures end { IsTrue result → is_at_end self.new ≡ true }
+    {
+        for _ in rt.forever() {
+            let Some(value) = self.receive_waiting(rt) else {
+                return true;
+            };
+            if !worker.take(value) {
+                return false;
             }
         }
         unreachable!()

@@ -1,0 +1,7 @@
+use Rattle.std.proofs.Common.{refl}
+use Rattle.uses_services.specs.Images.{IsImageOf}
+use Rattle.uses_services.proofs.images.PainterReadsVecU8ShadedU8.read.Goals as goal
+
+pub returns : goal.returns
+unfolding IsImageOf
+returns c number image = rw (c.copied.ensures, c.first.ensures.value, c.deref.ensures.value, image) refl
