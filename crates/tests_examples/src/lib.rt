@@ -2,6 +2,8 @@
 #![tactic(auto)]
 
 #[cfg(test)]
+mod fields;
+#[cfg(test)]
 mod handles;
 #[cfg(test)]
 mod one_caller;
@@ -11,5 +13,7 @@ mod percent;
 mod readme;
 #[cfg(test)]
 mod roles;
+#[cfg(test)]
+mod span;
 #[cfg(test)]
 mod structures;

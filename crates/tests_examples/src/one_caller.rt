@@ -56,7 +56,7 @@ fn values_with_owners(rt: HostRuntime) -> Result<(), Fail> {
 fn value_of_two_words(rt: HostRuntime) -> Result<(), Fail> {
     let mut value = UnrestrictedAtomic::new(rt.alloc(), (7u64, 1u64))?;
     assert!(rt; value.store((8, 2)));
-    assert!(rt; value.load() == (8, 2));
+    assert!(rt; value.load() == (8, 2) && value.version() == 2);
     Ok(())
 }
 
@@ -64,6 +64,7 @@ fn value_of_two_words(rt: HostRuntime) -> Result<(), Fail> {
 fn queue_of_values(rt: HostRuntime) -> Result<(), Fail> {
     let mut queue = Queue::new(rt.alloc(), 2)?;
     assert!(rt; queue.push(&7u32) && queue.len() == 1);
+    assert!(rt; queue.peek() == Some(7));
     assert!(rt; queue.pop() == Some(7) && queue.pop().is_none());
     Ok(())
 }

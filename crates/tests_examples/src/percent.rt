@@ -1,4 +1,4 @@
-//! A value whose type has a fact: each one that is popped or loaded has it too.
+//! A value whose type has a fact: each one that is popped or loaded has it too. Its `impl Words` is written by `bin/words`.
 ghost use Rattle.std.specs.Prelude.{◌≤◌, IfSome};
 
 use lock_free::spmc::unrestricted_atomic::{Handle, UnrestrictedAtomic};
@@ -15,13 +15,12 @@ struct Percent {
     ghost small: { value ≤ 100 },
 }
 
-/// One word, of which `of_words` reads what is above 100 as 100.
+// bin/words: Percent
 impl Words for Percent {
-    ghost use Rattle.std.specs.Prelude.{ℕ, refl, [], ◌∷◌, ◌≤◌, min, slice_index};
+    ghost use Rattle.std.specs.Prelude.{ℕ, refl, [], ◌∷◌, min, slice_index};
     ghost use Rattle.std.proofs.Common.{rules};
-    ghost use Rattle.std.proofs.Math.Bridge.{le_prop};
-    ghost use Rattle.std.proofs.Math.Nat.{min-le_right, min-eq_left};
-    ghost use Rattle.lock_free.specs.Facts.{made_of_equal};
+    ghost use Rattle.std.proofs.Math.Nat.{min-le_right};
+    ghost use Rattle.tests_examples.specs.Fields.{back_bounded};
 
     const WORDS: usize = 1;
 
@@ -29,7 +28,11 @@ impl Words for Percent {
 
     ghost words_of = { λ x. x.value ∷ [] };
 
-    ghost value_of = { λ words. record { value = min (slice_index words 0) 100; small = min-le_right (slice_index words 0) 100 } };
+    ghost value_of = { λ words. record {
+      value = min (slice_index words 0) 100;
+      small = min-le_right
+          (slice_index words 0) 100;
+    } };
 
     ghost some = { Prim.search rules };
 
@@ -37,7 +40,7 @@ impl Words for Percent {
 
     ghost sized = { λ x. refl };
 
-    ghost given_back = { λ x. made_of_equal {P = λ n. n ≤ 100} (λ _. le_prop) (λ n h. record { value = n; small = h }) (min-le_right x.value 100) x.small (min-eq_left x.small) };
+    ghost given_back = { λ x. back_bounded 100 (λ v h. record { value = v; small = h }) x.value x.small };
 
     fn word(&self, at: usize) -> u64 {
         self.value as u64
@@ -49,6 +52,7 @@ impl Words for Percent {
         }
     }
 }
+// bin/words: end
 
 /// Pops a number, which is at most 100 whoever pushed it.
 fn pop_percent(consumer: &mut queue::Consumer<'_, Percent>) -> Option<u8>

@@ -80,6 +80,7 @@ fn latest_value(rt: HostRuntime) -> Result<(), Fail> {
     let writer = reader.split().ok_or("no further handle")?;
     let mut producer = writer.acquire_producer().map_err(|_| "taken")?;
     assert!(rt; producer.store((8, 2)) && reader.load(&rt) == (8, 2));
+    assert!(rt; reader.version() == 3 && reader.has_producer());
     Ok(())
 }
 

@@ -1,0 +1,2 @@
+-- What the impls that `bin/words` writes cite.
+pub mod Fields
