@@ -10,7 +10,7 @@ class BitSet(Machine):
         self.capacity = capacity
 
     def permits(self, call):
-        if call.name == "set" and call.given[0] >= self.capacity:
+        if call.name in ("set", "is_set") and call.given[0] >= self.capacity:
             raise Refused("BadIndex")
 
     def flips(self, place, is_set):
@@ -32,6 +32,10 @@ class BitSet(Machine):
         if is_flipped:
             call.tells("set", place)
         return is_flipped
+
+    def is_set(self, call, place):
+        yield
+        return bool(self.words[FLAGS + place // 64] >> place % 64 & 1)
 
     def reset_next(self, call):
         yield
@@ -70,6 +74,10 @@ class CountingBitSet(Machine):
         self.words[place] += 1
         call.tells("counted", place)
         return self.words[place] - 1
+
+    def count(self, call, place):
+        yield
+        return self.words[place]
 
     def reset_all(self, call):
         for place in range(self.capacity):

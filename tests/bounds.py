@@ -3,21 +3,22 @@ docs/FIELD.md, for values of two words."""
 
 LENGTHS = dict.fromkeys(("len", "is_empty", "is_full"), lambda C: (4, 4))
 ROLES = dict.fromkeys(
-    (f"{verb}_{role}" for verb in ("acquire", "release") for role in ("producer", "consumer")), lambda C: (1, 0)
+    (f"{verb}_{role}" for verb in ("acquire", "release", "has") for role in ("producer", "consumer")), lambda C: (1, 0)
 )
 COUNTS = dict.fromkeys(("borrowed_indices", "len", "is_empty"), lambda C: (C + 2, C + 2))
 LOCKED = {"is_locked": lambda C: (1, 0)}
 BOUNDS = {
-    "index_queue": {**ROLES, **LENGTHS, "push": lambda C: (4, 0), "pop": lambda C: (4, 0)},
-    "queue": {**ROLES, **LENGTHS, "push": lambda C: (5, 0), "pop": lambda C: (5, 0)},
+    "index_queue": {**ROLES, **LENGTHS, "push": lambda C: (4, 0), "pop": lambda C: (4, 0), "peek": lambda C: (3, 0)},
+    "queue": {**ROLES, **LENGTHS, "push": lambda C: (5, 0), "pop": lambda C: (5, 0), "peek": lambda C: (4, 0)},
     "overflow": {**ROLES, **LENGTHS, "push": lambda C: (6, 0), "pop": lambda C: (4, 2)},
-    "atomic": {**ROLES, "store": lambda C: (4, 0), "load": lambda C: (4, 3)},
+    "atomic": {**ROLES, "store": lambda C: (4, 0), "load": lambda C: (4, 3), "version": lambda C: (1, 0)},
     "bits": {
         "set": lambda C: (2, 1),
         "reset_next": lambda C: (3 + C, 1),
         "reset_all": lambda C: ((C + 63) // 64, 0),
+        "is_set": lambda C: (1, 0),
     },
-    "counts": {"set": lambda C: (1, 0), "reset_all": lambda C: (C, 0)},
+    "counts": {"set": lambda C: (1, 0), "reset_all": lambda C: (C, 0), "count": lambda C: (1, 0)},
     "indices": {
         **LOCKED,
         "acquire": lambda C: (4 + C, max(2, C)),

@@ -3,20 +3,36 @@
 TRUTHS, DONE, NUMBER = "true false", "done", "N"
 ROLES = dict.fromkeys(("acquire_producer", "acquire_consumer"), TRUTHS)
 ROLES |= dict.fromkeys(("release_producer", "release_consumer"), DONE)
+ROLES |= dict.fromkeys(("has_producer", "has_consumer"), TRUTHS)
 LENGTHS = {"len": NUMBER, "is_empty": TRUTHS, "is_full": TRUTHS}
 REFUSALS = "NoParty Busy Idle Undecided"
 ANSWERS = {
-    "index_queue": {**ROLES, **LENGTHS, "push": TRUTHS, "pop": "some none", "refused": f"{REFUSALS} WrongCall NoRole"},
+    "index_queue": {
+        **ROLES,
+        **LENGTHS,
+        "push": TRUTHS,
+        "pop": "some none",
+        "peek": "some none",
+        "refused": f"{REFUSALS} WrongCall NoRole",
+    },
     "overflow": {**ROLES, **LENGTHS, "push": "some none", "pop": "some none", "refused": f"{REFUSALS} WrongCall NoRole"},
     "atomic": {
         "acquire_producer": TRUTHS,
         "release_producer": DONE,
+        "has_producer": TRUTHS,
         "store": "true",
         "load": NUMBER,
+        "version": NUMBER,
         "refused": f"{REFUSALS} WrongCall NoRole",
     },
-    "bits": {"set": TRUTHS, "reset_next": "some none", "reset_all": DONE, "refused": f"{REFUSALS} WrongCall BadIndex"},
-    "counts": {"set": NUMBER, "reset_all": DONE, "refused": f"{REFUSALS} WrongCall BadIndex"},
+    "bits": {
+        "set": TRUTHS,
+        "is_set": TRUTHS,
+        "reset_next": "some none",
+        "reset_all": DONE,
+        "refused": f"{REFUSALS} WrongCall BadIndex",
+    },
+    "counts": {"set": NUMBER, "count": NUMBER, "reset_all": DONE, "refused": f"{REFUSALS} WrongCall BadIndex"},
     "indices": {
         "acquire": "N OutOfIndices IsLocked",
         "release": "Locked Unlocked",

@@ -31,26 +31,30 @@ def below(draw, bound):
 
 def queue_call(draw, machine, party):
     roles = [f"{verb}_{role}" for verb in ("acquire", "release") for role in ("producer", "consumer")]
-    ours = ["push"] * machine.is_held(2, party) + ["pop"] * machine.is_held(3, party)
+    pops = ["pop", "peek"][: 2 - machine.spare]
+    ours = ["push"] * 8 * machine.is_held(2, party) + (["pop"] * 7 + pops[1:] * 3) * machine.is_held(3, party)
     free = [f"acquire_{role}" for at, role in ((2, "producer"), (3, "consumer")) if machine.words[at]]
-    name = draw.choice(ours * 8 + free * 4 + ["len", "is_empty", "is_full"] + [draw.choice(roles + ["push", "pop"])])
+    looks = ["len", "is_empty", "is_full", draw.choice(("has_producer", "has_consumer"))]
+    name = draw.choice(ours + free * 4 + looks + [draw.choice([*roles, "push", *pops])])
     return f"push {value(draw, machine.width == 2)}" if name == "push" else name
 
 
 def value_call(draw, machine, party):
     is_ours = machine.producer == party
     names = ["load"] * 4 + ["store"] * 5 * is_ours + ["acquire_producer"] * 3 * (machine.producer is None)
+    names += ["version", "has_producer"]
     name = draw.choice(names + [draw.choice(("store", "acquire_producer", "release_producer"))])
     return f"store {value(draw, True)}" if name == "store" else name
 
 
 def bits_call(draw, machine, _):
-    name = draw.choice(["set"] * 6 + ["reset_next"] * 3 + ["reset_all"])
-    return f"set {below(draw, machine.capacity)}" if name == "set" else name
+    name = draw.choice(["set"] * 6 + ["reset_next"] * 3 + ["is_set"] * 2 + ["reset_all"])
+    return f"{name} {below(draw, machine.capacity)}" if name in ("set", "is_set") else name
 
 
 def counts_call(draw, machine, _):
-    return f"set {below(draw, machine.capacity)}" if draw.random() < 0.7 else "reset_all"
+    name = draw.choice(["set"] * 6 + ["count"] * 2 + ["reset_all"] * 3)
+    return f"{name} {below(draw, machine.capacity)}" if name != "reset_all" else name
 
 
 def mode(draw):

@@ -91,7 +91,27 @@ def said(is_so):
     return "true" if is_so else "false"
 
 
-class QueueReading(Reading):
+class RolesReading(Reading):
+    """Of a structure with roles, each of which one party has at a time."""
+
+    def __init__(self, *given):
+        super().__init__(*given)
+        self.holders = {}
+
+    def ends(self, party, span, answer):
+        verb, _, role = span.name.partition("_")
+        if role in ("producer", "consumer"):
+            want(not span.did, "a call on a role does nothing else")
+            if verb == "release":
+                want(self.holders.pop(role, None) == party, "who has a role gives it back")
+            else:
+                is_held = role in self.holders
+                want(answer == said(is_held == (verb == "has")), "a role is granted, and looked at, as it is as the call ends")
+                if verb == "acquire" and not is_held:
+                    self.holders[role] = party
+
+
+class QueueReading(RolesReading):
     acting = ("push", "pop")
     overflows = False
 
@@ -124,7 +144,8 @@ class QueueReading(Reading):
         want(self.waits and self.waits.pop(0) == value, "what is handed out is the oldest that was published")
         self.stands = {len(self.waits)}
 
-    def ends(self, _, span, answer):
+    def ends(self, party, span, answer):
+        super().ends(party, span, answer)
         if span.name == "push" and self.capacity:
             want(len(span.done("published")) == (answer != "false"), "a push publishes once, unless it answers false")
         if span.name in ("push", "pop") and self.capacity:
@@ -136,6 +157,10 @@ class QueueReading(Reading):
             number = 0 if span.name == "is_empty" else self.capacity
             is_so = number in span.ever if answer == "true" else span.ever - {number}
             want(is_so, "a question is answered as was so at a moment of the call")
+        if span.name == "peek":
+            want(not span.did, "a look does nothing")
+            oldest = f"some {self.waits[0]}" if self.waits else "none"
+            want(answer == oldest, "a peek answers the oldest value that waits as it ends")
 
     def ended(self):
         want(self.list == self.waits[: self.capacity], "the list by the acts is what waits")
@@ -145,18 +170,20 @@ class OverflowReading(QueueReading):
     overflows = True
 
 
-class ValueReading(Reading):
+class ValueReading(RolesReading):
     acting = ("store", "load")
-    value = 0
+    value = stores = 0
 
     def acts(self, span):
         if span.name == "load":
             return str(self.value)
-        self.value = span.given[0]
+        self.value, self.stores = span.given[0], self.stores + 1
         return "true"
 
-    def ends(self, _, span, answer):
-        pass
+    def ends(self, party, span, answer):
+        super().ends(party, span, answer)
+        if span.name == "version":
+            want(int(answer) == self.stores + 1, "a version is 1 more than the number of stores as the look ends")
 
 
 class BitsReading(Reading):
@@ -176,6 +203,9 @@ class BitsReading(Reading):
         if span.name == "set":
             want(len(span.done("set")) == (answer == "true"), "a set answers true where it set")
             want(answer == "true" or span.given[0] in span.ever, "a set answers false where the flag was set")
+        elif span.name == "is_set":
+            want(not span.did, "a look does nothing")
+            want((span.given[0] in self.stands) == (answer == "true"), "a look answers whether its flag stands as it ends")
         elif answer.startswith("some"):
             want([f"some {it}" for it in cleared] == [answer], "a reset answers what it cleared")
         else:
@@ -204,6 +234,9 @@ class CountsReading(Reading):
     def ends(self, _, span, answer):
         if span.name == "set":
             want(len(span.did) == 1 and str(span.before) == answer, "a set answers the count before it")
+        elif span.name == "count":
+            want(not span.did, "a look does nothing")
+            want(str(self.counts[span.given[0]]) == answer, "a look answers the count of its place as it ends")
         else:
             want(not span.always, "what was counted as a reset began was taken out since")
 

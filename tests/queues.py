@@ -2,7 +2,7 @@
 from machine import NOTHING, Machine, Refused, halves, some, whole
 
 WRITE, READ, PRODUCER, CONSUMER, CELLS = range(5)
-NEEDS = {"push": PRODUCER, "release_producer": PRODUCER, "pop": CONSUMER, "release_consumer": CONSUMER}
+NEEDS = dict.fromkeys(("push", "release_producer"), PRODUCER) | dict.fromkeys(("pop", "peek", "release_consumer"), CONSUMER)
 
 
 class Queue(Machine):
@@ -47,6 +47,16 @@ class Queue(Machine):
 
     def release_consumer(self, _):
         return self.releases(CONSUMER)
+
+    def looks(self, role):
+        yield
+        return self.words[role] != 1
+
+    def has_producer(self, _):
+        return self.looks(PRODUCER)
+
+    def has_consumer(self, _):
+        return self.looks(CONSUMER)
 
     def cell(self, position):
         """The first word of the cell of a position."""
@@ -101,6 +111,14 @@ class Queue(Machine):
     def pop(self, call):
         return some((yield from self.popped(call)))
 
+    def peek(self, _):
+        yield
+        read = self.words[READ]
+        yield
+        if self.words[WRITE] == read:
+            return "none"
+        return some((yield from self.get(read)))
+
     def both(self):
         """The positions, once each has been found twice the same."""
         while True:
@@ -133,8 +151,8 @@ class QueueOfValues(Queue):
 
 
 class OverflowingQueue(Queue):
-    """Has one cell more than its capacity. A push that finds it full publishes, and then takes the oldest out, unless a
-    pop is faster: that pop acts, and behind it the push."""
+    """Has one cell more than its capacity, and no peek. A push that finds it full publishes, and then takes the oldest out,
+    unless a pop is faster: that pop acts, and behind it the push."""
 
     spare = 1
     waits = None  # the push that has published and not acted

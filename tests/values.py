@@ -26,6 +26,14 @@ class Value(Machine):
         self.producer = None
         return "done"
 
+    def has_producer(self, _):
+        yield
+        return self.words[PRODUCER] != 1
+
+    def version(self, _):
+        yield
+        return self.words[VERSION]
+
     def store(self, call, value):
         yield
         cell = CELLS + 2 * (self.words[VERSION] % 2)

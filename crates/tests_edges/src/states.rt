@@ -1,8 +1,11 @@
-//! States of a container of threads: one that memory is refused to, and one that outlives its container.
+//! States of a container of threads: one that memory is refused to, one that outlives its container, and one whose entries
+//! are gone over.
 ghost use Rattle.lock_free.specs.Container.Names.{IsPassOf};
 
-use lock_free::mpmc::container::{CallbackProgression, Container, ContainerState, OwnerId, Pass};
-use lock_free::mpmc::unique_index_set_enums::UniqueIndexCreationError;
+use lock_free::mpmc::container::{
+    CallbackProgression, Container, ContainerState, OwnerId, Pass, entries,
+};
+use lock_free::mpmc::unique_index_set_enums::{ReleaseMode, UniqueIndexCreationError};
 use std::alloc::Global;
 use std::sync::Wait;
 use std::test::Fail;
@@ -52,6 +55,19 @@ fn shown(state: &ContainerState<u32>) -> u64 {
             .wrapping_add(*value as u64);
         CallbackProgression::Continue
     });
+    digits
+}
+
+/// The same of its entries.
+fn listed(state: &ContainerState<u32>) -> u64 {
+    let mut digits = 0u64;
+    for (index, value) in entries(state) {
+        digits = digits
+            .wrapping_mul(10)
+            .wrapping_add(index as u64)
+            .wrapping_mul(10)
+            .wrapping_add(*value as u64);
+    }
     digits
 }
 
@@ -109,5 +125,26 @@ fn state_without_container(rt: HostRuntime) -> Result<(), Fail> {
     let owner = OwnerId::new(1)?;
     let state = left_over(&rt, rt.alloc(), owner).ok_or("no state")?;
     assert!(rt; shown(&state) == 516 && state.get(1) == Some(&6));
+    Ok(())
+}
+
+/// The entries of a state come by ascending index, from the first index to the last, and without one that was removed.
+#[test]
+fn state_entries(rt: HostRuntime) -> Result<(), Fail> {
+    let owner = OwnerId::new(1)?;
+    let (container, pass) = Container::new(rt.alloc(), 3, 5)?;
+    let mut values = container.handle(pass);
+    let none = values.get_state(&rt)?;
+    assert!(rt; entries(&none).next().is_none());
+    values.add(&rt, 5, owner)?;
+    let second = values.add(&rt, 6, owner)?;
+    values.add(&rt, 7, owner)?;
+    let all = values.get_state(&rt)?;
+    values.remove(&rt, second, ReleaseMode::Default)?;
+    let left = values.get_state(&rt)?;
+    assert!(rt; listed(&all) == 51627 && listed(&left) == 527 && shown(&left) == 527);
+    let mut rest = entries(&left);
+    assert!(rt; rest.next() == Some((0, &5)) && rest.clone()?.next() == Some((2, &7)));
+    assert!(rt; rest.next() == Some((2, &7)) && rest.next().is_none());
     Ok(())
 }

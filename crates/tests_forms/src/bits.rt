@@ -16,6 +16,7 @@ use tests_calls::words::Words;
 #[derive(Clone, Copy)]
 pub enum BitCall {
     Set(usize),
+    IsSet(usize),
     Next,
     All,
     Capacity,
@@ -25,6 +26,7 @@ impl Call for BitCall {
     fn parse(words: &mut Words<'_>) -> Option<BitCall> {
         match words.word()? {
             "set" => Some(BitCall::Set(words.place()?)),
+            "is_set" => Some(BitCall::IsSet(words.place()?)),
             "reset_next" => Some(BitCall::Next),
             "reset_all" => Some(BitCall::All),
             "capacity" => Some(BitCall::Capacity),
@@ -35,6 +37,8 @@ impl Call for BitCall {
     fn draw(draws: &mut Draws, capacity: usize, fills: bool) -> BitCall {
         if draws.below(512) == 0 {
             BitCall::All
+        } else if draws.in_eight(1) {
+            BitCall::IsSet(draws.below(capacity))
         } else if draws.in_eight(6) == fills {
             BitCall::Set(draws.below(capacity))
         } else {
@@ -89,6 +93,13 @@ impl Answers<BitCall> for plain::BitSet {
                     answer.refused();
                 }
             }
+            BitCall::IsSet(place) => {
+                if place < self.capacity() {
+                    answer.truth(self.is_set(place));
+                } else {
+                    answer.refused();
+                }
+            }
             BitCall::Next => perhaps(self.reset_next(), answer),
             BitCall::All => empties(self, answer),
             BitCall::Capacity => answer.number(self.capacity() as u64),
@@ -108,6 +119,13 @@ impl Places<BitCall> for Flags {
             BitCall::Set(place) => {
                 if place < set.capacity() {
                     answer.truth(set.set(rt, place));
+                } else {
+                    answer.refused();
+                }
+            }
+            BitCall::IsSet(place) => {
+                if place < set.capacity() {
+                    answer.truth(set.is_set(place));
                 } else {
                     answer.refused();
                 }

@@ -20,6 +20,7 @@ const OFTEN: usize = 100_000;
 #[derive(Clone, Copy)]
 pub enum CountCall {
     Set(usize),
+    Count(usize),
     All,
     Capacity,
     MaxCount,
@@ -29,6 +30,7 @@ impl Call for CountCall {
     fn parse(words: &mut Words<'_>) -> Option<CountCall> {
         match words.word()? {
             "set" => Some(CountCall::Set(words.place()?)),
+            "count" => Some(CountCall::Count(words.place()?)),
             "reset_all" => Some(CountCall::All),
             "capacity" => Some(CountCall::Capacity),
             "max_count" => Some(CountCall::MaxCount),
@@ -39,6 +41,8 @@ impl Call for CountCall {
     fn draw(draws: &mut Draws, capacity: usize, _fills: bool) -> CountCall {
         if draws.below(512) == 0 {
             CountCall::All
+        } else if draws.in_eight(1) {
+            CountCall::Count(draws.below(capacity))
         } else if draws.in_eight(2) {
             // one place far more often than the others
             CountCall::Set(capacity / 2)
@@ -94,6 +98,13 @@ impl Answers<CountCall> for plain::CountingBitSet {
                     answer.refused();
                 }
             }
+            CountCall::Count(place) => {
+                if place < self.capacity() {
+                    answer.number(self.count(place));
+                } else {
+                    answer.refused();
+                }
+            }
             CountCall::All => empties(self, answer),
             CountCall::Capacity => answer.number(self.capacity() as u64),
             CountCall::MaxCount => answer.number(plain::CountingBitSet::max_count()),
@@ -113,6 +124,13 @@ impl Places<CountCall> for Counts {
             CountCall::Set(place) => {
                 if place < set.capacity() {
                     answer.number(set.set(place));
+                } else {
+                    answer.refused();
+                }
+            }
+            CountCall::Count(place) => {
+                if place < set.capacity() {
+                    answer.number(set.count(place));
                 } else {
                     answer.refused();
                 }

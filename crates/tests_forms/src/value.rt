@@ -22,6 +22,8 @@ use tests_calls::words;
 pub enum ValueCall {
     Store(u64),
     Load,
+    /// The version, as that of a value of one caller.
+    Version,
     /// How many words it has.
     Words,
     /// What is done with the producer's role, of which a value of one caller has none. A join takes in the pass that is
@@ -42,22 +44,29 @@ impl Call for ValueCall {
         match words.word()? {
             "store" => Some(ValueCall::Store(words.number()?)),
             "load" => Some(ValueCall::Load),
+            "version" => Some(ValueCall::Version),
             "words" => Some(ValueCall::Words),
             "take" => with_role(words, RoleCall::Take),
             "release" => with_role(words, RoleCall::Release),
             "drop" => with_role(words, RoleCall::Drop),
             "join" => with_role(words, RoleCall::Join),
+            "has" => with_role(words, RoleCall::Has),
             _ => None,
         }
     }
 
     fn draw(draws: &mut Draws, _capacity: usize, _fills: bool) -> ValueCall {
-        if draws.below(16) == 0 {
-            ValueCall::Role(RoleCall::Again(draws.in_eight(4)))
-        } else if draws.in_eight(4) {
-            ValueCall::Store(draws.number())
-        } else {
-            ValueCall::Load
+        match draws.below(16) {
+            0 => ValueCall::Role(RoleCall::Again(draws.in_eight(4))),
+            1 => ValueCall::Role(RoleCall::Looks),
+            2 => ValueCall::Version,
+            _ => {
+                if draws.in_eight(4) {
+                    ValueCall::Store(draws.number())
+                } else {
+                    ValueCall::Load
+                }
+            }
         }
     }
 
@@ -75,6 +84,7 @@ impl<T: Numbered> Answers<ValueCall> for plain::UnrestrictedAtomic<T> {
         match call {
             ValueCall::Store(number) => answer.truth(self.store(T::of_number(number))),
             ValueCall::Load => answer.number(self.load().number()),
+            ValueCall::Version => answer.number(self.version()),
             ValueCall::Words => answer.number(T::WORDS as u64),
             ValueCall::Role(call) => alone(call, answer),
         }
@@ -87,6 +97,9 @@ struct User<'a, T: Words> {
     value: &'a UnrestrictedAtomic<T>,
     pass: Pass<T>,
     producer: Option<Producer<'a, T>>,
+    /// By how much its versions are greater than those of a value of one caller, which begins at version 1: by 1 where it
+    /// begins at version 2.
+    ahead: u64,
     ghost of: { IsPassOf value.now pass },
     ghost producing: { ForSome producer (λ p. value_of_producer p ≡ value_id value.now) },
 }
@@ -105,6 +118,14 @@ impl<'a, T: Numbered> User<'a, T> {
 
     fn loads(&mut self, rt: &impl Wait, answer: &mut Answer) {
         answer.number(self.value.load(rt, &mut self.pass).number());
+    }
+
+    fn version(&mut self) -> u64 {
+        self.value.version(&mut self.pass).wrapping_sub(self.ahead)
+    }
+
+    fn has_producer(&mut self) -> bool {
+        self.value.has_producer(&mut self.pass)
     }
 
     /// Whether a new pass gets the producer's role.
@@ -173,6 +194,8 @@ impl<'a, T: Numbered> User<'a, T> {
             RoleCall::Release => self.releases(rt, answer),
             RoleCall::Drop => answer.truth(self.drops()),
             RoleCall::Join => answer.truth(self.joins()),
+            RoleCall::Has => answer.truth(self.has_producer()),
+            RoleCall::Looks => answer.truth(self.has_producer() == self.producer.is_some()),
             RoleCall::Again(drops) => answer.truth(self.takes_again(drops)),
         }
     }
@@ -183,6 +206,7 @@ impl<'a, T: Numbered> Answers<ValueCall> for User<'a, T> {
         match call {
             ValueCall::Store(number) => self.stores(T::of_number(number), answer),
             ValueCall::Load => self.loads(rt, answer),
+            ValueCall::Version => answer.number(self.version()),
             ValueCall::Words => answer.number(T::WORDS as u64),
             ValueCall::Role(call) => self.produces(rt, call, answer),
         }
@@ -197,6 +221,7 @@ fn plays<T: Numbered>(
     alone: &mut plain::UnrestrictedAtomic<T>,
     value: &UnrestrictedAtomic<T>,
     pass: Pass<T>,
+    ahead: u64,
 )
     requires { IsPassOf value.now pass }
 {
@@ -204,6 +229,7 @@ fn plays<T: Numbered>(
         value,
         pass,
         producer: None,
+        ahead,
     };
     play::<ValueCall, _, _>(rt, scene, stage, alone, &mut user);
 }
@@ -216,7 +242,7 @@ fn on_new<T: Numbered>(
 ) -> Result<(), UniqueIndexCreationError> {
     let mut alone = plain::UnrestrictedAtomic::new(scene.alloc, first)?;
     let (value, pass) = UnrestrictedAtomic::new(scene.alloc, first)?;
-    plays(rt, scene, stage, &mut alone, &value, pass);
+    plays(rt, scene, stage, &mut alone, &value, pass, 1);
     Ok(())
 }
 
@@ -231,7 +257,8 @@ fn on_version<T: Numbered>(
 {
     let mut alone = plain::UnrestrictedAtomic::new_at(scene.alloc, first, version)?;
     let (value, pass) = UnrestrictedAtomic::new_at(scene.alloc, first, version)?;
-    plays(rt, scene, stage, &mut alone, &value, pass);
+    let ahead = if version == 1 { 1 } else { 0 };
+    plays(rt, scene, stage, &mut alone, &value, pass, ahead);
     Ok(())
 }
 

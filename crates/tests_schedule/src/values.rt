@@ -64,6 +64,8 @@ const ACQUIRE_CONSUMER: Start<Reading> = Start::Queues(QueueStart::AcquireConsum
 
 const POP: Start<Reading> = Start::Queues(QueueStart::Pop);
 
+const PEEK: Start<Reading> = Start::Queues(QueueStart::Peek);
+
 const LEN: Start<Reading> = Start::Queues(QueueStart::Len);
 
 const FIRST: Reading = Reading {
@@ -85,7 +87,7 @@ const PUSH_SECOND: QueueStart<Reading> = QueueStart::Push(SECOND);
 /// The party, its call, the turns that it takes of it, and the last event and the words then.
 type Row = (u32, QueueStart<Reading>, u64, Event<Reading>, [u64; 7]);
 
-const ROWS: [Row; 9] = [
+const ROWS: [Row; 10] = [
     (
         0,
         QueueStart::AcquireProducer,
@@ -141,6 +143,13 @@ const ROWS: [Row; 9] = [
         QueueStart::Len,
         4,
         Event::Finished(1, LEN, Answer::Number(1)),
+        [1, 0, 0, 0, 1, u64::MAX, 3],
+    ),
+    (
+        1,
+        QueueStart::Peek,
+        5,
+        Event::Finished(1, PEEK, Answer::Popped(FIRST)),
         [1, 0, 0, 0, 1, u64::MAX, 3],
     ),
     (
@@ -211,11 +220,13 @@ const VALUE: Reading = Reading {
 };
 
 /// A party, its call, the turns that it takes, and its answer.
-const THREE_WORDS: [(u32, AtomicStart<Reading>, u64, Answer<Reading>); 4] = [
+const THREE_WORDS: [(u32, AtomicStart<Reading>, u64, Answer<Reading>); 6] = [
     (0, AtomicStart::AcquireProducer, 1, Answer::Truth(true)),
     (1, AtomicStart::Load, 5, Answer::Loaded(ZEROS)),
     (0, AtomicStart::Store(VALUE), 5, Answer::Truth(true)),
     (1, AtomicStart::Load, 5, Answer::Loaded(VALUE)),
+    (1, AtomicStart::Version, 1, Answer::Number(2)),
+    (1, AtomicStart::HasProducer, 1, Answer::Truth(true)),
 ];
 
 /// Whether the call takes so many turns, of which the last gives this answer.

@@ -13,16 +13,23 @@ use steps::enums::OwnerId;
 
 const POP: Start<u128> = Start::Queues(QueueStart::Pop);
 
-const WRONG: [(Kind, Start<u128>); 10] = [
+const PEEK: Start<u128> = Start::Queues(QueueStart::Peek);
+
+const WRONG: [(Kind, Start<u128>); 15] = [
     (Kind::Atomic, POP),
     (Kind::Bits, POP),
     (Kind::Counts, POP),
     (Kind::Indices, POP),
     (Kind::Robust, POP),
+    (Kind::Overflow, PEEK),
+    (Kind::Atomic, PEEK),
     (Kind::Counts, Start::Bits(BitsStart::ResetNext)),
+    (Kind::Counts, Start::Bits(BitsStart::IsSet(0))),
+    (Kind::Bits, Start::Bits(BitsStart::Count(0))),
     (Kind::IndexQueue, Start::Bits(BitsStart::ResetNext)),
     (Kind::IndexQueue, Start::Indices(IndexStart::Acquire)),
     (Kind::IndexQueue, Start::Atomic(AtomicStart::Load)),
+    (Kind::IndexQueue, Start::Atomic(AtomicStart::HasProducer)),
     (Kind::IndexQueue, Start::Robust(RobustStart::IsLocked)),
 ];
 

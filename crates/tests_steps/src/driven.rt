@@ -2,6 +2,7 @@
 use steps::atomic::{Load, Store};
 use steps::copied::{Copied, OneWord};
 use steps::queues::overflow;
+use steps::queues::peek::Peek;
 use steps::queues::ring::{Pop, Push};
 use steps::routine::Running;
 use steps::words::Words;
@@ -19,6 +20,23 @@ pub fn pop<T: Words>(capacity: u32) -> Running<Pop<T, Copied>, (), Copied> {
         call: Pop::new(capacity),
         given: (),
         room: Copied::new(),
+    }
+}
+
+pub fn peek<T: Words>(capacity: u32) -> Running<Peek<T, Copied>, (), Copied> {
+    Running {
+        call: Peek::new(capacity),
+        given: (),
+        room: Copied::new(),
+    }
+}
+
+/// A peek at a value of one word, into a room of one word.
+pub fn peek_one(capacity: u32) -> Running<Peek<u64, OneWord>, (), OneWord> {
+    Running {
+        call: Peek::new(capacity),
+        given: (),
+        room: OneWord(0),
     }
 }
 

@@ -1,8 +1,11 @@
 //! Bounded queues of values of one word, of a pair, of three words and of 128.
-use crate::drive::{ends, with};
-use crate::driven::{overflow_pop, overflow_push, pop, pop_one};
+use crate::drive::{bare, ends, partly, with};
+use crate::driven::{overflow_pop, overflow_push, peek, peek_one, pop, pop_one, push};
 use crate::rows::{Row, fills_and_empties, play};
+use std::process::Abort;
 use steps::ask::{Call, Want};
+use steps::queues::ring::{CONSUMER, PRODUCER};
+use steps::queues::roles::LookRole;
 use tests_calls::long_values::{Greatest, Three};
 
 const ONE_WORD: [Row<u64>; 3] = [
@@ -11,8 +14,9 @@ const ONE_WORD: [Row<u64>; 3] = [
     Row::Push(9, false, 2),
 ];
 
-const PAIR: [Row<(u64, u64)>; 3] = [
+const PAIR: [Row<(u64, u64)>; 4] = [
     Row::Push((5, 6), true, 5),
+    Row::Peek(Some((5, 6)), 4),
     Row::Pop(Some((5, 6)), 5),
     Row::Pop(None, 2),
 ];
@@ -35,6 +39,54 @@ fn a_pop_into_one_word_is_a_pop(rt: HostRuntime) {
         assert!(rt; same == words, "{steps}");
     }
     assert!(rt; words == [2, 2, 1, 1, 7, 8]);
+}
+
+#[test]
+fn a_peek_leaves_the_words(rt: HostRuntime) {
+    let words = [3, 1, 1, 1, 9, 8];
+    for (capacity, value, steps) in [(2, Some(8), 3), (0, None, 2)] {
+        let mut same = words;
+        assert!(rt;
+            ends(peek::<u64>(capacity), &mut same, value, steps),
+            "{capacity}"
+        );
+        assert!(rt;
+            ends(peek_one(capacity), &mut same, value, steps),
+            "{capacity}"
+        );
+        assert!(rt; same == words, "{capacity}");
+    }
+    // At the last position, beside the last push.
+    let words = [u64::MAX, u64::MAX - 1, 1, 1, 7, 8];
+    let mut same = words;
+    assert!(rt; ends(peek_one(2), &mut same, Some(7), 3) && same == words);
+}
+
+fn a_push_publishes_in_a_peek(rt: &impl Abort) -> Option<()> {
+    let mut words = [0, 0, 1, 1, 0, 0];
+    let call = partly(peek::<(u64, u64)>(1), 1, &mut words)?;
+    assert!(rt; ends(push(1, (5, 6)), &mut words, true, 5));
+    assert!(rt; ends(call, &mut words, Some((5, 6)), 3));
+    assert!(rt; words == [1, 0, 1, 1, 5, 6]);
+    Some(())
+}
+
+#[test]
+fn a_peek_that_is_stopped(rt: HostRuntime) {
+    assert!(rt; a_push_publishes_in_a_peek(&rt).is_some());
+}
+
+#[test]
+fn looks_at_roles(rt: HostRuntime) {
+    let words = [0, 0, 0, 1];
+    for (word, is_taken) in [(PRODUCER, true), (CONSUMER, false)] {
+        let mut same = words;
+        assert!(rt;
+            ends(bare(LookRole { word }), &mut same, is_taken, 1),
+            "{word}"
+        );
+        assert!(rt; same == words, "{word}");
+    }
 }
 
 #[test]

@@ -1,7 +1,8 @@
 //! Rows of calls on one list of words, each with what it must answer and the steps that it must take.
 use crate::drive::{bare, ends};
-use crate::driven::{load, pop, push, store};
+use crate::driven::{load, peek, pop, push, store};
 use std::process::Abort;
+use steps::atomic::version::Version;
 use steps::queues::lengths::Len;
 use steps::words::Words;
 
@@ -10,8 +11,10 @@ use steps::words::Words;
 pub enum Row<T> {
     Push(T, bool, u64),
     Pop(Option<T>, u64),
+    Peek(Option<T>, u64),
     Store(T, bool, u64),
     Load(T, u64),
+    Version(u64),
     Len(u64, u64),
 }
 
@@ -23,8 +26,10 @@ fn does<T: Words + PartialEq + Drop, const N: usize>(
     match *row {
         Row::Push(value, taken, steps) => ends(push(capacity, value), words, taken, steps),
         Row::Pop(value, steps) => ends(pop::<T>(capacity), words, value, steps),
+        Row::Peek(value, steps) => ends(peek::<T>(capacity), words, value, steps),
         Row::Store(value, taken, steps) => ends(store(value), words, taken, steps),
         Row::Load(value, steps) => ends(load::<T>(), words, value, steps),
+        Row::Version(number) => ends(bare(Version), words, number, 1),
         Row::Len(number, steps) => ends(bare(Len::new(capacity)), words, number, steps),
     }
 }
@@ -62,8 +67,10 @@ pub fn fills_and_empties<T: Words + PartialEq + Drop, const N: usize>(
             right &= does(capacity, words, &Row::Push(*value, false, 2));
         }
         for value in values {
+            right &= does(capacity, words, &Row::Peek(Some(*value), steps - 1));
             right &= does(capacity, words, &Row::Pop(Some(*value), steps));
         }
+        right &= does::<T, N>(capacity, words, &Row::Peek(None, 2));
         right &= does::<T, N>(capacity, words, &Row::Pop(None, 2));
     }
     right

@@ -18,8 +18,10 @@ const TWO_WORDS: [Row<u128>; 3] = [
 
 const PAIR: [Row<(u64, u64)>; 1] = [Row::Store((3, 4), true, 4)];
 
-const THREE_WORDS: [Row<Three>; 4] = [
+const THREE_WORDS: [Row<Three>; 6] = [
+    Row::Version(1),
     Row::Store(Three(1, 2, 3), true, 5),
+    Row::Version(2),
     Row::Load(Three(1, 2, 3), 5),
     Row::Store(Three(4, 5, 6), true, 5),
     Row::Load(Three(4, 5, 6), 5),
@@ -35,10 +37,14 @@ const MOST_WORDS: [Row<Greatest>; 4] = [
 const ONE_WORD: [Row<u64>; 2] = [Row::Load(8, 3), Row::Store(9, true, 3)];
 
 /// The last version takes no value, and the value stands.
-const LAST_VERSION: [Row<u64>; 2] = [Row::Store(9, false, 1), Row::Load(7, 3)];
+const LAST_VERSION: [Row<u64>; 3] = [
+    Row::Store(9, false, 1),
+    Row::Load(7, 3),
+    Row::Version(u64::MAX),
+];
 
 /// The number of the cell wraps.
-const VERSION_ZERO: [Row<u64>; 1] = [Row::Load(8, 3)];
+const VERSION_ZERO: [Row<u64>; 2] = [Row::Load(8, 3), Row::Version(0)];
 
 #[test]
 fn values_of_many_words(rt: HostRuntime) {

@@ -236,6 +236,115 @@ fn counts_agree<R: Threads + Wait + Clock + Sync>(
     Ok(went == Some(true) && sums.differs().is_none())
 }
 
+/// Raises a place for good, and counts how often it stood or how far it had counted before.
+#[derive(Drop)]
+struct Raises<'s> {
+    flags: bit_set::Handle<'s>,
+    counts: counting_bit_set::Handle<'s>,
+}
+
+impl<'s> Task for Raises<'s> {
+    fn run(self, rt: &(impl Wait + Clock)) -> bool {
+        let Raises {
+            mut flags,
+            mut counts,
+        } = self;
+        for round in 0..ROUNDS {
+            if counts.capacity() > 0 && counts.set(0) != round {
+                return false;
+            }
+            if round == ROUNDS / 2 && flags.capacity() > 0 && !flags.set(rt, 0) {
+                return false;
+            }
+            if round % 4 == 0 {
+                thread::yield_now();
+            }
+        }
+        true
+    }
+}
+
+/// Looks at a place that only rises: a flag that stood stands, and a count is no less than before.
+#[derive(Drop)]
+struct Looks<'s> {
+    flags: bit_set::Handle<'s>,
+    counts: counting_bit_set::Handle<'s>,
+}
+
+impl<'s> Task for Looks<'s> {
+    fn run(self, _rt: &(impl Wait + Clock)) -> bool {
+        let Looks {
+            mut flags,
+            mut counts,
+        } = self;
+        let mut stood = false;
+        let mut least = 0;
+        for round in 0..ROUNDS {
+            let is_set = flags.capacity() > 0 && flags.is_set(0);
+            let count = if counts.capacity() > 0 {
+                counts.count(0)
+            } else {
+                0
+            };
+            if stood && !is_set || count < least || count > ROUNDS {
+                return false;
+            }
+            stood = is_set;
+            least = count;
+            if round % 4 == 0 {
+                thread::yield_now();
+            }
+        }
+        true
+    }
+}
+
+/// Whether two who look at a stop flag and at a counter see them only rise, and see the last of both in the end.
+fn looks_agree<R: Threads + Wait + Clock + Sync>(rt: &R, alloc: Global) -> Result<bool, Fail> {
+    let (set, pass) = BitSet::new(alloc, 65)?;
+    let (counting, counting_pass) = CountingBitSet::new(alloc, 3)?;
+    let mut flags = set.handle(pass);
+    let mut counts = counting.handle(counting_pass);
+    let (Some(first), Some(second)) = (flags.split(), flags.split()) else {
+        return Ok(false);
+    };
+    let (Some(third), Some(fourth)) = (counts.split(), counts.split()) else {
+        return Ok(false);
+    };
+    let (Some(fifth), Some(sixth)) = (flags.split(), counts.split()) else {
+        return Ok(false);
+    };
+    let went = three_run(
+        rt,
+        Raises {
+            flags: first,
+            counts: third,
+        },
+        Looks {
+            flags: second,
+            counts: fourth,
+        },
+        Looks {
+            flags: fifth,
+            counts: sixth,
+        },
+    );
+    let is_set = flags.capacity() > 0 && flags.is_set(0);
+    let beside = flags.capacity() > 64 && flags.is_set(64);
+    let count = if counts.capacity() > 0 {
+        counts.count(0)
+    } else {
+        0
+    };
+    Ok(went && is_set && !beside && count == ROUNDS)
+}
+
+#[test]
+fn looks_between_threads(rt: HostRuntime) -> Result<(), Fail> {
+    assert!(rt; looks_agree(&rt, rt.alloc())?);
+    Ok(())
+}
+
 #[test]
 fn sets_between_threads(rt: HostRuntime) -> Result<(), Fail> {
     for capacity in [9, 64, 65, 1000] {

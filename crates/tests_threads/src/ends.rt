@@ -18,6 +18,12 @@ pub trait Takes: Drop + Sized {
     fn takes(&mut self, rt: &impl Wait) -> Option<u64>;
 }
 
+/// An end that numbers come out at, which also shows the next one.
+pub trait Peeks: Takes {
+    /// The number that comes next, if one waits, which stays there.
+    fn peeks(&mut self) -> Option<u64>;
+}
+
 /// One beside both.
 pub trait Length: Drop + Sized {
     /// How many numbers wait. None where it does not ask.
@@ -27,6 +33,22 @@ pub trait Length: Drop + Sized {
 /// A word that both halves of which tell the number.
 fn word_of(number: u64) -> u64 {
     (!number << 32) | (number & 0xffff_ffff)
+}
+
+/// The number of such a word, and of another one a number past all others.
+fn number_of(word: u64) -> u64 {
+    let number = word & 0xffff_ffff;
+    if word_of(number) == word {
+        number
+    } else {
+        u64::MAX
+    }
+}
+
+/// The number of a pair of which both are this number, and of another one a number past all others.
+fn number_of_pair(pair: (u64, u64)) -> u64 {
+    let (left, right) = pair;
+    if left == right { left } else { u64::MAX }
 }
 
 /// The number that does not wait where this one is taken or not.
@@ -42,13 +64,13 @@ impl<'a> Gives for index_queue::Producer<'a> {
 
 impl<'a> Takes for index_queue::Consumer<'a> {
     fn takes(&mut self, _rt: &impl Wait) -> Option<u64> {
-        let word = self.pop()?;
-        let number = word & 0xffff_ffff;
-        if word_of(number) == word {
-            Some(number)
-        } else {
-            Some(u64::MAX)
-        }
+        Some(number_of(self.pop()?))
+    }
+}
+
+impl<'a> Peeks for index_queue::Consumer<'a> {
+    fn peeks(&mut self) -> Option<u64> {
+        Some(number_of(self.peek()?))
     }
 }
 
@@ -60,12 +82,13 @@ impl<'a> Gives for queue::Producer<'a, (u64, u64)> {
 
 impl<'a> Takes for queue::Consumer<'a, (u64, u64)> {
     fn takes(&mut self, _rt: &impl Wait) -> Option<u64> {
-        let (left, right) = self.pop()?;
-        if left == right {
-            Some(left)
-        } else {
-            Some(u64::MAX)
-        }
+        Some(number_of_pair(self.pop()?))
+    }
+}
+
+impl<'a> Peeks for queue::Consumer<'a, (u64, u64)> {
+    fn peeks(&mut self) -> Option<u64> {
+        Some(number_of_pair(self.peek()?))
     }
 }
 

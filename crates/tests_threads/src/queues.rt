@@ -1,6 +1,6 @@
 //! Queues between two threads: many numbers, and two that wait for one another.
-use crate::ends::{Gives, GivesAll, Takes, TakesAll, next};
-use crate::limit::TURNS;
+use crate::ends::{Gives, GivesAll, Peeks, Takes, TakesAll, next};
+use crate::limit::{Limit, TURNS};
 use crate::logged::{OVERLAPS, ROUNDS, Rounds, runs};
 use crate::tasks::{Task, two_run};
 use lock_free::spsc::index_queue::{Consumer, FixedSizeIndexQueue, Handle, IndexQueue, Producer};
@@ -55,6 +55,70 @@ fn many_numbers(rt: HostRuntime) -> Result<(), Fail> {
 fn many_pairs(rt: HostRuntime) -> Result<(), Fail> {
     let (queue, pass) = Queue::<Pair, 4>::new(rt.alloc())?;
     assert!(rt; come(&rt, queue.ends(pass)) == Some(true));
+    Ok(())
+}
+
+/// Takes so many numbers, each after two looks at it: whether these told it, and all come in their order, from 0 on.
+#[derive(Drop)]
+struct PeeksAll<E: Peeks> {
+    end: E,
+    number: u64,
+}
+
+impl<E: Peeks> PeeksAll<E> {
+    /// Looks until a number waits, and takes it. None where the looks told another, and at the limit.
+    fn next(&mut self, rt: &impl Wait) -> Option<u64> {
+        let mut limit = Limit::new(TURNS);
+        for _ in 0..u64::MAX {
+            if let Some(number) = self.end.peeks() {
+                let again = self.end.peeks();
+                let taken = self.end.takes(rt);
+                let is_told = again == Some(number) && taken == Some(number);
+                return if is_told { Some(number) } else { None };
+            }
+            if !limit.waits() {
+                return None;
+            }
+        }
+        None
+    }
+}
+
+impl<E: Peeks> Task for PeeksAll<E> {
+    fn run(mut self, rt: &(impl Wait + Clock)) -> bool {
+        for number in 0..self.number {
+            if self.next(rt) != Some(number) {
+                return false;
+            }
+        }
+        self.end.peeks().is_none()
+    }
+}
+
+/// Whether looks tell what is taken next while numbers come. None where the roles were not to be had.
+fn peeks_tell<R: Wait + Threads + Clock + Sync, G: Gives + Send, E: Peeks + Send>(
+    rt: &R,
+    ends: Option<(G, E)>,
+) -> Option<bool> {
+    let (gives, end) = ends?;
+    let gives = GivesAll {
+        end: gives,
+        from: 0,
+        to: NUMBERS,
+    };
+    let peeks = PeeksAll {
+        end,
+        number: NUMBERS,
+    };
+    Some(two_run(rt, gives, peeks))
+}
+
+#[test]
+fn peeks_beside_pushes(rt: HostRuntime) -> Result<(), Fail> {
+    let (queue, pass) = FixedSizeIndexQueue::<8>::new(rt.alloc())?;
+    assert!(rt; peeks_tell(&rt, queue.ends(pass)) == Some(true));
+    let (queue, pass) = Queue::<Pair, 1>::new(rt.alloc())?;
+    assert!(rt; peeks_tell(&rt, queue.ends(pass)) == Some(true));
     Ok(())
 }
 

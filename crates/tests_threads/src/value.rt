@@ -14,6 +14,9 @@ type Pair = (u64, u64);
 /// The number of the last pair.
 const LAST: u64 = 200_000;
 
+/// The version of the pair 0, which `new` has stored.
+const FIRST_VERSION: u64 = 2;
+
 /// At which pairs one rests who stores: each one of so many.
 const EVERY: u64 = 1000;
 
@@ -56,10 +59,17 @@ impl<'a, 's> Drop for Loads<'a, 's> {
 }
 
 impl<'a, 's> Loads<'a, 's> {
-    /// The number of the pair that it sees, where its halves are equal.
+    /// The number of the pair that it sees, where its halves are equal, and its version is between those before and after.
     fn load(&mut self, rt: &impl Wait) -> Option<u64> {
+        let before = self.value.version();
         let (left, right) = self.value.load(rt);
-        if left == right { Some(left) } else { None }
+        let after = self.value.version();
+        let version = left.wrapping_add(FIRST_VERSION);
+        if left == right && before <= version && version <= after {
+            Some(left)
+        } else {
+            None
+        }
     }
 
     /// The number of the pair that comes after this one. None where it comes otherwise, and at the limit.
@@ -116,14 +126,17 @@ fn stores_and_loads<R: Wait + Threads + Clock + Sync>(
 ) -> Option<bool> {
     let rests = Rests::beside(3, 2);
     let loaders = loader(&mut value, &rests).zip(loader(&mut value, &rests));
+    let mut last = value.split()?;
     let ((one, other), producer) = loaders.zip(value.acquire_producer().ok())?;
+    let had = last.has_producer() && last.version() == FIRST_VERSION;
     let stores = Stores {
         producer,
         rests: &rests,
     };
     let well = three_run(rt, Ends::of(stores, &rests), one, other);
     let least = LAST / EVERY - 1;
-    Some(well && rests.crossed() >= least && rests.seen() >= least)
+    let ended = !last.has_producer() && last.version() == FIRST_VERSION + LAST;
+    Some(had && well && ended && rests.crossed() >= least && rests.seen() >= least)
 }
 
 #[test]

@@ -28,6 +28,10 @@ pub enum RoleCall {
     Drop,
     /// The other role is given back, and its pass goes to this guard.
     Join,
+    /// A look says whether it is taken.
+    Has,
+    /// Whether this look is right, by the guards.
+    Looks,
     /// It is given back and taken again; by its drop, if so.
     Again(bool),
 }
@@ -37,6 +41,8 @@ pub enum RoleCall {
 pub enum QueueCall {
     Push(u64),
     Pop,
+    /// An overflowing queue has none.
+    Peek,
     Len,
     IsEmpty,
     IsFull,
@@ -63,6 +69,7 @@ impl Call for QueueCall {
         match words.word()? {
             "push" => Some(QueueCall::Push(words.number()?)),
             "pop" => Some(QueueCall::Pop),
+            "peek" => Some(QueueCall::Peek),
             "len" => Some(QueueCall::Len),
             "is_empty" => Some(QueueCall::IsEmpty),
             "is_full" => Some(QueueCall::IsFull),
@@ -72,17 +79,22 @@ impl Call for QueueCall {
             "release" => with_role(words, RoleCall::Release),
             "drop" => with_role(words, RoleCall::Drop),
             "join" => with_role(words, RoleCall::Join),
+            "has" => with_role(words, RoleCall::Has),
             _ => None,
         }
     }
 
     fn draw(draws: &mut Draws, _capacity: usize, fills: bool) -> QueueCall {
-        match draws.below(16) {
+        match draws.below(20) {
             0 => QueueCall::Len,
             1 => QueueCall::IsEmpty,
             2 => QueueCall::IsFull,
             3 => QueueCall::Role(Role::Producer, RoleCall::Again(draws.in_eight(4))),
             4 => QueueCall::Role(Role::Consumer, RoleCall::Again(draws.in_eight(4))),
+            5 => QueueCall::Role(Role::Producer, RoleCall::Looks),
+            6 => QueueCall::Role(Role::Consumer, RoleCall::Looks),
+            7 => QueueCall::Peek,
+            8 => QueueCall::Peek,
             _ => {
                 if draws.in_eight(6) == fills {
                     QueueCall::Push(draws.number())
@@ -123,10 +135,11 @@ pub fn popped<T: Numbered>(value: Option<T>, answer: &mut Answer) {
     }
 }
 
-/// What one caller's form answers, which has no roles: one that is given back is free.
+/// What one caller's form answers, which has no roles: one that is given back is free, and a look is right.
 pub fn alone(call: RoleCall, answer: &mut Answer) {
     match call {
         RoleCall::Again(_) => answer.truth(true),
+        RoleCall::Looks => answer.truth(true),
         _ => {}
     }
 }
@@ -142,6 +155,7 @@ fn answers<E: Copy, T: Numbered>(queue: &mut List<E, T>, call: QueueCall, answer
     match call {
         QueueCall::Push(_) => {}
         QueueCall::Pop => popped(queue.pop(), answer),
+        QueueCall::Peek => popped(queue.peek(), answer),
         QueueCall::Len => answer.number(queue.len() as u64),
         QueueCall::IsEmpty => answer.truth(queue.is_empty()),
         QueueCall::IsFull => answer.truth(queue.is_full()),
@@ -180,6 +194,7 @@ impl Answers<QueueCall> for plain::SafelyOverflowingIndexQueue {
         match call {
             QueueCall::Push(number) => answer.perhaps(self.push(number)),
             QueueCall::Pop => answer.perhaps(self.pop()),
+            QueueCall::Peek => {}
             QueueCall::Len => answer.number(self.len() as u64),
             QueueCall::IsEmpty => answer.truth(self.is_empty()),
             QueueCall::IsFull => answer.truth(self.is_full()),

@@ -21,6 +21,9 @@ pub trait Kind<T: Words>: ring::rule::Kind + Sized {
 
     fn pop(rt: &impl Wait, consumer: &mut Consumer<'_, Self, T>, answer: &mut Answer)
         ensures { consumer_queue consumer.new ≡ consumer_queue consumer.old };
+
+    fn peek(consumer: &mut Consumer<'_, Self, T>, answer: &mut Answer)
+        ensures { consumer_queue consumer.new ≡ consumer_queue consumer.old };
 }
 
 impl Kind<u64> for Numbers {
@@ -30,6 +33,10 @@ impl Kind<u64> for Numbers {
 
     fn pop(_rt: &impl Wait, consumer: &mut Consumer<'_, Numbers, u64>, answer: &mut Answer) {
         answer.perhaps(consumer.pop());
+    }
+
+    fn peek(consumer: &mut Consumer<'_, Numbers, u64>, answer: &mut Answer) {
+        answer.perhaps(consumer.peek());
     }
 }
 
@@ -41,6 +48,10 @@ impl<T: Numbered> Kind<T> for Values {
     fn pop(_rt: &impl Wait, consumer: &mut Consumer<'_, Values, T>, answer: &mut Answer) {
         popped(consumer.pop(), answer);
     }
+
+    fn peek(consumer: &mut Consumer<'_, Values, T>, answer: &mut Answer) {
+        popped(consumer.peek(), answer);
+    }
 }
 
 impl Kind<u64> for Overflowing {
@@ -51,6 +62,8 @@ impl Kind<u64> for Overflowing {
     fn pop(rt: &impl Wait, consumer: &mut Consumer<'_, Overflowing, u64>, answer: &mut Answer) {
         answer.perhaps(consumer.pop(rt));
     }
+
+    fn peek(_consumer: &mut Consumer<'_, Overflowing, u64>, _answer: &mut Answer) {}
 }
 
 /// A pass, and a guard of each role that is taken.
@@ -201,12 +214,22 @@ impl<'a, E: ring::rule::Kind, T: Words> User<'a, E, T> {
         }
     }
 
+    fn has_producer(&mut self) -> bool {
+        self.queue.has_producer(&mut self.pass)
+    }
+
+    fn has_consumer(&mut self) -> bool {
+        self.queue.has_consumer(&mut self.pass)
+    }
+
     fn produces(&mut self, call: RoleCall) -> bool {
         match call {
             RoleCall::Take => self.takes_producer(),
             RoleCall::Release => self.releases_producer(),
             RoleCall::Drop => self.drops_producer(),
             RoleCall::Join => self.joins_producer(),
+            RoleCall::Has => self.has_producer(),
+            RoleCall::Looks => self.has_producer() == self.producer.is_some(),
             RoleCall::Again(drops) => {
                 if drops {
                     self.drops_producer();
@@ -224,6 +247,8 @@ impl<'a, E: ring::rule::Kind, T: Words> User<'a, E, T> {
             RoleCall::Release => self.releases_consumer(),
             RoleCall::Drop => self.drops_consumer(),
             RoleCall::Join => self.joins_consumer(),
+            RoleCall::Has => self.has_consumer(),
+            RoleCall::Looks => self.has_consumer() == self.consumer.is_some(),
             RoleCall::Again(drops) => {
                 if drops {
                     self.drops_consumer();
@@ -258,6 +283,17 @@ impl<'a, E: Kind<T>, T: Words> User<'a, E, T> {
             None => answer.refused(),
         }
     }
+
+    /// The same of a peek.
+    fn peeks(&mut self, answer: &mut Answer) {
+        if self.consumer.is_none() {
+            self.takes_consumer();
+        }
+        match &mut self.consumer {
+            Some(consumer) => E::peek(consumer, answer),
+            None => answer.refused(),
+        }
+    }
 }
 
 impl<'a, E: Kind<T>, T: Words> Answers<QueueCall> for User<'a, E, T> {
@@ -265,6 +301,7 @@ impl<'a, E: Kind<T>, T: Words> Answers<QueueCall> for User<'a, E, T> {
         match call {
             QueueCall::Push(number) => self.pushes(number, answer),
             QueueCall::Pop => self.pops(rt, answer),
+            QueueCall::Peek => self.peeks(answer),
             QueueCall::Len => self.number(rt, answer),
             QueueCall::IsEmpty => self.is_empty(rt, answer),
             QueueCall::IsFull => self.is_full(rt, answer),

@@ -1,4 +1,4 @@
-//! Queues: one stays inside a push or a pop, and another asks for the length and makes the other of the two.
+//! Queues: one stays inside a push, a pop or a peek. Another asks for the length and the roles, and pops, or pushes.
 use crate::inside::{Door, GoesOn, ROUNDS, Stays, goes_on_beside};
 use crate::slow::{SLOW_TO_READ, SLOW_TO_WRITE, Slow};
 use lock_free::spsc::queue::{Consumer, Handle, Producer, Queue};
@@ -37,6 +37,22 @@ impl<'a> Stays for Pops<'a> {
     }
 }
 
+/// Peeks.
+#[derive(Drop)]
+struct Peeks<'a> {
+    consumer: Consumer<'a, Slow>,
+}
+
+impl<'a> Stays for Peeks<'a> {
+    fn stays(&mut self, _rt: &impl Wait, door: &Door) -> bool {
+        door.enters();
+        match self.consumer.peek() {
+            Some(value) => value.number == SLOW_TO_READ,
+            None => false,
+        }
+    }
+}
+
 /// Pops from a queue to which nothing comes, and asks for its length.
 struct PopsBeside<'a> {
     consumer: Consumer<'a, Slow>,
@@ -54,8 +70,9 @@ impl<'a> Drop for PopsBeside<'a> {
 
 impl<'a> GoesOn for PopsBeside<'a> {
     fn goes_on(&mut self, rt: &impl Wait, _at: u64) -> bool {
-        let none = self.consumer.pop().is_none() && self.handle.len(rt) == 0;
-        none && self.handle.is_empty(rt) && !self.handle.is_full(rt)
+        let none = self.consumer.peek().is_none() && self.consumer.pop().is_none();
+        let none = none && self.handle.len(rt) == 0 && self.handle.is_empty(rt);
+        none && !self.handle.is_full(rt) && self.handle.has_producer()
     }
 }
 
@@ -78,7 +95,7 @@ impl<'a> GoesOn for PushesBeside<'a> {
     fn goes_on(&mut self, rt: &impl Wait, at: u64) -> bool {
         self.producer.push(&Slow::of(at));
         let length = self.handle.len(rt);
-        1 <= length && length <= 2 && !self.handle.is_empty(rt)
+        1 <= length && length <= 2 && !self.handle.is_empty(rt) && self.handle.has_consumer()
     }
 }
 
@@ -90,41 +107,52 @@ fn beside_push<R: Wait + Threads + Clock + Sync>(rt: &R, handle: Handle<'_, Slow
     Some(goes_on_beside(rt, Pushes { producer }, pops))
 }
 
-/// The same of a pop.
-fn beside_pop<R: Wait + Threads + Clock + Sync>(rt: &R, handle: Handle<'_, Slow>) -> Option<bool> {
+/// One who pushes to a queue that has a value, and the consumer. None where the roles are not to be had, or it took none.
+fn with_a_value<'a>(handle: Handle<'a, Slow>) -> Option<(PushesBeside<'a>, Consumer<'a, Slow>)> {
     let mut handle = handle;
     let (mut producer, consumer) = handle.split()?.ends()?;
     let is_pushed = producer.push(&Slow::of(SLOW_TO_READ));
-    let pushes = PushesBeside { producer, handle };
-    Some(is_pushed & goes_on_beside(rt, Pops { consumer }, pushes))
+    is_pushed.then_some((PushesBeside { producer, handle }, consumer))
 }
 
-/// Whether one goes on while another is inside a push, or a pop.
+/// The same of a pop.
+fn beside_pop<R: Wait + Threads + Clock + Sync>(rt: &R, handle: Handle<'_, Slow>) -> Option<bool> {
+    let (pushes, consumer) = with_a_value(handle)?;
+    Some(goes_on_beside(rt, Pops { consumer }, pushes))
+}
+
+/// The same of a peek.
+fn beside_peek<R: Wait + Threads + Clock + Sync>(rt: &R, handle: Handle<'_, Slow>) -> Option<bool> {
+    let (pushes, consumer) = with_a_value(handle)?;
+    Some(goes_on_beside(rt, Peeks { consumer }, pushes))
+}
+
+/// Whether one goes on while another is inside the call of this name.
 fn goes_on<R: Wait + Threads + Clock + Sync>(
     rt: &R,
     alloc: Global,
-    is_push: bool,
+    call: &str,
 ) -> Result<bool, Fail> {
     let (queue, pass) = Queue::<Slow, 2>::new(alloc)?;
     let handle = queue.handle(pass);
-    let went = if is_push {
-        beside_push(rt, handle)
-    } else {
-        beside_pop(rt, handle)
+    let went = match call {
+        "push" => beside_push(rt, handle),
+        "pop" => beside_pop(rt, handle),
+        _ => beside_peek(rt, handle),
     };
     Ok(went.ok_or("not to be had")?)
 }
 
 #[test]
-fn beside_a_push_and_a_pop(rt: HostRuntime) -> Result<(), Fail> {
-    for is_push in [true, false] {
+fn beside_a_push_a_pop_and_a_peek(rt: HostRuntime) -> Result<(), Fail> {
+    for call in ["push", "pop", "peek"] {
         let mut well = false;
         for _ in 0..ROUNDS {
             if !well {
-                well = goes_on(&rt, rt.alloc(), is_push)?;
+                well = goes_on(&rt, rt.alloc(), call)?;
             }
         }
-        assert!(rt; well, "inside a push: {is_push}");
+        assert!(rt; well, "inside a {call}");
     }
     Ok(())
 }

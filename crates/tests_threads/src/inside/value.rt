@@ -8,7 +8,10 @@ use std::test::Fail;
 use std::thread::Threads;
 use std::time::Clock;
 
-/// Loads.
+/// The version of a new value, which is stored once.
+const FIRST_VERSION: u64 = 2;
+
+/// Loads, and asks for the version.
 #[derive(Drop)]
 struct Loads<'a> {
     handle: Handle<'a, Slow>,
@@ -23,7 +26,8 @@ impl<'a> Stays for Loads<'a> {
 
 impl<'a> GoesOn for Loads<'a> {
     fn goes_on(&mut self, rt: &impl Wait, _at: u64) -> bool {
-        self.handle.load(rt).number == 7
+        let is_first = self.handle.load(rt).number == 7 && self.handle.version() == FIRST_VERSION;
+        is_first && self.handle.has_producer()
     }
 }
 
@@ -40,7 +44,7 @@ impl<'a> Stays for Stores<'a> {
     }
 }
 
-/// Stores and loads.
+/// Stores and loads, and asks for the version.
 struct Both<'a> {
     producer: Producer<'a, Slow>,
     handle: Handle<'a, Slow>,
@@ -57,7 +61,8 @@ impl<'a> Drop for Both<'a> {
 
 impl<'a> GoesOn for Both<'a> {
     fn goes_on(&mut self, rt: &impl Wait, at: u64) -> bool {
-        self.producer.store(Slow::of(at)) && self.handle.load(rt).number == at
+        let is_stored = self.producer.store(Slow::of(at)) && self.handle.load(rt).number == at;
+        is_stored && self.handle.version() == FIRST_VERSION.wrapping_add(at).wrapping_add(1)
     }
 }
 
