@@ -1,7 +1,5 @@
-//! Values read through their guards, loans of another channel, and calls that wait.
-ghost use Rattle.std.specs.Prelude.{◌≡◌, Some, IfErr, IsSomeAnd};
-ghost use Rattle.lock_free_loans.specs.Loan.Sender.{IsLoaned};
-ghost use Rattle.zero_copy_loans.specs.Ends.{loaned, sender_of, IsForeign, KeepsSends};
+//! Values read through their guards, and calls that wait.
+ghost use Rattle.std.specs.Prelude.{◌≡◌, Some, IfErr};
 ghost use Rattle.zero_copy_loans.specs.Pools.{HasPlaces};
 ghost use Rattle.zero_copy_slots.specs.Slots.{value_in};
 
@@ -14,7 +12,7 @@ use zero_copy_loans::channel::Channel;
 use zero_copy_loans::error::PoolFailure;
 use zero_copy_loans::pool::{Buffer, Lender, Pool};
 use zero_copy_loans::receiver::Receiver;
-use zero_copy_loans::sender::{Back, Loan, Sender};
+use zero_copy_loans::sender::{Loan, Sender};
 use zero_copy_slots::Reading;
 
 /// How many values are sent, and how often a buffer is taken.
@@ -116,65 +114,6 @@ fn side_by_side<R: Threads + Wait + Sync>(rt: &R, alloc: Global) -> Option<bool>
 #[test]
 fn the_last_value_is_waited_for(rt: HostRuntime) -> Result<(), Fail> {
     assert!(rt; side_by_side(&rt, rt.alloc()) == Some(true));
-    Ok(())
-}
-
-/// A loan of another channel is not sent.
-fn refuses<'a>(sender: &mut Sender<'a, Triple>, loan: Loan<'a, Triple>) -> Option<Back>
-    ensures { ¬ IsLoaned (loaned loan.entry) (sender_of sender.old)
-        → IsSomeAnd result (λ y. IsForeign (loaned loan.entry) y sender.old sender.new) }
-{
-    sender.send(loan)
-}
-
-/// It is given up, and no place of this sender changes.
-fn gives_up<'a>(sender: &mut Sender<'a, Triple>, loan: Loan<'a, Triple>)
-    ensures foreign { ¬ IsLoaned (loaned loan.entry) (sender_of sender.old) → sender_of sender.new ≡ sender_of sender.old }
-    ensures sends { KeepsSends sender.old sender.new }
-{
-    sender.give_up(loan);
-}
-
-/// Whether a sender does not send a loan of another channel, whose place is not loaned here, and keeps its value.
-fn sends_none<'a>(
-    rt: &impl Wait,
-    sender: &mut Sender<'a, Triple>,
-    other: &mut Sender<'a, Triple>,
-) -> Option<bool> {
-    let foreign = other.loan(rt).ok()?;
-    let mut right = !sender.is_loaned(&foreign);
-    let place = foreign.place();
-    right &= refuses(sender, foreign) == Some(Back { number: 0, place });
-    right &= sender.next_number() == 0;
-    let foreign = other.loan(rt).ok()?;
-    gives_up(sender, foreign);
-    right &= other.regain(place).is_some();
-    right &= other.regain(place).is_none();
-    // (the two values are here now)
-    for _ in 0..4 {
-        let loan = sender.loan(rt).ok()?;
-        right &= sender.is_loaned(&loan);
-        right &= sender.send(loan).is_none();
-    }
-    Some(right)
-}
-
-/// The same with two new channels. A sender has so many values to write, and the other one has three.
-fn foreign(rt: &impl Wait, alloc: Global) -> Option<bool> {
-    let mut channel: Channel<Triple> = Channel::new(alloc, 4, 4).ok()?;
-    let mut another: Channel<Triple> = Channel::new(alloc, 4, 4).ok()?;
-    let (mut sender, mut receiver) = channel.ends(alloc, triples(alloc, 2)?)?;
-    let (mut other, _) = another.ends(alloc, triples(alloc, 3)?)?;
-    let mut right = sends_none(rt, &mut sender, &mut other)?;
-    for number in 0..4u64 {
-        right &= receiver.receive(rt)?.number() == number;
-    }
-    Some(right)
-}
-
-#[test]
-fn a_loan_of_another_channel_is_not_sent(rt: HostRuntime) -> Result<(), Fail> {
-    assert!(rt; foreign(&rt, rt.alloc()) == Some(true));
     Ok(())
 }
 
