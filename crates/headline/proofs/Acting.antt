@@ -29,6 +29,7 @@ module _ {T : Type 0} where
     pub opens : span_of p before ≡ Open start wrote
     pub right : P wrote
 
+  -- a span that is open for a call has written what is right for it
   opened_for : (P : List (Event T) → Type 0) (p : ℕ) (start : Start T) (before : List (Event T)) (span : Span T) → span_of p before ≡ span
       → IsOpenFor start P span → Wrote P p start before
   opened_for P p start before Never is h = absurd h
@@ -36,6 +37,7 @@ module _ {T : Type 0} where
       record { wrote = wrote; opens = is ∙ ap (λ (c : Start T). Open c wrote) h.0; right = h.1 }
   opened_for P p start before (Ended call answer wrote) is h = absurd h
 
+  -- a call that has finished has written what its answer says
   pub finished_wrote : (promise : Promise T) (t : Trace T) (p : ℕ) (start : Start T) (answer : Answer T) (before : List (Event T))
       → IsKeptBy promise t → Follows (Finished p start answer) before t.events
       → Wrote (promise.wrote t.world.capacity start answer) p start before
@@ -78,6 +80,7 @@ module _ {T : Type 0} where
     longer_reads (Open start wrote) before e none same r = one_more start wrote (e ∷ []) before e none same r
     longer_reads (Ended start answer wrote) before e none same r = tt
 
+    -- an event that is neither a begin nor an act of the party leaves what its span reads
     same_reads : (span : Span T) (before : List (Event T)) (e : Event T) → BeginsNone p (e ∷ [])
         → flat_map (act_of p) (e ∷ []) ≡ [] → Reads span before → Reads span (before ++ e ∷ [])
     same_reads Never before e none same r = tt
@@ -100,6 +103,7 @@ module _ {T : Type 0} where
     quiet_reads span before e writes none mine its r false t =
         same_reads span before e none (ap (λ (xs : List (Start T × Answer T)). xs ++ []) mine) r
 
+    -- each event leads on: where the party's span is open, its call began before, and has acted as it wrote
     step : (span : Span T) (before : List (Event T)) (e : Event T) → Reads span before → Reads (span_after p span e) (before ++ e ∷ [])
     step span before (Begun q start) r = go (q == p) refl
       where

@@ -62,6 +62,7 @@ module _ {T : Type 0} (capacity : ℕ) where
   ClaimsBelow (Claimed p index) = index < capacity
   ClaimsBelow e = Unit {0}
 
+  -- where each event that claims an index claims one below the capacity, all that are claimed are below it
   claims_below : (es : List (Event T)) (d : SetActs) → AllByRecursion ClaimsBelow es → AllByRecursion (λ (i : ℕ). i < capacity) d.claimed
       → AllByRecursion (λ (i : ℕ). i < capacity) (fold set_act d es).claimed
   claims_below [] d each all = all
@@ -90,6 +91,7 @@ module _ {T : Type 0} (capacity : ℕ) where
   FillsBelow (Filled p index owner) = index < capacity
   FillsBelow e = Unit {0}
 
+  -- where each event that fills an index fills one below the capacity, all acts do
   acts_below : (es : List (Event T)) → AllByRecursion FillsBelow es → AllByRecursion (ActBelow capacity) (robust.set_acts es)
   acts_below [] each = tt
   acts_below (Filled p i o ∷ es) each = (each.0, acts_below es each.1)

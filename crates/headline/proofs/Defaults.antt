@@ -41,6 +41,7 @@ module _ {T : Type 0} (Such : Start T → Type 0) where
   leads_on xs turn t first e is =
       sym (ap (unless_refused t (after_turn t turn)) e) ∙ (ap (λ u. attempt_on u turn) is ∙ sym (run_more xs turn first))
 
+  -- a turn more that is not refused, and begins such a call if any, leads on by such turns
   one_more : (t : Trace T) (turn : Turn T) → call_refusal t.world turn ≡ None → BeginsSuch Such turn → ReachedBySuch t → ReachedBySuch (after_turn t turn)
   one_more t turn e here h =
       let r = h.reached in
@@ -57,6 +58,7 @@ module _ {T : Type 0} (Such : Start T → Type 0) where
         such = all_more r.turns turn h.such here;
       }
 
+  -- a list of turns that begin only such calls leads on by such turns
   by_run : (turns : List (Turn T)) (t : Trace T) → AllByRecursion (BeginsSuch Such) turns → ReachedBySuch t → ReachedBySuch (run turns t)
   by_run [] t all h = h
   by_run (turn ∷ turns) t all h = by_run turns (attempt t turn) all.1 (attempted (refusal_of t.world turn) refl)
@@ -65,6 +67,7 @@ module _ {T : Type 0} (Such : Start T → Type 0) where
       attempted None free = one_more t turn (passes t.world turn free).on all.0 h
       attempted (Some refusal) free = h
 
+  -- a machine that is no loan channel, and was reached by turns that begin only such calls, is reached by such turns
   reached_by_such : (t : Trace T) → is_loan t.world.kind ≡ false → (r : IsReached t) → AllByRecursion (BeginsSuch Such) r.turns → ReachedBySuch t
   reached_by_such t no_loan r all =
       subst ReachedBySuch (sym r.is)
@@ -72,6 +75,7 @@ module _ {T : Type 0} (Such : Start T → Type 0) where
       (subst ReachedBySuch (sym (opened_others t.world.coding t.world.kind t.world.capacity r.queue t.world.parties no_loan))
       (record { reached = record { coded = r.coded; admitted = r.admitted; turns = []; is = refl }; such = tt })))
 
+  -- where a load of such calls ends, each call ends whose party goes on
   turns_end_of : (kind : Kind) → is_loan kind ≡ false → (bound : Bound) → EndsLoadOf T kind Such bound → EndsByTurnsOf T kind Such bound
   turns_end_of kind no_loan bound loads t is r before p under_way turns allowed such many =
       let none : is_loan t.world.kind ≡ false = subst (λ k. is_loan k ≡ false) (sym is) no_loan in

@@ -21,6 +21,7 @@ module _ {T : Type 0} (old : Trace T) (turn : Turn T) (new : Trace T) (is_turn :
   container_tells : old.world.kind ≡ kinds.Container → container_promises.TellsRight old turn new
   container_tells is = subst (λ kind. (promise_of {T = T} kind).tells old turn new) is is_turn.tells
 
+  -- a find of a robust set has counted what it should as it ends
   pub robust_finds : old.world.kind ≡ kinds.Robust → RobustFinds old turn new
   robust_finds is =
       let finds = (robust_tells is).0 in
@@ -36,6 +37,7 @@ module _ {T : Type 0} (old : Trace T) (turn : Turn T) (new : Trace T) (is_turn :
             );
       }
 
+  -- a find of a container has counted and copied what it should as it ends
   pub container_finds : old.world.kind ≡ kinds.Container → ContainerFinds old turn new
   container_finds is =
       let tells = container_tells is in
@@ -49,6 +51,7 @@ module _ {T : Type 0} (old : Trace T) (turn : Turn T) (new : Trace T) (is_turn :
             (stopped.number, stopped.ends, counts.0, counts.1);
       }
 
+  -- a look at a container has done what it should as it ends
   pub looks : old.world.kind ≡ kinds.Container → Looks old new
   looks is =
       let tells = container_tells is in

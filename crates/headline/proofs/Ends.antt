@@ -34,6 +34,7 @@ module _ {T : Type 0} where
         → is_none o ≡ false → GoesOn old (Next p) new → flight_in new p ≡ None
     by_flight = grind (arith, wants_nothing, call_ends, none_stands)
 
+  -- a turn in which a party's call goes on, and asks for no operation, ends the call
   pub ends : (t : Trace T) → IsReached t → (turn : Turn T) → refusal_of t.world turn ≡ None → (p : ℕ) → turn ≡ Next p
       → ask_in t.world turn ≡ None → flight_in (after_turn t turn).world p ≡ None
   ends t r turn free p is none =

@@ -65,6 +65,7 @@ use Rattle.headline.proofs.Visiting.{visits_unlocked}
 module _ {T : Type 0} where
   -- ---- the queues and the value
 
+  -- a push or pop that has ended has acted once, with its answer
   queue_moments : (kind : QueueKind) (capacity : ℕ) (start : Start T) (answer : Answer T) (wrote : List (Event T))
       → is_push_or_pop start ≡ true → queue_promises.wrote kind capacity start answer wrote → moments wrote ≡ (start, answer) ∷ []
   queue_moments kind capacity (starts.Queues (queues.PushIndex index)) answer wrote t h = h.moments
@@ -73,6 +74,7 @@ module _ {T : Type 0} where
   queue_moments kind capacity (starts.Queues other) answer wrote t h = absurd (cc)
   queue_moments kind capacity other answer wrote t h = absurd h
 
+  -- a queue that keeps its promise, and is linearizable, runs as the headline says
   queue_runs : (kind : QueueKind) (t : Trace T) → IsKeptBy (queue_promises.promise kind) t
       → IsLinearizable (as_list kind t.world.capacity) t.events → QueueRuns kind t
   queue_runs kind t kept linearizable =
@@ -89,6 +91,7 @@ module _ {T : Type 0} where
         conserved = kept.promised.book.rest;
       }
 
+  -- a store or load that has ended has acted once, with its answer
   value_moments : (capacity : ℕ) (start : Start T) (answer : Answer T) (wrote : List (Event T)) → is_store_or_load start ≡ true
       → value_promises.wrote capacity start answer wrote → moments wrote ≡ (start, answer) ∷ []
   value_moments capacity (starts.Atomic (atomics.Store value)) answer wrote t h = h
@@ -96,6 +99,7 @@ module _ {T : Type 0} where
   value_moments capacity (starts.Atomic other) answer wrote t h = absurd (cc)
   value_moments capacity other answer wrote t h = absurd (cc)
 
+  -- a value that keeps its promise, and is linearizable, runs as the headline says
   value_runs : (t : Trace T) → IsKeptBy value_promises.promise t → IsLinearizable (as_value t.world.coding) t.events → ValueRuns t
   value_runs t kept linearizable =
       record {
@@ -112,6 +116,7 @@ module _ {T : Type 0} where
 
   -- ---- bits and counts
 
+  -- a bit set that keeps its promise runs as the headline says
   bits_run : (t : Trace T) → IsKeptBy bits_promise t → BitsRun t
   bits_run t kept =
       record {
@@ -123,6 +128,7 @@ module _ {T : Type 0} where
         reset_came = λ p b before at. kept.promised.answers before at.0 _ at.1;
       }
 
+  -- a counting bit set that keeps its promise runs as the headline says
   counts_run : (t : Trace T) → IsKeptBy counts_promise t → CountsRun t
   counts_run t kept =
       record {
@@ -134,6 +140,7 @@ module _ {T : Type 0} where
   -- ---- unique indices
 
   module _ (t : Trace T) (kept : IsKeptBy index_promises.promise t) where
+    -- an index is claimed only where it has no holder
     claims_free : TakesFree claims t.events
     claims_free (Claimed p i) before index holder at takes =
         let is : i ≡ index = cc in
@@ -158,6 +165,7 @@ module _ {T : Type 0} where
     index_claimed : (index : ℕ) (all : SetActs) → Some (claimed index) ≡ Some all → all ≡ claimed index
     index_claimed index all e = cc
 
+    -- the call that frees an index is a release of it
     by_release : (p index : ℕ) (span : Span T) → index_promises.promise.may_stand (Freed p index) span → IsRelease index (call_in span)
     by_release p index Never h = absurd h
     by_release p index (Open (starts.Indices (index_starts.Release i mode)) wrote) h = sym h.0
@@ -165,6 +173,7 @@ module _ {T : Type 0} where
     by_release p index (Open other wrote) h = absurd h
     by_release p index (Ended start answer wrote) h = absurd h
 
+    -- a unique index set that keeps its promise runs as the headline says
     indices_run : IndicesRun t
     indices_run =
         record {
@@ -189,6 +198,7 @@ module _ {T : Type 0} where
   -- ---- a set of indices of owners
 
   module _ (capacity : ℕ) (events : List (Event T)) (does : Each (robust_promises.SetDoes capacity) events) where
+    -- an index is filled only where it is filled for nobody
     fills_free : TakesFree fills events
     fills_free (Filled p i o) before index holder at takes =
         let is : i ≡ index = cc in
@@ -218,6 +228,7 @@ module _ {T : Type 0} where
 
     -- in a well-formed run
     module _ (holds : Each robust_promises.HoldsRight events) where
+      -- in a well-formed run an index is granted only where it has no holder
       grants_free : TakesFree grants events
       grants_free (Granted p i o) before index holder at takes =
           let is : i ≡ index = cc in
@@ -235,6 +246,7 @@ module _ {T : Type 0} where
       one_grant : NoTwoHold grants events
       one_grant = no_two_hold grants events grants_free
 
+      -- in a well-formed run no index has a holder once the set is locked
       none_granted : NoneOnceLocked grants events
       none_granted =
           none_once_locked grants events
@@ -244,6 +256,7 @@ module _ {T : Type 0} where
             before_lock = grants_unlocked;
           })
 
+  -- a call of a robust set that frees an index is one that may free it
   back_by_robust : (p index owner : ℕ) (span : Span T) (saw : List (Act T)) → robust_promises.promise.may_stand (FreedOf p index owner) span
       → MayFree index owner (call_in span) (robust.set_acts (wrote_in span)) saw
   back_by_robust p index owner Never saw h = absurd h
@@ -253,6 +266,7 @@ module _ {T : Type 0} where
   back_by_robust p index owner (Open other wrote) saw h = absurd h
   back_by_robust p index owner (Ended start answer wrote) saw h = absurd h
 
+  -- a call of a container that frees an index is one that may free it
   back_by_container : (p index owner : ℕ) (before : List (Event T)) (span : Span T)
       → container_promises.promise.may_stand (FreedOf p index owner) span → container_promises.FreedRight p index owner before span
       → MayFree index owner (call_in span) (set_acts_of p before) (acts_of p before)
@@ -263,6 +277,7 @@ module _ {T : Type 0} where
   back_by_container p index owner before (Open other wrote) h right = absurd h
   back_by_container p index owner before (Ended start answer wrote) h right = absurd h
 
+  -- a robust index set that keeps its promise runs as the headline says
   robust_runs : (t : Trace T) → t.world.kind ≡ kinds.Robust → IsReached t → IsKeptBy robust_promises.promise t → RobustRuns t
   robust_runs t is r kept =
       let set = kept.promised in
@@ -289,6 +304,7 @@ module _ {T : Type 0} where
       → Each robust_promises.HoldsRight t.events
   holds_right t is r well = (reached_sound shown t is r).holds.good.holds (well, tt)
 
+  -- a container that keeps its promise runs as the headline says
   container_runs : (t : Trace T) → t.world.kind ≡ kinds.Container → IsReached t → IsKeptBy container_promises.promise t → ContainerRuns t
   container_runs t is r kept =
       let set = kept.promised in
@@ -324,6 +340,7 @@ module _ {T : Type 0} where
 
   -- ---- the loan channel
 
+  -- a send or receive that has ended has acted once, with its answer
   moved_by : (start : Start T) (answer : Answer T) (wrote : List (Event T)) → is_send_or_receive start ≡ true
       → loan_promises.wrote 0 start answer wrote → moments wrote ≡ (start, answer) ∷ []
   moved_by (starts.Loan (calls.Send index)) answer wrote t h = h.moments
@@ -341,6 +358,7 @@ module _ {T : Type 0} where
         → IsWith spot (holders loans i before)
     with_at i e before at spot is = loaned_at t.world.capacity t.events channel.moves i e before at spot is
 
+    -- an index goes to a party only where it is with nobody
     loans_free : TakesFree loans t.events
     loans_free (Claimed p i) before index holder at takes =
         let is : i ≡ index = cc in
@@ -376,6 +394,7 @@ module _ {T : Type 0} where
         one_latest (holders loans index before) x (⊎_elim (with_at index e before at (With x)) (with_at index e before at (Passing x)) is)
         (one_has before (e ∷ at.0) at.1 index)
 
+    -- who frees an index has it, or it was left over
     freed_by : (p index : ℕ) (before : List (Event T)) → Follows (Freed p index) before t.events
         → (holders loans index before ≡ p ∷ []) ⊎ IsLeftOver p index before
     freed_by p index before at =
@@ -389,6 +408,7 @@ module _ {T : Type 0} where
         }))
         (channel.moves before at.0 (Freed p index) at.1).1
 
+    -- a loan channel with this book, which keeps its promise, runs as the headline says
     channel_of : IsKeptBy loan_promises.promise t → queue_in t.world.kept ≡ Some book.queue → ChannelRuns book.queue t
     channel_of kept length =
         record {
@@ -412,6 +432,7 @@ module _ {T : Type 0} where
           returned = channel.returned;
         }
 
+  -- a loan channel that keeps its promise runs as the headline says, with the submission queue that it has
   channel_runs : (queue : ℕ) (t : Trace T) (kept : Registry T) → IsKeptBy loan_promises.promise t → t.world.kept ≡ kept
       → loan_promises.IsChannelBy kept t → queue_in t.world.kept ≡ Some queue → ChannelRuns queue t
   channel_runs queue t (registries.Loan book) all is channel length =
@@ -422,6 +443,7 @@ module _ {T : Type 0} where
 
   -- ---- every kind
 
+  -- a machine of each kind runs as the headline says
   pub by_kind : (kind : Kind) (queue : ℕ) (t : Trace T) → t.world.kind ≡ kind → (r : IsReached t) → r.queue ≡ queue
       → IsKeptBy (promise_of kind) t → IsLinearized kind t → Runs kind queue t
   by_kind kinds.IndexQueue queue t is r same kept linearizable = queue_runs queue_kinds.IndexQueue t kept linearizable

@@ -53,6 +53,7 @@ module _ {T : Type 0} (hand : Event T → Hand) where
       (e : Event T) (before : List (Event T)) (index holder : ℕ) → Follows e before events → hand e ≡ Takes index holder
       → holders hand index before ≡ []
 
+  -- an index that goes to a holder only where it has none has one holder at most
   at_most_one : (i : ℕ) (held : List ℕ) (h : Hand) → ((index holder : ℕ) → h ≡ Takes index holder → i ≡ index → held ≡ [])
       → length held ≤ 1 → length (held_after i held h) ≤ 1
   at_most_one i held (Takes index holder) free few = go (index == i) refl
@@ -70,6 +71,7 @@ module _ {T : Type 0} (hand : Event T → Hand) where
       go false = few
   at_most_one i held Neither free few = few
 
+  -- where each index goes to a holder only where it has none, no index has two
   pub no_two_hold : (events : List (Event T)) → TakesFree events → NoTwoHold hand events
   no_two_hold events free =
       always (λ past. (i : ℕ) → length (holders hand i past) ≤ 1) events (λ i. omega arith)
@@ -100,6 +102,7 @@ module _ {T : Type 0} (hand : Event T → Hand) where
       ∙ (ap (λ (held : List ℕ). after i held e) (none still i)
       ∙ stays_none i (hand e) (λ index holder takes. true_false (unique.is_locked before) still (free.before_lock e before index holder at takes)))
 
+  -- an event keeps that no index has a holder once the set is locked
   next_none : (events : List (Event T)) → LocksFree events → (e : Event T) (before : List (Event T)) → Follows e before events
       → IsNone before → IsNone (before ++ e ∷ [])
   next_none events free (Locked p) before at none = λ locked i.
@@ -134,6 +137,7 @@ if_gives true held = refl
 if_gives false held = refl
 
 module _ {T : Type 0} where
+  -- the latest holder is the one that a family reads from the events
   reads : (hand : Event T → Hand) (i : ℕ) (read : Option ℕ → Event T → Option ℕ)
       → ((held : List ℕ) (e : Event T) → latest (held_after i held (hand e)) ≡ read (latest held) e)
       → (es : List (Event T)) (held : List ℕ)

@@ -24,6 +24,7 @@ use Rattle.machine.proofs.Loads.{load_ends, room_load_ends, room_container_load_
 use Rattle.headline.specs.Going.{EndsIfFairOn, IsFairOn, IsStepOf, moment_on}
 
 module _ {T : Type 0} where
+  -- the steps of one party in a turn are some of all steps in it
   own_of_all : (p : ℕ) (w : World T) (turn : Turn T) → own_step p w turn ≤ steps_of w turn
   own_of_all p w (Begin q start) = omega arith
   own_of_all p w (Next q) = go (q == p)
@@ -63,6 +64,7 @@ module _ {T : Type 0} where
     taken zero = []
     taken (suc k) = taken k ++ unless (turns k) (refused k)
 
+    -- the turns that were not refused lead to where the schedule has come
     reaches : (k : ℕ) → after_turns t (taken k) ≡ now k
     reaches zero = refl
     reaches (suc k) = by (refused k) (reaches k)
@@ -72,6 +74,7 @@ module _ {T : Type 0} where
         by None so_far = after_turns_more t (taken k) (turns k) ∙ ap (λ u. after_turn u (turns k)) so_far
         by (Some refusal) so_far = ap (after_turns t) (append-nil (taken k)) ∙ so_far
 
+    -- none of these turns is refused
     are_allowed : (k : ℕ) → AreAllowedOn t (taken k)
     are_allowed zero = tt
     are_allowed (suc k) = by (refused k) refl (are_allowed k)
@@ -80,6 +83,7 @@ module _ {T : Type 0} where
         by None free all = allowed_more t (taken k) (turns k) all (subst (λ (u : Trace T). call_refusal u.world (turns k) ≡ None) (sym (reaches k)) free)
         by (Some refusal) free all = subst (AreAllowedOn t) (sym (append-nil (taken k))) all
 
+    -- what holds of each turn of the schedule holds of each of these
     are_such : (P : Turn T → Type 0) → ((k : ℕ) → P (turns k)) → (k : ℕ) → AllByRecursion P (taken k)
     are_such P each zero = tt
     are_such P each (suc k) = by (refused k) (are_such P each k)
@@ -96,6 +100,7 @@ module _ {T : Type 0} where
         ap (λ o. steps_in t (taken k ++ unless (turns k) o)) free
         ∙ (one_step_more t (taken k) (turns k) ∙ ap (λ (u : Trace T). steps_by k + steps_of u.world (turns k)) (reaches k))
 
+    -- with one turn more of the schedule no fewer steps have been taken
     no_fewer : (k : ℕ) → steps_by k ≤ steps_by (suc k)
     no_fewer k = by (refused k)
       where
@@ -103,6 +108,7 @@ module _ {T : Type 0} where
         by None = let more = one_step_more t (taken k) (turns k) in omega arith
         by (Some refusal) = let same = ap (steps_in t) (append-nil (taken k)) in omega arith
 
+    -- at a later moment no fewer steps have been taken
     steps_up : (k m : ℕ) → k ≤ m → steps_by k ≤ steps_by m
     steps_up k zero le = let same : k ≡ 0 = omega arith in rw same (omega arith)
     steps_up k (suc m) le = ⊎_elim here (λ ne. there ne (steps_up k m)) (cases_eq k (suc m))
@@ -120,6 +126,8 @@ module _ {T : Type 0} where
       abbrev Took : ℕ → Type 0
       Took j = (k : ℕ) × (j ≤ steps_by k)
 
+      -- where so many steps are taken at some moment, the party has no call under way at some moment, or one step more
+      -- is taken
       once : (j : ℕ) → Took j → Rests ⊎ Took (suc j)
       once j (k, took) = ⊎_elim (λ none. inl (fair.at k, none)) (λ one. inr (suc (fair.at k), more one)) (fair.goes k)
         where
@@ -146,10 +154,13 @@ module _ {T : Type 0} where
     within : (b under calls k : ℕ) → begins_in (taken k) ≤ calls → steps_by k ≤ load b (under + begins_in (taken k)) → steps_by k ≤ load b (under + calls)
     within b under calls k few steps = let up = worth (under + begins_in (taken k)) (under + calls) (b + 1) (omega arith) in omega arith
 
+  -- where a finite load ends, each party to which the schedule is fair comes to a moment at which it has no call under
+  -- way
   fair_end : (kind : Kind) (bound : Bound) → EndsLoad T kind bound → EndsIfFairOn T kind bound
   fair_end kind bound ends t is r n calls turns below few p fair = ⊎_elim (λ rests. rests) none
       (often t turns p fair (suc (load (bound n t.world.capacity t.world.coding.size) (pending n t.world + calls))))
     where
+      -- no moment comes at which more steps have been taken than the load allows
       none : (k : ℕ) × (suc (load (bound n t.world.capacity t.world.coding.size) (pending n t.world + calls)) ≤ steps_by t turns k)
           → (k : ℕ) × (flight_in (moment_on t turns k).world p ≡ None)
       none (k, many) =

@@ -45,6 +45,7 @@ module _ {T : Type 0} (slots : ℕ) where
   comes_from : (i index : ℕ) (from : Spot) (before : List (Event T)) → spot_of index before ≡ from → (index == i) ≡ true → spot_of i before ≡ from
   comes_from i index from before is t = subst (λ (n : ℕ). spot_of n before ≡ from) (is_it index i t) is
 
+  -- an event that moves an index right leaves it with whom its spot says
   one_loan : (i : ℕ) (before : List (Event T)) (held : List ℕ) (e : Event T) → MovesRight slots before e → IsWith (spot_of i before) held
       → IsWith (spot_after i (spot_of i before) e) (held_after i held (loans e))
   one_loan i before held (Claimed p index) right old = goes_to (index == i) (spot_of i before) (Passing p) p held refl old
@@ -55,6 +56,7 @@ module _ {T : Type 0} (slots : ℕ) where
   one_loan i before held (Freed p index) right old = comes_back (index == i) (spot_of i before) Free held refl old
   one_loan i before held (Begun p start) right old = begun start right
     where
+      -- so does the begin of a call
       begun : (start : Start T) → MovesRight slots before (Begun p start) → IsWith (spot_after i (spot_of i before) (Begun p start)) held
       begun (starts.Loan (calls.Send index)) right =
           stays_with (index == i) (spot_of i before) (With p) (Passing p) held (comes_from i index (With p) before right.1) (λ h. h) old
@@ -65,6 +67,7 @@ module _ {T : Type 0} (slots : ℕ) where
       begun start right = old
   one_loan i before held (Finished p start answer) right old = finished start answer right
     where
+      -- so does the end of a call
       finished : (start : Start T) (answer : Answer T) → MovesRight slots before (Finished p start answer)
           → IsWith (spot_after i (spot_of i before) (Finished p start answer)) held
       finished (starts.Loan calls.Loan) (answers.Index index) right =
@@ -74,6 +77,7 @@ module _ {T : Type 0} (slots : ℕ) where
       finished start answer right = old
   one_loan i before held e right old = old
 
+  -- at each moment of a run each index is with whom its spot says
   pub loaned : (events : List (Event T)) → Each (MovesRight slots) events → (i : ℕ) (past future : List (Event T)) → events ≡ past ++ future
       → IsWith (spot_of i past) (holders loans i past)
   loaned events moves i =

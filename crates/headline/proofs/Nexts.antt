@@ -59,6 +59,7 @@ module _ {T : Type 0} where
       s : Step (Flight T) (Registry T) T
       s = step_in w p x now answer
 
+      -- the party's call is then where the step has led
       here : (a : After (Flight T) (Answer T)) → s.after ≡ a
           → flight_in (after_step w p x since ask s) p
           ≡ flight_of (Some (doing_after (w.changes + change_of w.words ask) (since + change_of w.words ask) a))
@@ -66,6 +67,7 @@ module _ {T : Type 0} where
           ap (λ o. flight_of (doing_of o)) (party_put_same p _ w.latest)
           ∙ ap (λ a. flight_of (Some (doing_after (w.changes + change_of w.words ask) (since + change_of w.words ask) a))) e
 
+      -- a step behind which no call is under way has written the end
       by_after : (a : After (Flight T) (Answer T)) → s.after ≡ a → 1 ≤ own_ends p (events_of_step p x.start s)
       by_after (GoOn next) e =
           let there : Some next ≡ None = sym (here (GoOn next) e) ∙ done in
@@ -86,6 +88,7 @@ module _ {T : Type 0} where
       → 1 ≤ steps_of t.world (Next p) + own_ends p (events_of t.world (Next p))
   next_pays t r p free = go (ask_in t.world (Next p)) refl
     where
+      -- so it is whether the call asks for an operation or not
       go : (o : Option Ask) → ask_in t.world (Next p) ≡ o → 1 ≤ steps_of t.world (Next p) + own_ends p (events_of t.world (Next p))
       go (Some ask) e = let one : steps_of t.world (Next p) ≡ 1 = ap step_count e in omega arith
       go None e =
@@ -94,11 +97,13 @@ module _ {T : Type 0} where
           let end = next_ended t.world p may.flight may.is (party_of p t.world.latest) refl done in
           omega arith
 
+  -- a turn in which a party's call goes on takes a step of the party or ends its call
   turn_pays : (t : Trace T) → IsReached t → (p : ℕ) (turn : Turn T) → refusal_of t.world turn ≡ None
       → next_of p turn ≤ own_step p t.world turn + own_ends p (events_of t.world turn)
   turn_pays t r p (Begin q start) free = omega arith
   turn_pays t r p (Next q) free = go (q == p) refl
     where
+      -- so it is whether the turn is the party's or not
       go : (b : Bool) → (q == p) ≡ b → next_of {T = T} p (Next q) ≤ own_step p t.world (Next q) + own_ends p (events_of t.world (Next q))
       go true b =
           let same = is_it q p b in
@@ -111,6 +116,7 @@ module _ {T : Type 0} where
   turn_pays t r p (Decide q said) free = omega arith
   turn_pays t r p (Die owner) free = omega arith
 
+  -- over a list of turns, those in which the party's call goes on are no more than its steps and its ends
   pub turns_pay : (t : Trace T) → IsReached t → (p : ℕ) (turns : List (Turn T)) → AreAllowed t turns
       → nexts_in p turns + own_ends p t.events ≤ own_steps p t turns + own_ends p (after_turns t turns).events
   turns_pay t r p [] allowed = omega arith
@@ -150,6 +156,7 @@ module _ {T : Type 0} where
   all_whose p [] = refl
   all_whose p (turn ∷ turns) = let here = whose p turn in let rest = all_whose p turns in omega arith
 
+  -- a party has at most one call under way
   under_small : (w : World T) (p : ℕ) → under w p ≤ 1
   under_small w p = go (is_some (flight_in w p))
     where
@@ -198,9 +205,11 @@ module _ {T : Type 0} where
       let small = under_small w p in
       omega arith
 
+  -- with each turn that is possible the party's call stays under way, or ends
   own_turn : (w : World T) (p : ℕ) (turn : Turn T) → IsPossible w turn → Pays w turn p
   own_turn w p (Begin q start) may = go (q == p) refl
     where
+      -- so it is of a begin, whether it is the party's or not
       go : (b : Bool) → (q == p) ≡ b → Pays w (Begin q start) p
       go true b =
           let same = is_it q p b in
@@ -225,6 +234,7 @@ module _ {T : Type 0} where
       go false b = stays w (Decide q said) p refl (decision_stays w q said (party_of q w.latest) p (not_it q p b))
   own_turn w p (Die owner) may = stays w (Die owner) p refl refl
 
+  -- over a list of turns, the calls that a party had under way or began have ended, but for one under way
   own_turns : (t : Trace T) (p : ℕ) (turns : List (Turn T)) → AreAllowed t turns
       → own_begins p turns + under t.world p + own_ends p t.events
       ≤ own_ends p (after_turns t turns).events + under (after_turns t turns).world p
@@ -246,6 +256,7 @@ module _ {T : Type 0} where
   ends_within bound t r p under_way turns allowed most many =
       ⊎_elim (λ less. less) none (cases_lt (own_ends p t.events) (own_ends p (after_turns t turns).events))
     where
+      -- that the party has ended no call would need more steps than the load has
       none : own_ends p (after_turns t turns).events ≤ own_ends p t.events → own_ends p t.events < own_ends p (after_turns t turns).events
       none few =
           let has : under t.world p ≡ 1 = rw under_way refl in

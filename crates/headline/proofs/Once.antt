@@ -34,6 +34,7 @@ module _ {T : Type 0} (start : Start T) where
   few acted (Open call wrote) h = h.2
   few acted (Ended call answer wrote) h = h
 
+  -- a call that has not acted yet, and acts, has acted once
   acts_now : (acted : List (Start T × Answer T)) (span : Span T) (q : ℕ) (call : Start T) (answer : Answer T)
       → IsOpenFor call (λ wrote. moments wrote ≡ []) span → Has acted span → Has (acted ++ (call, answer) ∷ []) (longer span (Acted q call answer))
   acts_now acted Never q call answer stands h = absurd stands
@@ -46,6 +47,7 @@ module _ {T : Type 0} (start : Start T) where
       )
   acts_now acted (Ended begun first wrote) q call answer stands h = absurd stands
 
+  -- an event that is no act leaves how the call has acted
   writes : (acted : List (Start T × Answer T)) (span : Span T) (e : Event T) → acts e ≡ [] → Has acted span → Has acted (longer span e)
   writes acted Never e none h = absurd h
   writes acted (Open call wrote) e none h = (
@@ -70,6 +72,7 @@ module _ {T : Type 0} (start : Start T) where
     quiet acted span e longer_by none h true = subst (Has acted) (sym (longer_by span)) (writes acted span e none h)
     quiet acted span e longer_by none h false = h
 
+    -- each event that begins no call of the party leaves its call with one act at most
     step : (acted : List (Start T × Answer T)) (before : List (Event T)) (e : Event T) → StandsRight promise capacity before e
         → BeginsNone p (e ∷ []) → Has acted (span_of p before) → Has (acted ++ act_of p e) (span_after p (span_of p before) e)
     step acted before (Begun q call) stands none h = go (q == p) refl
@@ -79,6 +82,7 @@ module _ {T : Type 0} (start : Start T) where
         go false t = stays acted (span_of p before) h
     step acted before (Acted q call answer) stands none h = go (q == p) refl
       where
+        -- so does an act, whether it is the party's or not
         go : (b : Bool) → (q == p) ≡ b
             → Has (acted ++ (if b then (call, answer) ∷ [] else [])) (if b then longer (span_of p before) (Acted q call answer) else span_of p before)
         go true t =
@@ -104,6 +108,7 @@ module _ {T : Type 0} (start : Start T) where
 
     module _ (events after : List (Event T))
         (spans : (before rest : List (Event T)) (e : Event T) → events ≡ before ++ e ∷ rest → StandsRight promise capacity before e) where
+      -- events of which none begins a call of the party leave its call with one act at most
       walk : (es before : List (Event T)) (acted : List (Start T × Answer T)) → events ≡ before ++ (es ++ after) → BeginsNone p es
           → Has acted (span_of p before) → Few (acted ++ flat_map (act_of p) es)
       walk [] before acted is none h =

@@ -12,6 +12,7 @@ use Rattle.headline.specs.Bounds.{most_steps}
 use Rattle.headline.specs.Moments.{call_in}
 
 module _ {T : Type 0} where
+  -- a call has begun a turn of a loop again at most as often as its `others` says
   pub pays : (promise : Promise T) (capacity size : ℕ) (span : Span T) (o : Option Progress) (g : Progress)
       → Progresses promise capacity size span o → o ≡ Some g → g.backs ≤ g.others
   pays promise capacity size Never None g h e = absurd (cc)
@@ -29,6 +30,7 @@ module _ {T : Type 0} where
       subst (λ (s : Start T). g.steps ≤ promise.most_steps capacity size s g.backs) name
       (subst (λ (x : Progress). x.steps ≤ promise.most_steps capacity size call x.backs) is h.steps)
 
+  -- a call has taken at most the steps that its family promises
   pub is_bounded : (promise : Promise T) (capacity size : ℕ) (span : Span T) (o : Option Progress) (start : Start T) (g : Progress)
       → Progresses promise capacity size span o → call_in span ≡ Some start → o ≡ Some g
       → g.steps ≤ promise.most_steps capacity size start g.backs
@@ -50,6 +52,7 @@ module _ {T : Type 0} where
   keeps guarantee call start x g name is h =
       subst (λ (s : Start T). IsWithin (guarantee s) g) name (subst (IsWithin (guarantee call)) is h)
 
+  -- a call keeps within its guarantee
   pub is_guaranteed : (guarantee : Start T → Guarantee) (span : Span T) (o : Option Progress) (start : Start T) (g : Progress)
       → LatestIsWithin guarantee span o → call_in span ≡ Some start → o ≡ Some g → IsWithin (guarantee start) g
   is_guaranteed guarantee Never o start g h name e = absurd (cc)

@@ -13,6 +13,7 @@ use Rattle.headline.specs.Headline.{Holds}
 use Rattle.headline.proofs.Families.{by_kind}
 use Rattle.headline.proofs.Progressing.{pays, is_bounded, is_guaranteed, most_promised}
 
+-- the headline holds of each machine that turns have reached
 pub holds : {T : Type 0} (t : Trace T) (r : IsReached t) → Holds r.queue t
 holds t r =
     let kept = reached_kept laws_of t r in

@@ -14,6 +14,7 @@ module _ {T : Type 0} where
     pub reached : IsReached t
     pub is : reached.queue ≡ queue
 
+  -- a world that was made as a second, which was made as a third, was made as the third
   still : (v old new : World T) → SameMaking v old → SameMaking old new → SameMaking v new
   still v old new a b =
       record {
@@ -33,6 +34,7 @@ module _ {T : Type 0} where
       → run turns (opened code kind capacity queue parties) ≡ run turns (opened code' kind' capacity' queue parties')
   same_opening turns code code' kind kind' capacity capacity' queue parties parties' a b c d = rw (a, b, c, d) refl
 
+  -- each list of turns reaches a machine, at an admitted capacity and with an admitted submission queue
   pub reaches : (code : Coding T) (kind : Kind) (capacity queue parties : ℕ) (turns : List (Turn T)) → IsCoding code
       → capacity_error kind capacity ≡ None → queue_error kind queue ≡ None
       → IsReachedWith queue (run turns (opened code kind capacity queue parties))

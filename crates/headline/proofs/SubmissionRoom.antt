@@ -100,6 +100,7 @@ module _ {T : Type 0} where
           let other : q ≢ p = grind (arith, nat_tests) in
           subst HasRoomIn (sym (others.others_stay w turn q (alone q other))) (h.calls q)
 
+  -- each turn leaves the call of each party room in the submission queue
   calls_roomy : (w : World T) (turn : Turn T) → IsRoomy w → (q : ℕ) → HasRoomIn (flight_in (world_after w turn) q)
   calls_roomy w (Begin p start) h =
       by_party w (Begin p start) p (λ q ne. ne) h

@@ -65,6 +65,7 @@ module _ {T : Type 0} where
 
   -- ---- what is so of the recovery before such an event is so after it
 
+  -- a span that is a recovery's with one event more is a recovery's without it
   longer_less : (span : Span T) (e : Event T) → IsRecovery (longer span e) → IsRecovery span
   longer_less Never e h = h
   longer_less (Open (Container (Recover owner mode)) wrote) e h = tt
@@ -95,6 +96,7 @@ module _ {T : Type 0} where
 
   -- ---- one turn
 
+  -- events with which no call begins are right in order, if each is right behind what stood before them
   all_right : (es before : List (Event T)) → AllByRecursion BeginsNo es → AllByRecursion (VisitsRight before) es → AreRight VisitsRight before es
   all_right [] before none all = tt
   all_right (e ∷ es) before none all = (
@@ -103,6 +105,8 @@ module _ {T : Type 0} where
         (all_so (VisitsRight before) (VisitsRight (before ++ e ∷ [])) (λ x h. visits_on before e x none.0 h) es all.1),
   )
 
+  -- a turn that writes its events in order, and has a recovery come to an index only before the lock, keeps each such
+  -- event right
   in_order : (promise : Promise T) (old new : Trace T) (turn : Turn T) → WritesInOrder promise old turn new.events → VisitsUnlocked old new
       → Each VisitsRight old.events → Each VisitsRight new.events
   in_order promise old new turn w visits h =
@@ -116,6 +120,7 @@ module _ {T : Type 0} where
       (all_so (IsEndOf turn) BeginsNo (end_no turn) w.ends w.are_ends))
       (visits ((w.effects ++ w.acts) ++ w.ends) w.is)))
 
+  -- a turn that writes down what its promise says keeps each such event right
   one_turn : (promise : Promise T) (old new : Trace T) (turn : Turn T) → WritesDown promise old turn new → VisitsUnlocked old new
       → Each VisitsRight old.events → Each VisitsRight new.events
   one_turn promise old new (Begin p start) is visits h =
@@ -130,6 +135,7 @@ module _ {T : Type 0} where
   abbrev HasVisited : Trace T → Type 0
   HasVisited t = IsReached t × (t.world.kind ≡ kinds.Container → Each VisitsRight t.events)
 
+  -- each turn of a container that is not refused keeps each such event right
   turn_visits : (t : Trace T) (turn : Turn T) → t.world.kind ≡ kinds.Container → refusal_of t.world turn ≡ None → IsReached t
       → Each VisitsRight t.events → Each VisitsRight (after_turn t turn).events
   turn_visits t turn is free r h =
@@ -138,6 +144,7 @@ module _ {T : Type 0} where
       subst (λ kind. (promise_of {T = T} kind).tells t turn (after_turn t turn)) is turns.tells in
       one_turn (promise_of t.world.kind) t (after_turn t turn) turn turns.events tells.visits h
 
+  -- each such event is right in every run of a container
   run_visits : (t : Trace T) → t.world.kind ≡ kinds.Container → IsReached t → Each VisitsRight t.events
   run_visits t is r =
       (kept_by_runs HasVisited
@@ -164,6 +171,7 @@ module _ {T : Type 0} where
       subst (λ (s : Start T). IsRecovery (Open s wrote)) (sym is) tt
   open_recovery Stands never ended owner mode (Ended start answer wrote) h call = absurd (ended start answer wrote h)
 
+  -- where a recovery comes to an index, the container was unlocked at a moment of that call
   pub visits_unlocked : (t : Trace T) → t.world.kind ≡ kinds.Container → IsReached t → IsKeptBy container_promises.promise t
       → (p owner : ℕ) (mode : ReleaseMode) (e : Event T) (before : List (Event T)) → IsVisit p e → Follows e before t.events
       → call_in (span_of p before) ≡ Some (Container (Recover owner mode))

@@ -82,6 +82,7 @@ received = refl
 abbrev push : Start ℕ
 push = starts.Queues (PushIndex 7)
 
+-- party 0 acts once, inside its call, whatever party 1 does in between
 acts_inside : ActedOnce 0 push (Truth true) (Begun 1 push ∷ Begun 0 push ∷ Acted 1 push (Truth true) ∷ Acted 0 push (Truth true) ∷ [])
 acts_inside =
     record {
@@ -124,6 +125,7 @@ overlapping = begun_twice ++ Finished 0 replace Done ∷ []
 removes_well_formed : IsWellFormed overlapping
 removes_well_formed = Each-append FreesRight [] overlapping (Each-nil FreesRight) (tt, (tt, (tt, (tt, tt))))
 
+-- since the first replace began another has begun that takes the same index
 begun_meanwhile : (before since : List (Event ℕ)) (start : Start ℕ) → begun_twice ≡ before ++ Begun 0 start ∷ since → NoneTakes 0 7 since → ⊥
 begun_meanwhile [] since start is none = absurd (cc)
 begun_meanwhile (a ∷ []) since start is none =

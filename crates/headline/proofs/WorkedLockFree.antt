@@ -66,6 +66,7 @@ loan_bound = (refl, refl)
 
 -- ---- calls that may not lock, and calls that may
 
+-- these calls of a robust set may not lock
 robust_may_not : (index owner : ℕ)
     → AllByRecursion (IsDefault {T = ℕ}) (starts.Robust (robusts.Acquire owner)
     ∷ starts.Robust (robusts.Release index owner Default)
@@ -76,6 +77,7 @@ robust_may_not : (index owner : ℕ)
     ∷ [])
 robust_may_not index owner = (tt, (tt, (tt, (tt, (tt, (tt, tt))))))
 
+-- these calls of a container may not lock
 container_may_not : (index value owner : ℕ)
     → AllByRecursion (IsDefault {T = ℕ}) (starts.Container (containers.Add value owner)
     ∷ starts.Container (containers.Remove index owner Default)
@@ -110,6 +112,7 @@ acquire = starts.Robust (robusts.Acquire 1)
 abbrev recover : Start ℕ
 recover = starts.Robust (robusts.Recover Default)
 
+-- of one event of each kind the last alone is an end
 one_ends : ends (events.Begun 0 acquire
     ∷ events.Published 0 (items.Index 7)
     ∷ events.HandedOut 0 (items.Index 7)
@@ -171,6 +174,7 @@ none_more before after ended was is less = absurd (omega arith)
 more_steps : (most steps here : ℕ) → here ≡ steps → most < steps → most < here
 more_steps most steps here e h = omega arith
 
+-- a run in which no call ends for so many steps refuses each smaller bound
 no_less : (t : Trace ℕ) (kind : Kind) (turns : List (Turn ℕ)) (steps : ℕ) → IsEndless t kind turns steps
     → (bound : Bound) → bound 1 1 1 < steps → IsLockFreeOf ℕ kind IsDefault bound → ⊥
 no_less t kind turns steps h bound few free =
@@ -186,6 +190,7 @@ acquired = begins 1 acquire 4 ++ (Die 1 ∷ [])
 abbrev recovered : List (Turn ℕ)
 recovered = begins 0 recover 2 ++ (Decide 0 true ∷ nexts 0 3)
 
+-- a bound of less than 5 steps, at the smallest sizes, is refused of a robust set
 robust : (bound : Bound) → bound 1 1 1 < 5 → IsLockFreeOf ℕ Robust IsDefault bound → ⊥
 robust =
     no_less (after Robust acquired) Robust recovered 5
@@ -211,6 +216,7 @@ added = begins 1 (starts.Container (containers.Add 5 1)) 8 ++ (Die 1 ∷ [])
 abbrev emptied : List (Turn ℕ)
 emptied = begins 0 (starts.Container (containers.Recover 1 Default)) 5 ++ (Decide 0 true ∷ nexts 0 5)
 
+-- a bound of less than 10 steps, at the smallest sizes, is refused of a container
 container : (bound : Bound) → bound 1 1 1 < 10 → IsLockFreeOf ℕ Container IsDefault bound → ⊥
 container =
     no_less (after Container added) Container emptied 10

@@ -26,6 +26,7 @@ use Rattle.headline_program.specs.Refused.{IsSameBefore}
 tells : (whole : List ℕ) → IsSameBefore (refusal_text NoMemory) whole
 tells whole = record { before = []; after = []; rest = whole; tells = sym (append-nil _); same = refl }
 
+-- a text that is the same up to the line is so behind any first text
 after_first : (first text whole : List ℕ) → IsSameBefore text whole → IsSameBefore (first ++ text) (first ++ whole)
 after_first first text whole p =
     record {
@@ -36,6 +37,7 @@ after_first first text whole p =
       same = ap (λ (xs : List ℕ). first ++ xs) p.same ∙ sym (append_assoc first p.before p.rest);
     }
 
+-- a text that is the same up to the line is so whatever comes behind both
 more_behind : (text whole more other : List ℕ) → IsSameBefore text whole → IsSameBefore (text ++ more) (whole ++ other)
 more_behind text whole more other p =
     record {
@@ -78,6 +80,7 @@ choose true o more whole refusals (inl (same, state)) = inl (ap (λ (xs : List �
 choose true o more whole refusals (inr same) = inr (after_first o.text more.text whole.text same)
 choose false o more whole refusals alike = inl (refl, refl)
 
+-- where the first turn prints alike, and those after it do, all of them print alike
 one_more : (most party : ℕ) (w : World ℕ) (o whole : Outcome) (refusals : List Bool) → (o ≡ whole) ⊎ (o ≡ refused_as w)
     → Alike (nexts most party (at o.world refusals)) (nexts most party (at o.world []))
     → Alike (chosen (goes_on party o) o (nexts most party (at o.world refusals)) refusals)
@@ -93,6 +96,7 @@ one_more most party w o whole refusals (inr refused) alike =
     (chosen (goes_on party whole) whole (nexts most party (at whole.world [])) []))
     (sym refused) (inr (tells (chosen (goes_on party whole) whole (nexts most party (at whole.world [])) []).text))
 
+-- a step several times over prints alike where memory is refused and where it is not
 several : (most party : ℕ) (s : State) → Alike (nexts most party s) (nexts most party (at s.world []))
 unfolding nexts
 several zero party s = inl (refl, refl)
@@ -124,6 +128,7 @@ line_as kind number lines s read =
       | Ok command ↦ behind (commanded command s).text (lines_from kind (number + 1) lines (commanded command s).state)
     ]
 
+-- a line's text that is alike, and then those of all later lines, make an output that is alike
 line_behind : (kind : Kind) (number : ℕ) (lines : List (List ℕ)) (p whole : Printed) → Alike p whole
     → AreAlike (lines_from kind number lines p.state) (lines_from kind number lines (at p.state.world []))
     → AreAlike (behind p.text (lines_from kind number lines p.state)) (behind whole.text (lines_from kind number lines whole.state))
@@ -139,6 +144,7 @@ line_behind kind number lines p whole (inl (same, state)) (inr rest) =
 line_behind kind number lines p whole (inr same) rest =
     inr (more_behind p.text whole.text (lines_from kind number lines p.state).text (lines_from kind number lines whole.state).text same)
 
+-- a line gives an alike output, whether it is a command or the program stops at it
 choose_line : (kind : Kind) (number : ℕ) (lines : List (List ℕ)) (s : State) (read : Result Command Cause)
     → ((t : State) → AreAlike (lines_from kind (number + 1) lines t) (lines_from kind (number + 1) lines (at t.world [])))
     → AreAlike (line_as kind number lines s read) (line_as kind number lines (at s.world []) read)
@@ -146,6 +152,7 @@ choose_line kind number lines s (Err cause) rest = inl refl
 choose_line kind number lines s (Ok c) rest =
     line_behind kind (number + 1) lines (commanded c s) (commanded c (at s.world [])) (command c s) (rest (commanded c s).state)
 
+-- all lines give an alike output
 line_by_line : (kind : Kind) (number : ℕ) (lines : List (List ℕ)) (s : State)
     → AreAlike (lines_from kind number lines s) (lines_from kind number lines (at s.world []))
 unfolding lines_from
@@ -162,6 +169,7 @@ choose_end : (kind : Kind) (number : ℕ) (lines : List (List ℕ)) (s t : State
 choose_end kind number lines s t (Err cause) rest = refl
 choose_end kind number lines s t (Ok c) rest = rest (commanded c s).state (commanded c t).state
 
+-- the lines end alike from any two states
 same_end : (kind : Kind) (number : ℕ) (lines : List (List ℕ)) (s t : State) → (lines_from kind number lines s).end ≡ (lines_from kind number lines t).end
 unfolding lines_from
 same_end kind number [] s t = refl

@@ -45,6 +45,7 @@ pub record Prints (w : World ℕ) (before : List (Event ℕ)) (text : List ℕ) 
 same_making : (w : World ℕ) → SameMaking w w
 same_making w = record { coding = refl; kind = refl; capacity = refl; parties = refl }
 
+-- a world that was made as a second, which was made as a third, was made as the third
 both : (v w x : World ℕ) → SameMaking v w → SameMaking w x → SameMaking v x
 both v w x a b =
     record {
@@ -58,6 +59,7 @@ nothing : (w : World ℕ) (before : List (Event ℕ)) → IsReached (machine_in 
 nothing w before r =
     record { lines = []; is = refl; reached = subst (λ es. IsReached (machine_in w es)) (sym (append-nil before)) r; same = same_making w }
 
+-- what is printed up to one world, and from there to another, is printed up to the other
 after_that : (w mid new : World ℕ) (before : List (Event ℕ)) (first second : List ℕ) (a : Prints w before first mid)
     → Prints mid (before ++ flat_map events_in a.lines) second new → Prints w before (first ++ second) new
 after_that w mid new before first second a b =
@@ -74,6 +76,7 @@ after_that w mid new before first second a b =
 
 -- ---- one turn
 
+-- a turn that is taken prints the events that it writes down
 written : (w : World ℕ) (before : List (Event ℕ)) (turn : Turn ℕ) → refusal_of w turn ≡ None → IsReached (machine_in w before)
     → Prints w before (outcome_as w turn None).text (outcome_as w turn None).world
 written w before turn e r =
@@ -86,6 +89,7 @@ written w before turn e r =
       same = turn_making w turn;
     }
 
+-- a turn that is refused prints its refusal, and writes down nothing
 refused : (w : World ℕ) (before : List (Event ℕ)) (turn : Turn ℕ) (refusal : Refusal) → IsReached (machine_in w before)
     → Prints w before (outcome_as w turn (Some refusal)).text (outcome_as w turn (Some refusal)).world
 refused w before turn refusal r =
@@ -96,6 +100,7 @@ refused w before turn refusal r =
       same = same_making w;
     }
 
+-- a turn prints what it writes down, whether memory is refused to it or it is refused for another cause or for none
 either : (w : World ℕ) (before : List (Event ℕ)) (turn : Turn ℕ) (short : Bool) (o : Option Refusal) → refusal_of w turn ≡ o
     → IsReached (machine_in w before)
     → Prints w before (outcome_as w turn (refusal_where short o)).text (outcome_as w turn (refusal_where short o)).world
@@ -113,6 +118,7 @@ one_turn w before turn short r = either w before turn short (refusal_of w turn) 
 abbrev chosen : Bool → Outcome → Printed → List Bool → Printed
 chosen go o more refusals = if go then after_text o.text more else printed_now o refusals
 
+-- several turns print what they write down, whether they go on after the first or not
 choose : (go : Bool) (w : World ℕ) (before : List (Event ℕ)) (o : Outcome) (more : Printed) (refusals : List Bool)
     → (first : Prints w before o.text o.world)
     → Prints o.world (before ++ flat_map events_in first.lines) more.text more.state.world
@@ -120,6 +126,7 @@ choose : (go : Bool) (w : World ℕ) (before : List (Event ℕ)) (o : Outcome) (
 choose true w before o more refusals first rest = after_that w o.world more.state.world before o.text more.text first rest
 choose false w before o more refusals first rest = first
 
+-- a step several times over prints what it writes down
 several : (most party : ℕ) (s : State) (before : List (Event ℕ)) → IsReached (machine_in s.world before)
     → Prints s.world before (nexts most party s).text (nexts most party s).state.world
 unfolding nexts
@@ -149,6 +156,7 @@ line_as kind number lines s read =
       | Ok command ↦ behind (commanded command s).text (lines_from kind (number + 1) lines (commanded command s).state)
     ]
 
+-- a line prints what it writes down, whether it is a command or the program stops at it
 choose_line : (kind : Kind) (number : ℕ) (lines : List (List ℕ)) (s : State) (before : List (Event ℕ)) (read : Result Command Cause)
     → IsReached (machine_in s.world before)
     → ((c : Command) (first : Prints s.world before (commanded c s).text (commanded c s).state.world)
@@ -160,6 +168,7 @@ choose_line kind number lines s before (Ok c) r rest =
     let more = rest c first in
     record { new = more.new; prints = after_that s.world (commanded c s).state.world more.new before _ _ first more.prints }
 
+-- all lines print what they write down
 line_by_line : (kind : Kind) (number : ℕ) (lines : List (List ℕ)) (s : State) (before : List (Event ℕ)) → IsReached (machine_in s.world before)
     → Ends s.world before (lines_from kind number lines s).text
 unfolding lines_from
@@ -180,6 +189,7 @@ no_cause (Some creation.ProvidedCapacityGreaterThanMaxCapacity) never e = absurd
 no_cause (Some creation.ProvidedCapacityIsZero) never e = absurd (cc)
 no_cause (Some creation.NoMemory) never e = absurd (never refl)
 
+-- a capacity is never refused for memory
 no_memory_of : (a b : Bool)
     → (if a then Some creation.ProvidedCapacityGreaterThanMaxCapacity else if b then Some creation.ProvidedCapacityIsZero else None)
     ≡ Some creation.NoMemory
@@ -198,6 +208,7 @@ pub record Made (setup : Setup) : Type 0 where
   pub capacity : (trace_of setup).world.capacity ≡ capacity_in setup.shape
   pub parties : (trace_of setup).world.parties ≡ setup.parties
 
+-- a setup without a cause of refusal makes a machine of its kind, capacity and parties
 made : (setup : Setup) → capacity_cause (setup_error setup) ≡ None → Made setup
 made setup e =
     record {
@@ -207,6 +218,7 @@ made setup e =
       parties = refl;
     }
 
+-- the setup that a first line gives makes a machine of its kind, capacity and parties
 after_setup : (read : Result Setup Cause) (setup : Setup)
     → (read >>= λ setup. admitted setup (capacity_cause (setup_error setup))) ≡ Ok setup → Made setup
 after_setup (Err cause) setup e = absurd (cc)
@@ -231,6 +243,7 @@ prints_of : (refusals : List Bool) (first : List ℕ) (rest : List (List ℕ)) (
 unfolding output_of_lines
 prints_of refusals first rest setup e = ap (first_as rest refusals) e
 
+-- the text is that of a machine that the first line makes
 printed : (refusals : List Bool) (first : List ℕ) (rest : List (List ℕ)) (setup : Setup) → machine_of (words first) ≡ Ok setup
     → IsOfMachine setup (output_of_lines refusals (first ∷ rest)).text
 printed refusals first rest setup e =

@@ -29,6 +29,7 @@ Any T kind bound = Runs {T = T} kind (λ start. Unit {0}) bound
 of_any : {T : Type 0} (kind : Kind) (bound : Bound) → KeepsEnding T kind bound → KeepsEndingBy {T = T} call_refusal kind (λ start. Unit {0}) bound
 of_any kind bound keeps t is r before n turns allowed below such = keeps t is r n turns allowed below
 
+-- each kind that has a bound keeps ending calls, whichever begin
 runs_of : (T : Type 0) (kind : Kind) → IfSome (lock_free_bound kind) (Any T kind)
 runs_of T IndexQueue = record { possible = possible_on; keeps = of_any IndexQueue _ (keep_ending T IndexQueue) }
 runs_of T Overflow = record { possible = possible_on; keeps = of_any Overflow _ (keep_ending T Overflow) }
@@ -154,6 +155,7 @@ pub record EndsDefault (T : Type 0) (kind : Kind) (bound : Bound) : Type 0 where
   pub asks : KnownAsksLoadOf T kind IsDefault bound
   pub rest : PassesRestOf T kind IsDefault bound
 
+-- a kind that keeps ending calls, whichever begin, does all of this
 all_end : (T : Type 0) (kind : Kind) (bound : Bound) → Any T kind bound → EndsAll T kind bound
 all_end T kind bound R =
     record {
@@ -166,6 +168,7 @@ all_end T kind bound R =
       rest = rests kind bound R;
     }
 
+-- a kind that keeps ending calls where none may lock does all of this
 default_end : (T : Type 0) (kind : Kind) (bound : Bound) → Runs {T = T} kind IsDefault bound → EndsDefault T kind bound
 default_end T kind bound R =
     record {

@@ -37,6 +37,7 @@ pub record Runs {T : Type 0} (kind : Kind) (Such : Start T → Type 0) (bound : 
   pub keeps : KeepsEndingBy (refusal_as kind) kind Such bound
 
 module _ {T : Type 0} where
+  -- after any turns the world is made as before
   making_of : (t : Trace T) (turns : List (Turn T)) → SameMaking t.world (after_turns t turns).world
   making_of t [] = record { coding = refl; kind = refl; capacity = refl; parties = refl }
   making_of t (turn ∷ turns) =
@@ -76,6 +77,7 @@ module _ {T : Type 0} where
       pub below : AllByRecursion (IsBelow n) rest
       pub such : AllByRecursion (BeginsSuch Such) rest
 
+    -- what is known of all turns is known of the first of them and of the others
     later_on : (first rest : List (Turn T)) (n : ℕ) → IsCoding code → capacity_error kind capacity ≡ None
         → AreAllowedBy (refusal_as kind) start (first ++ rest) → AreBelow n (so_far (first ++ rest)).events → BeginSuch Such (so_far (first ++ rest)).events
         → Later first rest n
@@ -114,6 +116,7 @@ module _ {T : Type 0} where
     -- ---- of one list of turns
 
     module _ (first rest : List (Turn T)) (n : ℕ) (h : Later first rest n) where
+      -- from the first turns on, any further turns of such parties and calls keep ending calls
       all_end : (turns : List (Turn T)) → AreAllowedBy (refusal_as kind) (so_far first) turns → AllByRecursion (IsBelow n) turns
           → AllByRecursion (BeginsSuch Such) turns
           → AreWithinEnds (most n) (steps_in (so_far first) turns) (ends (so_far first).events) (ends (after_turns (so_far first) turns).events)
@@ -130,6 +133,7 @@ module _ {T : Type 0} where
           subst (λ (u : Trace T). AreWithinEnds (most n) (steps_in (so_far first) rest) (ends (so_far first).events) (ends u.events))
           (sym (turns_after start first rest)) (all_end rest h.allowed h.below h.such)
 
+      -- the steps of the others are at most the load of the calls that had not ended
       load_of : steps_in (so_far first) rest ≤ load (most n) (begun (so_far (first ++ rest)).events - ends (so_far first).events)
       load_of =
           let t = so_far first in

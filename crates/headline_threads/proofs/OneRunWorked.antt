@@ -79,6 +79,7 @@ IsPlain t o = IfSome o (λ f. IsFreshCall (old_of t.world.words (ask_of (want_of
 no_push : (t : Trace ℕ) (p : ℕ) → IsPlain t (flight_in t.world p) → IsFreshTurn t (Next p)
 no_push t p plain flight is = subst (IsPlain t) is plain
 
+-- the pass that has seen all of these turns knows the run
 known : Knows one_word kinds.Indices 1 knows
 known =
     record {
@@ -162,6 +163,7 @@ not_gone_on h = let e = h.first.is in cc
 -- a pass that has seen the events of a turn that is not among its turns
 module _ (turns : List (Turn ℕ)) (turn : Turn ℕ) (e : Event ℕ) (wrote : List (Event ℕ))
     (writes : events_of (after turns).world turn ≡ e ∷ wrote) where
+  -- that pass knows no run
   one_too_few : Knows one_word kinds.Indices 1 (told turns (after (turns ++ turn ∷ [])).events) → ⊥
   one_too_few h =
       let start : Trace ℕ = opening one_word kinds.Indices 1 0 in

@@ -66,6 +66,7 @@ module _ {T : Type 0} where
       ⊎_elim (λ (e : q ≡ p). inl (subst (λ m. m < n) (sym e) low))
       (λ (ne : q ≢ p). ⊎_elim (λ below. inl below) (λ idle. inr (same q ne ∙ idle)) (under q)) (cases_eq q p)
 
+  -- a possible turn whose events are of parties below n is of one of them, and so are the calls under way then
   one_below : (n : ℕ) (t : Trace T) (turn : Turn T) → Under n t.world → IsPossible t.world turn
       → AreBelow n (events_of t.world turn) → IsBelow n turn × Under n (after_turn t turn).world
   one_below n t (Begin p start) under may below = (
@@ -111,6 +112,7 @@ module _ {T : Type 0} where
     allowed_before t [] ys h = tt
     allowed_before t (x ∷ xs) ys h = (h.0, allowed_before (after_turn t x) xs ys h.1)
 
+    -- turns whose events are of parties below n are of them
     pub all_below : (n : ℕ) (t : Trace T) (turns : List (Turn T)) → Under n t.world → AreAllowedBy refuses t turns
         → AreBelow n (after_turns t turns).events → AllByRecursion (IsBelow n) turns
     all_below n t [] under allowed below = tt

@@ -70,6 +70,7 @@ module _ {T : Type 0} where
 
   -- ---- it goes on as its table says
 
+  -- a step of such a call goes on as the table of the call says
   pub goes_so : (code : Coding T) (words : List ℕ) (beside : Option (ℕ × ℕ)) (p : ℕ) (start : Start T) (flight : Flight T) (old : ℕ)
       (kept : Registry T) → Agree start flight kept
       → (step_of code words beside p start flight old kept).after ≡ after_of code flight old
@@ -98,6 +99,7 @@ module _ {T : Type 0} where
       subst (λ f. Agree (starts.Container start) f kept) (same_flight (flights.Container (wrap r)) d e) (all r)
   still_none start kept wrap say all d (Done answer) e = absurd (cc)
 
+  -- where a step leads on, the call is one of the family still, beside what is kept then
   pub agrees_then : (code : Coding T) (words : List ℕ) (beside : Option (ℕ × ℕ)) (p : ℕ) (start : Start T) (flight : Flight T) (old : ℕ)
       (kept : Registry T) (d : Flight T) → Agree start flight kept → after_of code flight old ≡ GoOn d
       → Agree start d (step_of code words beside p start flight old kept).kept
@@ -136,6 +138,7 @@ module _ {T : Type 0} where
       (went_on as_it_is run.given run.room (locked_after run.call old)) e
   agrees_then code words beside p start flight old kept d h e = absurd h
 
+  -- the call stays one of the family as an owner dies
   pub agrees_still : (start : Start T) (flight : Flight T) (kept : Registry T) (owner : ℕ) → Agree start flight kept
       → Agree start flight (kept_after_death kept owner)
   agrees_still (starts.Bits start) (flights.Bits flight) registries.Nothing owner h = tt
@@ -165,6 +168,7 @@ module _ {T : Type 0} where
     clears_none p [] = refl
     clears_none p (bit ∷ bits) = clears_none p bits
 
+    -- a step of a call of a bit set writes the end of no call
     bit_writes : (p : ℕ) (flight : BitsFlight) (old : ℕ) → flat_map (whole.answer_in is_call) (bits_steps.effects_of {T = T} p flight old) ≡ []
     bit_writes p (bit_flights.Set run) old = set_writes run.call.stage
       where
@@ -198,6 +202,7 @@ module _ {T : Type 0} where
         effects_none (Next p) (container_steps.effects code p (state_of p states) flight old ++ container_steps.questions p flight old)
         (container.all_effects (Next p) p refl code (state_of p states) flight old)
 
+    -- a step of such a call writes the end of no call
     pub writes_none : (code : Coding T) (words : List ℕ) (beside : Option (ℕ × ℕ)) (p : ℕ) (start : Start T) (flight : Flight T) (old : ℕ)
         (kept : Registry T) → Agree start flight kept
         → flat_map (whole.answer_in is_call) (step_of code words beside p start flight old kept).wrote ≡ []

@@ -58,6 +58,7 @@ record Emptied (capacity : ℕ) (words : List ℕ) : Type 0 where
   pub fits : Represents capacity (cleared words 1 (elements capacity))
   pub places : places_in capacity (cleared words 1 (elements capacity)) ≡ emptied (places_in capacity words)
 
+-- in elements that are 0 no place is set
 none_stands : (capacity start m : ℕ) → flags_in capacity (start ∷ replicate {A = ℕ} m 0) ≡ replicate capacity false
 none_stands capacity start m =
     same_flags capacity (0 ∷ replicate {A = ℕ} m 0) (start ∷ replicate {A = ℕ} m 0)
@@ -65,6 +66,7 @@ none_stands capacity start m =
     ap (slice_index (start ∷ replicate {A = ℕ} m 0)) place ∙ sym (ap (slice_index (0 ∷ replicate {A = ℕ} m 0)) place))
     ∙ ap (λ (s : Places). s.flags) (opened capacity (suc m) (0 ∷ replicate {A = ℕ} m 0) refl)
 
+-- words that hold a set of places hold the emptied one once their elements are cleared
 empties : (capacity : ℕ) (words : List ℕ) → Represents capacity words → Emptied capacity words
 empties capacity [] fits = let long : 0 ≡ 1 + elements capacity = fits.long in absurd (omega arith)
 empties capacity (start ∷ words) fits =
@@ -109,6 +111,7 @@ module _ {T : Type 0} where
     abbrev PlacesWhole : BitsStart → BitsFlight → Type 0
     PlacesWhole start flight = FlightRuns code (Answers (places_reading capacity) turns words (starts.Bits start)) (flights.Bits flight) words
 
+    -- a set of a place, run alone, answers and leaves what the set of places does
     sets : (place : ℕ) → place < capacity → PlacesWhole (calls.Set place) (under_way.Set (record { call = first_set; given = place; room = tt }))
     sets place low =
         runs_as code set_want set_after (λ c (room : Unit {0}) old. room) place
@@ -123,6 +126,7 @@ module _ {T : Type 0} where
         (λ e room last h. record { said = λ is. ap answers.Truth h.1; holds = h.0; object = h.2 })
         first_set tt words tt (set_runs capacity place low words fits first_set refl)
 
+    -- a look at a place, run alone, answers and leaves what the set of places does
     looks : (place : ℕ) → place < capacity → PlacesWhole (calls.IsSet place) (under_way.IsSet (record { call = look_set; given = place; room = tt }))
     looks place low =
         record {
@@ -135,6 +139,7 @@ module _ {T : Type 0} where
           holds = record { said = λ is. ap answers.Truth (sym (flag_at capacity words place low)); holds = fits; object = refl };
         }
 
+    -- a reset of the next place, run alone, answers and leaves what the set of places does
     resets : PlacesWhole calls.ResetNext (under_way.ResetNext (record { call = first_reset capacity; given = tt; room = tt }))
     resets =
         runs_as code (λ (c : ResetNext) (given : Unit {0}). reset_want c) (λ c given old. reset_after c old) (λ c (room : Unit {0}) old. room) tt
@@ -149,6 +154,7 @@ module _ {T : Type 0} where
         (λ e room last h. record { said = λ is. ap reset_answer h.1; holds = h.0; object = h.2 })
         (first_reset capacity) tt words tt (reset_runs capacity words fits (first_reset capacity) refl)
 
+    -- a reset of all places, run alone, answers and leaves what the set of places does
     empties_all : PlacesWhole calls.ResetAll (under_way.ResetAll (record { call = all_bits capacity; given = tt; room = fresh }))
     empties_all =
         let small = fits.small in
@@ -173,6 +179,7 @@ module _ {T : Type 0} where
     abbrev CountsWhole : BitsStart → BitsFlight → Type 0
     CountsWhole start flight = FlightRuns code (Answers (counts_reading capacity) turns words (starts.Bits start)) (flights.Bits flight) words
 
+    -- a set that counts a place, run alone, answers and leaves what the counts do
     counts : (place : ℕ) → CountsWhole (calls.Set place) (under_way.Count (record { call = add_one; given = place; room = tt }))
     counts place =
         record {
@@ -185,6 +192,7 @@ module _ {T : Type 0} where
           holds = record { said = λ is. refl; holds = length-set words place ((slice_index words place + 1) % 2 ^ 64) ∙ long; object = refl };
         }
 
+    -- a look at a count, run alone, answers and leaves what the counts do
     look_counts : (place : ℕ) → CountsWhole (calls.Count place) (under_way.CountOf (record { call = look_count; given = place; room = tt }))
     look_counts place =
         record {
@@ -197,6 +205,7 @@ module _ {T : Type 0} where
           holds = record { said = λ is. refl; holds = long; object = refl };
         }
 
+    -- a reset of all counts, run alone, answers and leaves what the counts do
     takes_all : capacity < 2 ^ 32 → CountsWhole calls.ResetAll (under_way.TakeAll (record { call = all_counts capacity; given = tt; room = fresh }))
     takes_all few =
         let same : cleared words 0 capacity ≡ replicate capacity 0 = subst (λ n. cleared words 0 n ≡ replicate n 0) long (all_cleared words) in
@@ -237,6 +246,7 @@ module _ {T : Type 0} where
   low_place capacity p place kept e = absurd (cc)
 
   module _ (code : Coding T) (capacity : ℕ) where
+    -- each call that a bit set lets begin, run alone, answers and leaves what the set of places does
     places_begin : (t : Trace T) (p : ℕ) (start : Start T) (flight : Flight T) → IsReached t → IsMadeSo code kinds.Bits capacity t
         → refusal_of t.world (Begin p start) ≡ None → Represents capacity t.world.words
         → first_of kinds.Bits capacity start t.world.kept ≡ Some flight → BeginsSo (places_reading capacity) code t p start flight
@@ -245,6 +255,7 @@ module _ {T : Type 0} where
         (subst (λ n. first_row (kept_rows n start t.world.kept p) ≡ None) made.capacity
         (may_begin t.world p (starts.Bits start) (passes t.world (Begin p (starts.Bits start)) free).on).rows)
       where
+        -- a call that its rows let begin has begun so, if it does so when run alone
         so : (s : BitsStart) (f : BitsFlight) → flights.Bits f ≡ flight → first_row (kept_rows capacity s t.world.kept p) ≡ None
             → PlacesWhole code capacity t.world.turns t.world.words fits s f → BeginsSo (places_reading capacity) code t p (starts.Bits s) flight
         so s f is rows runs =
@@ -253,6 +264,7 @@ module _ {T : Type 0} where
               runs = subst (λ x. FlightRuns code (Answers (places_reading capacity) t.world.turns t.world.words (starts.Bits s)) x t.world.words) is runs;
             }
 
+        -- it is so, whichever call of a bit set begins
         go : (s : BitsStart) → first_of kinds.Bits capacity (starts.Bits s) t.world.kept ≡ Some flight
             → first_row (kept_rows capacity s t.world.kept p) ≡ None → BeginsSo (places_reading capacity) code t p (starts.Bits s) flight
         go (calls.Set place) e rows =
@@ -270,6 +282,7 @@ module _ {T : Type 0} where
         go (calls.Count place) e rows = absurd (cc)
     places_begin t p start flight r made free fits named = absurd (cc)
 
+    -- a bit set whose calls run whole is a set of places
     pub places_law : capacity_error kinds.Bits capacity ≡ None → Law (places_reading capacity) code kinds.Bits capacity
     places_law may =
         let one : 1 + elements capacity ≡ suc (elements capacity) = omega arith in
@@ -287,6 +300,7 @@ module _ {T : Type 0} where
         }
 
     module _ (few : capacity < 2 ^ 32) where
+      -- each call that a counting bit set lets begin, run alone, answers and leaves what the counts do
       counts_begin : (t : Trace T) (p : ℕ) (start : Start T) (flight : Flight T) → IsReached t → IsMadeSo code kinds.Counts capacity t
           → refusal_of t.world (Begin p start) ≡ None → length t.world.words ≡ capacity
           → first_of kinds.Counts capacity start t.world.kept ≡ Some flight → BeginsSo (counts_reading capacity) code t p start flight
@@ -295,6 +309,7 @@ module _ {T : Type 0} where
           (subst (λ n. first_row (kept_rows n start t.world.kept p) ≡ None) made.capacity
           (may_begin t.world p (starts.Bits start) (passes t.world (Begin p (starts.Bits start)) free).on).rows)
         where
+          -- a call that its rows let begin has begun so, if it does so when run alone
           so : (s : BitsStart) (f : BitsFlight) → flights.Bits f ≡ flight → first_row (kept_rows capacity s t.world.kept p) ≡ None
               → CountsWhole code capacity t.world.turns t.world.words long s f → BeginsSo (counts_reading capacity) code t p (starts.Bits s) flight
           so s f is rows runs =
@@ -303,6 +318,7 @@ module _ {T : Type 0} where
                 runs = subst (λ x. FlightRuns code (Answers (counts_reading capacity) t.world.turns t.world.words (starts.Bits s)) x t.world.words) is runs;
               }
 
+          -- it is so, whichever call of a counting bit set begins
           go : (s : BitsStart) → first_of kinds.Counts capacity (starts.Bits s) t.world.kept ≡ Some flight
               → first_row (kept_rows capacity s t.world.kept p) ≡ None → BeginsSo (counts_reading capacity) code t p (starts.Bits s) flight
           go (calls.Set place) e rows =
@@ -318,6 +334,7 @@ module _ {T : Type 0} where
               (look_counts code capacity t.world.turns t.world.words long place)
       counts_begin t p start flight r made free long named = absurd (cc)
 
+    -- a counting bit set whose calls run whole is a list of counts
     pub counts_law : capacity_error kinds.Counts capacity ≡ None → Law (counts_reading capacity) code kinds.Counts capacity
     counts_law may =
         record {

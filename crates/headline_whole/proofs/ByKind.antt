@@ -36,6 +36,7 @@ module _ {T : Type 0} (t : Trace T) (r : IsReached t) where
   kept_as kind is = subst (λ k. IsKeptBy (promise_of k) t) is (reached_kept laws_of t r)
 
 module _ {T : Type 0} (t : Trace T) (r : IsReached t) (runs : RunsWhole t.events) where
+  -- a machine that keeps to rules has answered as they say, and its object has come to some state
   by_rules : (C : Course T) (H : Holding C) (kind : Kind) → t.world.kind ≡ kind
       → (capacity_error kind t.world.capacity ≡ None → Rules C H t.world.coding kind t.world.capacity)
       → (s : C.State) × C.HasAnswered s t.events (calls_of t r)
@@ -43,6 +44,7 @@ module _ {T : Type 0} (t : Trace T) (r : IsReached t) (runs : RunsWhole t.events
       answers_whole C H t.world.coding kind t.world.capacity (rules (subst (λ k. capacity_error k t.world.capacity ≡ None) is r.admitted)) t r
       (record { coding = refl; kind = is; capacity = refl }) runs
 
+  -- a machine that keeps to a law answers as the law's object
   by_law : (R : Reading T) (kind : Kind) → t.world.kind ≡ kind
       → (capacity_error kind t.world.capacity ≡ None → Law R t.world.coding kind t.world.capacity)
       → AnswersAs R.spec t.events
@@ -52,6 +54,7 @@ module _ {T : Type 0} (t : Trace T) (r : IsReached t) (runs : RunsWhole t.events
 
   -- where no call is under way, the words hold the object
   module _ (rests : (q : ℕ) → flight_in t.world q ≡ None) where
+    -- its words hold the object as it stands after all calls that have ended
     held_by : (R : Reading T) (kind : Kind) → t.world.kind ≡ kind
         → (capacity_error kind t.world.capacity ≡ None → Law R t.world.coding kind t.world.capacity)
         → R.read t.world.words ≡ standing R.spec.object (answered R.spec.is_call t.events)
@@ -71,6 +74,7 @@ module _ {T : Type 0} (t : Trace T) (r : IsReached t) (runs : RunsWhole t.events
     holds_places kinds.Counts is = held_by (bit_sets.counts_reading t.world.capacity) kinds.Counts is (bit_sets.counts_law t.world.coding t.world.capacity)
     holds_places kind is = tt
 
+  -- each kind of machine answers as its object
   pub by_kind : (kind : Kind) → t.world.kind ≡ kind → AnswersWhole kind t r
   by_kind kinds.IndexQueue is = list_answers queues.IndexQueue t (kept_as t r kinds.IndexQueue is) runs
   by_kind kinds.Overflow is = list_answers queues.Overflow t (kept_as t r kinds.Overflow is) runs

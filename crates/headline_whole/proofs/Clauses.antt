@@ -52,6 +52,7 @@ module _ {T : Type 0} where
     no_hand_locked : (events : List (Event T)) → NoneOnceLocked hand events
     no_hand_locked events past future is locked i = nobody i past
 
+  -- in a well-formed run no index has two holders
   pub one_holder : (kind : Kind) (queue : ℕ) (t : Trace T) → Runs kind queue t → IsWellFormedFor kind t.events → NoTwoHold (hand_of kind) t.events
   one_holder kinds.Indices queue t h right = h.no_two_hold
   one_holder kinds.Robust queue t h right = h.no_two_hold right
@@ -71,6 +72,7 @@ module _ {T : Type 0} where
       go (Locked p) before at off = absurd (kept.spans before at.0 (Locked p) at.1)
       go e before at off = stays e before (λ b. refl) off
 
+  -- in a well-formed run no index has a holder once the set is locked
   pub none_locked : (kind : Kind) (queue : ℕ) (t : Trace T) → Runs kind queue t → IsKeptBy (promise_of kind) t → IsWellFormedFor kind t.events
       → NoneOnceLocked (hand_of kind) t.events
   none_locked kinds.Indices queue t h kept right = h.none_once_locked
@@ -81,6 +83,7 @@ module _ {T : Type 0} where
 
   -- ---- recoveries
 
+  -- a recovery that answers Unlocked has left its owner no index that it was to free
   pub leaves_none : (kind : Kind) (queue : ℕ) (t : Trace T) → Runs kind queue t
       → (p index owner : ℕ) (start : Start T) (before : List (Event T)) → IsRecovery kind start
       → Follows (Finished p start (State Unlocked)) before t.events

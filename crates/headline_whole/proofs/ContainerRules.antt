@@ -52,6 +52,7 @@ module _ {T : Type 0} (code : Coding T) (coded : IsCoding code) (capacity : ℕ)
         (flights.Container (first capacity start)) words
         (kept_after_begin code capacity (starts.Container start) p (registries.Container dead states))
 
+    -- an update of a state begins, whether its party has a state or gets a new one
     begins_update : (o : Option (ContainerState T)) → state_of p states ≡ o
         → Looking code coded capacity words h (views_in states) p UpdateState (first_look capacity) words
         (if is_some o then states else with_state p (fresh code capacity) states)
@@ -60,6 +61,7 @@ module _ {T : Type 0} (code : Coding T) (coded : IsCoding code) (capacity : ℕ)
         (ap (λ o. view_of (map_in code capacity words) (option_map snapshot_of o)) e) right (λ q. refl)
     begins_update (Some state) e = begins_on code coded capacity words h (views_in states) p states state e right (λ q. refl)
 
+    -- a look that is under way at its first stage has begun
     begun_looking : (which : LookOf) (left : List (ℕ × ContainerState T))
         → Looking code coded capacity words h (views_in states) p which (first_look capacity) words left
         → Begun code coded capacity (seen code coded capacity words (views_in states)) p
@@ -84,6 +86,7 @@ module _ {T : Type 0} (code : Coding T) (coded : IsCoding code) (capacity : ℕ)
           });
         }
 
+    -- each call that names an owner as it may begins on words that hold a container
     begun_at : (start : ContainerStart T) → names_owner start ≡ true → BegunAt start
     begun_at calls.GetState names =
         begun_looking GetState (with_state p (fresh code capacity) states)
@@ -108,6 +111,7 @@ module _ {T : Type 0} (code : Coding T) (coded : IsCoding code) (capacity : ℕ)
           });
         }
 
+  -- each call that its rows let begin does so, whatever is kept
   begun_on : (p : ℕ) (start : ContainerStart T) (kept : Registry T) (words : List ℕ) → Holds code.value_of code.size capacity 0 words
       → AllRight code coded capacity (states_in kept) → names_owner start ≡ true → first_row (kept_rows start kept p) ≡ None
       → Begun code coded capacity (seen code coded capacity words (views_in (states_in kept))) p
@@ -116,6 +120,7 @@ module _ {T : Type 0} (code : Coding T) (coded : IsCoding code) (capacity : ℕ)
   begun_on p start (registries.Container dead states) words h right names rows = begun_at p words h dead states right start names
   begun_on p start kept words h right names rows = absurd (cc)
 
+  -- each call that a container does not refuse begins so
   begins : (t : Trace T) (p : ℕ) (start : Start T) (flight : Flight T) → IsReached t → IsMadeSo code kinds.Container capacity t
       → refusal_of t.world (Begin p start) ≡ None
       → Holds code.value_of code.size capacity 0 t.world.words × AllRight code coded capacity (states_in t.world.kept)
@@ -143,6 +148,7 @@ module _ {T : Type 0} (code : Coding T) (coded : IsCoding code) (capacity : ℕ)
   no_state : {A : Type 0} (x : ContainerState T) → ◌≡◌ {A = Option (ContainerState T)} None (Some x) → A
   no_state x e = absurd (cc)
 
+  -- the calls of a container keep to the rules of a map
   pub rules : capacity_error kinds.Container capacity ≡ None
       → Rules (map_course code coded capacity) (holding code coded capacity) code kinds.Container capacity
   rules may =

@@ -131,6 +131,7 @@ module _ {T : Type 0} (code : Coding T) (coded : IsCoding code) (capacity : ℕ)
       same_then : (q : ℕ) → views_in (states_in next_kept) q ≡ views q
       same_then q = ap (λ states. views_in states q) (states_same code words beside p start flight old kept k.agrees) ∙ k.same q
 
+      -- what such a call comes to talks on, or ends as the map says
       came : (n : ℕ) (a : After (Flight T) (Answer T)) → after_of code flight old ≡ a
           → Turns code (maps.Ends code capacity first_words views p start)
           (λ told f ws. Talks code (maps.Ends code capacity first_words views p start) n told f ws) next_told a next_words
@@ -160,6 +161,7 @@ module _ {T : Type 0} (code : Coding T) (coded : IsCoding code) (capacity : ℕ)
         },
       )
 
+      -- a step of a call that goes on from its words alone goes as the map's rules say
       steps : (n : ℕ) → Turns code (maps.Ends code capacity first_words views p start)
           (λ told f ws. Talks code (maps.Ends code capacity first_words views p start) n told f ws) next_told (after_of code flight old) next_words
           → Steps map_course holding object turns p start next_told next_words (step_of code words beside p start flight old kept)
@@ -172,12 +174,14 @@ module _ {T : Type 0} (code : Coding T) (coded : IsCoding code) (capacity : ℕ)
                 (came n (after_of code flight old) refl left);
           }
 
+    -- a step that needs no decision does so
     talk_on : (start : Start T) (told : List (Decision T)) (flight : Flight T) (words : List ℕ) (kept : Registry T) (beside : Option (ℕ × ℕ))
         → Talking first_words views p start told flight words kept → is_question (want_of code flight) ≡ false
         → Steps map_course holding object turns p start told (words_after words (ask_of (want_of code flight)))
         (step_of code words beside p start flight (old_of words (ask_of (want_of code flight))) kept)
     talk_on start told flight words kept beside k calm = go k.most k.talks
       where
+        -- it does, however many questions the call may still put
         go : (n : ℕ) → Talks code (maps.Ends code capacity first_words views p start) n told flight words
             → Steps map_course holding object turns p start told (words_after words (ask_of (want_of code flight)))
             (step_of code words beside p start flight (old_of words (ask_of (want_of code flight))) kept)
@@ -188,12 +192,14 @@ module _ {T : Type 0} (code : Coding T) (coded : IsCoding code) (capacity : ℕ)
             (talk_goes code (maps.Ends code capacity first_words views p start)
             (λ told f ws. Talks code (maps.Ends code capacity first_words views p start) n told f ws) told flight words t calm)
 
+    -- a step that is told yes or no does so
     talk_told : (start : Start T) (told : List (Decision T)) (flight : Flight T) (words : List ℕ) (kept : Registry T) (beside : Option (ℕ × ℕ))
         (said : Bool) → Talking first_words views p start told flight words kept → is_question (want_of code flight) ≡ true
         → Steps map_course holding object turns p start (told ++ decided code (Some flight) said) words
         (step_of code words beside p start flight (number_of said) kept)
     talk_told start told flight words kept beside said k is = go k.most k.talks
       where
+        -- it does, however many questions the call may still put
         go : (n : ℕ) → Talks code (maps.Ends code capacity first_words views p start) n told flight words
             → Steps map_course holding object turns p start (told ++ decided code (Some flight) said) words
             (step_of code words beside p start flight (number_of said) kept)
@@ -220,6 +226,7 @@ module _ {T : Type 0} (code : Coding T) (coded : IsCoding code) (capacity : ℕ)
       new_states a =
           set_state p (settled_if a (shows code coded capacity first_words holds views p step)) states
 
+      -- what a look comes to is under way still, or ends as the map says
       look_comes : (a : After (Look T) Bool)
           → RunsOn (λ (c : Look T) given. look_want code.size c) (look_after code.size) (look_kept code.value_of code.size) k.old.seen
           (looks.Ends code coded capacity first_words holds views p k.old) a (look_kept code.value_of code.size call k.state.shown old) last
@@ -265,6 +272,7 @@ module _ {T : Type 0} (code : Coding T) (coded : IsCoding code) (capacity : ℕ)
       seen_same : k.state.seen ≡ k.old.seen
       seen_same = ap (λ (z : ContainerState T). z.seen) k.state_is
 
+      -- a step of a look goes as the map's rules say
       look_on : Steps map_course holding object turns p (starts.Container (start_of which)) [] last
           (step_of code words beside p (starts.Container (start_of which)) (flights.Container (under_way.Look which call)) old
           (registries.Container dead states))
@@ -289,6 +297,7 @@ module _ {T : Type 0} (code : Coding T) (coded : IsCoding code) (capacity : ℕ)
                 (never_asks code.size call.capacity call.stage))));
           }
 
+    -- a step of a look that is under way goes as the map's rules say
     view_on : (start : Start T) (told : List (Decision T)) (flight : Flight T) (words : List ℕ) (kept : Registry T) (beside : Option (ℕ × ℕ))
         → Viewing first_words holds views p start told flight words kept
         → Steps map_course holding object turns p start told (words_after words (ask_of (want_of code flight)))
@@ -310,6 +319,7 @@ module _ {T : Type 0} (code : Coding T) (coded : IsCoding code) (capacity : ℕ)
   none_asked : {A : Type 0} (b : Bool) → b ≡ true → b ≡ false → A
   none_asked b t f = absurd (cc)
 
+  -- a step that needs no decision goes as the map's rules say, of each call under way
   pub goes : (s : Viewed T) (turns p : ℕ) (start : Start T) (told : List (Decision T)) (flight : Flight T) (words : List ℕ)
       (kept : Registry T) (beside : Option (ℕ × ℕ)) → Begun s p start told flight words kept → is_question (want_of code flight) ≡ false
       → Steps map_course holding s turns p start told (words_after words (ask_of (want_of code flight)))
@@ -324,6 +334,7 @@ module _ {T : Type 0} (code : Coding T) (coded : IsCoding code) (capacity : ℕ)
       go (inl k) = talk_on turns p u.first_words u.holds u.views start told flight words kept beside k calm
       go (inr k) = view_on turns p u.first_words u.holds u.views start told flight words kept beside k
 
+  -- a step that is told yes or no goes as the map's rules say, of each call under way
   pub decides : (s : Viewed T) (turns p : ℕ) (start : Start T) (told : List (Decision T)) (flight : Flight T) (words : List ℕ)
       (kept : Registry T) (beside : Option (ℕ × ℕ)) (said : Bool) → Begun s p start told flight words kept
       → is_question (want_of code flight) ≡ true
@@ -333,6 +344,7 @@ module _ {T : Type 0} (code : Coding T) (coded : IsCoding code) (capacity : ℕ)
       subst (λ z. Steps map_course holding z turns p start (told ++ decided code (Some flight) said) words
       (step_of code words beside p start flight (number_of said) kept)) (sym u.is) (go u.under)
     where
+      -- it does so whether the call is a look or another
       go : Talking u.first_words u.views p start told flight words kept ⊎ Viewing u.first_words u.holds u.views p start told flight words kept
           → Steps map_course holding (seen u.first_words u.views) turns p start (told ++ decided code (Some flight) said) words
           (step_of code words beside p start flight (number_of said) kept)
@@ -340,11 +352,13 @@ module _ {T : Type 0} (code : Coding T) (coded : IsCoding code) (capacity : ℕ)
       go (inr k) =
           none_asked (is_question (want_of code flight)) is (view_asks_none turns p u.first_words u.holds u.views start told flight words kept k)
 
+  -- each call under way stays so as an owner dies
   pub stays : (s : Viewed T) (p : ℕ) (start : Start T) (told : List (Decision T)) (flight : Flight T) (words : List ℕ) (kept : Registry T) (owner : ℕ)
       → Begun s p start told flight words kept → Begun s p start told flight words (kept_after_death kept owner)
   stays s p start told flight words kept owner u =
       record { first_words = u.first_words; views = u.views; is = u.is; holds = u.holds; under = go u.under }
     where
+      -- it does so whether it is a look or another
       go : Talking u.first_words u.views p start told flight words kept ⊎ Viewing u.first_words u.holds u.views p start told flight words kept
           → Talking u.first_words u.views p start told flight words (kept_after_death kept owner)
           ⊎ Viewing u.first_words u.holds u.views p start told flight words (kept_after_death kept owner)

@@ -88,6 +88,7 @@ module _ {T : Type 0} where
     module _ (R : List (Decision T) → ℕ → CallbackProgression → List (Decision T) → Type 0)
         (writes : (p : List (Decision T)) (index : ℕ) (said : CallbackProgression) (q : List (Decision T)) → R p index said q
         → q ≡ p ++ decision (shows index) (goes_on said) ∷ []) where
+      -- a find whose closure answers Continue each time writes a yes for each index
       told_all : (before : List ℕ) (p q : List (Decision T)) → FoldsTo (λ p x q. R p x Continue q) p before q → q ≡ p ++ map on before
       told_all [] p q e = sym e ∙ sym (append-nil p)
       told_all (index ∷ before) p q t =
@@ -95,12 +96,14 @@ module _ {T : Type 0} where
           ∙ (ap (λ (xs : List (Decision T)). xs ++ map on before) (writes p index Continue t.0 t.1)
           ∙ append_assoc p (on index ∷ []) (map on before))
 
+      -- the questions of a find are those of the indices that it came to, and it answers their number
       pub found_so : (all : List ℕ) (n : ℕ) (told : List (Decision T)) → HasFound R all [] n told → WasTold all n told
       found_so all n told h = go h.ended
         where
           been : h.now ≡ map on h.before
           been = told_all h.before [] h.now h.calls
 
+          -- so it is whether it came to all of them or was told to stop
           go : ((h.before ≡ all) × (h.now ≡ told) × (n ≡ length h.before))
               ⊎ ((index : ℕ) × (rest : List ℕ) × (h.before ++ index ∷ rest ≡ all) × R h.now index Stop told × (n ≡ length h.before + 1))
               → WasTold all n told
@@ -137,6 +140,7 @@ module _ {T : Type 0} where
     abbrev as_told : Asked → Decision T
     as_told a = decision (shows a.of) a.yes
 
+    -- a recovery was told its questions with what was answered, in order
     told_so : (before asked : List Asked) (p q : List (Decision T)) → length p ≡ length before → questions (before ++ asked) ≡ all
         → FoldsTo R p asked q → q ≡ p ++ map as_told asked
     told_so before [] p q long is e = sym e ∙ sym (append-nil p)
@@ -161,6 +165,7 @@ module _ {T : Type 0} where
       pub questions_are : map question_of told ≡ map shows all
       pub agreed_are : agreed all (map yes_of told) ≡ calls.agreed asked
 
+    -- a recovery that put all these questions was told so
     pub asked_so : (asked : List Asked) (told : List (Decision T)) → questions asked ≡ all → FoldsTo R [] asked told → WasAsked asked told
     asked_so asked told is answers =
         let been : told ≡ map as_told asked = told_so [] asked [] told refl is answers in

@@ -20,6 +20,7 @@ module _ {T : Type 0} where
   same_ends told (Finished p start answer ∷ es) = ap (λ (xs : List (Event T)). Finished p start answer ∷ xs) (same_ends told es)
   same_ends told (e ∷ es) = same_ends told es
 
+  -- a turn adds to the finished calls those that its events end
   a_turn : (t : Trace T) (turn : Turn T) (story : Story T) → AreFinished story.calls t.events
       → AreFinished (story_after t.world turn story).calls (after_turn t turn).events
   a_turn t turn story so =
@@ -33,6 +34,7 @@ module _ {T : Type 0} where
   an_attempt t turn story None so = a_turn t turn story so
   an_attempt t turn story (Some refusal) so = so
 
+  -- a list of turns adds to the finished calls those that its events end
   a_run : (turns : List (Turn T)) (t : Trace T) (story : Story T) → AreFinished story.calls t.events
       → AreFinished (story_on turns t story).calls (run turns t).events
   a_run [] t story so = so

@@ -49,6 +49,7 @@ same_old words wants.Nothing = refl
 -- ---- a call alone stops in one way
 
 module _ {C G M E : Type 0} (want : C → G → Want (Unit {0})) (after : C → G → ℕ → After C E) (kept : C → M → ℕ → M) (given : G) where
+  -- from what a step comes to, a call alone has one stop, with one room and one list of words
   same_from : (n k : ℕ) (s z : Stop C E) (r q : M) (last end : List ℕ) (a : After C (Stop C E)) (room : M) (words : List ℕ)
       → ((d : C) → StopsIn want after kept given n s r last d room words → StopsIn want after kept given k z q end d room words
       → (s ≡ z) × (r ≡ q) × (last ≡ end))
@@ -58,6 +59,7 @@ module _ {C G M E : Type 0} (want : C → G → Want (Unit {0})) (after : C → 
   same_from n k s z r q last end (GoOn d) room words on t u = on d t u
   same_from n k s z r q last end (Done x) room words on t u = (t.0 ∙ sym u.0, t.1 ∙ sym u.1, t.2 ∙ sym u.2)
 
+  -- a call alone has one stop, with one room and one list of words
   same_stop : (n k : ℕ) (s z : Stop C E) (r q : M) (last end : List ℕ) (call : C) (room : M) (words : List ℕ)
       → StopsIn want after kept given n s r last call room words → StopsIn want after kept given k z q end call room words
       → (s ≡ z) × (r ≡ q) × (last ≡ end)
@@ -85,6 +87,7 @@ module _ {C G M E : Type 0} (want : C → G → Want (Unit {0})) (after : C → 
   ended_is : (a b : E) → ◌≡◌ {A = Stop C E} (Ended a) (Ended b) → a ≡ b
   ended_is a b e = cc
 
+  -- behind a step that puts no question, a call alone runs on to the end that it has
   run_moved : (n : ℕ) (end : E) (r : M) (last : List ℕ) (call : C) (w : Want (Unit {0})) (a : After C E) (room next : M) (words : List ℕ)
       → n ≤ 2 ^ 64 - 1 → P end r last → is_question w ≡ false
       → StopsFrom want after kept given (StopsIn want after kept given n (Ended end) r last) (stepped w call a) (room_then w room next)
@@ -100,11 +103,13 @@ module _ {C G M E : Type 0} (want : C → G → Want (Unit {0})) (after : C → 
   run_moved n end r last call wants.Nothing (Done x) room next words few holds calm t =
       let is = ended_is end x t.0 in subst (λ (z : E × M × List ℕ). P z.0 z.1 z.2) (λ i. (is i, t.1 i, t.2 i)) holds
 
+  -- a call that runs to an end does so behind each step that puts no question
   pub run_goes : (call : C) (room : M) (words : List ℕ) → Runs want after kept given P call room words → is_question (want call given) ≡ false
       → RunsOn (after call given (old_of words (ask_of (want call given)))) (kept call room (old_of words (ask_of (want call given))))
       (words_after words (ask_of (want call given)))
   run_goes call room words h calm = go h.steps h.few h.ends
     where
+      -- it does, in however many steps the end is reached
       go : (n : ℕ) → n ≤ 2 ^ 64 - 1 → StopsIn want after kept given n (Ended h.end) h.last_room h.last_words call room words
           → RunsOn (after call given (old_of words (ask_of (want call given)))) (kept call room (old_of words (ask_of (want call given))))
           (words_after words (ask_of (want call given)))
@@ -159,6 +164,7 @@ module _ {T : Type 0} (code : Coding T) where
         n stop room last) next now words stop room last
 
     module _ (rest : List (Decision T) → Flight T → List ℕ → Type 0) (told : List (Decision T)) where
+      -- behind a step that puts no question, a call halts where it did, or has ended so
       moved : (n : ℕ) (stop : Stop (Flight T) (Answer T)) (room : Unit {0}) (last : List ℕ) (flight : Flight T) (w : Want (Unit {0}))
           (a : After (Flight T) (Answer T)) (words : List ℕ) → n ≤ 2 ^ 64 - 1 → AtStop rest told stop last → is_question w ≡ false
           → HaltsFrom n stop room last (stepped w flight a) (room_then w tt tt) (words_then words w)
@@ -173,6 +179,7 @@ module _ {T : Type 0} (code : Coding T) where
       moved n stop room last flight wants.Nothing (Done x) words few holds calm t =
           subst (λ s. AtStop rest told s words) t.0 (subst (AtStop rest told stop) t.2 holds)
 
+      -- behind a question, the call goes on as its stop says, whatever is decided
       heard : (n : ℕ) (stop : Stop (Flight T) (Answer T)) (room : Unit {0}) (last : List ℕ) (flight : Flight T) (w : Want (Unit {0}))
           (a : After (Flight T) (Answer T)) (words : List ℕ) → AtStop rest told stop last → is_question w ≡ true
           → HaltsFrom n stop room last (stepped w flight a) (room_then w tt tt) (words_then words w)
@@ -187,6 +194,7 @@ module _ {T : Type 0} (code : Coding T) where
           → Turns (Halting rest) told (after_of code flight (old_of words (ask_of (want_of code flight)))) (words_after words (ask_of (want_of code flight)))
       talk_goes flight words h calm = go h.steps h.few h.stops
         where
+          -- it does, in however many steps the stop is reached
           go : (n : ℕ) → n ≤ 2 ^ 64 - 1
               → StopsIn (λ (f : Flight T) (given : Unit {0}). want_of code f) (λ f given old. after_of code f old) (λ f (room : Unit {0}) old. room) tt
               n h.stop h.last_room h.last_words flight tt words
@@ -206,6 +214,7 @@ module _ {T : Type 0} (code : Coding T) where
           → Turns rest (told ++ decided code (Some flight) said) (after_of code flight (number_of said)) words
       talk_hears flight words h is = go h.steps h.stops
         where
+          -- it does, in however many steps the stop is reached
           go : (n : ℕ)
               → StopsIn (λ (f : Flight T) (given : Unit {0}). want_of code f) (λ f given old. after_of code f old) (λ f (room : Unit {0}) old. room) tt
               n h.stop h.last_room h.last_words flight tt words
@@ -257,6 +266,7 @@ module _ {T : Type 0} (code : Coding T) where
         StopsFrom (λ (f : Flight T) (given : Unit {0}). want_of code f) (λ f given old. after_of code f old) (λ f (room : Unit {0}) old. room) tt
         (λ f m ws. StopsAlone n stop last f m ws) next now words stop tt last
 
+    -- where a step of the call of `steps` leads to a stop, the machine's step leads to the same
     lifted : (n : ℕ) (s : Stop C E) (r : M) (last : List ℕ) (w : Want (Unit {0})) (c : C) (a : After C E) (room next : M) (words : List ℕ)
         → LowThen Low a
         → ((d : C) (m : M) (ws : List ℕ) → Low d → StopsIn want after kept given n s r last d m ws
@@ -270,6 +280,7 @@ module _ {T : Type 0} (code : Coding T) where
     lifted n s r last wants.Nothing c (GoOn d) room next words low on t = on d next words low t
     lifted n s r last wants.Nothing c (Done x) room next words low on t = ((λ i. lift_stop (t.0 i) (t.1 i)), refl, t.2)
 
+    -- where the call of `steps` stops, alone, the machine's call stops too
     lifts : IsFlight → (n : ℕ) (s : Stop C E) (r : M) (last : List ℕ) (c : C) (room : M) (words : List ℕ) → Low c
         → StopsIn want after kept given n s r last c room words
         → StopsAlone n (lift_stop s r) last (flight c room) tt words
@@ -285,6 +296,7 @@ module _ {T : Type 0} (code : Coding T) where
         (kept c room (answer_in words (want c given))) words (is.stays c (answer_in words (want c given)) low)
         (λ d m ws less u. lifts is n s r last d m ws less u) t))
 
+    -- where the call of `steps` runs alone to an end, the machine's call does too
     pub runs_as : IsFlight → (Q : E → M → List ℕ → Type 0) (P : Answer T → List ℕ → Type 0)
         → ((e : E) (room : M) (last : List ℕ) → Q e room last → P (answer e room) last)
         → (c : C) (room : M) (words : List ℕ) → Low c → Runs want after kept given Q c room words → FlightRuns P (flight c room) words
@@ -299,6 +311,8 @@ module _ {T : Type 0} (code : Coding T) where
           holds = so h.end h.last_room h.last_words h.holds;
         }
 
+    -- where the call of `steps` stops, alone, and the machine's call talks on from there, it talks, with one question
+    -- more
     pub talks_as : IsFlight → (P : List (Decision T) → Answer T → List ℕ → Type 0) (n : ℕ) (told : List (Decision T))
         (c : C) (room : M) (words : List ℕ) → Low c → (h : CanStop want after kept given c room words)
         → AtStop P (Talks P n) told (lift_stop h.stop h.last_room) h.last_words

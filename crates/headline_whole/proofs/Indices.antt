@@ -117,6 +117,7 @@ module _ {T : Type 0} where
     pub below : index < capacity
     pub mine : is_some (slice_index_or holders index None) ≡ true
 
+  -- the rows of a release say that the index is below the capacity, and has a holder
   may_release : (capacity : ℕ) (kept : Registry T) (p index : ℕ) (mode : ReleaseMode)
       → first_row (kept_rows capacity (calls.Release index mode) kept p) ≡ None → MayRelease capacity kept p index
   may_release capacity (registries.Indices holders) p index mode e =
@@ -133,6 +134,7 @@ module _ {T : Type 0} where
       }
   may_release capacity kept p index mode e = absurd (cc)
 
+  -- an index whose release is not refused is out
   is_out : (t : Trace T) (p index : ℕ) (mode : ReleaseMode) → IsReached t → t.world.kind ≡ kinds.Indices
       → refusal_of t.world (Begin p (starts.Indices (calls.Release index mode))) ≡ None → Represents t.world.capacity t.world.words
       → IsOut (stack_in t.world.capacity t.world.words) index
@@ -153,6 +155,7 @@ module _ {T : Type 0} where
     abbrev Whole : IndexStart → Type 0
     Whole start = FlightRuns code (Answers (reading capacity) turns words (starts.Indices start)) (flights.Indices (first capacity start)) words
 
+    -- an acquire, run alone, answers and leaves what the stack does
     acquires : Whole calls.Acquire
     acquires =
         runs_as code (λ (c : Acquire) (given : Unit {0}). acquire_want c) (λ c given old. acquire_after c old) (λ c (room : Unit {0}) old. room) tt
@@ -166,6 +169,7 @@ module _ {T : Type 0} where
         (λ e room last h. record { said = λ is. ap acquire_answer h.1; holds = h.0; object = h.2 })
         (first_acquire capacity) tt words tt (take_runs capacity (first_acquire capacity) refl words fits)
 
+    -- a release that never locks, run alone, answers and leaves what the stack does
     releases : (index : ℕ) → IsOut (stack_in capacity words) index → Whole (calls.Release index Default)
     releases index out =
         runs_as code (release_want {M = DefaultMode} false) (λ c given old. release_after false c old) (λ c (room : Unit {0}) old. room) index
@@ -180,6 +184,7 @@ module _ {T : Type 0} where
         (λ e room last h. record { said = λ is. ap answers.State h.1; holds = h.0; object = h.2 })
         (first_release capacity) tt words tt (give_runs DefaultMode capacity index words fits out (first_release capacity) refl)
 
+    -- a release that may lock, run alone, answers and leaves what the stack does
     locks : (index : ℕ) → IsOut (stack_in capacity words) index → Whole (calls.Release index LockIfLastIndex)
     locks index out =
         runs_as code (release_want {M = LockMode} true) (λ c given old. release_after true c old) (λ c (room : Unit {0}) old. room) index
@@ -194,6 +199,7 @@ module _ {T : Type 0} where
         (λ e room last h. record { said = λ is. ap answers.State h.1; holds = h.0; object = h.2 })
         (first_release capacity) tt words tt (lock_runs LockMode capacity index words fits out (first_release capacity) refl)
 
+    -- a count of the indices that are out, run alone, answers and leaves what the stack does
     counts : Whole calls.BorrowedIndices
     counts =
         runs_as code (λ (c : BorrowedIndices) (given : Unit {0}). load 0) (λ c given old. borrowed_after c old) (λ c (room : Unit {0}) old. room) tt
@@ -207,6 +213,7 @@ module _ {T : Type 0} where
         (λ e room last h. record { said = λ is. ap answers.Number h.1; holds = h.0; object = h.2 })
         (record {}) tt words tt (count_runs capacity words (record {}) fits)
 
+    -- a look whether the set is locked, run alone, answers and leaves what the stack does
     looks : Whole calls.IsLocked
     looks =
         runs_as code (λ (c : IsLocked) (given : Unit {0}). load 0) (λ c given old. locked_after c old) (λ c (room : Unit {0}) old. room) tt
@@ -229,6 +236,7 @@ module _ {T : Type 0} where
   has_registry capacity p start flight kept is e = absurd (cc)
 
   module _ (code : Coding T) (capacity : ℕ) where
+    -- each call that the set lets begin, run alone, answers and leaves what the stack does
     begins : (t : Trace T) (p : ℕ) (start : Start T) (flight : Flight T) → IsReached t → IsMadeSo code kinds.Indices capacity t
         → refusal_of t.world (Begin p start) ≡ None → Represents capacity t.world.words
         → first_of kinds.Indices capacity start t.world.kept ≡ Some flight → BeginsSo (reading capacity) code t p start flight
@@ -248,6 +256,7 @@ module _ {T : Type 0} where
             subst (λ n. IsOut (stack_in n t.world.words) index) made.capacity
             (is_out t p index mode r made.kind allowed (subst (λ n. Represents n t.world.words) (sym made.capacity) fits))
 
+        -- it does, whichever call begins
         runs : (s : IndexStart) → refusal_of t.world (Begin p (starts.Indices s)) ≡ None → Whole code capacity t.world.turns t.world.words fits s
         runs calls.Acquire allowed = acquires code capacity t.world.turns t.world.words fits
         runs (calls.Release index Default) allowed = releases code capacity t.world.turns t.world.words fits index (out index Default allowed)
@@ -257,6 +266,7 @@ module _ {T : Type 0} where
         runs calls.IsLocked allowed = looks code capacity t.world.turns t.world.words fits
     begins t p start flight r made free fits named = absurd (cc)
 
+    -- a unique index set whose calls run whole is a stack of free indices
     pub law : capacity_error kinds.Indices capacity ≡ None → Law (reading capacity) code kinds.Indices capacity
     law may =
         let some = (admitted capacity may).0 in

@@ -83,6 +83,7 @@ module _ {T : Type 0} where
   value_taken capacity list item true = refl
   value_taken capacity list item false = append-nil list
 
+  -- with a capacity, each push and pop conserves what it finds in the list
   some_conserve : (kind : QueueKind) (less : ℕ) (start : QueueStart T) (list : List (Item T)) → is_push_or_pop (starts.Queues start) ≡ true
       → Conserves kind (suc less) start list
   some_conserve IndexQueue less (calls.PushIndex index) list is =
@@ -99,6 +100,7 @@ module _ {T : Type 0} where
   some_conserve Queue less calls.Pop list is = (append-nil list ∙ front_leaves Queue less list, not_zero less)
   some_conserve kind less start list is = absurd (cc)
 
+  -- without capacity, each push and pop conserves the empty list
   none_conserve : (kind : QueueKind) (start : QueueStart T) → is_push_or_pop (starts.Queues start) ≡ true → Conserves kind 0 start []
   none_conserve IndexQueue (calls.PushIndex index) is = (refl, λ z. refl)
   none_conserve IndexQueue (calls.Push value) is = (refl, λ z. refl)
@@ -195,6 +197,7 @@ module _ {T : Type 0} (kind : QueueKind) (t : Trace T) (kept : IsKeptBy (of_queu
     pub waits : published es ≡ handed_out es ++ list es
     pub none : t.world.capacity ≡ 0 → list es ≡ []
 
+  -- as an owner dies the values of the list wait still
   dies : (es : List (Event T)) (owner : ℕ) → Rest es → Rest (es ++ Died owner ∷ [])
   dies es owner h =
       let same = still_now spec acting es (Died owner ∷ []) refl in
@@ -216,6 +219,7 @@ module _ {T : Type 0} (kind : QueueKind) (t : Trace T) (kept : IsKeptBy (of_queu
     abbrev Leaves : List (Item T) → Type 0
     Leaves new = new ≡ (if is_list_call (starts.Queues start) then acting.after (list begun) (starts.Queues start) else list begun)
 
+    -- after a whole call that says what the object says, and leaves this list, the values of the list wait
     leaves : Says → (new : List (Item T)) → list (begun ++ told) ≡ new → Leaves new
         → list begun ++ put_by start answer ≡ out_by start answer ++ new → (t.world.capacity ≡ 0 → new ≡ []) → Rest (begun ++ told)
     leaves said new is so moves empty =
@@ -266,6 +270,7 @@ module _ {T : Type 0} (kind : QueueKind) (t : Trace T) (kept : IsKeptBy (of_queu
         ∙ (ap (λ (xs : List (Item T)). drop (length (handed_out begun)) xs) h.waits ∙ drop-append_seam (handed_out begun) (list begun))) in
         moves_none acts_not puts_none (ap (out_by start) right ∙ takes_none (list begun)) (λ is. right ∙ same) so
 
+  -- after each whole call the values of the list wait
   ends : (p : ℕ) (start : Start T) (answer : Answer T) (begun since after : List (Event T))
       → t.events ≡ (begun ++ Begun p start ∷ since) ++ Finished p start answer ∷ after → NoneEnds since
       → of_queue.wrote kind t.world.capacity start answer (of_parties since) → Rest begun → Rest (begun ++ whole_call p start since answer)
@@ -309,6 +314,7 @@ module _ {T : Type 0} (kind : QueueKind) (t : Trace T) (kept : IsKeptBy (of_queu
       refl (sym (first_and_counts kind t.world.capacity (list begun)).4)
   ends p start answer begun since after at none wrote h = absurd wrote
 
+  -- a queue whose calls run whole answers as its list
   pub list_answers : AnswersAs (whole_list kind t.world.capacity) t.events
   list_answers =
       let opened = (first_and_counts kind t.world.capacity []).0 in

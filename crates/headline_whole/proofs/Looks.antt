@@ -68,6 +68,7 @@ module _ {T : Type 0} where
   one_shown true value = refl
   one_shown false value = refl
 
+  -- as many elements have a count that is odd as show a value, added to any number
   shown_on : (a : ℕ) (elements : List (Element T))
       → fold (λ a (e : Element T). a + cond (not (is_even e.count)) 1 0) a elements
       ≡ fold (λ a (o : Option T). a + cond (is_some o) 1 0) a (map value_shown elements)
@@ -121,6 +122,7 @@ module _ {T : Type 0} (code : Coding T) (coded : IsCoding code) (capacity : ℕ)
     long : contents.capacity s ≡ capacity
     long = owners_long capacity (take (1 + capacity) first_words) (front_fits code.value_of code.size capacity first_words holds.0)
 
+    -- a look begins on a new state of its party
     pub begins_fresh : (which : LookOf) (states : List (ℕ × ContainerState T)) → seen_by which s (views p) ≡ blank (contents.capacity s)
         → AllRight states → ((q : ℕ) → views_in states q ≡ views q)
         → Looking which (first_look capacity) first_words (with_state p (fresh code capacity) states)
@@ -140,6 +142,7 @@ module _ {T : Type 0} (code : Coding T) (coded : IsCoding code) (capacity : ℕ)
               (fresh code capacity).shown (first_look capacity) refl;
         }
 
+    -- an update begins on the state that its party has
     pub begins_on : (states : List (ℕ × ContainerState T)) (state : ContainerState T) → state_of p states ≡ Some state
         → AllRight states → ((q : ℕ) → views_in states q ≡ views q) → Looking UpdateState (first_look capacity) first_words states
     begins_on states state found right same =
@@ -184,6 +187,7 @@ module _ {T : Type 0} (code : Coding T) (coded : IsCoding code) (capacity : ℕ)
       shows_so : shows ≡ record k.old { shown = room }
       shows_so = ap (λ (z : ContainerState T). record z { shown = room }) k.state_is
 
+      -- a look that goes on is under way still, with what it has shown so far
       pub goes_on : (d : Look T) → Runs_on k.old d room last → Looking which d last (set_state p shows states)
       goes_on d left =
           record {
@@ -204,6 +208,7 @@ module _ {T : Type 0} (code : Coding T) (coded : IsCoding code) (capacity : ℕ)
         abbrev pub new : ContainerState T
         new = settled_if (Done changed) shows
 
+        -- a look that ends has brought its party's state up to date, whatever it answers
         brought : (b : Bool) → Ends k.old b room last → Brought s k.old b (settled_if (Done b) shows)
         brought true e =
             brought_if code.value_of code.size coded.some coded.few capacity 0 first_words holds.0 k.old true room last e refl (settled shows)
@@ -222,6 +227,7 @@ module _ {T : Type 0} (code : Coding T) (coded : IsCoding code) (capacity : ℕ)
         pub words_are : last ≡ first_words
         words_are = words_kept code.value_of code.size coded.some coded.few capacity 0 first_words holds.0 k.old changed room last left
 
+        -- the state of its party then shows what the map says
         same_then : (q : ℕ) → q ≡ p → views_in (set_state p new states) q ≡ view_after s (starts.Container (start_of which)) (views q)
         same_then q e =
             ap (views_in (set_state p new states)) e
@@ -229,6 +235,7 @@ module _ {T : Type 0} (code : Coding T) (coded : IsCoding code) (capacity : ℕ)
             ∙ (ap Some ends.1
             ∙ (sym (after_look which s (views p)) ∙ ap (λ n. view_after s (starts.Container (start_of which)) (views n)) (sym e))))
 
+        -- each party's state is settled then, of the container's capacity
         pub right_then : AllRight (set_state p new states)
         right_then q x e = by_case (eqb_tells q p)
           where
@@ -238,10 +245,12 @@ module _ {T : Type 0} (code : Coding T) (coded : IsCoding code) (capacity : ℕ)
                 subst IsRight (some_is new x (sym (written_same p new k.state states k.found) ∙ at_p)) ends.0
             by_case (inr t) = k.right q t.1 x (sym (written_other q p new states t.1) ∙ e)
 
+        -- each party's state then shows what the map says: that of its party anew, every other as before
         pub views_then : (q : ℕ) → views_in (set_state p new states) q
             ≡ (if q == p then view_after s (starts.Container (start_of which)) (views q) else views q)
         views_then q = by_case (eqb_tells q p)
           where
+            -- so it is of the party and of every other
             by_case : ((q == p) ≡ true) × (q ≡ p) ⊎ ((q == p) ≡ false) × (q ≢ p)
                 → views_in (set_state p new states) q ≡ (if q == p then view_after s (starts.Container (start_of which)) (views q) else views q)
             by_case (inl t) =
@@ -251,6 +260,7 @@ module _ {T : Type 0} (code : Coding T) (coded : IsCoding code) (capacity : ℕ)
                 subst (λ b. views_in (set_state p new states) q ≡ (if b then view_after s (starts.Container (start_of which)) (views q) else views q))
                 (sym t.0) (ap (option_map snapshot_of) (written_other q p new states t.1) ∙ k.others q t.1)
 
+        -- the look then says what the map says, if its state shows that
         said_of : (w : LookOf) → (snapshot_of new ≡ updated s (seen_by w s (views p))) → ((seen_by w s (views p)).changes ≡ k.old.seen.change)
             → as_reply [] (looked w shows changed)
             ≡ (whole_map capacity).reply (record { contents = s; views = views }) (as_request p (starts.Container (start_of w)) [])

@@ -66,6 +66,7 @@ module _ {T : Type 0} (code : Coding T) (capacity : ℕ) where
     abbrev Said : ContainerStart T → Type 0
     Said start = (n : ℕ) × Talks code (At start) n [] (flights.Container (first capacity start)) words
 
+    -- a call that puts no question says, alone, what the map says
     speaks : (start : ContainerStart T)
         → map_questions (map_in code capacity words) (starts.Container start) [] ≡ []
         → Whole code capacity coded views p words h start → Said start
@@ -102,6 +103,7 @@ module _ {T : Type 0} (code : Coding T) (capacity : ℕ) where
       abbrev wants_find : Find T (Buffer 128) → ℕ → Want (Unit {0})
       wants_find c _ = find_want code.size c
 
+      -- each step of the machine's find is a step of the find of `steps`
       find_is : IsFlight code wants_find (find_after code.size) (find_kept kept_at) owner (λ c. Unit {0}) find_flight (λ e room. answers.Number e)
       find_is =
           record {
@@ -116,6 +118,7 @@ module _ {T : Type 0} (code : Coding T) (capacity : ℕ) where
       seen_so p index said q t =
           t.2 ∙ ap (λ (o : Option T). p ++ decision (showing o (questions.Value index tt)) (goes_on said) ∷ []) (sym t.1)
 
+      -- a find that has come to its end says what the map says, if it has left the words
       found : (told : List (Decision T)) (n : ℕ) (last : List ℕ) → HasFound sees (indices_of (map_in code capacity words).owners owner) [] n told
           → last ≡ words → At (calls.Find owner) told (answers.Number n) last
       found told n last f same =
@@ -134,6 +137,7 @@ module _ {T : Type 0} (code : Coding T) (capacity : ℕ) where
           (t : Searches done call room now ws)
           (rest : (d : Find T (Buffer 128)) (room : Buffer 128) (later : List (Decision T)) (last : List ℕ) → Searches (done + 1) d room later last
           → Talks code (At (calls.Find owner)) m later (find_flight d room) last) where
+        -- what a decision leads to talks on, or ends as the map says
         further : (a : After (Find T (Buffer 128)) ℕ) (r : Buffer 128) (later : List (Decision T)) (last : List ℕ)
             → finding.Further code.value_of room_words kept_at put_in finds [] code.size capacity 0 owner words (done + 1) a r later last
             → Turns code (At (calls.Find owner)) (Talks code (At (calls.Find owner)) m) later
@@ -141,6 +145,7 @@ module _ {T : Type 0} (code : Coding T) (capacity : ℕ) where
         further (GoOn d) r later last u = rest d r later last u
         further (Done n) r later last u = found later n last u.0 u.1
 
+        -- a question of a find is about a value, at the index that it names
         find_asks : (question : Question (Unit {0})) (asks : Find T (Buffer 128)) (r : Buffer 128) (last : List ℕ)
             → StopsAlike wants_find (find_after code.size) (find_kept kept_at) owner call room ws (stops.Asked question asks) r last
             → find_want code.size asks ≡ wants.Question (questions.Value (index_in question) tt)
@@ -150,6 +155,7 @@ module _ {T : Type 0} (code : Coding T) (capacity : ℕ) where
             t.1 alone) in
             ap (find_want code.size) at.stands ∙ ap (λ q. wants.Question (questions.Value (index_in q) tt)) (sym at.asks)
 
+        -- at each stop a find has ended as the map says, or talks on, whatever is decided
         find_stops : (s : Stop (Find T (Buffer 128)) ℕ) (r : Buffer 128) (last : List ℕ)
             → StopsAlike wants_find (find_after code.size) (find_kept kept_at) owner call room ws s r last
             → AtStop code (At (calls.Find owner)) (Talks code (At (calls.Find owner)) m) now
@@ -174,6 +180,7 @@ module _ {T : Type 0} (code : Coding T) (capacity : ℕ) where
             (sym (find_is.goes asks r (number_of said) tt))
             (further (find_after code.size asks owner (number_of said)) (find_kept kept_at asks r (number_of said)) later last next))
 
+      -- a find that has put `done` questions talks on as the object does, to its end, within `m` more
       find_talks : (m done : ℕ) (call : Find T (Buffer 128)) (room : Buffer 128) (now : List (Decision T)) (ws : List ℕ) → done + m ≡ 2 ^ 64 - 1
           → Searches done call room now ws → Talks code (At (calls.Find owner)) m now (find_flight call room) ws
       find_talks zero done call room now ws sum t =
@@ -186,6 +193,7 @@ module _ {T : Type 0} (code : Coding T) (capacity : ℕ) where
           (find_stops m done call room now ws t (λ d r later last u. find_talks m (done + 1) d r later last (omega arith) u)
           can.stop can.last_room can.last_words (alike wants_find (find_after code.size) (find_kept kept_at) owner call room ws can))
 
+      -- a find, alone, says what the map says
       finds_all : Said (calls.Find owner)
       finds_all = (
         2 ^ 64 - 1,
@@ -213,6 +221,7 @@ module _ {T : Type 0} (code : Coding T) (capacity : ℕ) where
       abbrev recover_flight : Recover T (Buffer 128) → Buffer 128 → Flight T
       recover_flight c room = flights.Container (under_way.Recover (record { call = c; given = record { owner = owner; mode = mode }; room = room }))
 
+      -- each step of the machine's recovery is a step of the recovery of `steps`
       recover_is : IsFlight code (recover_want code.size) (recover_after code.size) (recover_kept kept_at) dead (λ c. Unit {0}) recover_flight
           (λ e room. answers.State e)
       recover_is =
@@ -233,6 +242,7 @@ module _ {T : Type 0} (code : Coding T) (capacity : ℕ) where
       placed [] o rest = refl
       placed (b ∷ before) o rest = placed before o rest
 
+      -- what is written at a question of a recovery is the decision about the index that comes there
       said_so : (before : List Asked) (a : Asked) (rest : List Asked) (p q : List (Decision T)) → length p ≡ length before
           → asked_questions (before ++ a ∷ rest) ≡ to_ask (map_in code capacity words) owner → says p a q
           → q ≡ p ++ decision (about (map_in code capacity words) a.of.index) a.yes ∷ []
@@ -243,6 +253,7 @@ module _ {T : Type 0} (code : Coding T) (capacity : ℕ) where
           ∙ (ap (λ (n : ℕ). p ++ decision (questions.Value n t.0) a.yes ∷ []) place
           ∙ ap (λ (o : Option T). p ++ decision (showing o (questions.Value a.of.index tt)) a.yes ∷ []) (sym t.1))
 
+      -- a recovery that has come to its end says what the map says
       gone : (told : List (Decision T)) (state : ReleaseState) (last : List ℕ)
           → recovering.Gone code.value_of room_words kept_at put_in asks [] code.size capacity 0 owner mode words state told last
           → At (calls.Recover owner mode) told (answers.State state) last
@@ -285,6 +296,7 @@ module _ {T : Type 0} (code : Coding T) (capacity : ℕ) where
             ∙ placed t.1.asked (record { owner = owner; index = at.index }) _ in
             ap (λ c. recover_want code.size c dead) at.stands ∙ ap (λ n. wants.Question (questions.Value n tt)) (sym place)
 
+        -- at each stop a recovery has ended as the map says, or talks on, whatever is decided
         recover_stops : (s : Stop (Recover T (Buffer 128)) ReleaseState) (r : Buffer 128) (last : List ℕ)
             → StopsAlike (recover_want code.size) (recover_after code.size) (recover_kept kept_at) dead call room ws s r last
             → AtStop code (At (calls.Recover owner mode)) (Talks code (At (calls.Recover owner mode)) m) now
@@ -308,6 +320,7 @@ module _ {T : Type 0} (code : Coding T) (capacity : ℕ) where
             question put r last alone (read_in code r) refl said later refl (number_of said) (yes_number said)
             (recover_after code.size put dead (number_of said)) refl (recover_kept kept_at put r (number_of said)) refl)))
           where
+            -- what a decision leads to talks on, or ends as the map says
             onward : (a : After (Recover T (Buffer 128)) ReleaseState) (said : Bool) (later : List (Decision T))
                 → recovering.Further code.value_of room_words kept_at put_in asks [] code.size capacity 0 owner mode words done call room now ws t
                 question put r last alone (read_in code r) refl a (recover_kept kept_at put r (number_of said)) later
@@ -316,6 +329,7 @@ module _ {T : Type 0} (code : Coding T) (capacity : ℕ) where
             onward (GoOn d) said later u = rest d (recover_kept kept_at put r (number_of said)) later last u
             onward (Done state) said later u = absurd u
 
+      -- a recovery that has put `done` questions talks on as the object does, to its end, within `m` more
       recover_talks : (m done : ℕ) (call : Recover T (Buffer 128)) (room : Buffer 128) (now : List (Decision T)) (ws : List ℕ)
           → done + m ≡ 2 ^ 64 - 1 → Recovers done call room now ws → Talks code (At (calls.Recover owner mode)) m now (recover_flight call room) ws
       recover_talks zero done call room now ws sum t =
@@ -329,6 +343,7 @@ module _ {T : Type 0} (code : Coding T) (capacity : ℕ) where
           can.stop can.last_room can.last_words
           (alike (recover_want code.size) (recover_after code.size) (recover_kept kept_at) dead call room ws can))
 
+      -- a recovery, alone, says what the map says
       recovers_all : Said (calls.Recover owner mode)
       recovers_all = (
         2 ^ 64 - 1,
@@ -337,6 +352,7 @@ module _ {T : Type 0} (code : Coding T) (capacity : ℕ) where
             fresh_cell roomy (ready owner lives)),
       )
 
+    -- each call that is no look, and names an owner as it may, says alone what the map says
     pub every : (start : ContainerStart T) → IsNoLook (first capacity start) → names_owner start ≡ true → Said start
     every (calls.Add value owner) such names =
         speaks (calls.Add value owner) refl (adds_one code capacity coded views p words h value owner (below owner empty names))

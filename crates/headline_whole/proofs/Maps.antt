@@ -81,6 +81,7 @@ module _ {T : Type 0} (code : Coding T) (capacity : ℕ) where
       say_added (Ok index) = refl
       say_added (Err failure) = refl
 
+      -- an add, run alone, answers and leaves what the map does
       pub adds_one : Whole (calls.Add value owner)
       adds_one =
           runs_as code (add_want code.words_of code.size) (λ c given old. add_after code.size c old) (λ c (room : Unit {0}) old. room)
@@ -106,6 +107,7 @@ module _ {T : Type 0} (code : Coding T) (capacity : ℕ) where
           (add_at code.words_of code.value_of code.size coded.sized coded.given_back coded.some coded.few capacity 0
           (record { value = value; owner = owner }) owner refl lives (first_add capacity) refl words h.0)
 
+    -- a remove, run alone, answers and leaves what the map does
     pub removes_one : (index owner : ℕ) (mode : ReleaseMode) → owner < empty → Whole (calls.Remove index owner mode)
     removes_one index owner mode lives =
         runs_as code remove_want remove_after (λ c (room : Unit {0}) old. room)
@@ -132,6 +134,7 @@ module _ {T : Type 0} (code : Coding T) (capacity : ℕ) where
         (remove_at code.value_of code.size coded.few capacity 0 (place_of capacity index) owner mode owner refl lives
         (first_remove capacity (place_of capacity index)) refl words h.0)
 
+    -- a replace, run alone, answers and leaves what the map does
     pub replaces_one : (index : ℕ) (value : T) (owner : ℕ) → owner < empty → Whole (calls.Replace index value owner)
     replaces_one index value owner lives =
         runs_as code (replace_want code.words_of code.size) (replace_after code.size) (λ c (room : Unit {0}) old. room)
@@ -160,6 +163,7 @@ module _ {T : Type 0} (code : Coding T) (capacity : ℕ) where
         (record { index = place_of capacity index; owner = owner; value = value }) owner refl lives
         (first_replace capacity (place_of capacity index)) refl words h.0)
 
+    -- a call that counts the indices in use, run alone, answers by their number, and leaves what the map does
     pub counts_so : (which : CountOf) (start : ContainerStart T)
         → ((e : ℕ) (last : List ℕ) → e ≡ contents.number (map_in words) → Holds code.value_of code.size capacity 0 last
         → map_in last ≡ contents.counted (map_in words) → Answers words (views p) start (counted which e) last)
@@ -182,6 +186,7 @@ module _ {T : Type 0} (code : Coding T) (capacity : ℕ) where
         so e last s.1 s.0 s.2)
         (first_borrowed capacity) tt words tt (count_at code.value_of code.size capacity 0 (first_borrowed capacity) refl words h.0)
 
+    -- a look whether the container is locked, run alone, answers and leaves what the map does
     pub looks : Whole calls.IsLocked
     looks =
         runs_as code (λ (c : IsLocked) (given : Unit {0}). load 0) (λ c given old. locked_after c old) (λ c (room : Unit {0}) old. room) tt

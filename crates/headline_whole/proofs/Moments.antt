@@ -99,6 +99,7 @@ module _ {T : Type 0} (t : Trace T) (kept : IsKeptBy atomic.promise t) (runs : R
   abbrev Rest : List (Event T) → Type 0
   Rest es = HasAnswered spec (now spec spec.object es) es
 
+  -- after each whole call the answers are those of the value
   ends : (p : ℕ) (start : Start T) (answer : Answer T) (begun since after : List (Event T))
       → t.events ≡ (begun ++ Begun p start ∷ since) ++ Finished p start answer ∷ after → NoneEnds since
       → atomic.wrote t.world.capacity start answer (of_parties since) → Rest begun → Rest (begun ++ whole_call p start since answer)

@@ -117,6 +117,7 @@ module _ {T : Type 0} where
     abbrev Said : RobustStart → Type 0
     Said start = (n : ℕ) × Talks code (At start) n [] (flights.Robust (first capacity start)) words
 
+    -- a call that puts no question says, alone, what the map says
     speaks : (start : RobustStart) → owners_questions {T = T} (owners_in words) (starts.Robust start) [] ≡ [] → Whole start → Said start
     speaks start none whole = (
       1,
@@ -124,6 +125,7 @@ module _ {T : Type 0} where
           (λ answer last h. ((λ i. record { questions = sym none i; answer = h.said i }), h.holds, h.object)) whole,
     )
 
+    -- an acquire, run alone, answers and leaves what the map does
     acquires : (owner : ℕ) → owner < empty → Whole (calls.Acquire owner)
     acquires owner lives =
         runs_as code acquire_want (λ c given old. acquire_after c old) (λ c (room : Unit {0}) old. room) owner
@@ -138,6 +140,7 @@ module _ {T : Type 0} where
         (λ e room last h. record { said = ap acquire_answer h.1; holds = h.0; object = h.2 })
         (first_acquire capacity) tt words tt (take_at capacity owner owner refl lives (first_acquire capacity) refl words fits)
 
+    -- a release, run alone, answers and leaves what the map does
     releases : (index owner : ℕ) (mode : ReleaseMode) → owner < empty → index < capacity → Whole (calls.Release index owner mode)
     releases index owner mode lives low =
         runs_as code release_want release_after (λ c (room : Unit {0}) old. room) (record { index = index; owner = owner; mode = mode })
@@ -157,6 +160,7 @@ module _ {T : Type 0} where
         (λ e room last h. record { said = ap release_answer h.1; holds = h.0; object = h.2 })
         (first_release capacity) tt words tt (give_at capacity index owner mode owner refl lives (first_release capacity) refl words fits low)
 
+    -- a count of the indices in use, run alone, answers and leaves what the map does
     counts : Whole calls.BorrowedIndices
     counts =
         runs_as code (λ (c : BorrowedIndices) (given : Unit {0}). borrowed_want c) (λ c given old. borrowed_after c old) (λ c (room : Unit {0}) old. room) tt
@@ -171,6 +175,7 @@ module _ {T : Type 0} where
         (λ e room last h. record { said = ap answers.Number h.1; holds = h.0; object = h.2 })
         (first_borrowed capacity) tt words tt (borrowed_at capacity (first_borrowed capacity) refl words fits)
 
+    -- a look whether the set is locked, run alone, answers and leaves what the map does
     looks : Whole calls.IsLocked
     looks =
         runs_as code (λ (c : IsLocked) (given : Unit {0}). load 0) (λ c given old. locked_after c old) (λ c (room : Unit {0}) old. room) tt
@@ -194,6 +199,7 @@ module _ {T : Type 0} where
       abbrev find_flight : Find → Unit {0} → Flight T
       find_flight c room = flights.Robust (under_way.Find (record { call = c; given = owner; room = room }))
 
+      -- each step of the machine's find is a step of the find of `steps`
       find_is : IsFlight code (λ (c : Find) (given : ℕ). find_want c) find_after (λ c (room : Unit {0}) old. room) owner (λ c. Unit {0})
           find_flight (λ e room. answers.Number e)
       find_is =
@@ -203,6 +209,7 @@ module _ {T : Type 0} where
             stays = λ c old low. any_low (find_after c owner old);
           }
 
+      -- a find that has come to its end says what the map says, if it has left the words
       found : (told : List (Decision T)) (n : ℕ) (last : List ℕ) → HasFound finds (objects.indices_of (owners_in words) owner) [] n told
           → last ≡ words → At (calls.Find owner) told (answers.Number n) last
       found told n last h same =
@@ -221,6 +228,7 @@ module _ {T : Type 0} where
         further (GoOn d) later last h = rest d later last h
         further (Done n) later last h = found later n last h.0 h.1
 
+        -- a question of a find is about the index that it names
         find_asks : (start : List ℕ) (question : Question (Unit {0})) (asks : Find) (r : Unit {0}) (last : List ℕ)
             → Searching finds [] capacity owner start done call now ws
             → StopsAlike (λ (c : Find) (given : ℕ). find_want c) find_after (λ c (room : Unit {0}) old. room) owner call tt ws
@@ -234,6 +242,7 @@ module _ {T : Type 0} where
             (stops.Asked question asks) r last) u.3 alone) in
             ap find_want at.stands ∙ ap (λ q. wants.Question (questions.Index (index_in q))) (sym at.asks)
 
+        -- at each stop a find has ended as the map says, or talks on, whatever is decided
         find_stops : (s : Stop Find ℕ) (r : Unit {0}) (last : List ℕ)
             → StopsAlike (λ (c : Find) (given : ℕ). find_want c) find_after (λ c (room : Unit {0}) old. room) owner call tt ws s r last
             → AtStop code (At (calls.Find owner)) (Talks code (At (calls.Find owner)) m) now
@@ -254,6 +263,7 @@ module _ {T : Type 0} where
             (subst (λ a. Turns code (At (calls.Find owner)) (Talks code (At (calls.Find owner)) m) later a last)
             (sym (find_is.goes asks r (number_of said) tt)) (further (find_after asks owner (number_of said)) later last next))
 
+      -- a find that has put `done` questions talks on as the object does, to its end, within `m` more
       find_talks : (m done : ℕ) (call : Find) (now : List (Decision T)) (ws : List ℕ) → done + m ≡ 2 ^ 64 - 1
           → Searching finds [] capacity owner words done call now ws → Talks code (At (calls.Find owner)) m now (find_flight call tt) ws
       find_talks zero done call now ws sum t =
@@ -266,6 +276,7 @@ module _ {T : Type 0} where
           can.stop can.last_room can.last_words
           (alike (λ (c : Find) (given : ℕ). find_want c) find_after (λ c (room : Unit {0}) old. room) owner call tt ws can))
 
+      -- a find, alone, says what the map says
       finds_all : Said (calls.Find owner)
       finds_all = (
         2 ^ 64 - 1,
@@ -285,6 +296,7 @@ module _ {T : Type 0} where
       abbrev recover_flight : Recover → Unit {0} → Flight T
       recover_flight c room = flights.Robust (under_way.Recover (record { call = c; given = mode; room = room }))
 
+      -- each step of the machine's recovery is a step of the recovery of `steps`
       recover_is : IsFlight code (λ (c : Recover) (given : ReleaseMode). recover_want c) recover_after (λ c (room : Unit {0}) old. room) mode
           (λ c. Unit {0}) recover_flight (λ e room. answers.State e)
       recover_is =
@@ -294,6 +306,7 @@ module _ {T : Type 0} where
             stays = λ c old low. any_low (recover_after c mode old);
           }
 
+      -- a recovery that has come to its end says what the map says
       gone : (told : List (Decision T)) (state : ReleaseState) (last : List ℕ) → Gone asks tells mode [] tt capacity words state told tt last
           → At (calls.Recover mode) told (answers.State state) last
       gone told state last h =
@@ -310,6 +323,7 @@ module _ {T : Type 0} where
           (t : Recovering asks tells mode [] tt capacity words done call now tt ws)
           (rest : (d : Recover) (later : List (Decision T)) (last : List ℕ) → Recovering asks tells mode [] tt capacity words (done + 1) d later tt last
           → Talks code (At (calls.Recover mode)) m later (recover_flight d tt) last) where
+        -- at each stop a recovery has ended as the map says, or talks on, whatever is decided
         recover_stops : (s : Stop Recover ReleaseState) (r : Unit {0}) (last : List ℕ)
             → StopsAlike (λ (c : Recover) (given : ReleaseMode). recover_want c) recover_after (λ c (room : Unit {0}) old. room) mode call tt ws s r last
             → AtStop code (At (calls.Recover mode)) (Talks code (At (calls.Recover mode)) m) now
@@ -334,6 +348,7 @@ module _ {T : Type 0} where
             (sym (yes_number said))
             (onward question put last at said later (recover_after put mode (if said then 1 else 0)) next)))
           where
+            -- what a decision leads to talks on, or ends as the map says
             onward : (question : Question (Unit {0})) (put : Recover) (last : List ℕ)
                 (at : AsksAt capacity t.g t.cells t.left question put last) (said : Bool) (later : List (Decision T)) (a : After Recover ReleaseState)
                 → Onward asks tells mode [] tt capacity words done call now tt ws t question put last at at.owner at.index at.asks later tt a
@@ -342,6 +357,7 @@ module _ {T : Type 0} where
             onward question put last at said later (GoOn d) h = rest d later last h
             onward question put last at said later (Done state) h = absurd h
 
+      -- a recovery that has put `done` questions talks on as the object does, to its end, within `m` more
       recover_talks : (m done : ℕ) (call : Recover) (now : List (Decision T)) (ws : List ℕ) → done + m ≡ 2 ^ 64 - 1
           → Recovering asks tells mode [] tt capacity words done call now tt ws → Talks code (At (calls.Recover mode)) m now (recover_flight call tt) ws
       recover_talks zero done call now ws sum t =
@@ -354,6 +370,7 @@ module _ {T : Type 0} where
           can.stop can.last_room can.last_words
           (alike (λ (c : Recover) (given : ReleaseMode). recover_want c) recover_after (λ c (room : Unit {0}) old. room) mode call tt ws can))
 
+      -- a recovery, alone, says what the map says
       recovers_all : Said (calls.Recover mode)
       recovers_all = (
         2 ^ 64 - 1,
@@ -375,6 +392,7 @@ module _ {T : Type 0} where
   low_index capacity p index owner mode kept e = absurd (cc)
 
   module _ (code : Coding T) (capacity : ℕ) where
+    -- each call that the set lets begin says, alone, what the map says
     begins : (t : Trace T) (p : ℕ) (start : Start T) (flight : Flight T) → IsReached t → IsMadeSo code kinds.Robust capacity t
         → refusal_of t.world (Begin p start) ≡ None → Represents capacity t.world.words
         → first_of kinds.Robust capacity start t.world.kept ≡ Some flight
@@ -388,6 +406,7 @@ module _ {T : Type 0} where
         t.world.turns p (starts.Robust start)) n [] f t.world.words) is.1 (runs start is.0 rows) in
         (has_registry capacity p start flight t.world.kept is.1 rows, talk.0, talk.1)
       where
+        -- it does, whichever call begins
         runs : (s : RobustStart) → names_owner s ≡ true → first_row (kept_rows capacity s t.world.kept p) ≡ None
             → Said code capacity t.world.turns p t.world.words fits s
         runs (calls.Acquire owner) names rows =
@@ -410,6 +429,7 @@ module _ {T : Type 0} where
     opened_so : owners_in (robust_words capacity) ≡ objects.opened_at capacity 0
     opened_so = λ i. record { owners = no_owner capacity i; generation = 0 }
 
+    -- the calls of a robust index set keep to the rules of a map from index to owner
     pub rules : capacity_error kinds.Robust capacity ≡ None
         → Rules (robust_course capacity) (talking (robust_course capacity) (robust_speech capacity) code) code kinds.Robust capacity
     rules may =

@@ -22,6 +22,7 @@ module _ {T State : Type 0} (D : Dialogue T State) where
   replies_more s [] more = refl
   replies_more s (call ∷ calls) more = ap (λ (xs : List (Reply T)). D.reply s call ∷ xs) (replies_more (D.after s call) calls more)
 
+  -- one more call that replies as the object does leaves the object as that call does
   pub once_more : (object : State) (calls : List (Request T × Reply T)) (request : Request T) (reply : Reply T) → reply ≡ D.reply object request
       → HasReplied object calls → HasReplied (D.after object request) (calls ++ (request, reply) ∷ [])
   once_more object calls request reply said h =

@@ -58,6 +58,7 @@ module _ {T : Type 0} where
 
   -- ---- what a turn of a call under way makes
 
+  -- what the world is after a step of a call under way
   next_world : (w : World T) (p : ℕ) (x : Party T) (flight : Flight T) (since : ℕ) → party_of p w.latest ≡ Some x → x.doing ≡ Going flight since
       → world_after w (Next p)
       ≡ after_step w p x since (ask_of (want_of w.coding flight)) (step_in w p x flight (old_of w.words (ask_of (want_of w.coding flight))))
@@ -141,6 +142,7 @@ module _ {T : Type 0} (C : Course T) (H : Holding C) where
         ap (λ (xs : List (Request T × Reply T)). story.calls ++ xs) (none_finished told (wrote ++ []) (nothing_more wrote none (λ start. true)))
         ∙ append-nil story.calls
 
+    -- a call that ends is one more of the finished calls, as it was told
     one_more_call : (wrote : List (Event T)) (answer : Answer T) → NoneEnds wrote
         → story.calls ++ flat_map (finished_in told) (wrote ++ Finished h.party h.call.start answer ∷ [])
         ≡ story.calls ++ (as_request h.party h.call.start told, as_reply told answer) ∷ []
@@ -150,6 +152,7 @@ module _ {T : Type 0} (C : Course T) (H : Holding C) where
         ∙ ap (λ (xs : List (Request T × Reply T)). xs ++ (as_request h.party h.call.start told, as_reply told answer) ∷ [])
         (none_finished told wrote (none (λ start. true))))
 
+    -- what a step comes to leaves the call under way, or no call and one more answer
     comes_to : (a : After (Flight T) (Answer T)) (back : Bool) (wrote : List (Event T)) (kept : Registry T) → NoneEnds wrote
         → Came C H h.object h.turns h.party h.call.start told a (words_after t.world.words ask) kept
         → ((m n : ℕ) (words : List ℕ) (kept : Registry T) → m ≤ n → H.Holds m words kept → H.Holds n words kept)
@@ -197,6 +200,7 @@ module _ {T : Type 0} (C : Course T) (H : Holding C) where
     comes s st later = comes_to s.after s.back s.wrote s.kept st.none st.came later
 
   module _ (t : Trace T) (story : Story T) (h : Goes t story) where
+    -- as the call under way takes a step, one call is under way still, or none and the words hold the object
     pub goes_on : Steps C H h.object h.turns h.party h.call.start story.told (words_after t.world.words (ask_of (want_of t.world.coding h.flight)))
         (step_in t.world h.party h.call h.flight (old_of t.world.words (ask_of (want_of t.world.coding h.flight))))
         → ((m n : ℕ) (words : List ℕ) (kept : Registry T) → m ≤ n → H.Holds m words kept → H.Holds n words kept)
@@ -211,6 +215,7 @@ module _ {T : Type 0} (C : Course T) (H : Holding C) where
         (comes t story h story.told (ask_of (want_of t.world.coding h.flight))
         (step_in t.world h.party h.call h.flight (old_of t.world.words (ask_of (want_of t.world.coding h.flight)))) st later)
 
+    -- as it is told yes or no, one call is under way still, or none and the words hold the object
     pub hears : (said : Bool)
         → Steps C H h.object h.turns h.party h.call.start (story.told ++ decided t.world.coding (Some h.flight) said) t.world.words
         (step_in t.world h.party h.call h.flight (number_of said))

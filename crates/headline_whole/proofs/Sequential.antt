@@ -43,6 +43,7 @@ module _ {T : Type 0} where
     reads_same (Died owner ∷ es) = reads_same es ∙ sym (ap (λ (xs : List A). xs ++ flat_map read es) (effects.died owner))
     reads_same (e ∷ es) = ap (λ (xs : List A). read e ++ xs) (reads_same es)
 
+    -- of a whole call such a reading finds what it finds in its effects
     pub reads_call : (p : ℕ) (start : Start T) (since : List (Event T)) (answer : Answer T)
         → flat_map read (whole_call p start since answer) ≡ flat_map read (of_parties since)
     reads_call p start since answer =
@@ -88,6 +89,7 @@ module _ {T : Type 0} where
     stands_open (Finished p start answer) span begins_not shut stands = open_shut (λ call. call ≡ start) (promise.wrote capacity start answer) span shut stands
     stands_open e span begins_not shut stands = open_only e span shut stands
 
+    -- as a call begins, none was under way
     begins : (before after : List (Event T)) (p : ℕ) (start : Start T) → events ≡ before ++ Begun p start ∷ after → Stage before
         → Stage (before ++ Begun p start ∷ [])
     begins before after p start at (Rests shut rest) =
@@ -100,6 +102,7 @@ module _ {T : Type 0} where
     none_more : (since : List (Event T)) (e : Event T) → NoneEnds since → NoneEnds (e ∷ []) → NoneEnds (since ++ e ∷ [])
     none_more since e none silent is_call = flat_map-append (answer_in is_call) since (e ∷ []) ∙ (λ i. none is_call i ++ silent is_call i)
 
+    -- as a call ends, none is under way
     finishes : (before after : List (Event T)) (p : ℕ) (start : Start T) (answer : Answer T) → events ≡ before ++ Finished p start answer ∷ after
         → IsOpenFor start (promise.wrote capacity start answer) (span_of p before) → Stage before → Stage (before ++ Finished p start answer ∷ [])
     finishes before after p start answer at stands (Rests shut rest) =
@@ -122,6 +125,7 @@ module _ {T : Type 0} where
         (λ ne. absurd (open_shut (λ call. call ≡ start) (promise.wrote capacity start answer) (span_of p before) (others p ne) stands))
         (cases_eq p q)
 
+    -- as an owner dies one call is under way still, or none
     mourns : (before : List (Event T)) (owner : ℕ) → Stage before → Stage (before ++ Died owner ∷ [])
     mourns before owner (Rests shut rest) =
         Rests (λ q. subst IsShut (sym (span_of-death q before owner)) (shut q)) (dies before owner rest)
@@ -135,6 +139,7 @@ module _ {T : Type 0} where
         (none_more since (Died owner) none (λ is_call. refl))
         (λ r ne. subst IsShut (sym (span_of-death r before owner)) (others r ne)) rest
 
+    -- an event of a party with a call under way leaves that one call under way
     goes : (before : List (Event T)) (e : Event T) (p : ℕ) → whose e ≡ Some p → ((s : Span T) → own_after s e ≡ longer s e) → NoneEnds (e ∷ [])
         → (IsShut (span_of p before) → ⊥) → Stage before → Stage (before ++ e ∷ [])
     goes before e p mine writes silent unshut (Rests shut rest) = absurd (unshut (shut p))
@@ -158,6 +163,7 @@ module _ {T : Type 0} where
     of_any before e (Some p) is some writes silent begins_not stands stage =
         goes before e p is writes silent (λ shut. stands_open e (span_of p before) begins_not shut stands) stage
 
+    -- each event leads from one stage to the next
     step : (e : Event T) (before after : List (Event T)) → events ≡ before ++ e ∷ after → Stage before → Stage (before ++ e ∷ [])
     step (Begun p start) before after at stage = begins before after p start at stage
     step (Finished p start answer) before after at stage =

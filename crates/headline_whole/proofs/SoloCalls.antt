@@ -65,6 +65,7 @@ module _ {T : Type 0} (C : Course T) where
       came n told (GoOn d) is left = (agrees_then code words beside p start flight old kept d agrees is, n, left)
       came n told (Done answer) is left = left
 
+      -- a step of a call that talks on, or ends so, goes as the rules say
       pub steps : (n : ℕ) (told : List (Decision T))
           → Turns code (Ends s turns p start) (λ told f ws. Talks code (Ends s turns p start) n told f ws) told (after_of code flight old) next_words
           → Steps C talking s turns p start told next_words (step_of code words beside p start flight old kept)
@@ -77,6 +78,7 @@ module _ {T : Type 0} (C : Course T) where
                 (came n told (after_of code flight old) refl left);
           }
 
+    -- a step that needs no decision goes as the rules say
     goes : (s : C.State) (turns p : ℕ) (start : Start T) (told : List (Decision T)) (flight : Flight T) (words : List ℕ) (kept : Registry T)
         (beside : Option (ℕ × ℕ)) → Agree start flight kept → (n : ℕ) → Talks code (Ends s turns p start) n told flight words
         → is_question (want_of code flight) ≡ false
@@ -88,6 +90,7 @@ module _ {T : Type 0} (C : Course T) where
         (old_of words (ask_of (want_of code flight))) agrees (suc n) told
         (talk_goes code (Ends s turns p start) (λ told f ws. Talks code (Ends s turns p start) n told f ws) told flight words t calm)
 
+    -- a step that is told yes or no goes as the rules say
     hears : (s : C.State) (turns p : ℕ) (start : Start T) (told : List (Decision T)) (flight : Flight T) (words : List ℕ) (kept : Registry T)
         (beside : Option (ℕ × ℕ)) (said : Bool) → Agree start flight kept → (n : ℕ) → Talks code (Ends s turns p start) n told flight words
         → is_question (want_of code flight) ≡ true
@@ -98,6 +101,7 @@ module _ {T : Type 0} (C : Course T) where
         steps s turns p start flight words words kept beside (number_of said) agrees n (told ++ decided code (Some flight) said)
         (talk_hears code (Ends s turns p start) (λ told f ws. Talks code (Ends s turns p start) n told f ws) told flight words t is said)
 
+    -- a kind whose calls begin so keeps to the rules
     pub talk_rules : (kind : Kind) (capacity : ℕ) → Begins kind capacity → Rules C talking code kind capacity
     talk_rules kind capacity L =
         record {

@@ -65,6 +65,7 @@ module _ (k e : ℕ) where
       let t : nat_lt (k + 1) e ≡ false = grind (arith, nat_tests, high) in
       ap (λ b. if b then GoOn (record { word = k + 1; end = e }) else Done tt) t
 
+-- the call swaps these words for 0, one after another, and ends
 pub sweeps : (n k e : ℕ) → k + suc n ≡ e → (room : OneWord) (words : List ℕ)
     → (last_room : OneWord) × Ends (suc n) last_room (cleared words k (suc n)) (record { word = k; end = e }) room words
 sweeps zero k e is room words =
@@ -99,6 +100,7 @@ sweeps_none k room words = (
 
 -- ---- from the first word to the last
 
+-- from the first word to the last, the call runs to an end that leaves each of them 0
 pub sweep_runs : (k n : ℕ) → n ≤ 2 ^ 64 - 2 → (room : OneWord) (words : List ℕ)
     → Runs (λ (c : ResetAll) (given : Unit {0}). reset_all_want c) (λ c given old. reset_all_after c old) (λ c room old. reset_all_kept room old) tt
     (λ end room last. last ≡ cleared words k n) (record { word = k; end = k + n }) room words

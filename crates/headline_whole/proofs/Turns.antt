@@ -169,6 +169,7 @@ module _ {T : Type 0} (C : Course T) (H : Holding C) (code : Coding T) (kind : K
 
   -- ---- an owner dies
 
+  -- as an owner dies what stands between two turns stays
   dies : (t : Trace T) (story : Story T) (owner : ℕ) → Stands C H t story
       → Stands C H (after_turn t (Die owner)) (story_after t.world (Die owner) story)
   dies t story owner (inl h) =
@@ -206,6 +207,7 @@ module _ {T : Type 0} (C : Course T) (H : Holding C) (code : Coding T) (kind : K
     pub made : IsMadeSo code kind capacity t
     pub stands : RunsWhole t.events → Stands C H t story
 
+  -- a turn that is not refused leaves what stands between two turns
   takes : (t : Trace T) (story : Story T) (turn : Turn T) → refusal_of t.world turn ≡ None → HasRun t story
       → RunsWhole (after_turn t turn).events → Stands C H (after_turn t turn) (story_after t.world turn story)
   takes t story (Begin p start) free h runs =
@@ -221,6 +223,7 @@ module _ {T : Type 0} (C : Course T) (H : Holding C) (code : Coding T) (kind : K
       dies t story owner
       (h.stands (whole_before t.events (Died owner ∷ []) runs))
 
+  -- a run that has come so far goes on by a turn that is not refused
   keeps : (t : Trace T) (story : Story T) (turn : Turn T) → refusal_of t.world turn ≡ None → HasRun t story
       → HasRun (after_turn t turn) (story_after t.world turn story)
   keeps t story turn free h =
@@ -245,6 +248,7 @@ module _ {T : Type 0} (C : Course T) (H : Holding C) (code : Coding T) (kind : K
   abbrev no_calls : Story T
   no_calls = record { told = []; calls = [] }
 
+  -- at the opening no call is under way, and the words hold the object
   opens : (t : Trace T) → IsReached t → IsMadeSo code kind capacity t → (queue : ℕ) → queue_error t.world.kind queue ≡ None
       → HasRun (opened t.world.coding t.world.kind t.world.capacity queue t.world.parties) no_calls
   opens t r made queue queued =

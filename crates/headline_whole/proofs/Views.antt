@@ -50,10 +50,12 @@ module _ {T : Type 0} where
     rests : (p : ℕ) → Rests course holding t (calls_of t r) → kept_view t.world.kept p ≡ object.views p
     rests p h = as_kept t.world.kept p ∙ ap (λ (s : Viewed T). s.views p) (sym h.answers.stands)
 
+    -- where a call is under way that is no look of the party, its kept state shows what the object says
     goes : (p : ℕ) → is_look (flight_in t.world p) ≡ false → Goes course holding t (story_of t r) → kept_view t.world.kept p ≡ object.views p
     goes p calm h =
         as_kept t.world.kept p ∙ (go h.under.under ∙ ap (λ (s : Viewed T). s.views p) (sym h.under.is ∙ sym h.answers.stands))
       where
+        -- a look that is under way is its party's
         looks : Viewing t.world.coding r.coded t.world.capacity h.under.first_words h.under.holds h.under.views h.party h.call.start
             (story_of t r).told h.flight t.world.words t.world.kept → p ≡ h.party → is_look (flight_in t.world p) ≡ true
         looks k e =
@@ -62,6 +64,7 @@ module _ {T : Type 0} where
             (turns.under_way course holding t.world.coding kinds.Container t.world.capacity rules t (story_of t r) h)
             ∙ ap (λ f. is_look (Some f)) k.flight_is)
 
+        -- so it is whether the call under way is a look or another
         go : Talking t.world.coding r.coded t.world.capacity h.under.first_words h.under.views h.party h.call.start (story_of t r).told
             h.flight t.world.words t.world.kept
             ⊎ Viewing t.world.coding r.coded t.world.capacity h.under.first_words h.under.holds h.under.views h.party h.call.start

@@ -30,6 +30,7 @@ module _ {T State : Type 0} (spec : Specification T State) where
       ∙ (ap (λ (xs : List (Start T × Answer T)). answered spec.is_call events ++ xs) (none spec.is_call)
       ∙ append-nil (answered spec.is_call events))
 
+  -- events that end no call leave the answers those of the object
   pub still_answered : (object : State) (events es : List (Event T)) → NoneEnds es → HasAnswered object events → HasAnswered object (events ++ es)
   still_answered object events es none h =
       let same = more_answered events es none in
@@ -44,6 +45,7 @@ module _ {T State : Type 0} (spec : Specification T State) where
       → HasAnswered (if spec.is_call start then spec.object.after object start else object) (events ++ (wrote ++ Finished p start answer ∷ []))
   once_more object events wrote p start answer none said h = go (spec.is_call start) refl
     where
+      -- a call that ends adds its answer to those that the object has to give, and no other
       grown : answered spec.is_call (events ++ (wrote ++ Finished p start answer ∷ []))
           ≡ answered spec.is_call events ++ ((if spec.is_call start then (start, answer) ∷ [] else []) ++ [])
       grown =
@@ -52,6 +54,7 @@ module _ {T State : Type 0} (spec : Specification T State) where
           (flat_map-append (whole.answer_in spec.is_call) wrote (Finished p start answer ∷ [])
           ∙ ap (λ (xs : List (Start T × Answer T)). xs ++ ((if spec.is_call start then (start, answer) ∷ [] else []) ++ [])) (none spec.is_call))
 
+      -- so it is whether the call is one of the object's or not
       go : (b : Bool) → spec.is_call start ≡ b
           → HasAnswered (if b then spec.object.after object start else object) (events ++ (wrote ++ Finished p start answer ∷ []))
       go true is =
@@ -88,6 +91,7 @@ module _ {T : Type 0} (R : Reading T) where
   abbrev pub speech : Speech course
   speech = record { Holds = R.Holds; read = R.read }
 
+  -- what keeps to a law keeps to the rules of calls that put no question
   pub rules : (code : Coding T) (kind : Kind) (capacity : ℕ) → Law R code kind capacity → Rules course (talking course speech code) code kind capacity
   rules code kind capacity L =
       talk_rules course speech code kind capacity

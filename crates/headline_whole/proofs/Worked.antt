@@ -64,6 +64,7 @@ peeked =
     ++ (begins 1 (Queues Peek) 3
     ++ (begins 1 (Queues HasProducer) 1 ++ (begins 1 (Queues Pop) 4 ++ begins 1 (Queues Peek) 3))))))
 
+-- a peek answers None of an empty queue, and else what the next pop takes
 told_the_oldest : answered is_list_call (ran one_word kinds.IndexQueue 2 2 peeked).events
     ≡ (Queues Peek, PoppedNone)
     ∷ (Queues (PushIndex 7), Truth true)
@@ -86,6 +87,7 @@ past_full =
     ++ (begins 1 (Queues IsFull) 4
     ++ (begins 0 (Queues (PushIndex 8)) 9 ++ (begins 1 (Queues Pop) 4 ++ begins 1 (Queues Pop) 4))))
 
+-- the second push is refused, and a pop of the empty queue answers None
 refused_when_full : answered is_list_call (ran one_word kinds.IndexQueue 1 2 past_full).events
     ≡ (Queues (PushIndex 7), Truth true)
     ∷ (Queues IsFull, Truth true)
@@ -98,6 +100,7 @@ refused_when_full = refl
 as_a_full_list : AnswersAs (whole_list queues.IndexQueue 1) (ran one_word kinds.IndexQueue 1 2 past_full).events
 as_a_full_list = subst (λ (xs : List (Start ℕ × Answer ℕ)). IsLegal (whole_list queues.IndexQueue 1).object xs) (sym refused_when_full) refl
 
+-- the second push hands the first value back
 handed_back : answered is_list_call (ran one_word kinds.Overflow 1 2 past_full).events
     ≡ (Queues (PushIndex 7), PoppedNone)
     ∷ (Queues IsFull, Truth true)
@@ -135,6 +138,7 @@ set_and_reset =
     ++ (begins 0 (Bits (bits.Set 0)) 4
     ++ (begins 1 (Bits bits.ResetNext) 6 ++ (begins 0 (Bits bits.ResetAll) 6 ++ begins 1 (Bits bits.ResetNext) 6))))))
 
+-- the second search finds place 2, and place 0 is left for the reset of all
 found_in_turn : answered is_places_call (ran one_word kinds.Bits 3 2 set_and_reset).events
     ≡ (Bits (bits.Set 1), Truth true)
     ∷ (Bits (bits.Set 1), Truth false)
@@ -184,6 +188,7 @@ given_back_and_locked =
     begins 0 (Indices Acquire) 4
     ++ (begins 0 (Indices (Release 0 LockIfLastIndex)) 4 ++ (begins 1 (Indices Acquire) 4 ++ begins 1 (Indices IsLocked) 4))
 
+-- the release answers Locked, and the next acquire is refused
 locked : answered is_stack_call (ran one_word kinds.Indices 2 2 given_back_and_locked).events
     ≡ (Indices Acquire, Index 0)
     ∷ (Indices (Release 0 LockIfLastIndex), State Locked)
@@ -216,6 +221,7 @@ two_of_one =
     ∷ Die 5
     ∷ begins 1 (Robust (robust.Recover Default)) 3 ++ (Decide 1 true ∷ nexts 1 5 ++ (Decide 1 false ∷ nexts 1 3)))))
 
+-- the find answers one index, and the recovery asks about both
 stopped_and_freed : calls_in kinds.Robust 2 two_of_one
     ≡ a_call 0 (Robust (robust.Acquire 5)) [] [] (Index 0)
     ∷ a_call 0 (Robust (robust.Acquire 5)) [] [] (Index 1)
@@ -237,6 +243,7 @@ added_and_removed =
     ∷ nexts 0 4
     ++ (begins 0 (Container (containers.Remove 0 5 Default)) 12 ++ begins 1 (Container containers.UpdateState) 12))))
 
+-- the state shows one value, and an update meets the change of the remove
 seen_and_gone : calls_in kinds.Container 2 added_and_removed
     ≡ a_call 0 (Container (containers.Add 7 5)) [] [] (Index 0)
     ∷ a_call 1 (Container containers.GetState) [] [] (Number 1)
@@ -273,6 +280,7 @@ replaced_and_recovered =
     ∷ begins 0 (Container (containers.Recover 5 LockIfLastIndex)) 8
     ++ (Decide 0 true ∷ nexts 0 12 ++ (begins 0 (Container containers.IsLocked) 2 ++ begins 1 (Container (containers.Add 8 6)) 12))))))
 
+-- the recovery answers Locked, and the next add is refused
 freed_and_locked : calls_in kinds.Container 2 replaced_and_recovered
     ≡ a_call 0 (Container (containers.Add 7 5)) [] [] (Index 0)
     ∷ a_call 1 (Container containers.GetState) [] [] (Number 1)
@@ -329,6 +337,7 @@ refused_push legal = cc
 invented_pop : AnswersAs {T = ℕ} (whole_list queues.IndexQueue 2) (Begun 0 (Queues Pop) ∷ Finished 0 (Queues Pop) (PoppedIndex 7) ∷ []) → ⊥
 invented_pop legal = cc
 
+-- a peek of two values that answers the second is refused
 peeked_the_newest : AnswersAs {T = ℕ} (whole_list queues.IndexQueue 2)
     (Finished 0 (Queues (PushIndex 7)) (Truth true)
     ∷ Finished 0 (Queues (PushIndex 8)) (Truth true)
@@ -455,6 +464,7 @@ module _ {T : Type 0} where
   Continues events (Begun p start) = (q : ℕ) → IsShut (span_of q events)
   Continues events e = Unit {0}
 
+  -- an event that continues a run whose calls run whole leaves it one
   one_more : (events : List (Event T)) (e : Event T) → RunsWhole events → Continues events e → RunsWhole (events ++ e ∷ [])
   one_more events e runs more p start before at q = go (split_last events e before (Begun p start) at.0 at.1)
     where
@@ -468,6 +478,7 @@ acquire = Queues AcquireProducer
 abbrev push : Start ℕ
 push = Queues (PushIndex 7)
 
+-- a call that begins once another has ended runs whole
 one_after_another : RunsWhole (Begun 0 acquire ∷ Finished 0 acquire (Truth true) ∷ Begun 0 push ∷ [])
 one_after_another =
     one_more (Begun 0 acquire ∷ Finished 0 acquire (Truth true) ∷ []) (Begun 0 push)

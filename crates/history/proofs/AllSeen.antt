@@ -71,6 +71,7 @@ module _ {T : Type 0} where
   abbrev SpentIn : List (View T) → Type 0
   SpentIn views = (j : ℕ) (u : View T) → get_elem? views j ≡ some u → u.share.part ≡ 0 → (u.made ≡ []) × (u.going ≡ None)
 
+  -- the only seat, with all shares, knows a history that is still empty
   pub known_alone : (v : View T) → v.share ≡ all_shares → v.seen ≡ [] → Known (v ∷ []) []
   known_alone v all seen =
       record {
@@ -91,6 +92,8 @@ module _ {T : Type 0} where
           absurd (omega arith))
       spent (suc j) u at part = absurd (some-ne-none u (sym at))
 
+  -- a seat whose view changes keeps to it that who has no share left made nothing and has no call
+  -- under way
   spent_set : (views : List (View T)) (id : ℕ) (w : View T) → SpentIn views → (w.share.part ≡ 0 → (w.made ≡ []) × (w.going ≡ None)) → SpentIn (set views id w)
   spent_set views id w spent own j u at part =
       ⊎_elim (λ (e : (j ≡ id) × (w ≡ u)). subst (λ (z : View T). (z.made ≡ []) × (z.going ≡ None)) e.1
@@ -194,6 +197,7 @@ module _ {T : Type 0} where
             spent = spent;
           }
 
+  -- what is known stands where a seat takes over what another one knew and made
   pub known_join : (views : List (View T)) (events : List (Event T)) (id other : ℕ) (v w : View T)
       → get_elem? views id ≡ some v → ¬ (other ≡ id) → get_elem? views other ≡ some w → 0 < v.share.part
       → IsBeginning v.seen events → v.other ≡ [] → w.other ≡ [] → Known views events

@@ -61,6 +61,7 @@ module _ {T : Type 0} (machine : OneMachine T) where
     pub others : others_in u.world 0 ≡ 0
     pub steps : steps_of_run code kind capacity one.turns ≡ nexts ts
 
+  -- the machine of these turns, as a turning one
   abbrev turning : {words : List ℕ} {ts : List (Turn T)} {es : List (Event T)} {going : Option (Start T × Flight T)} → Here words ts es going → Turning T
   turning {words} {ts} {es} h =
       record {
@@ -79,6 +80,7 @@ module _ {T : Type 0} (machine : OneMachine T) where
         b = h.between;
       }
 
+  -- a machine that has just been opened is here, with no turn and no event
   pub opens_here : IsCoding code → capacity_error kind capacity ≡ None → Here ((opening_of kind).words code.size capacity ++ 0 ∷ []) [] [] None
   opens_here coded admitted =
       let t : Trace T = worlds.opening code kind capacity 0 in
@@ -159,6 +161,7 @@ module _ {T : Type 0} (machine : OneMachine T) where
       → sum_by f (maker ts es).made ≡ sum_by (owned same_seat 0 f) h.u.events
   sums words ts es going h f = (let all = h.between.made_own (first_view capacity) refl f in omega arith)
 
+  -- a call that the model admits here begins, for the only seat
   pub begins : {C M E : Type 0} (call : Calling T C M E) (c : C) (m : M) (words : List ℕ) (ts : List (Turn T)) (es : List (Event T))
       → (h : Here words ts es None) → Starts code kind call (maker ts es) c m h.u same_seat 0
       → Here words (ts ++ Begin 0 call.start ∷ []) (es ++ Begun 0 call.start ∷ []) (Some (call.start, call.flight c m))
@@ -206,6 +209,8 @@ module _ {T : Type 0} (machine : OneMachine T) where
       abbrev wrote : List (Event T)
       wrote = own ++ ending_of 0 start (answer_in comes)
 
+      -- after a step of the call the machine has its word changed, one turn more and what the step
+      -- wrote
       took : Here (slice_set words a.word (written a.op found)) (ts ++ Next 0 ∷ []) (es ++ wrote) (call_then start comes)
       took =
           let tells : events_of h.u.world (Next 0) ≡ wrote =
@@ -258,6 +263,7 @@ module _ {T : Type 0} (machine : OneMachine T) where
   all_of : (ts : List (Turn T)) (es : List (Event T)) → HasAsked (maker ts es) (nexts ts)
   all_of ts es = record { share = (omega arith, omega arith); most = omega arith; all = λ whole. omega arith }
 
+  -- the view of the only pass gains all the turns and events so far
   gains_so : (words : List ℕ) (ts : List (Turn T)) (es : List (Event T)) → (h : Here words ts es None)
       → Gains (first_view {T = T} capacity ∷ []) (first_view {T = T} capacity) (nexts ts) 0 (steps_of_run code kind capacity h.one.turns)
   gains_so words ts es h =
@@ -278,6 +284,7 @@ module _ {T : Type 0} (machine : OneMachine T) where
 
   -- ---- a table opens so
 
+  -- a table whose words and view are those of the machine here holds a machine
   pub opens_so : (words : List ℕ) (ts : List (Turn T)) (es : List (Event T)) → Here words ts es None
       → IsMachine code kind capacity (opening words [] (maker ts es))
   opens_so words ts es h =

@@ -55,6 +55,7 @@ len_lacks = grind arith
 
 module _ {T : Type 0} (code : Coding T) (kd : QueueKind) (x : View T) (m : Unit {0}) (idle : x.going ≡ None)
     (alone : x.other ≡ []) (any : 0 < x.share.part) where
+  -- the first step of an acquire of a role, for a pass that needs none
   pub acquire_first_on : (role : Role) → At code (machine_kind kd) (takes_role role) x x (record { word = role_word role }) m
   acquire_first_on role =
       inl (record {
@@ -70,6 +71,7 @@ module _ {T : Type 0} (code : Coding T) (kd : QueueKind) (x : View T) (m : Unit 
         wrote = λ p. refl;
       })
 
+  -- the first step of the release of a role, for a pass that has it
   pub release_first_on : (role : Role) → HasRole role x.made → At code (machine_kind kd) (gives_role role) x x (record { word = role_word role }) m
   release_first_on role has =
       inl (record {
@@ -85,6 +87,7 @@ module _ {T : Type 0} (code : Coding T) (kd : QueueKind) (x : View T) (m : Unit 
         wrote = λ p. refl;
       })
 
+  -- the first step of a look at a role
   pub look_first_on : (role : Role) → At code (machine_kind kd) (looks_role role) x x (record { word = role_word role }) m
   look_first_on role =
       inl (record {
@@ -100,6 +103,7 @@ module _ {T : Type 0} (code : Coding T) (kd : QueueKind) (x : View T) (m : Unit 
         wrote = λ p. refl;
       })
 
+  -- the first step of a length
   pub len_first_on : (which : LengthOf) (size : ℕ) → x.capacity ≡ size → At code (machine_kind kd) (counts_waiting which size) x x (first_len size) m
   len_first_on which size same =
       subst (λ n. At code (machine_kind kd) (counts_waiting which n) x x (first_len n) m) same

@@ -17,6 +17,7 @@ use Rattle.model.specs.declared.turn.Turn.TheVariants.{Die}
 use Rattle.history.proofs.Known.{nat_cases}
 
 module _ {A : Type 0} where
+  -- the sum over a list after one of its elements is replaced
   pub sum_set : (f : A → ℕ) (xs : List A) (i : ℕ) (x y : A) → get_elem? xs i ≡ some x → sum_by f (set xs i y) + f x ≡ sum_by f xs + f y
   sum_set f [] i x y at = absurd (some-ne-none x (sym at))
   sum_set f (z ∷ zs) zero x y at =
@@ -30,6 +31,7 @@ module _ {A : Type 0} where
       let b = sum_by-cons f z zs in
       omega arith
 
+  -- a sum of numbers that are no more is no more
   sum_most : (f g : A → ℕ) (xs : List A) → ((j : ℕ) (x : A) → get_elem? xs j ≡ some x → f x ≤ g x) → sum_by f xs ≤ sum_by g xs
   sum_most f g [] each = omega arith
   sum_most f g (z ∷ zs) each =
@@ -81,6 +83,7 @@ abbrev aside_of : {T : Type 0} → View T → ℕ
 aside_of v = v.aside
 
 module _ {T : Type 0} where
+  -- the share of a seat is a part of the whole
   pub part_of : (views : List (View T)) (id : ℕ) (v : View T) → get_elem? views id ≡ some v → Shares (λ (v : View T). v.share) views → IsPart v.share
   part_of views id v at h =
       let fit = h.fits id v at in
@@ -113,6 +116,7 @@ module _ {T : Type 0} where
         all = λ whole. (let all = h.all (subst IsAll same whole) in omega arith);
       }
 
+  -- what all seats have asked for grows by what one of them asks for
   pub have_more : (views : List (View T)) (id : ℕ) (v w : View T) (old n : ℕ) → get_elem? views id ≡ some v → HaveAsked views old
       → w.asked + v.aside ≡ v.asked + w.aside + n → (w.share.part ≡ 0 → w.asked ≡ w.aside) → HaveAsked (set views id w) (old + n)
   have_more views id v w old n at h own none =
@@ -155,6 +159,7 @@ module _ {T : Type 0} where
 
   -- ---- a split
 
+  -- what the old pass has asked for after a split
   pub left_asked : (old left : View T) (steps : ℕ) → HasAsked old steps → left.share ≡ half_of old.share → left.asked ≡ old.asked + 1
       → left.aside ≡ old.aside + 1 → HasAsked left steps
   left_asked old left steps h share asked aside =
@@ -164,6 +169,7 @@ module _ {T : Type 0} where
         all = λ whole. (let all = h.all (no_half old.share h.share (subst IsAll share whole)) in omega arith);
       }
 
+  -- the new pass of a split has asked for nothing
   pub right_asked : (old right : View T) (steps : ℕ) → HasAsked old steps → right.share ≡ half_of old.share → right.asked ≡ 0 → right.aside ≡ 0
       → HasAsked right steps
   right_asked old right steps h share asked aside =
@@ -192,6 +198,7 @@ none_or_one (Some ask) e = inl (omega arith)
 module _ {T : Type 0} where
   -- ---- a join
 
+  -- a join adds up what both passes asked for
   pub have_both : (views : List (View T)) (steps id other : ℕ) (v w : View T) → get_elem? views id ≡ some v → other ≢ id → get_elem? views other ≡ some w
       → 0 < v.share.part → Shares (λ (v : View T). v.share) views → HaveAsked views steps
       → HaveAsked (set (set views id (joined_view v w)) other spent_view) steps
@@ -228,6 +235,7 @@ module _ {T : Type 0} where
 
   -- ---- the first pass
 
+  -- the first pass has asked for nothing
   pub first_asked : (capacity : ℕ) → HaveAsked (first_view {T = T} capacity ∷ []) 0
   first_asked capacity =
       record {
@@ -246,6 +254,7 @@ module _ {T : Type 0} where
 
   -- ---- how many turns go on with a call
 
+  -- a begin is no step
   pub nexts_begin : (ts : List (Turn T)) (p : ℕ) (start : Start T) → nexts (ts ++ Begin p start ∷ []) ≡ nexts ts + 0
   nexts_begin [] p start = refl
   nexts_begin (Next q ∷ ts) p start = let more = nexts_begin ts p start in omega arith
@@ -253,6 +262,7 @@ module _ {T : Type 0} where
   nexts_begin (Decide q s ∷ ts) p start = nexts_begin ts p start
   nexts_begin (Die q ∷ ts) p start = nexts_begin ts p start
 
+  -- and a step is one
   pub nexts_next : (ts : List (Turn T)) (p : ℕ) → nexts (ts ++ Next p ∷ []) ≡ nexts ts + 1
   nexts_next [] p = refl
   nexts_next (Next q ∷ ts) p = let more = nexts_next ts p in omega arith

@@ -59,6 +59,7 @@ module _ {T C M E : Type 0} (code : Coding T) (kind : Kind) (call : Calling T C 
 module _ {T C M E : Type 0} (machines : Machines T) (call : Calling T C M E) where
   open machines use {code, kind, effects, size_of, laws}
 
+  -- where the call stands in the view
   abbrev Stage : View T → View T → C → M → Type 0
   Stage base v c m = At code kind call base v c m
 
@@ -188,6 +189,7 @@ module _ {T C M E : Type 0} (machines : Machines T) (call : Calling T C M E) whe
     later_by : (p : ℕ) → v.party ≡ Some p → (base : View T) → v.going ≡ Some (call.start, call.flight c m) → Stage base v c m → call.by base.party p
     later_by = grind arith
 
+    -- the machine of the table is ready for the step
     pub ready : (base : View T) → Stage base v c m → Ready s v key id c m
     ready base (inl first) =
         let none : v.going ≡ None = ap (λ (z : View T). z.going) first.is ∙ first.idle in

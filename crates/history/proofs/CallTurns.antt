@@ -65,6 +65,7 @@ module _ {T C M E : Type 0} (machines : Machines T) (call : Calling T C M E) whe
   module _ (step : Stepping) where
     open step use {seat.{s, v, key, id, c, m, at, known, y}, ask, low, asks_it, finds}
 
+    -- what the machine is after the turn
     abbrev turn_next : Going T
     turn_next =
         record {
@@ -145,6 +146,7 @@ module _ {T C M E : Type 0} (machines : Machines T) (call : Calling T C M E) whe
     abbrev mine_now : List (Event T)
     mine_now = events_by y.p effs
 
+    -- the turn has met the call's word, whose number it found
     met : (base : View T) (stage : Stage base v c m)
         → Met code kind base.capacity call.start flight_now y.p base.going
         ((y.prior base stage).wrote ++ (y.prior base stage).late) found y.u

@@ -178,6 +178,7 @@ module _ {T : Type 0} where
   call_then start (GoOn flight) = Some (start, flight)
   call_then start (Done answer) = None
 
+  -- after a begin the party's call is the one that began
   pub begin_own : (w : World T) (p : ℕ) (start : Start T) (flight : Flight T) (o : Option (Flight T))
       → o ≡ Some flight → call_in (after_begin w p start o) p ≡ Some (start, flight)
   begin_own = grind (arith, party_put_same)

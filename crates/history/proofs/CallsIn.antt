@@ -33,6 +33,7 @@ regroup = grind (arith, append_assoc)
 
 -- a call of the driver as a call of the model
 module _ {T C M E : Type 0} (call : Calling T C M E) where
+  -- where the call of the model goes on, by where that of the driver does
   abbrev pub goes : After C E → M → After (Flight T) (Answer T)
   goes (GoOn d) m = GoOn (call.flight d m)
   goes (Done e) m = Done (call.answer e m)
@@ -64,6 +65,7 @@ module _ {T C M E : Type 0} (Asks : Type 0) (code : Coding T) (effects : ℕ →
     pub tells : (capacity p : ℕ) (from : Option (Start T × Flight T)) (c d : C) (m : M) (n : ℕ) (es : List (Event T))
         → call.stands capacity c → call.wrote capacity p from c m es → after c n ≡ GoOn d
         → call.wrote capacity p from d (kept c m n) (es ++ effects p (call.flight c m) n)
+    -- what the last step of a call writes is what the call tells
     pub tells_all : (capacity p : ℕ) (from : Option (Start T × Flight T)) (c : C) (e : E) (m : M) (n : ℕ) (es : List (Event T))
         → call.stands capacity c → call.skips c n ≡ false → call.wrote capacity p from c m es → after c n ≡ Done e
         → is_question (want c) ≡ false
@@ -91,6 +93,7 @@ KeepsSo {T} code kind size_of driven at ends =
 abbrev pub KeepsEnds : {T C M E : Type 0} → Coding T → Kind → (ℕ → ℕ) → Driven T C M E → Type 0
 KeepsEnds code kind size_of driven = KeepsSo code kind size_of driven (At code kind driven.call) (Ends code kind driven.call)
 
+-- the steps of a call keep to the rule of its table, over all capacities
 abbrev pub KeepsOver : {T C M E : Type 0} → Coding T → Kind → (ℕ → ℕ) → Driven T C M E → Type 0
 KeepsOver code kind size_of driven = KeepsSo code kind size_of driven (At code kind driven.call) (Over code kind driven.call)
 
@@ -172,6 +175,7 @@ module _ {T C M E Asks : Type 0} (code : Coding T) (kind : Kind) (effects : Worl
       → (es ++ late) ++ events_by p (effects t.world p (call.flight c m) n) ≡ es ++ own p (call.flight c m) n
   all = grind (arith, append-nil)
 
+  -- the steps of the driver's call are those of the model's
   pub steps_as : {Goes : Type 0} → Goes → StepsAs Asks Goes code kind effects driven
   steps_as goes_so =
       record {
@@ -220,6 +224,7 @@ module _ {T C M E : Type 0} (code : Coding T) (kind : Kind) (effects : World T �
       → events_by p (effects t.world p (call.flight c m) n) ≡ own p (call.flight c m) n
   written_alone = grind (arith, by_mine)
 
+-- the same for a kind whose parties write for themselves alone
 pub steps_alone : {T C M E Asks : Type 0} (code : Coding T) (kind : Kind) (effects : World T → ℕ → Flight T → ℕ → List (Event T))
     (own : ℕ → Flight T → ℕ → List (Event T)) (driven : Driven T C M E)
     → ActsAlone code kind effects own driven.call → StepsOf Asks code own driven → StepsThere Asks code kind effects driven
@@ -246,6 +251,7 @@ span_by : {T : Type 0} (p : ℕ) (a : Span T) (es : List (Event T)) → fold (sp
 span_by p a [] = refl
 span_by p a (e ∷ es) = by_bool (is_party p (whose e)) (λ t. rw t (span_by p (own_after a e) es)) (λ t. rw t (span_by p a es))
 
+-- the span of a party whose latest call began here, and has written what followed
 pub span_since : {T : Type 0} (p : ℕ) (start : Start T) (xs during : List (Event T))
     → span_of p (xs ++ Begun p start ∷ during) ≡ fold own_after (Open start []) (events_by p during)
 span_since {T} p start xs during =

@@ -36,6 +36,7 @@ module _ {T : Type 0} (words_of : T → List ℕ) (size : ℕ) where
       → add_takes size c stage (answered a.op n) ≡ add_takes size c stage n
   add_found = grind arith
 
+  -- an add asks for a word of the container at each stage
   add_words : (capacity : ℕ) (stage : AddStage) (given : Owned T) → AddIn size capacity stage
       → AsksFor (total_words capacity size) (add_asks words_of size capacity stage given)
   add_words capacity (adds.Acquires stage) given h =
@@ -85,6 +86,7 @@ module _ {T : Type 0} (code : Coding T) (law : IsCoding code) (given : Owned T) 
   abbrev pub add_driven : Driven T (Adding T) (Unit {0}) Added
   add_driven = record { want = λ c. add_want code.words_of code.size c given; after = add_then; kept = λ c m n. m; call = adding }
 
+  -- an add is a call of the model
   add_call : IsCallBy code (plain_effects code) (container_words code) add_driven
   add_call =
       record {
@@ -106,6 +108,7 @@ module _ {T : Type 0} (code : Coding T) (law : IsCoding code) (given : Owned T) 
   pub container_add_keeps : KeepsEnds code kinds.Container (container_words code) add_driven
   container_add_keeps = container_keeps code add_driven (λ c m. tt) add_call (λ c n. refl)
 
+  -- and so it begins, on a pass that rests
   pub container_add_first : (v : View T) (m : Unit {0}) → v.going ≡ None → v.other ≡ [] → 0 < v.share.part → given.owner < empty
       → At code kinds.Container adding v v (first_add v.capacity) m
   container_add_first v m idle alone any fits =
@@ -130,6 +133,7 @@ module _ {T : Type 0} (words_of : T → List ℕ) (size : ℕ) where
       → replace_takes size c stage given (answered a.op n) ≡ replace_takes size c stage given n
   replace_found = grind arith
 
+  -- a replacement asks for a word of the container at each stage
   replace_words : (capacity : ℕ) (stage : ReplaceStage) (given : Replacement T) → given.index < capacity → ReplaceIn size stage
       → AsksFor (total_words capacity size) (replace_asks words_of size capacity stage given)
   replace_words capacity replaces.Refuses given low h = absurd h
@@ -172,6 +176,7 @@ module _ {T : Type 0} (code : Coding T) (law : IsCoding code) (given : Replaceme
   abbrev pub replace_driven : Driven T (Replacing T) (Unit {0}) Replaced
   replace_driven = record { want = λ c. replace_want code.words_of code.size c given; after = replace_then; kept = λ c m n. m; call = replacing }
 
+  -- a replacement is a call of the model
   replace_call : IsCallBy code (plain_effects code) (container_words code) replace_driven
   replace_call =
       record {
@@ -193,6 +198,7 @@ module _ {T : Type 0} (code : Coding T) (law : IsCoding code) (given : Replaceme
   pub container_replace_keeps : KeepsEnds code kinds.Container (container_words code) replace_driven
   container_replace_keeps = container_keeps code replace_driven (λ c m. tt) replace_call (λ c n. refl)
 
+  -- and so it begins, on a pass that rests
   pub container_replace_first : (v : View T) (m : Unit {0}) → v.going ≡ None → v.other ≡ [] → 0 < v.share.part → given.index < v.capacity
       → given.owner < empty → At code kinds.Container replacing v v (first_replace v.capacity given.index) m
   container_replace_first v m idle alone any low fits =

@@ -85,6 +85,7 @@ module _ {T : Type 0} (code : Coding T) where
   pub container_lock_keeps : KeepsEnds code kinds.Container (container_words code) lock_driven
   container_lock_keeps = container_keeps code lock_driven (λ c m. tt) lock_call (λ c n. refl)
 
+  -- a look at the lock begins, on a pass that rests
   pub container_lock_first : (v : View T) (c : Looking) (m : Unit {0}) → v.going ≡ None → v.other ≡ [] → 0 < v.share.part
       → At code kinds.Container sees_lock v v c m
   container_lock_first v c m idle alone any =
@@ -104,6 +105,7 @@ module _ {T : Type 0} (code : Coding T) where
 remove_found : (capacity : ℕ) (stage : RemoveStage) (given : GiveBack) (a : Ask) (n : ℕ) → remove_asks capacity stage given ≡ wants.Ask a → answered a.op n ≡ n
 remove_found = grind arith
 
+-- a removal asks for a word of the container at each stage
 remove_words : (capacity size : ℕ) (stage : RemoveStage) (given : GiveBack) → given.index < capacity → RemoveIn capacity given.mode stage
     → AsksFor (total_words capacity size) (remove_asks capacity stage given)
 remove_words capacity size removes.Refuses given low h = absurd h
@@ -122,6 +124,7 @@ module _ (T : Type 0) (capacity : ℕ) (c : Removing) (same : c.capacity ≡ cap
       → ReleaseGoes T capacity (inner_release c.capacity stage) same p given low es r → RemoveGoes es (remove_released c count r)
   released = grind arith
 
+  -- what a removal has written after a step, where it goes on or ends
   removes_so : (stage : RemoveStage) (k : ℕ) (es : List (Event T)) → RemoveIn capacity given.mode stage → RemovedAt p given stage es
       → RemoveGoes (es ++ remove_effects p given stage k) (remove_takes c stage given k)
   removes_so removes.Refuses k es h at = absurd h
@@ -159,6 +162,7 @@ module _ {T : Type 0} (code : Coding T) (given : GiveBack) where
   abbrev pub remove_driven : Driven T Removing (Unit {0}) Removed
   remove_driven = record { want = λ c. remove_want c given; after = after; kept = λ c m n. m; call = removes_value given }
 
+  -- a removal is a call of the model
   pub remove_call : IsCallBy code (plain_effects code) (container_words code) remove_driven
   remove_call =
       record {
@@ -178,6 +182,7 @@ module _ {T : Type 0} (code : Coding T) (given : GiveBack) where
   pub container_remove_keeps : KeepsEnds code kinds.Container (container_words code) remove_driven
   container_remove_keeps = container_keeps code remove_driven (λ c m. tt) remove_call (λ c n. refl)
 
+  -- and so it begins, on a pass that rests
   pub container_remove_first : (v : View T) (m : Unit {0}) → v.going ≡ None → v.other ≡ [] → 0 < v.share.part → given.index < v.capacity → given.owner < empty
       → At code kinds.Container (removes_value given) v v (first_remove v.capacity given.index) m
   container_remove_first v m idle alone any low fits =

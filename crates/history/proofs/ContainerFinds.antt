@@ -34,6 +34,7 @@ use Rattle.history.proofs.Written.{same_written}
 use Rattle.history.specs.Stages.{Calling, IsUnderWay, Ends, AtAsked}
 use Rattle.laws_robust.proofs.Cases.{by_bool}
 
+-- a find asks for a word of the container at each stage but its question
 find_words : (capacity size : ℕ) (stage : FindStage) → FindIn size capacity stage → is_question (find_asks size capacity stage) ≡ false
     → AsksFor (total_words capacity size) (find_asks size capacity stage)
 find_words capacity size (finds.LoadsCell index found) h still = (_, omega arith, refl)
@@ -83,6 +84,7 @@ module _ {T R : Type 0} (code : Coding T) (law : IsCoding code) (words_in : R �
       → as_model (room m.0) (find_comes_to (call_at c.capacity stage) index found) ≡ goes finding (find_comes_to c index found) m
   comes_alike = grind arith
 
+  -- the find of the model goes on as that of the driver does
   goes_alike : (c : Finding T R) (m : Room) (n : ℕ) (stage : FindStage) → FindIn code.size c.capacity stage
       → as_model (find_keeps kept_at stage (room m.0) n) (find_takes code.size (call_at c.capacity stage) stage owner n)
       ≡ goes finding (find_takes code.size c stage owner n) (find_keeps with_word stage m.0 n, m.1)
@@ -109,6 +111,7 @@ module _ {T R : Type 0} (code : Coding T) (law : IsCoding code) (words_in : R �
 
   -- ---- what it has written
 
+  -- what a find has written after a step is what it has copied
   copies_so : (p : ℕ) (m : Room) (stage : FindStage) (n : ℕ) (es : List (Event T)) → es ≡ copies_of p m.1
       → es ++ find_effects p (read_in code (room m.0)) stage n ≡ copies_of p (copies_after stage n (value_of_room code words_in m.0) m.1)
   copies_so p m (finds.LoadsCell index found) n es h = append-nil es ∙ h
@@ -150,6 +153,7 @@ module _ {T R : Type 0} (code : Coding T) (law : IsCoding code) (words_in : R �
   abbrev driven : Driven T (Finding T R) Room ℕ
   driven = record { want = want; after = after; kept = kept; call = finding }
 
+  -- the steps of a find are those of the model's call, up to its question
   find_steps : StepsOf (AsksElse (container_words code) driven) code (plain_effects code) driven
   find_steps =
       record {
@@ -258,6 +262,7 @@ module _ {T R : Type 0} (code : Coding T) (law : IsCoding code) (words_in : R �
 
   -- ---- what it has copied is told by what its pass has seen
 
+  -- copies add themselves to the span of an open call
   pub copies_span : (p : ℕ) (start : Start T) (ws : List (Event T)) (xs : List (ℕ × T))
       → fold own_after (Open start ws) (copies_of p xs) ≡ Open start (ws ++ copies_of p xs)
   copies_span p start ws [] = ap (Open start) (sym (append-nil ws))
@@ -265,6 +270,7 @@ module _ {T R : Type 0} (code : Coding T) (law : IsCoding code) (words_in : R �
       let e : Event T = events.Copied p x.0 x.1 in
       copies_span p start (ws ++ e ∷ []) xs ∙ ap (Open start) (append_assoc ws (e ∷ []) (copies_of p xs))
 
+  -- equal copies are of equal lists
   one_list : (p : ℕ) (xs ys : List (ℕ × T)) → copies_of p xs ≡ copies_of p ys → xs ≡ ys
   one_list p [] [] e = refl
   one_list p [] (y ∷ ys) e = absurd (cc)
@@ -318,6 +324,7 @@ module _ {T R : Type 0} (code : Coding T) (law : IsCoding code) (words_in : R �
       → goes_of code h.before.party (finding.flight h.asking m) (number_of false) there ≡ Done (answers.Number e)
   no_ends = grind arith
 
+  -- a find that rests at its question leaves a view whose call rests
   pub find_rests : (base v : View T) (e : ℕ) (m : Room) → RestsAt code kinds.Container after kept finding base v e m → IsResting code v
   find_rests base v e m h =
       let under = h.before in

@@ -58,6 +58,7 @@ module _ {T : Type 0} (size : ℕ) (some : 0 < size) (which : LookOf) (capacity 
   finds : (index count : ℕ) → index < capacity → (es : List (Event T)) → HasCopied p 0 index es → LookGoes es (look_finds c index count)
   finds = grind (arith, by_test, next_to, inl)
 
+  -- what a look has written after a step, where it goes on or ends
   pub looks_so : (value : T) (stage : LookStage) (k : ℕ) (es : List (Event T)) → LookIn size capacity stage → LookedAt p stage es
       → LookGoes (es ++ look_effects p value stage k) (look_takes size c stage seen k)
   looks_so value looks.LoadsChange k es h at = grind (arith, quiet, by_test, comes_to)

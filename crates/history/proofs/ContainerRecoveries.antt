@@ -109,6 +109,7 @@ module _ {T R : Type 0} (code : Coding T) (law : IsCoding code) (words_in : R �
   abbrev WroteAt : ℕ → RecoverStage → T → List (ℕ × Came T) → List (Event T) → Type 0
   WroteAt p stage value visits es = VisitsAt stage value visits × (es ≡ wrote_visits p given.owner visits ++ told_yet p given.owner stage)
 
+  -- what a recovery has written after a step, where it goes on or ends
   goes_so : (capacity p : ℕ) (c : Recovering T R) (m : Room) (n : ℕ) (es : List (Event T)) (r : After (Recovering T R) ReleaseState)
       → (h : recovering.stands capacity c) → WroteAt p c.stage (value_at m) m.1 es → after c n ≡ r
       → RecoverGoes code has_words words_in capacity c h.0 p given (value_at (kept c m n)) (kept c m n).1
@@ -122,6 +123,7 @@ module _ {T R : Type 0} (code : Coding T) (law : IsCoding code) (words_in : R �
       (recovers_so code has_words words_in capacity c h.0 p given (value_at m) (value_at (kept c m n)) c.stage n m.1 es
       (check_keeps m.0 n c.stage) h.1 at.0 at.1))
 
+  -- a recovery that goes on stands where the rule has it stand
   stands_so : (capacity : ℕ) (c d : Recovering T R) (n : ℕ) → recovering.stands capacity c → after c n ≡ GoOn d → recovering.stands capacity d
   stands_so capacity c d n h e =
       let value : T = code.value_of [] in
@@ -131,6 +133,7 @@ module _ {T R : Type 0} (code : Coding T) (law : IsCoding code) (words_in : R �
       (es ++ wrote code has_words words_in capacity c h.0 0 given value c.stage n)) e
       (recovers_so code has_words words_in capacity c h.0 0 given value value c.stage n some.0 es (same_keeps value c.stage) h.1 some.1 refl)).0
     where
+      -- every stage keeps a value that stays the same
       same_keeps : (value : T) (stage : RecoverStage) → Keeps stage value value
       same_keeps value recovers.LoadsCounter = tt
       same_keeps value (recovers.LoadsCell index) = tt
@@ -165,6 +168,7 @@ module _ {T R : Type 0} (code : Coding T) (law : IsCoding code) (words_in : R �
   abbrev driven : Driven T (Recovering T R) Room ReleaseState
   driven = record { want = want; after = after; kept = kept; call = recovering }
 
+  -- a recovery is a call of the model that asks
   pub recover_call : IsAskingOf code kinds.Container (plain_effects code) (container_words code) driven
   recover_call =
       record {
@@ -227,6 +231,7 @@ module _ {T R : Type 0} (code : Coding T) (law : IsCoding code) (words_in : R �
       let none = no_first (wrote_visits 0 given.owner m.1) (told_yet 0 given.owner c.stage) (first.wrote 0 refl).1 in
       inl (ap (λ (z : View T). z.going) first.is ∙ first.idle, one_list 0 given.owner m.1 [] none)
     where
+      -- where two lists together are empty, the first one is
       no_first : (xs ys : List (Event T)) → [] ≡ xs ++ ys → xs ≡ []
       no_first [] ys e = refl
       no_first (x ∷ xs) ys e = absurd (cc)

@@ -91,6 +91,7 @@ module _ {T : Type 0} (code : Coding T) where
         (after : C → ℕ → After C E) (kept : C → M → ℕ → M) (keeps : Keeps (At code kinds.Container call) (Ends code kinds.Container call) want after kept)
         (first : (v : View T) (c : C) (m : M) → Begins v.capacity c → v.going ≡ None → v.other ≡ []
         → 0 < v.share.part → At code kinds.Container call v v c m) where
+      -- a call keeps to its rule also after a call that rests
       pub rested_keeps : Keeps (AtRested code kinds.Container (λ capacity c m. Begins capacity c) (At code kinds.Container call)
           (Ends code kinds.Container call))
           (EndsRested code kinds.Container (λ capacity c m. Begins capacity c) (At code kinds.Container call) (Ends code kinds.Container call)) want after kept

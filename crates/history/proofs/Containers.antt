@@ -101,6 +101,7 @@ module _ {T : Type 0} (code : Coding T) (capacity : ℕ) where
 
   -- ---- what a step comes to
 
+  -- no row refuses the step of a call under way
   no_rows : (t : Trace T) → IsOn t
       → (c z : ℕ) (all : List SetAct) (done : List (Act T)) (start : Start T) (flight : Flight T)
       → FlightAt c z all done start flight
@@ -119,6 +120,7 @@ module _ {T : Type 0} (code : Coding T) (capacity : ℕ) where
       → (step_of y words beside p start flight old kept).after ≡ goes_of y p flight old kept
   goes_there = grind arith
 
+  -- each step of a call under way writes and leads where the container's table says
   steps_on : (t : Trace T) → IsOn t → (p : ℕ) (start : Start T) (flight : Flight T) → call_in t.world p ≡ Some (start, flight)
       → StepsOn code kinds.Container capacity (container_words code capacity) container_effects t p flight
   steps_on t r p start flight at =
@@ -186,6 +188,7 @@ module _ {T C M E : Type 0} (code : Coding T) (base : View T) (call : Calling T 
   pub container_first : (kept : Registry T) → first_of kinds.Container base.capacity call.start kept ≡ Some (call.flight c m)
   container_first kept = rw is_named (rw named (ap Some flies))
 
+  -- the call begins for a party of its pass, which the machine finds idle
   pub container_starts : (t : Trace T) (owner : ℕ → ℕ) (j : ℕ) → IsOn code base.capacity t → owner j ≡ j → IfSome base.party (λ p. owner p ≡ j)
       → ((f : Event T → ℕ) → sum_by f base.made ≡ sum_by (owned owner j f) t.events)
       → Starts code kinds.Container call base c m t owner j
@@ -208,6 +211,7 @@ module _ {T C M E : Type 0} (code : Coding T) (call : Calling T C M E) (plain : 
   pub plain_acts : ActsAlone code kinds.Container container_effects (plain_effects code) call
   plain_acts = grind arith
 
+-- the steps of a call of the container that is no look of a state keep to the rule
 pub container_keeps : {T C M E : Type 0} (code : Coding T) (driven : Driven T C M E) → ((c : C) (m : M) → IsPlain (driven.call.flight c m))
     → IsCallBy code (plain_effects code) (container_words code) driven → ((c : C) (n : ℕ) → driven.call.skips c n ≡ false)
     → KeepsEnds code kinds.Container (container_words code) driven

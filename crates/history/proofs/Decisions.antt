@@ -57,6 +57,7 @@ module _ {T C M E : Type 0} (machines : Machines T) (decides : MayDecide machine
   abbrev Heard : View T → View T → C → M → Type 0
   Heard base v c m = HasHeard code kind after kept call base v c m
 
+  -- where the call stands in the view, also after an answer
   abbrev Stage : View T → View T → C → M → Type 0
   Stage base v c m = At code kind call base v c m
 
@@ -273,6 +274,7 @@ module _ {T C M E : Type 0} (machines : Machines T) (decides : MayDecide machine
   abbrev ToldSo : C → M → View T → ℕ → View T → Type 0
   ToldSo c m = ToldOver machines driven steps_there c m
 
+  -- what a step told, where the view has heard an answer
   told_asked : (c : C) (m : M) (n : ℕ) (x v w : View T) → x.capacity ≡ v.capacity
       → ((base : View T) → AtAsked code kind after kept call base v c m → Stage base x c m) → ToldSo c m x n w → ToldAsked c m v n w
   told_asked c m n x v w same as_stage h = (
@@ -294,6 +296,7 @@ module _ {T C M E : Type 0} (machines : Machines T) (decides : MayDecide machine
     below : ask.word < words
     below = (let low = asked.1 in omega arith)
 
+    -- a call whose next step is at a word owes that step
     at_word : (base v : View T) → v.capacity ≡ key → Stage base v c m → OwedAt v ToldSo
     at_word base v known stage =
         let size : key ≡ base.capacity = sym known ∙ same_size base v c m (inl stage) in
@@ -334,6 +337,7 @@ module _ {T C M E : Type 0} (machines : Machines T) (decides : MayDecide machine
           )),
     )
       where
+        -- a call that puts a question hears its answer
         hearing : (s : State (Unit {0}) (View T)) → IsMachine code kind key s → get_elem? s.views id ≡ some v → Hearing
         hearing s r at =
             record {
@@ -390,6 +394,7 @@ module _ {T C M E : Type 0} (machines : Machines T) (decides : MayDecide machine
     keeps_said base₀ v c m key words slots id wide known at₀ = by_bool (is_question (want c)) (λ due. at_question (want c) refl due)
         (λ still. keeps_word base₀ v c m key words slots id wide known still at₀)
       where
+        -- a call at a question owes nothing at the words until the answer is there
         at_question : (w : Want (Unit {0})) → want c ≡ w → is_question w ≡ true
             → Owes (λ (z : View T). z.asked) (IsMachine code kind key) words slots id (ToldAsked c m) w (v, [])
         at_question (wants.Ask a) e due = absurd (cc)

@@ -70,6 +70,7 @@ module _ {T C M E Asks : Type 0} (machines : Machines T) (driven : Driven T C M 
     steps_so : (base : View T) → At code kind call base v c m → StepsOnly base view_now
     steps_so = asked_then machines call step refl
 
+    -- what is known of the call after the step
     known_then : (base : View T) → At code kind call base v c m → (r : After C E) → after c n ≡ r → Step base r (kept c m n) view_now
     known_then base stage (GoOn d) e =
         inr (goes_then machines call step
@@ -99,6 +100,7 @@ module _ {T C M E Asks : Type 0} (machines : Machines T) (driven : Driven T C M 
         (steps_of_run code kind key (next_between machines call step).one.turns)
     gains_now = gains_then machines call step
 
+    -- the events that the view gains by the step
     abbrev pub gained_now : List (Event T)
     gained_now = then_gained machines call step
 
@@ -129,6 +131,7 @@ module _ {T C M E Asks : Type 0} (machines : Machines T) (driven : Driven T C M 
     abbrev seen_word : ℕ
     seen_word = slice_index s.words ask.word
 
+    -- a call that ends with no turn of the machine is left out of the history
     left_out : (base : View T) → At code kind call base v c m → (e : E) (m' : M) → call.left e → LeftOut code kind call base e m' w
     left_out base (inl first) e m' left =
         let size : base.capacity ≡ key = sym (ap (λ (z : View T). z.capacity) first.is) ∙ known in
@@ -162,6 +165,7 @@ module _ {T C M E Asks : Type 0} (machines : Machines T) (driven : Driven T C M 
   abbrev pub ToldOver : C → M → View T → ℕ → View T → Type 0
   ToldOver c m = Told (λ (z : View T). z.capacity) (At code kind call) (Over code kind call) after kept c m
 
+  -- each step of a call at a word keeps the rule of the machine
   pub keeps_at : (base₀ v : View T) (c : C) (m : M) (key words slots id : ℕ) → words ≡ size_of key + 1 → v.capacity ≡ key → At code kind call base₀ v c m
       → AsksFor (size_of base₀.capacity) (want c)
       → Owes (λ (z : View T). z.asked) (IsMachine code kind key) words slots id (ToldOver c m) (want c) (v, [])
@@ -273,6 +277,7 @@ module _ {T C M E : Type 0} (machines : SteadyMachines T) (driven : Driven T C M
   open machines use {code, kind, effects, size_of, laws}
   open driven use {call}
 
+  -- the steps of a call of a kind whose calls go on by themselves are calls there
   steps_there : IsCallThere (kept_machines machines) driven
   steps_there =
       with_goes code kind effects driven
@@ -318,6 +323,7 @@ module _ {T C M E : Type 0} (machines : LoneMachines T) (driven : Driven T C M E
   pub keeps_to_end : ((c : C) (n : ℕ) → driven.call.skips c n ≡ false) → KeepsEnds code kind size_of driven
   keeps_to_end = keeps_all_there (lone_machines machines) driven by_itself
 
+-- the same of a kind whose parties write for themselves alone
 pub keeps_all : {T C M E : Type 0} (code : Coding T) (kind : Kind) (effects : ℕ → Flight T → ℕ → List (Event T)) (size_of : ℕ → ℕ)
     (laws : (capacity : ℕ) → KindLaws code kind capacity (size_of capacity) effects) (want : C → Want (Unit {0})) (after : C → ℕ → After C E)
     (kept : C → M → ℕ → M) (call : Calling T C M E) → IsCallOf code effects size_of want after kept call

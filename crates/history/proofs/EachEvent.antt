@@ -46,6 +46,7 @@ module _ {T : Type 0} (F : Family T) (May : Trace T → Turn T → Type 0) (laws
         handed (Over others) = tt
         handed (Going flight since) = inl refl
 
+    -- what an answer writes is right
     decision_right : (p : ℕ) (said : Bool) (o : Option (Party T)) → party_of p t.world.latest ≡ o
         → is_due t.world.coding (flight_of (doing_of o)) ≡ true
         → AreRight P t.events (events_of_decision t.world p said o)
@@ -68,6 +69,7 @@ module _ {T : Type 0} (F : Family T) (May : Trace T → Turn T → Type 0) (laws
   attempt_right t turn None free s all = Each-append P t.events (events_of t.world turn) all (turn_right t s turn free)
   attempt_right t turn (Some refusal) free s all = all
 
+  -- so each event of a run is right
   pub each_event : (turns : List (Turn T)) (t : Trace T) → AllMay May turns t → Sound F t → Each P t.events → Each P (run_on turns t).events
   each_event [] t may s all = all
   each_event (turn ∷ turns) t may s all =

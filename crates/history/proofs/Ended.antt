@@ -43,6 +43,7 @@ module _ {A : Type 0} where
       none (x ∷ es) a e = absurd (cc)
   last_too (y ∷ xs) (x ∷ es) a f e = let rest : xs ++ f ∷ [] ≡ es ++ a = cc in last_too xs es a f rest
 
+  -- a list with something added is no beginning of itself with less
   no_less : (xs ys : List A) (f : A) (later : List A) → xs ≡ (xs ++ (ys ++ f ∷ [])) ++ later → ⊥
   no_less xs ys f later e =
       let all = ap length e in
@@ -54,6 +55,7 @@ module _ {A : Type 0} where
 module _ {T : Type 0} where
   -- ---- a turn writes an end last
 
+  -- an end that a turn writes is the last of its events
   last_of : (wrote tail xs : List (Event T)) (p : ℕ) (start : Start T) (answer : Answer T) (ys : List (Event T)) → ends wrote ≡ 0 → length tail ≤ 1
       → wrote ++ tail ≡ xs ++ Finished p start answer ∷ ys → ys ≡ []
   last_of [] [] [] p start answer ys none few e = absurd (cc)
@@ -75,6 +77,7 @@ module _ {T : Type 0} where
   one_ending p start None = omega arith
   one_ending p start (Some answer) = omega arith
 
+  -- an answer to a step writes an end last
   last_answered : (w : World T) (q : ℕ) (x : Party T) (n : ℕ) (doing : Doing T) (xs : List (Event T)) (p : ℕ) (start : Start T) (answer : Answer T)
       (ys : List (Event T)) → events_of_answer w q x n doing ≡ xs ++ Finished p start answer ∷ ys → ys ≡ []
   last_answered w q x n (Over others) [] p start answer ys e = absurd (cc)
@@ -84,6 +87,7 @@ module _ {T : Type 0} where
       (writes_no_end T w.coding w.words (beside_of w.words w.kept w.latest q) q x.start flight n w.kept)
       (one_ending q x.start (answer_in (step_in w q x flight n).after)) e
 
+  -- so does a step
   last_next : (w : World T) (q : ℕ) (o : Option (Party T)) (xs : List (Event T)) (p : ℕ) (start : Start T) (answer : Answer T)
       (ys : List (Event T)) → events_of_next w q o ≡ xs ++ Finished p start answer ∷ ys → ys ≡ []
   last_next w q None [] p start answer ys e = absurd (cc)
@@ -97,6 +101,7 @@ module _ {T : Type 0} where
   last_decision w q said None (y ∷ xs) p start answer ys e = absurd (cc)
   last_decision w q said (Some x) xs p start answer ys e = last_answered w q x (number_of said) x.doing xs p start answer ys e
 
+  -- so does every turn
   last_end : (w : World T) (turn : Turn T) (xs : List (Event T)) (p : ℕ) (start : Start T) (answer : Answer T) (ys : List (Event T))
       → events_of w turn ≡ xs ++ Finished p start answer ∷ ys → ys ≡ []
   last_end w (Begin q s) xs p start answer ys e = last_of [] (Begun q s ∷ []) xs p start answer ys refl (omega arith) e
@@ -106,6 +111,7 @@ module _ {T : Type 0} where
 
   -- ---- the turns until then
 
+  -- later events come behind the earlier ones
   grown : (t : Trace T) (turns : List (Turn T)) → (more : List (Event T)) × ((after_turns t turns).events ≡ t.events ++ more)
   grown t [] = ([], sym (append-nil t.events))
   grown t (turn ∷ turns) =
@@ -119,6 +125,7 @@ module _ {T : Type 0} where
     pub is : turns ≡ first ++ rest
     pub told : (after_turns t first).events ≡ events
 
+  -- a history that ends where a call ended is that of the first turns
   pub up_to : (t : Trace T) (turns : List (Turn T)) (xs : List (Event T)) (p : ℕ) (start : Start T) (answer : Answer T) (later : List (Event T))
       → (after_turns t turns).events ≡ (t.events ++ (xs ++ Finished p start answer ∷ [])) ++ later
       → UpTo t turns (t.events ++ (xs ++ Finished p start answer ∷ []))
@@ -186,6 +193,7 @@ module _ {T : Type 0} where
           asked = v.aside + steps_of_run code kind capacity turns;
         }
 
+    -- a pass that has seen the end of a call knew a run that ends there
     pub known_then : (v now : View T) (xs : List (Event T)) (p : ℕ) (start : Start T) (answer : Answer T)
         → Knows code kind capacity now → IsPart v.share → v.seen ≡ xs ++ Finished p start answer ∷ [] → IsBeginning v.seen now.seen
         → (first : List (Turn T)) × AreFirst first now.turns × Knows code kind capacity (then_view v first)

@@ -54,6 +54,7 @@ module _ {T : Type 0} where
     pub owned_none : (new : List (Event T)) → WereOwned owner 0 [] old new
     owned_none = grind arith
 
+    -- indices that had the owner at a moment had it at that moment as seen from later on
     pub owned_later : (bound : ℕ) (indices : List ℕ) (mid new : List (Event T)) → IsBeginning mid new → WereOwned owner bound indices old mid
         → WereOwned owner bound indices old new
     owned_later bound indices mid new on h =
@@ -63,6 +64,7 @@ module _ {T : Type 0} where
         }
 
     module _ (index : ℕ) (indices : List ℕ) (new : List (Event T)) (on : IsBeginning old new) (h : WereOwned owner index indices old new) where
+      -- one index more that has the owner now
       pub owned_more : filled_of index new ≡ Some owner → WereOwned owner (index + 1) (indices ++ index ∷ []) old new
       owned_more has =
           record {

@@ -106,6 +106,7 @@ module _ {T : Type 0} (c : ℕ) where
   module _ (en : Coding T) (words : List ℕ) (waits : Option (ℕ × ℕ)) (p n : ℕ) (ro : Roles)
       (before : List (Event T)) (producers : producer_of before ≡ ro.producer)
       (consumers : consumer_of before ≡ ro.consumer) where
+    -- each step of a queue's call publishes or takes out rightly
     flight_right : (r : Ring) (k : Core (Val T (kind_of r)))
         → waiting before ≡ map (values.item (kind_of r)) k.waiting → (start : QueueStart T) (flight : QueueFlight T)
         → At {T = T} en (kind_of r) c ro k p start flight
@@ -134,6 +135,7 @@ module _ {T : Type 0} (c : ℕ) where
     SoundAt t = frame.Sound (family en (kind_of r) c) t
 
     module _ (t : Trace T) (s : SoundAt t) where
+      -- the same, of any party of the machine
       any_right : (p n : ℕ) (waits : Option (ℕ × ℕ)) (start : Start T) (flight : Flight T) (kept : Registry T)
           → kept ≡ registries.Queues s.state.roles → (family en (kind_of r) c).At s.state p start flight
           → Right t.events (step_of t.world.coding t.world.words waits p start flight n kept).wrote
@@ -170,6 +172,7 @@ module _ {T : Type 0} (c : ℕ) where
     attempt_right t turn None s all = Each-append Rightly t.events (events_of t.world turn) all (turn_right t s turn)
     attempt_right t turn (Some refusal) s all = all
 
+    -- so all events of every run of fresh turns are right
     runs_right : (law : Rattle.model.specs.Coding.IsCoding en) (turns : List (Turn T)) (t : Trace T)
         → AllMay IsFreshTurn turns t → SoundAt t → AllBy t → AllBy (run_on turns t)
     runs_right law [] t may s all = all
@@ -183,6 +186,7 @@ module _ {T : Type 0} (code : Coding T) (r : Ring) (capacity : ℕ) where
   abbrev IsOn : Trace T → Type 0
   IsOn t = IsRun code (machine_kind (kind_of r)) capacity t
 
+  -- the events of a machine on a table are right
   rightly : (t : Trace T) → IsOn t → Each (Rightly t.world.capacity) t.events
   rightly t run =
       let w = t.world in
@@ -213,6 +217,7 @@ module _ {T : Type 0} (c : ℕ) where
     pub book : published events ≡ handed_out events ++ waiting events
     pub few : length (waiting events) ≤ c
 
+  -- one event more keeps the list as it has to be
   one_more : (before : List (Event T)) (e : Event T) → KeepsList c before e → IsListed before → IsListed (before ++ e ∷ [])
   one_more before (Published p x) room l =
       let more : published (before ++ Published p x ∷ []) ≡ published before ++ x ∷ [] = flat_map-append publishes before (Published p x ∷ []) in
@@ -290,6 +295,7 @@ module _ {T : Type 0} (p : ℕ) where
   forth_from = grind arith
 
 module _ {T : Type 0} where
+  -- a role has one holder at a time
   pub one_holder : (role : Side) → HasOneHolder (queue_role {T = T} role)
   one_holder role =
       record {

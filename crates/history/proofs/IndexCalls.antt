@@ -46,6 +46,7 @@ module _ (n : ℕ) (c : Acquiring) (same : c.capacity ≡ n) (some : 0 < n) wher
   takes_on : (stage : AcquireStage) (k : ℕ) → StandsIn n stage → Standing n (acquire_takes c stage k)
   takes_on = grind arith
 
+  -- an acquire asks for one word at each stage
   asks_one : (stage : AcquireStage) → StandsIn n stage → (a : Ask) × (a.word < core.size n) × (acquire_asks c.capacity stage ≡ wants.Ask a)
   asks_one acquires.LoadsHead h = (_, omega arith, refl)
   asks_one (acquires.LoadsNext head) h = (_, (let low : 1 + proposed head < core.size n = omega arith in low), refl)
@@ -98,6 +99,7 @@ module _ {M : Type 0} (may : Bool) (c : Releasing M) (index : ℕ) where
   gives_on : (n : ℕ) → c.capacity ≡ n → index < n → (stage : ReleaseStage) (k : ℕ) → StandsBelow n index (release_takes may c stage k)
   gives_on = grind arith
 
+  -- a release asks for one word at each stage
   asks_for : (n : ℕ) → c.capacity ≡ n → index < n → (stage : ReleaseStage)
       → (a : Ask) × (a.word < core.size n) × (release_asks may c.capacity index stage ≡ wants.Ask a)
   asks_for n same low releases.ClearsFlag = (_, (let l : flag_word c.capacity index < core.size n = omega arith in l), refl)
@@ -144,6 +146,7 @@ module _ {T : Type 0} (code : Coding T) (index : ℕ) where
   pub release_keeps : KeepsEnds code kinds.Indices core.size release_driven
   release_keeps = keeps_to_end (index_machines code) release_driven release_call (λ c n. refl)
 
+  -- a release begins, on a pass that holds the index
   pub release_first : (v : View T) (m : Unit {0}) → v.going ≡ None → v.other ≡ [] → 0 < v.share.part
       → index < v.capacity → Holds index v.made
       → At code kinds.Indices (gives_index index) v v (first_release v.capacity) m
@@ -195,6 +198,7 @@ module _ {T : Type 0} (code : Coding T) (index : ℕ) where
   pub lock_keeps : KeepsEnds code kinds.Indices core.size lock_driven
   lock_keeps = keeps_to_end (index_machines code) lock_driven lock_call (λ c n. refl)
 
+  -- a release that may lock begins, on a pass that holds the index
   pub lock_first : (v : View T) (m : Unit {0}) → v.going ≡ None → v.other ≡ [] → 0 < v.share.part
       → index < v.capacity → Holds index v.made
       → At code kinds.Indices (gives_or_locks index) v v (first_release v.capacity) m

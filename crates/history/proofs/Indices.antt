@@ -71,6 +71,7 @@ module _ {T : Type 0} (code : Coding T) (capacity : ℕ) where
       → FlightAt c holders p start flight → AreOf p (index_effects p flight old)
   own_there = grind arith
 
+  -- each step of a call under way leads where the set's table says
   goes_on : (t : Trace T) → IsIndices t → (p : ℕ) (start : Start T) (flight : Flight T)
       → call_in t.world p ≡ Some (start, flight)
       → CallGoesOn code kinds.Indices capacity (core.size capacity) index_effects t p flight
@@ -95,6 +96,7 @@ module _ {T : Type 0} (code : Coding T) (capacity : ℕ) where
             here.x.start flight s.fit.kept mine));
       }
 
+  -- the unique index set owes what its kind has to
   pub indices_owe : KindLaws code kinds.Indices capacity (core.size capacity) index_effects
   indices_owe = record {
     size = size;
@@ -125,6 +127,7 @@ module _ {T : Type 0} (code : Coding T) (base : View T) where
       (named : call.start ≡ Indices start) (by_last : (o : Option ℕ) (p : ℕ) → IfSome o (λ q. q ≡ p) → call.by o p)
       (first_is : (kept : Registry T) → first_of kinds.Indices base.capacity (Indices start) kept ≡ Some (call.flight c m))
       (free : (holders : List (Option ℕ)) (p : ℕ) → first_row (call_rows base.capacity holders p start) ≡ None) where
+    -- a call other than a release begins for a party of its pass, which the machine finds idle
     pub plain_starts : (t : Trace T) (owner : ℕ → ℕ) (j : ℕ) → IsOn t → owner j ≡ j
         → IfSome base.party (λ p. owner p ≡ j)
         → ((f : Event T → ℕ) → sum_by f base.made ≡ sum_by (owned owner j f) t.events)
@@ -150,6 +153,7 @@ module _ {T : Type 0} (code : Coding T) (base : View T) where
       (first_is : (kept : Registry T)
       → first_of kinds.Indices base.capacity (Indices (Release index mode)) kept ≡ Some (call.flight c m))
       (below : index < base.capacity) (held : Holds index base.made) where
+    -- so does the release of an index that the pass holds
     pub release_starts : (t : Trace T) (owner : ℕ → ℕ) (j : ℕ) → IsOn t → owner j ≡ j
         → IfSome base.party (λ p. owner p ≡ j)
         → ((f : Event T → ℕ) → sum_by f base.made ≡ sum_by (owned owner j f) t.events)

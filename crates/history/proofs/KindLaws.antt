@@ -12,6 +12,7 @@ use Rattle.history.proofs.Known.{by_other, none_late, AreOf, sum_first}
 use Rattle.history.proofs.Calls.{IsStateless, goes_alike}
 
 module _ {T : Type 0} where
+  -- events of a party are events of somebody
   pub all_someone : (p : ℕ) (es : List (Event T)) → AreOf p es → sum_by (λ e. of_none (whose e)) es ≡ 0
   all_someone p [] are = refl
   all_someone p (e ∷ es) are =
@@ -72,6 +73,7 @@ module _ {T : Type 0} where
     own_beside : (w : World T) (p q : ℕ) (es : List (Event T)) → q ≢ p → AreOf p es → IsLate kind (call_in w q) (events_by q es)
     own_beside = grind (arith, by_other, none_late)
 
+    -- the laws of a kind are those of its machines
     pub machine_laws : KindLaws → MachineLaws code kind capacity words (λ w. effects)
     machine_laws laws =
         record {
@@ -108,6 +110,7 @@ SteadyMachines T = MachinesOf {T = T} MachineLaws
 abbrev pub LoneMachines : Type 0 → Type 0
 LoneMachines T = MachinesOf {T = T} KindLaws
 
+-- machines whose calls go on by themselves, as machines of any kind
 abbrev pub kept_machines : {T : Type 0} → SteadyMachines T → Machines T
 kept_machines m =
     record {
@@ -118,6 +121,7 @@ kept_machines m =
       laws = λ capacity. kept_laws m.code m.kind capacity (m.size_of capacity) m.effects (m.laws capacity);
     }
 
+-- machines whose parties write for themselves alone, as those whose calls go on by themselves
 abbrev pub steady_machines : {T : Type 0} → LoneMachines T → SteadyMachines T
 steady_machines m =
     record {

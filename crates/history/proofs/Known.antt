@@ -91,6 +91,7 @@ module _ {T : Type 0} where
       → ((p : ℕ) → owner p ≡ j → events_by p (e ∷ es) ≡ []) → (f : Event T → ℕ) → owned owner j f e ≡ 0
   not_by = grind arith
 
+  -- a seat whose parties wrote nothing owns no event
   pub owned_none : (owner : ℕ → ℕ) (j : ℕ) (f : Event T → ℕ) (es : List (Event T))
       → ((p : ℕ) → owner p ≡ j → events_by p es ≡ []) → sum_by (owned owner j f) es ≡ 0
   owned_none owner j f [] none = refl
@@ -100,6 +101,7 @@ module _ {T : Type 0} where
       let sum = sum_first (owned owner j f) e es in
       omega arith
 
+  -- two seats together own what one of them owns that takes over the parties of the other
   pub owned_both : (owner : ℕ → ℕ) (id other : ℕ) (f : Event T → ℕ) → id ≢ other → (es : List (Event T))
       → sum_by (owned owner id f) es + sum_by (owned owner other f) es ≡ sum_by (owned (handed_on id other owner) id f) es
   owned_both owner id other f ne [] = refl
@@ -111,6 +113,7 @@ module _ {T : Type 0} where
       let c = sum_first (owned (handed_on id other owner) id f) e es in
       omega arith
 
+  -- what a third seat owns stays
   pub owned_third : (owner : ℕ → ℕ) (id other j : ℕ) (f : Event T → ℕ) → j ≢ id → j ≢ other → (es : List (Event T))
       → sum_by (owned owner j f) es ≡ sum_by (owned (handed_on id other owner) j f) es
   owned_third owner id other j f ne apart [] = refl
@@ -127,6 +130,7 @@ module _ {T : Type 0} where
 
   -- ---- what the party did among these events
 
+  -- the events of a party among its events are all of these
   pub by_twice : (p : ℕ) (es : List (Event T)) → events_by p (events_by p es) ≡ events_by p es
   by_twice p [] = refl
   by_twice p (e ∷ es) =

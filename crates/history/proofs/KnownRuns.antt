@@ -42,6 +42,7 @@ module _ {T : Type 0} {code : Coding T} {kind : Kind} {capacity : ℕ} where
   run_to t (turn ∷ turns) run allowed fresh =
       run_to (after_turn t turn) turns (run_more code kind capacity t turn allowed.0 fresh.0 run) allowed.1 fresh.1
 
+  -- the turns that a pass knows are those of a run
   pub known_run : {v : View T} → Knows code kind capacity v → IsRun code kind capacity (run_of code kind capacity v.turns)
   known_run {v} knows =
       run_to (opening code kind capacity 0) v.turns

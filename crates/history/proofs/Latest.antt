@@ -36,6 +36,7 @@ module _ {T : Type 0} where
     few : (e : Event T) → begun (own_of p e) ≤ begun_of e
     few e = grind arith
 
+    -- a party begins no more calls than all together
     fewer : (es : List (Event T)) → begun_by es ≤ begun es
     fewer [] = omega arith
     fewer (e ∷ es) =
@@ -54,6 +55,7 @@ module _ {T : Type 0} where
     never : (q : ℕ) (x : Party T) (latest : List (ℕ × Party T)) → party_of q (put q x latest) ≡ None → ⊥
     never q x latest none = (let no : ◌≡◌ {A = Option (Party T)} (Some x) None = sym (party_put_same q x latest) ∙ none in absurd (cc))
 
+    -- a party that has no call after a begin had none before, and another party began
     begins : (w : World T) (q : ℕ) (start : Start T) (o : Option (Flight T)) → is_none o ≡ false
         → party_of p (after_begin w q start o).latest ≡ None → (party_of p w.latest ≡ None) × (p ≢ q)
     begins w q start None some none = absurd (cc)
@@ -86,6 +88,7 @@ module _ {T : Type 0} where
         let both = more t.events (events_of t.world turn) in
         omega arith
 
+    -- each turn keeps it that a party without a call has begun none
     turned : (t : Trace T) (turn : Turn T) → IsPossible t.world turn → None_begun t → None_begun (after_turn t turn)
     turned t (Begin q start) may was none =
         let before = begins t.world q start (first_of t.world.kind t.world.capacity start t.world.kept) may.call none in

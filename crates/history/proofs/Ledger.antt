@@ -50,6 +50,7 @@ module _ {T : Type 0} (takes gives : Event T → ℕ) (after : Option ℕ → Ev
         let b = sum_first (owned owner j gives) e es in
         omega arith
 
+    -- where a seat has taken once more than it gave back, one of its parties has
     pub held_by_one : (all made : List (Event T)) → Each Moves all
         → ((f : Event T → ℕ) → sum_by f made ≡ sum_by (owned owner j f) all) → sum_by takes made ≡ sum_by gives made + 1
         → (p : ℕ) × (owner p ≡ j) × (held_in all ≡ Some p)
@@ -60,6 +61,7 @@ module _ {T : Type 0} (takes gives : Event T → ℕ) (after : Option ℕ → Ev
         let one : if_owned owner j (held_in all) 1 ≡ 1 = omega arith in
         one_of owner j (held_in all) one
 
+    -- a seat has taken as often as it gave back, or once more
     pub at_most : (all made : List (Event T)) → Each Moves all
         → ((f : Event T → ℕ) → sum_by f made ≡ sum_by (owned owner j f) all)
         → (sum_by gives made ≤ sum_by takes made) × (sum_by takes made ≤ sum_by gives made + 1)

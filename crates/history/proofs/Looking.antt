@@ -35,6 +35,7 @@ module _ {T : Type 0} (p : ℕ) where
     sum_none apart [] = refl
     sum_none apart (e ∷ es) = (let here = one_none apart e in let rest = sum_none apart es in let first = sum_first (owned owner j ones) e es in omega arith)
 
+    -- how many events of its party a seat has made
     sum_mine : owner p ≡ j → (es : List (Event T)) → sum_by (owned owner j ones) es ≡ length (events_by p es)
     sum_mine mine [] = refl
     sum_mine mine (e ∷ es) =
@@ -54,6 +55,7 @@ module _ {T : Type 0} (p : ℕ) where
 -- ---- two looks
 
 module _ {T : Type 0} (code : Coding T) (kind : Kind) (size : ℕ) (u v w : View T) (a : Looks code kind size u v) (b : Looks code kind size v w) where
+  -- a party that another seat had at the first look wrote nothing that the second one tells
   nothing_of : (p : ℕ) → b.parties.owner p ≡ b.parties.seat → a.parties.owner p ≢ a.parties.seat → events_by p a.mine.rest ≡ []
   nothing_of p mine apart =
       let made : sum_by (ones p) w.made ≡ 0 = ap (sum_by (ones p)) b.made ∙ made_none p v a.parties apart in
@@ -67,6 +69,7 @@ module _ {T : Type 0} (code : Coding T) (kind : Kind) (size : ℕ) (u v w : View
   mine_both : w.seen ≡ u.seen ++ (a.mine.rest ++ b.mine.rest)
   mine_both = grind (arith, append_assoc)
 
+  -- so two looks one after another are one
   pub looks_then : Looks code kind size u w
   looks_then =
       record {

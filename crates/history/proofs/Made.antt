@@ -5,6 +5,7 @@ use Rattle.history.proofs.Names.{ap, ◌∙◌, append_assoc, append-nil, Event,
 use Rattle.history.specs.declared.view.View.{View}
 use Rattle.history.specs.Stages.{Since, opened}
 
+-- lists that end with the same element and are equal begin alike
 same_end : {A : Type 0} → (xs ys : List A) (z : A) → xs ++ z ∷ [] ≡ ys ++ z ∷ [] → xs ≡ ys
 same_end [] [] z e = refl
 same_end [] (y ∷ []) z e = absurd (cc)
@@ -37,6 +38,7 @@ module _ {T : Type 0} (start : Start T) where
       → es ≡ more p → w.made ≡ base.made ++ Begun p start ∷ ((wrote p ++ more p) ++ last)
   made_with = grind (arith, opened, append_assoc)
 
+  -- what a call has made, one step later
   pub made_more : (base v w : View T) (wrote more : ℕ → List (Event T)) (es : List (Event T)) (p : ℕ) (flight : Flight T)
       → base.going ≡ None → MadeSoFar base v wrote → IfSome v.party (λ q. q ≡ p) → w.party ≡ Some p
       → w.going ≡ Some (start, flight) → Since p start es [] v w → es ≡ more p

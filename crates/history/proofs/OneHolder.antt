@@ -50,6 +50,7 @@ module _ {T : Type 0} where
   it_is : (p : ℕ) (start : Start T) (answer : Answer T) → events_by p (Finished p start answer ∷ []) ≡ Finished p start answer ∷ []
   it_is p start answer = (let t : (p == p) ≡ true = grind (arith, nat_tests) in rw t refl)
 
+  -- the first event that a call wrote stands in the history
   pub first_wrote : (p : ℕ) (start : Start T) (answer : Answer T) (e : Event T) (es : List (Event T)) (base w : View T)
       → Called p start answer (e ∷ es) base w → Wrote p e (es ++ Finished p start answer ∷ []) base w
   first_wrote p start answer e es base w c =
@@ -171,6 +172,7 @@ module _ {T M : Type 0} (role : RoleEvents T M) (one : HasOneHolder role) where
         ∙ (sym (fold-append role.holder_after None (seen ++ others) (Begun p start ∷ [])) ∙ later.0) in
         back_over p seen others (Each-less role.ByItsHolder (seen ++ others) (Begun p start ∷ during) each) none_others back
 
+    -- nobody else wrote such an event while the call was under way
     none_between : flat_map role.marks ((seen ++ others) ++ Begun p start ∷ during) ≡ flat_map role.marks seen
     none_between =
         let m = role.marks in
@@ -199,6 +201,7 @@ module _ {T M : Type 0} (role : RoleEvents T M) (one : HasOneHolder role) where
 
   module _ {p : ℕ} {e : Event T} {own : List (Event T)} {base w : View T} (at : Wrote p e own base w)
       (each : Each role.ByItsHolder w.seen) (holds : held role at.before ≡ Some p) where
+    -- so since the pass looked last, nobody wrote one before the event
     pub none_since : flat_map role.marks at.before ≡ flat_map role.marks base.seen
     none_since =
         ap (flat_map role.marks) at.begins

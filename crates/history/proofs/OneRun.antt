@@ -111,6 +111,7 @@ module _ {T : Type 0} where
           theirs = subst (λ ts. AreFirst ts one.turns) (sym none) (first_none one.turns);
         }
 
+    -- a view that has all turns and all events of the run knows it
     pub knows_all : (views : List (View T)) (u : Trace T) (w : View T) (one : OneRun code kind capacity views u)
         → IsRun code kind capacity u → w.turns ≡ one.turns → w.seen ≡ u.events → w.others ≡ others_by u.world w.party
         → HasAsked w (steps_of_run code kind capacity one.turns) → Knows code kind capacity w
@@ -161,6 +162,7 @@ module _ {T : Type 0} where
               };
         }
 
+    -- both passes of a split go on from what the pass knew
     pub continues_split : (old left right : View T) → HasSplit old left right → Knows code kind capacity old
         → Continues code kind capacity old left × Continues code kind capacity old right
     continues_split old left right cut knows = (

@@ -103,6 +103,7 @@ module _ {T : Type 0} (code : Coding T) (v : ℕ) where
       → HasPushWord stage → push_takes c stage n ≡ GoOn d → Next capacity d
   stays = grind arith
 
+  -- a push asks for a word of the queue at each stage that has one
   asks : (capacity own : ℕ) (stage : PushStage) → own ≡ capacity → HasPushWord stage
       → (a : Ask) × (a.word < 4 + (capacity + 1)) × (push_asks own stage v ≡ wants.Ask a)
   asks capacity own pushes.HandsBack same h = absurd h
@@ -124,6 +125,7 @@ module _ {T : Type 0} (code : Coding T) (v : ℕ) where
   finds : (n : ℕ) (stage : PushStage) → n < 2 ^ 64 → over_push_skips stage n ≡ false → IsFreshOver n stage
   finds = grind arith
 
+  -- a step that the model leaves out changes no word and ends the push
   leaves : (c : Pushing) (a : Ask) (n : ℕ) (stage : PushStage) → over_push_skips stage n ≡ true
       → push_asks c.capacity stage v ≡ wants.Ask a
       → (written a.op n ≡ n) × (e : PushEnd) × (e ≡ Own) × (push_takes c stage n ≡ Done e)
@@ -139,6 +141,7 @@ module _ {T : Type 0} (code : Coding T) (v : ℕ) where
     pub cell : (position : ℕ) → slice_index t.world.words (cell_word capacity position) ≡ get_or core.cells (position % (capacity + 1)) 0
     pub found : old_of t.world.words (ask_of (push_asks capacity c.stage v)) ≡ n
 
+  -- the push of the machine stands where that of the driver does
   there : (capacity p : ℕ) (from : Option (Start T × Flight T)) (c : Pushing) (m : OneWord) (n : ℕ) (es : List (Event T)) (t : Trace T)
       → c.capacity ≡ capacity → from ≡ None → AllByRecursion IsWithin es
       → Met code kinds.Overflow capacity pushing.start (pushing.flight c m) p from es n t → There capacity p c es n t
@@ -176,6 +179,7 @@ module _ {T : Type 0} (code : Coding T) (v : ℕ) where
       (Some (popped (push_answer v (push_keeps m stage n).0 e)))
       ≡ over_push_wrote p v (push_keeps m stage n).0 e
 
+  -- what the last step of a push writes is what the push tells
   tells_end : (capacity p : ℕ) (c : Pushing) (e : PushEnd) (m : OneWord) (n : ℕ) (es : List (Event T)) (t : Trace T)
       (k : Core ℕ) (stage : PushStage)
       → es ≡ overflow_wrote capacity k p v stage → slice_index t.world.words 1 ≡ k.read
@@ -187,6 +191,7 @@ module _ {T : Type 0} (code : Coding T) (v : ℕ) where
   abbrev pub push_driven : Driven T Pushing OneWord PushEnd
   push_driven = record { want = λ c. push_want c v; after = push_after; kept = push_kept; call = pushing }
 
+  -- a push of the overflowing queue is a call of the model
   pub push_is_call : IsCallIn (overflow_machines code) push_driven
   push_is_call =
       record {
@@ -221,6 +226,7 @@ module _ {T : Type 0} (code : Coding T) (v : ℕ) where
   pub over_push_keeps : KeepsOver code kinds.Overflow (λ capacity. 4 + (capacity + 1)) push_driven
   over_push_keeps = keeps_in (overflow_machines code) push_driven push_is_call
 
+  -- and so it begins, on a pass that has the producer's role
   pub over_push_first : (x : View T) → x.going ≡ None → x.other ≡ [] → 0 < x.share.part → 0 < x.capacity
       → x.capacity < 2 ^ 32 → HasRole Producer x.made
       → At code kinds.Overflow pushing x x (first_push x.capacity) (record { 0 = 0 })

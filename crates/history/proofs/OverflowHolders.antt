@@ -90,6 +90,7 @@ module _ {T : Type 0} (c : ℕ) where
       → producer_of (before ++ effects_of p Pop (HandsOut item) o) ≡ producer_of before
   still = grind (arith, fold-append)
 
+  -- what a pop takes out it takes out rightly, as the consumer does
   takes_right : (p : ℕ) (item : Item T) (waits : Option (ℕ × ℕ)) (o : Option (Answer T)) (before : List (Event T))
       → ((q v : ℕ) → waits ≡ Some (q, v) → producer_of before ≡ Some q) → FitsList before (HandsOut item)
       → consumer_of before ≡ Some p → Right before (effects_of p Pop (takes_effect item waits) o)
@@ -105,6 +106,7 @@ module _ {T : Type 0} (c : ℕ) where
       n ≡ read → FitsList before (HandsOut (Index (slice_index words (cell_word capacity read))))
   PopFits before words capacity n stage = Unit {0}
 
+  -- each step of a pop takes out rightly
   pop_right : (words : List ℕ) (capacity p n : ℕ) (waits : Option (ℕ × ℕ)) (stage : PopStage)
       (o : Option (Answer T)) (before : List (Event T))
       → ((q v : ℕ) → waits ≡ Some (q, v) → producer_of before ≡ Some q) → PopFits before words capacity n stage
@@ -137,6 +139,7 @@ module _ {T : Type 0} (c : ℕ) where
     long : length (waiting before) ≡ length k.waiting
     long = ap length same ∙ length-map k.waiting Index
 
+    -- each step of a push fits the list
     push_fits : (v capacity n : ℕ) (stage : PushStage) → capacity ≡ c → KnowsOverflowPush c k v stage
         → (stage_found : old_of words (ask_of (push_asks capacity stage v)) ≡ n)
         → FitsList before (overflow_push_effect words capacity (Index v) stage n)
@@ -162,6 +165,7 @@ module _ {T : Type 0} (c : ℕ) where
         (λ d. tt)
     push_fits v capacity n (pushes.LoadsCell read) size knows found = tt
 
+    -- each step of a pop fits the list
     pop_fits : (room : OneWord) (capacity n : ℕ) (stage : PopStage) → capacity ≡ c
         → KnowsOverflowPop c k room stage → old_of words (ask_of (pop_asks capacity stage)) ≡ n
         → PopFits before words capacity n stage
@@ -199,6 +203,7 @@ module _ {T : Type 0} (c : ℕ) where
         → old_of t.world.words (ask_of (pop_asks run.call.capacity run.call.stage)) ≡ n
     pop_handed = grind arith
 
+    -- each step of any call writes rightly
     over_right : (p n : ℕ) (start : Start T) (flight : Flight T)
         → (family en queues.Overflow c).At s.state p start flight → IsHanded t flight n
         → Right t.events (over_effects t.world p flight n)
@@ -218,6 +223,7 @@ module _ {T : Type 0} (c : ℕ) where
     over_right p n (Queues start) (flights.Queues (Overflow call)) at handed = absurd at
     over_right p n start flight at handed = absurd at
 
+    -- the same of a step of the machine
     step_right : (p n : ℕ) (x : Party T) (flight : Flight T) (since : ℕ) → party_of p t.world.latest ≡ Some x
         → x.doing ≡ Going flight since → IsHanded t flight n → Right t.events (step_in t.world p x flight n).wrote
     step_right p n x flight since found doing handed =
@@ -228,6 +234,7 @@ module _ {T : Type 0} (c : ℕ) where
         subst (Right t.events) (sym fact.writes) (over_right p n x.start flight there.at handed)
 
 module _ {T : Type 0} (code : Coding T) (capacity : ℕ) where
+  -- so all events of every run are right
   rightly : (t : Trace T) → IsRun code kinds.Overflow capacity t → Each (Rightly t.world.capacity) t.events
   rightly t run =
       let w = t.world in

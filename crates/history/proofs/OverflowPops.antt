@@ -49,6 +49,7 @@ module _ {T : Type 0} (code : Coding T) where
       → pop_takes c stage n ≡ GoOn d → Next capacity d
   stays = grind arith
 
+  -- a pop asks for a word of the queue at each stage that has one
   asks : (capacity own : ℕ) (stage : PopStage) → own ≡ capacity → HasPopWord stage
       → (a : Ask) × (a.word < 4 + (capacity + 1)) × (pop_asks own stage ≡ wants.Ask a)
   asks capacity own pops.FindsNone same h = absurd h
@@ -94,9 +95,11 @@ module _ {T : Type 0} (code : Coding T) where
   pop_is_no_push v e = absurd (cc)
 
   record TakesAt (capacity p : ℕ) (c : Popping) (m : OneWord) (n : ℕ) (t : Trace T) : Type 0 where
+    -- the cell in front still holds that word where the exchange finds the position unmoved
     pub front : (read : ℕ) → c.stage ≡ pops.MovesRead read → n ≡ read → slice_index t.world.words (cell_word c.capacity read) ≡ m.0
     pub apart : (q v : ℕ) → beside_of t.world.words t.world.kept t.world.latest p ≡ Some (q, v) → p ≢ q
 
+  -- the word that a pop moves the read position past is the one that it has read
   takes_at : (capacity p : ℕ) (from : Option (Start T × Flight T)) (c : Popping) (m : OneWord) (n : ℕ)
       (es : List (Event T)) (t : Trace T)
       → c.capacity ≡ capacity → Met code kinds.Overflow capacity popping.start (popping.flight c m) p from es n t
@@ -145,11 +148,12 @@ module _ {T : Type 0} (code : Coding T) where
   loud : (p n : ℕ) (c : Popping) (m : OneWord) (b : Bool) (t : Trace T) (stage : PopStage) → HasPopWord stage
       → ((read : ℕ) → stage ≡ pops.MovesRead read → n ≡ read → slice_index t.world.words (cell_word c.capacity read) ≡ m.0)
       → ((q v : ℕ) → beside_of t.world.words t.world.kept t.world.latest p ≡ Some (q, v) → p ≢ q) → pop_takes c stage n ≡ Done b → Tells p n c m t stage b
-  loud x0 x1 x2 x3 x4 x5 x6 x7 x8 x9 x10 = grind arith
+  loud p n c m b t stage pop_word slice_index_is p_is_not_q pop_takes_is = grind arith
 
   abbrev pub pop_driven : Driven T Popping OneWord Bool
   pop_driven = record { want = pop_want; after = pop_after; kept = pop_kept; call = popping }
 
+  -- a pop of the overflowing queue is a call of the model
   pub over_pop_is_call : IsCallIn (overflow_machines code) pop_driven
   over_pop_is_call =
       record {
@@ -176,6 +180,7 @@ module _ {T : Type 0} (code : Coding T) where
   pub over_pop_keeps : KeepsEnds code kinds.Overflow (λ capacity. 4 + (capacity + 1)) pop_driven
   over_pop_keeps = keeps_all_in (overflow_machines code) pop_driven over_pop_is_call (λ c n. refl)
 
+  -- and so it begins, on a pass that has the consumer's role
   pub over_pop_first : (x : View T) → x.going ≡ None → x.other ≡ [] → 0 < x.share.part → 0 < x.capacity
       → x.capacity < 2 ^ 32 → HasRole Consumer x.made
       → At code kinds.Overflow popping x x (first_pop x.capacity) (record { 0 = 0 })

@@ -69,6 +69,7 @@ module _ {T : Type 0} (code : Coding T) (law : IsCoding code) (capacity : ℕ) (
   least : nat_lt capacity 0 ≡ false
   least = grind (arith, nat_tests)
 
+  -- a table of such words opens as an empty queue
   pub overflow_opens : (words : List ℕ) → words ≡ 0 ∷ 0 ∷ 1 ∷ 1 ∷ (replicate (capacity + 1) 0 ++ 0 ∷ [])
       → IsMachine code kinds.Overflow capacity (opening words [] (first_view capacity))
   overflow_opens words same =

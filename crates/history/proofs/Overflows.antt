@@ -51,6 +51,7 @@ module _ {T : Type 0} where
 
   -- ---- what a step of a call writes
 
+  -- what a step of a call writes: of a pop also the act of a push that waits for it
   abbrev pub over_flight_effects : World T → ℕ → QueueFlight T → ℕ → List (Event T)
   over_flight_effects w p (Overflow (overflows.Push run)) n =
       effects_of p (PushIndex run.given)
@@ -92,6 +93,7 @@ module _ {T : Type 0} (code : Coding T) (capacity : ℕ) where
     pub goes : (step_of w.coding w.words (beside_of w.words w.kept w.latest p) p start flight n kept).after ≡ after_of w.coding flight n
 
   module _ (w : World T) (en : Coding T) (c p n : ℕ) (ro : Roles) (k : Core ℕ) where
+    -- what a step of a call under way writes and where it leads
     pub facts : (start : Start T) (flight : Flight T) (kept : Registry T) → kept ≡ registries.Queues ro
         → (family en queues.Overflow c).At (record { roles = ro; core = k }) p start flight
         → Facts w p n start flight kept
@@ -111,6 +113,7 @@ module _ {T : Type 0} (code : Coding T) (capacity : ℕ) where
         → run.given ≡ v → start ≡ Queues (PushIndex v)
     start_is = grind arith
 
+    -- a push for which a pop may write waits under way, by the holder of the producer's role
     waiting_push : (position q v : ℕ) (x : Party T) (run : Pushing) (since : ℕ)
         → IsPending position t.world.latest q v x run since → s.state.roles.producer ≡ Some q → Waits t q v
     waiting_push position q v x run since is holder =
@@ -147,6 +150,7 @@ module _ {T : Type 0} (code : Coding T) (capacity : ℕ) where
           → IsLate kinds.Overflow (call_in t.world r) (events_by r (effects_of p Pop (takes_effect item waits) o))
       takes_late = grind (arith, own_late, own_of_effect, room_by_other, late_act)
 
+      -- what a pop writes for another party is an act of its pending push
       pop_late : (capacity : ℕ) (waits : Option (ℕ × ℕ)) → ((q v : ℕ) → waits ≡ Some (q, v) → Waits t q v)
           → (stage : PopStage)
           → IsLate kinds.Overflow (call_in t.world r)
@@ -166,6 +170,7 @@ module _ {T : Type 0} (code : Coding T) (capacity : ℕ) where
           go true = takes_late _ waits known
           go false = own_late p r [] ne tt
 
+    -- what any step writes for another party is such an act
     beside_late : (is_over : IsOver t) (p n r : ℕ) → r ≢ p → (flight : Flight T)
         → IsLate kinds.Overflow (call_in t.world r) (events_by r (over_effects t.world p flight n))
     beside_late is_over p n r ne (flights.Queues (Overflow (overflows.Push run))) = own_late p r _ ne (push_own t.world p run n)
@@ -184,6 +189,7 @@ module _ {T : Type 0} (code : Coding T) (capacity : ℕ) where
   stateless t run =
       (let s = sound_of code capacity queues.Overflow t run in subst IsStateless (sym s.fit.kept) tt)
 
+  -- each step of a call under way writes and leads where the table says
   steps_on : (t : Trace T) → IsOver t → (p : ℕ) (start : Start T) (flight : Flight T)
       → call_in t.world p ≡ Some (start, flight)
       → StepsOn code kinds.Overflow capacity (4 + (capacity + 1)) over_effects t p flight

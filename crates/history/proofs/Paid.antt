@@ -45,6 +45,7 @@ more_paid steps alone backs others retry most le = (let times = paid backs other
 
 module _ {T : Type 0} (F : Family T) (kind : Kind) (promised : promise_of {T = T} kind ≡ F.promise) (t : Trace T) (s : frame.Sound F t)
     (progress : (p : ℕ) → Progresses F.promise F.capacity F.coding.size (span_of p t.events) (progress_in t.world p)) where
+  -- each latest call has taken no more steps than its promise grants
   bounded : (p : ℕ) (x : Party T) → party_of p t.world.latest ≡ Some x
       → IsBounded F.promise F.capacity F.coding.size x.start (progress_of t.world.changes x)
   bounded p x found =
@@ -59,6 +60,7 @@ module _ {T : Type 0} (F : Family T) (kind : Kind) (promised : promise_of {T = T
       go (Over others) h is =
           (subst (λ seen. Progresses F.promise F.capacity F.coding.size seen (Some (progress_of t.world.changes x))) h.span is).0
 
+  -- so the latest call of each party has paid for its turns back
   pub pays_on : PaysOn kind F.capacity F.coding.size t
   pays_on p x found =
       go (guarantee_of kind F.capacity F.coding.size x.start)
@@ -147,6 +149,7 @@ module _ {T C M E : Type 0} (code : Coding T) (kind : Kind) (call : Calling T C 
       ends.ran.knows.others
       ∙ (ap (others_by known.world) ends.mine ∙ ap (others_so known.world.changes) now.found)
 
+  -- a call that has ended on a pass took no more steps than its kind's guarantee allows
   takes_by : base.going ≡ None → (ends : Ends code kind call base e m w) → (now : Latest ends) → (g : Guarantee) → AllowsOne g
       → IsWithin g (progress_of known.world.changes now.x) → TakesBy code kind base.capacity g base w
   takes_by idle ends now (WaitFree most) least within = few_enough now.x.steps most now.steps within least (few idle ends)

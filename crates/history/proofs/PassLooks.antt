@@ -224,6 +224,7 @@ module _ {T : Type 0} (code : Coding T) (kind : Kind) (capacity : ℕ) where
         told_never kind v.going (Looks code kind capacity v v × (v.seen ≡ m.trace.events)) h,
       )
 
+  -- a pass may look at the whole history by a load of any word
   pub looks : (slots id word : ℕ) (v : View T) → 0 < v.share.part
       → Allows Holds slots id (v, []) word (λ n. n) (λ found me. WhenIdle kind v.going (Looks code kind capacity v me.0) × (me.1 ≡ []))
   looks slots id word v some_share s m long at small =
@@ -238,6 +239,7 @@ module _ {T : Type 0} (code : Coding T) (kind : Kind) (capacity : ℕ) where
         ),
       ))
 
+  -- and it is told the number that it loads
   pub looks_word : (slots id word : ℕ) (v : View T) → 0 < v.share.part
       → Allows Holds slots id (v, []) word (λ n. n)
       (λ found me. WhenIdle kind v.going (LooksAt code kind capacity word v found me.0) × (me.1 ≡ []))

@@ -71,6 +71,7 @@ module _ {T : Type 0} (code : Coding T) (kind : Kind) (capacity : ℕ) where
   abbrev Holds : State (Unit {0}) (View T) → Type 0
   Holds s = IsMachine code kind capacity s
 
+  -- a pass may give the half of its share to a new pass
   pub splits : (id : ℕ) (v : View T) → Splits Holds id v (left_view v) (right_view v)
   splits id v s m at =
       record {
@@ -177,6 +178,7 @@ module _ {T : Type 0} (code : Coding T) (kind : Kind) (capacity : ℕ) where
           (λ (e : (j ≢ id) × (get_elem? s.views j ≡ some x)). m.seats j x e.1)
           (at_set s.views id j (left_view v) x found)
 
+  -- a pass that rests may be taken over by another one
   pub joins : (id other : ℕ) (v w : View T) → 0 < v.share.part → 0 < w.share.part → w.going ≡ None → v.other ≡ []
       → w.other ≡ [] → Joins Holds id v other w (joined_view v w) spent_view
   joins id other v w some_share other_share idle alone alone' s m at apart at' =
@@ -329,6 +331,7 @@ module _ {T : Type 0} (code : Coding T) (kind : Kind) (capacity : ℕ) where
       gone : (j : ℕ) → j ≡ other → Fits (handed_on id other m.owner) m.trace j spent_view
       gone = grind (arith, nothing, never, none_late, owned_none)
 
+  -- a table of the opening's words has a first pass
   pub opens : (words : List ℕ) → IsCoding code → capacity_error kind capacity ≡ None
       → words ≡ (opening_of kind).words code.size capacity ++ 0 ∷ [] → Holds (opening words [] (first_view capacity))
   opens words coded admitted same =

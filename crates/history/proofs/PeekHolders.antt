@@ -53,6 +53,7 @@ module _ {T : Type 0} (code : Coding T) (kd : QueueKind) (capacity p : ℕ) (ans
         sym is ∙ (l.is ∙ (ap (λ es. l.old.events ++ es) (l.writes ∙ ap (λ es. es ++ last ∷ []) none))) in
         ap consumer_of (same_from_push before l.old.events last last whole).0 ∙ holds
 
+    -- the step with which a peek ends is that of the consumer
     stands : (x : Party T) (flight : Flight T) (since n : ℕ) → party_of p w.latest ≡ Some x → x.doing ≡ Going flight since
         → (step_in w p x flight n).wrote ++ ending_of p x.start (answer_in (step_in w p x flight n).after) ≡ l.wrote ++ last ∷ [] → Holds
     stands x flight since n found doing writes =

@@ -46,6 +46,7 @@ module _ {T : Type 0} (code : Coding T) where
       → after_of code (index_looking.flight c m) n ≡ goes index_looking (peek_after 1 c n) (keeps_it c m n)
   index_same_after = grind arith
 
+  -- a peek that goes on stands where the rule has it stand
   index_stays : (capacity : ℕ) (c d : indices.Peeking) (n : ℕ) (stage : PeekStage) → c.capacity ≡ capacity
       → indices.PeekStage capacity stage → peek_takes 1 c stage n ≡ GoOn d
       → (d.capacity ≡ capacity) × indices.PeekStage capacity d.stage
@@ -65,6 +66,7 @@ module _ {T : Type 0} (code : Coding T) where
       let no : ◌≡◌ {A = After indices.Peeking Bool} (Done true) (GoOn d) = rw t at e in
       absurd (cc)
 
+  -- a peek asks for a word of the queue at each stage
   index_finds_word : (capacity : ℕ) (stage : PeekStage) → capacity < 2 ^ 32 → indices.PeekStage capacity stage
       → (a : Ask) × (a.word < 4 + capacity) × (peek_asks stage ≡ wants.Ask a)
   index_finds_word capacity peeks.LoadsRead fits h = (record { word = 1; op = Load }, omega arith, refl)
@@ -85,6 +87,7 @@ module _ {T : Type 0} (code : Coding T) where
   abbrev pub peek_driven : Driven T indices.Peeking OneWord Bool
   peek_driven = record { want = λ (c : indices.Peeking). peek_want c; after = λ c n. peek_after 1 c n; kept = keeps_it; call = index_looking }
 
+  -- a peek into an index queue is a call of the model
   peek_is_call : IsCallBy code (queue_effects code) (λ capacity. 4 + capacity) peek_driven
   peek_is_call =
       record {
@@ -103,6 +106,7 @@ module _ {T : Type 0} (code : Coding T) where
   pub peek_keep_all : KeepsEnds code kinds.IndexQueue (λ capacity. 4 + capacity) peek_driven
   peek_keep_all = keeps_to_end (index_queue_machines code) peek_driven peek_is_call (λ c n. refl)
 
+  -- and so it begins, on a pass that has the consumer's role
   pub peek_first : (x : View T) → x.going ≡ None → x.other ≡ [] → 0 < x.share.part → x.capacity < 2 ^ 32
       → HasRole Consumer x.made → At code kinds.IndexQueue peeks_index x x (first_peek x.capacity) (record { 0 = 0 })
   peek_first x idle alone any small has =
@@ -146,6 +150,7 @@ module _ {T R : Type 0} (code : Coding T) (law : IsCoding code) (words_in : R �
   put_there : (m : R) (at n : ℕ) → at < code.size → kept_at (room_in m) at n ≡ room_in (with_word m at n)
   put_there m at n below = grind (arith, room_set, room_of)
 
+  -- the peek of the model goes on as that of the driver does
   peek_same_after : (capacity : ℕ) (c : Peeking T R) (m : R) (n : ℕ) (stage : PeekStage)
       → PeekPlace code.size capacity stage
       → after_of code (flight_at c.capacity stage (room_in m)) n
@@ -164,6 +169,7 @@ module _ {T R : Type 0} (code : Coding T) (law : IsCoding code) (words_in : R �
     abbrev PeeksNext : Peeking T R → Type 0
     PeeksNext d = (d.capacity ≡ capacity) × PeekPlace code.size capacity d.stage
 
+    -- a peek that goes on stands where the rule has it stand
     peek_stays : (c d : Peeking T R) (n : ℕ) (stage : PeekStage) → c.capacity ≡ capacity
         → PeekPlace code.size capacity stage → peek_takes code.size c stage n ≡ GoOn d → PeeksNext d
     peek_stays c d n peeks.LoadsRead size h e = let same : at_peek c (peeks.LoadsWrite n) ≡ d = cc in subst PeeksNext same (size, tt)
@@ -184,6 +190,7 @@ module _ {T R : Type 0} (code : Coding T) (law : IsCoding code) (words_in : R �
         subst PeeksNext same (size, (h.0, (h.1.0, h.1.1, low))))
         (λ t. let no : ◌≡◌ {A = After (Peeking T R) Bool} (Done true) (GoOn d) = rw t at e in absurd (cc))
 
+  -- a peek asks for a word of the queue at each stage
   peek_finds_word : (capacity : ℕ) (stage : PeekStage) → PeekPlace code.size capacity stage
       → (a : Ask) × (a.word < 4 + code.size * capacity) × (peek_asks stage ≡ wants.Ask a)
   peek_finds_word capacity peeks.LoadsRead h = (record { word = 1; op = Load }, omega arith, refl)
@@ -199,6 +206,7 @@ module _ {T R : Type 0} (code : Coding T) (law : IsCoding code) (words_in : R �
   abbrev pub value_peek_driven : Driven T (Peeking T R) R Bool
   value_peek_driven = record { want = λ (c : Peeking T R). peek_want c; after = λ c n. peek_after code.size c n; kept = keeps_word; call = looking }
 
+  -- a peek into a queue of values is a call of the model
   value_peek_is_call : IsCallBy code (queue_effects code) (λ capacity. 4 + code.size * capacity) value_peek_driven
   value_peek_is_call =
       record {

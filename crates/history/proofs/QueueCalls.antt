@@ -58,6 +58,7 @@ module _ {T : Type 0} (code : Coding T) (v : ℕ) where
       → (d.capacity ≡ capacity) × PushStage capacity d.stage × ((k : ℕ) → push_skips d.stage k ≡ false)
   stays = grind arith
 
+  -- a push asks for a word of the queue at each stage
   asks : (capacity : ℕ) (stage : pushes.PushStage) → capacity < 2 ^ 32 → PushStage capacity stage
       → (a : Ask) × (a.word < 4 + capacity) × (push_asks words_of_index stage v ≡ wants.Ask a)
   asks capacity pushes.TheVariants.LoadsWrite fits h = (record { word = 0; op = Load }, omega arith, refl)
@@ -127,6 +128,7 @@ module _ {T : Type 0} (code : Coding T) where
       → PopStage capacity stage → pop_takes 1 c stage n ≡ GoOn d → (d.capacity ≡ capacity) × PopStage capacity d.stage
   pop_stays = grind arith
 
+  -- a pop asks for a word of the queue at each stage
   pop_finds_word : (capacity : ℕ) (stage : pops.PopStage) → capacity < 2 ^ 32 → PopStage capacity stage
       → (a : Ask) × (a.word < 4 + capacity) × (pop_asks stage ≡ wants.Ask a)
   pop_finds_word capacity pops.TheVariants.LoadsRead fits h = (record { word = 1; op = Load }, omega arith, refl)
@@ -154,6 +156,7 @@ module _ {T : Type 0} (code : Coding T) where
   pub pop_keep_all : KeepsEnds code kinds.IndexQueue (λ capacity. 4 + capacity) pop_driven
   pop_keep_all = keeps_to_end (index_queue_machines code) pop_driven pop_is_call (λ c n. refl)
 
+  -- a push begins, on a pass that has the producer's role
   pub push_first : (v : ℕ) (x : View T) (m : Unit {0}) → x.going ≡ None → x.other ≡ [] → 0 < x.share.part
       → x.capacity < 2 ^ 32 → HasRole Producer x.made
       → At code kinds.IndexQueue (pushes_index v) x x (first_push x.capacity) m
@@ -171,6 +174,7 @@ module _ {T : Type 0} (code : Coding T) where
         wrote = λ p. refl;
       })
 
+  -- a pop begins, on a pass that has the consumer's role
   pub pop_first : (x : View T) → x.going ≡ None → x.other ≡ [] → 0 < x.share.part → x.capacity < 2 ^ 32
       → HasRole Consumer x.made → At code kinds.IndexQueue pops_index x x (first_pop x.capacity) (record { 0 = 0 })
   pop_first x idle alone any small has =

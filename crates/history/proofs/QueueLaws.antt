@@ -12,6 +12,7 @@ module _ {T : Type 0} (code : Coding T) (capacity : ℕ) where
   as_its_list Overflow t h = h
   as_its_list Queue t h = h
 
+  -- every history of a queue is linearizable as its list
   pub queue_linearizable : (kd : QueueKind) (events : List (Event T))
       → IsHistory code (machine_kind kd) capacity events → IsLinearizable (as_list kd capacity) events
   queue_linearizable kd events h =

@@ -46,6 +46,7 @@ module _ {T : Type 0} (code : Coding T) (role : Role) where
   pub acquire_keeps : KeepsEnds code kinds.IndexQueue (λ capacity. 4 + capacity) acquire_driven
   acquire_keeps = keeps_to_end (index_queue_machines code) acquire_driven acquire_is_call (λ c n. refl)
 
+  -- an acquire of a role begins, on any pass that rests
   pub acquire_first : (x : View T) (m : Unit {0}) → x.going ≡ None → x.other ≡ [] → 0 < x.share.part
       → At code kinds.IndexQueue acquiring x x (record { word = role_word role }) m
   acquire_first x m idle alone any =
@@ -81,6 +82,7 @@ module _ {T : Type 0} (code : Coding T) (role : Role) where
   pub release_keeps : KeepsEnds code kinds.IndexQueue (λ capacity. 4 + capacity) release_driven
   release_keeps = keeps_to_end (index_queue_machines code) release_driven release_is_call (λ c n. refl)
 
+  -- the release of a role begins, on a pass that has it
   pub release_first : (x : View T) (m : Unit {0}) → x.going ≡ None → x.other ≡ [] → 0 < x.share.part
       → HasRole role x.made → At code kinds.IndexQueue releasing x x (record { word = role_word role }) m
   release_first x m idle alone any has =
@@ -147,6 +149,7 @@ module _ {T : Type 0} (code : Coding T) (which : LengthOf) (size : ℕ) where
   pub len_keeps : KeepsEnds code kinds.IndexQueue (λ capacity. 4 + capacity) len_driven
   len_keeps = keeps_to_end (index_queue_machines code) len_driven len_is_call (λ c n. refl)
 
+  -- a length begins, on any pass that rests
   pub len_first : (x : View T) (m : Unit {0}) → x.capacity ≡ size → x.going ≡ None → x.other ≡ [] → 0 < x.share.part
       → At code kinds.IndexQueue counting x x (first_len size) m
   len_first x m same idle alone any =

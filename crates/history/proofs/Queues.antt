@@ -120,6 +120,7 @@ module _ {T : Type 0} (code : Coding T) (capacity : ℕ) (r : Ring) where
       → Facts z words waits p n start flight kept
   facts = grind arith
 
+  -- each step of a call under way leads where the queue's table says
   goes_on : (t : Trace T) → IsBounded t → (p : ℕ) (start : Start T) (flight : Flight T)
       → call_in t.world p ≡ Some (start, flight)
       → CallGoesOn code (machine_kind (kind_of r)) capacity ring_words (queue_effects code) t p flight
@@ -140,6 +141,7 @@ module _ {T : Type 0} (code : Coding T) (capacity : ℕ) (r : Ring) where
         goes = λ x n found. (fact x n found).goes;
       }
 
+  -- a bounded queue owes what its kind has to
   pub ring_owes : KindLaws code (machine_kind (kind_of r)) capacity ring_words (queue_effects code)
   ring_owes = record {
     size = size;
@@ -197,6 +199,7 @@ module _ {T : Type 0} (code : Coding T) (kd : QueueKind) (base : View T) where
       (t : Trace T) (owner : ℕ → ℕ) (j p : ℕ) (run : IsOn t) (mine : owner p ≡ j) (by : call.by base.party p)
       (roles : Roles) (is : t.world.kept ≡ registries.Queues roles)
       (lacks : lacks_role roles p start ≡ false) where
+    -- the call begins for a party of its pass, which the machine finds idle
     as_party : Starts code (machine_kind kd) call base c m t owner j
     as_party =
         record {

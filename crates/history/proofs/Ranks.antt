@@ -35,6 +35,7 @@ module _ {T A : Type 0} (hit : Event T → List A) where
       → hits events ≡ hits before ++ (hit e ++ hits after)
   hits_split events before after e is = ap hits is ∙ flat_map-append hit before (e ∷ after)
 
+  -- an event tells no more than is told in all, beyond what is told before it
   pub before_low : (events before after : List (Event T)) (e : Event T) → events ≡ before ++ e ∷ after
       → length (hits before) + length (hit e) ≤ length (hits events)
   before_low events before after e is =

@@ -55,6 +55,7 @@ module _ {T : Type 0} where
   reached_as_opening code kinds.Container capacity parties coded e = record { coded = coded; admitted = e; turns = []; is = refl }
   reached_as_opening code kind capacity parties coded e = record { coded = coded; admitted = e; turns = []; is = refl }
 
+  -- a machine that has just been opened is fresh, as its kind says
   pub fresh_as_opening : (code : Coding T) (kind : Kind) (capacity parties : ℕ) → IsFreshAs kind (opening code kind capacity parties)
   fresh_as_opening = grind arith
 

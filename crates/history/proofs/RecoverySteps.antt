@@ -27,6 +27,7 @@ use Rattle.history.proofs.RobustParts.{raise_asks, lock_asks, LockOn, lock_on}
 
 -- ---- what it asks for
 
+-- a recovery asks for a word of the container at each stage but its questions
 pub recover_words : (size capacity : ℕ) (given : DeadOwner) (stage : RecoverStage) → RecoverIn size capacity given.mode stage
     → is_question (recover_asks size capacity stage given.owner) ≡ false → AsksFor (total_words capacity size) (recover_asks size capacity stage given.owner)
 recover_words size capacity given recovers.LoadsCounter h still = (_, omega arith, refl)
@@ -174,6 +175,7 @@ module _ {T R : Type 0} (code : Coding T) (some : 0 < code.size) (words_in : R �
   freed_here now index count low (HasFound (Some value)) before es never w = absurd never
   freed_here now index count low (HasFreed found hid lock) before es never w = absurd never
 
+  -- what a recovery has written after a step, where it goes on or ends
   pub recovers_so : (value now : T) (stage : RecoverStage) (k : ℕ) (visits : Visits) (es : List (Event T)) → Keeps stage value now
       → RecoverIn code.size capacity mode stage → VisitsAt stage value visits → es ≡ written visits ++ told_yet p given.owner stage
       → Goes value now stage k visits es

@@ -56,6 +56,7 @@ module _ {T : Type 0} (p owner : ℕ) where
   inside_when true e h = h
   inside_when false e h = inside_none
 
+  -- what is written of a visit lies within the call
   inside_of : (index : ℕ) (came : Came T) → IsInside (wrote_of p owner index came)
   inside_of index (HasAsked value) =
       inside_both (Copied p index value ∷ []) (Asked p index owner ∷ []) (λ start ws. refl) (λ start ws. refl)
@@ -71,6 +72,7 @@ module _ {T : Type 0} (p owner : ℕ) where
   inside_visits (visit ∷ before) =
       inside_both (wrote_visits p owner before) (wrote_of p owner visit.0 visit.1) (inside_visits before) (inside_of visit.0 visit.1)
 
+  -- so does what is written of a visit that is under way
   pub inside_yet : (stage : RecoverStage) → IsInside (told_yet p owner stage)
   inside_yet recovers.LoadsCounter = inside_none
   inside_yet (recovers.LoadsCell index) = inside_none

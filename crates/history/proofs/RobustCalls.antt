@@ -70,6 +70,7 @@ module _ {T : Type 0} (code : Coding T) (owner : ℕ) where
   pub acquire_keeps : KeepsEnds code kinds.Robust cells_and_counter acquire_driven
   acquire_keeps = keeps_to_end (robust_machines code) acquire_driven acquire_call (λ c n. refl)
 
+  -- an acquire begins, on any pass that rests
   pub acquire_first : (v : View T) (m : Unit {0}) → v.going ≡ None → v.other ≡ [] → 0 < v.share.part → owner < empty
       → At code kinds.Robust (takes_owned owner) v v (first_acquire v.capacity) m
   acquire_first v m idle alone any fits =
@@ -126,6 +127,7 @@ module _ {T : Type 0} (code : Coding T) (given : GiveBack) where
   pub release_keeps : KeepsEnds code kinds.Robust cells_and_counter release_driven
   release_keeps = keeps_to_end (robust_machines code) release_driven release_call (λ c n. refl)
 
+  -- a release of an index begins, on any pass that rests
   pub release_first : (v : View T) (m : Unit {0}) → v.going ≡ None → v.other ≡ [] → 0 < v.share.part → given.index < v.capacity → given.owner < empty
       → At code kinds.Robust (gives_owned given) v v (first_release v.capacity) m
   release_first v m idle alone any low fits =

@@ -110,6 +110,7 @@ module _ {T : Type 0} (capacity : ℕ) (c : Recovering) (same : c.capacity ≡ c
   counted index low may owner es visits h is (GoOn lock) on = grind (arith, between)
   counted index low may owner es visits h is (Done state) on = next_to index low es visits (came_past mode index owner HasFreed visits tt h) is
 
+  -- what a recovery has written after a step, where it goes on or ends
   recovers_so : (stage : RecoverStage) (k : ℕ) (es : List (Event T)) (visits : List Visit) → RecoverIn capacity mode stage
       → VisitsAt capacity mode stage visits → es ≡ wrote_by p visits ++ wrote_now p stage
       → RecoverGoes (es ++ recover_effects p stage k) (visits_taken stage visits k) (recover_takes c stage mode k)
@@ -197,6 +198,7 @@ module _ {T : Type 0} (code : Coding T) (mode : ReleaseMode) where
   come_first : (index : ℕ) (came : Came) → HasCome mode index came 0 (visit index 0 came ∷ [])
   come_first = grind arith
 
+  -- at each stage there is a list of visits
   some_visits : (capacity : ℕ) (stage : RecoverStage) → (visits : List Visit) × VisitsAt capacity mode stage visits
   some_visits capacity recovers.LoadsCounter = ([], refl)
   some_visits capacity (recovers.LoadsCell index) = ([], none_yet mode index [] refl)
@@ -232,6 +234,7 @@ module _ {T : Type 0} (code : Coding T) (mode : ReleaseMode) where
   abbrev driven : Driven T Recovering (List Visit) ReleaseState
   driven = record { want = recover_want; after = after; kept = visits_after; call = recovers_owned mode }
 
+  -- a recovery is a call of the model that asks
   pub recover_call : IsAskingOf code kinds.Robust robust_effects cells_and_counter driven
   recover_call =
       record {
@@ -316,6 +319,7 @@ module _ {T : Type 0} (code : Coding T) (mode : ReleaseMode) where
       → v.going ≡ Some (Robust (Recover mode), (recovers_owned mode).flight d k) → c ≡ d
   going_same = grind arith
 
+  -- a view has one list of visits for a recovery that stands in it
   same_there : (base other v : View T) (c : Recovering) (m k : List Visit) → base.going ≡ None → other.going ≡ None → At base v c m → At other v c k
       → m ≡ k
   same_there base other v c m k idle too (inl (inl a)) (inl (inl b)) = none_first base v c m a ∙ sym (none_first other v c k b)

@@ -40,6 +40,7 @@ module _ (mode : ReleaseMode) where
   pub wider : (low high : ℕ) (visits : List Visit) → low ≤ high → AreVisits mode low visits → AreVisits mode high visits
   wider = grind arith
 
+  -- one visit more, of the next index
   pub one_more : (index owner : ℕ) (came : Came) (visits : List Visit) → MayCome mode came → AreVisits mode index visits
       → AreVisits mode (index + 1) (visits ++ visit index owner came ∷ [])
   one_more index owner came visits may h = (
@@ -96,6 +97,7 @@ module _ (T : Type 0) (p : ℕ) where
   reads_one : (visits : List Visit) (index owner : ℕ) (came : Came) → fold read visits (wrote_to p index owner came) ≡ visits ++ visit index owner came ∷ []
   reads_one = grind (arith, came_last)
 
+  -- what was written of visits reads back as these visits
   reads : (front visits : List Visit) → fold read front (writes visits) ≡ front ++ visits
   reads front [] = sym (append-nil front)
   reads front (v ∷ visits) =
@@ -108,6 +110,7 @@ module _ (T : Type 0) (p : ℕ) where
       → fold read [] (before ++ Begun p start ∷ (writes visits ++ wrote_now p stage)) ≡ fold read visits (wrote_now p stage)
   read_there = grind (arith, fold-append, fold, reads)
 
+  -- lists of visits that read alike at a stage are equal
   told_apart : (capacity : ℕ) (mode : ReleaseMode) (stage : RecoverStage) (a b : List Visit) → VisitsAt capacity mode stage a
       → VisitsAt capacity mode stage b → fold read a (wrote_now p stage) ≡ fold read b (wrote_now p stage) → a ≡ b
   told_apart capacity mode recovers.LoadsCounter a b x y e = e

@@ -73,6 +73,7 @@ module _ {T : Type 0} (code : Coding T) (capacity : ℕ) where
       → (step_of z words beside p start flight old kept).after ≡ after_of z flight old
   goes_there = grind arith
 
+  -- each step of a call under way leads where the set's table says
   goes_on : (t : Trace T) → IsRobust t → (p : ℕ) (start : Start T) (flight : Flight T) → call_in t.world p ≡ Some (start, flight)
       → CallGoesOn code kinds.Robust capacity (cells_and_counter capacity) robust_effects t p flight
   goes_on t r p start flight at =
@@ -95,6 +96,7 @@ module _ {T : Type 0} (code : Coding T) (capacity : ℕ) where
             (goes_there w.coding w.words (beside_of w.words w.kept w.latest p) w.capacity p n done w.kept s.state here.x.start flight s.fit.kept mine));
       }
 
+  -- the robust index set owes what its kind has to
   pub robusts_owe : KindLaws code kinds.Robust capacity (cells_and_counter capacity) robust_effects
   robusts_owe = record {
     size = robust_size;
@@ -135,6 +137,7 @@ module _ {T : Type 0} (code : Coding T) (base : View T) where
       (by_last : (o : Option ℕ) (p : ℕ) → IfSome o (λ q. q ≡ p) → call.by o p)
       (first_is : (kept : Registry T) → first_of kinds.Robust base.capacity (Robust start) kept ≡ Some (call.flight c m))
       (free : (dead : List ℕ) → ((owner : ℕ) → has_died owner dead ≡ false) → first_row (call_rows base.capacity dead start) ≡ None) where
+    -- the call begins for a party of its pass, which the machine finds idle
     pub robust_starts : (t : Trace T) (owner : ℕ → ℕ) (j : ℕ) → IsOn t → owner j ≡ j → IfSome base.party (λ p. owner p ≡ j)
         → ((f : Event T → ℕ) → sum_by f base.made ≡ sum_by (owned owner j f) t.events)
         → Starts code kinds.Robust call base c m t owner j

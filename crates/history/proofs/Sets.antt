@@ -37,7 +37,7 @@ module _ {T : Type 0} where
 
   -- an effect is an event of its party
   effect_own : (p : ℕ) (e : Event T) → IsEffectOf (Next p) e → whose e ≡ Some p
-  effect_own x0 x1 x2 = grind arith
+  effect_own p e effect_of = grind arith
 
   pub effects_own : (p : ℕ) (es : List (Event T)) → AllByRecursion (IsEffectOf (Next p)) es → AreOf p es
   effects_own p [] h = tt
@@ -60,17 +60,17 @@ module _ {T : Type 0} (K : SetOutline T) (laws : (code : Coding T) (c : ℕ) →
 
   no_rows : (t : Trace T) (At : BitsStart → BitsFlight → Type 0) (start : Start T) (flight : Flight T)
       → FlightAt At start flight → first_row (going_rows t.world.coding t.world.kept (Some flight) None) ≡ None
-  no_rows x0 x1 x2 x3 x4 = grind arith
+  no_rows t At start flight flight_at = grind arith
 
   -- a call of the set goes on alike whatever is kept
   as_told : (code : Coding T) (p n : ℕ) (At : BitsStart → BitsFlight → Type 0) (kept : Registry T) (start : Start T) (flight : Flight T)
       → FlightAt At start flight → goes_of code p flight n kept ≡ after_of code flight n
-  as_told x0 x1 x2 x3 x4 x5 x6 x7 = grind arith
+  as_told code p n At kept start flight flight_at = grind arith
 
   writes_there : (t : Trace T) (p old : ℕ) (At : BitsStart → BitsFlight → Type 0) (kept : Registry T) (start : Start T) (flight : Flight T)
       → kept ≡ registries.Nothing → FlightAt At start flight
       → (step_of t.world.coding t.world.words (beside_of t.world.words t.world.kept t.world.latest p) p start flight old kept).wrote ≡ set_effects p flight old
-  writes_there x0 x1 x2 x3 x4 x5 x6 x7 x8 = grind arith
+  writes_there t p old At kept start flight kept_is_nothing flight_at = grind arith
 
   own_there : (c p old : ℕ) (wrote : List (Event T)) (start : Start T) (flight : Flight T)
       → FlightAt (K.At c wrote) start flight → AreOf p (set_effects p flight old)
@@ -78,6 +78,7 @@ module _ {T : Type 0} (K : SetOutline T) (laws : (code : Coding T) (c : ℕ) →
       effects_own p (effects_of p flight old) ((laws code c).effects p old wrote start flight at)
   own_there c p old wrote start flight at = absurd at
 
+  -- each step of a call under way leads where the set's table says
   goes_on : (t : Trace T) → IsSet t → (p : ℕ) (start : Start T) (flight : Flight T)
       → call_in t.world p ≡ Some (start, flight) → CallGoesOn code K.kind capacity words set_effects t p flight
   goes_on t r p start flight at =
@@ -146,7 +147,7 @@ module _ {T : Type 0} (K : SetOutline T) (laws : (code : Coding T) (c : ℕ) →
       first_here = grind arith
 
       may_here : (p : ℕ) → first_row (rows_as K.kind base.capacity t.world.kept p call.start) ≡ None
-      may_here x0 = grind (arith, rows_free, first_row, size, kept)
+      may_here p = grind (arith, rows_free, first_row, size, kept)
 
 module _ {T : Type 0} (code : Coding T) (capacity : ℕ) where
   pub counts_owe : KindLaws code kinds.Counts capacity capacity set_effects
@@ -172,6 +173,7 @@ module _ {T C M E : Type 0} (code : Coding T) (call : Calling T C M E) (base : V
       → ((f : Event T → ℕ) → sum_by f base.made ≡ sum_by (owned owner j f) t.events)
       → Starts code kind call base c m t owner j
 
+  -- a call on a counting bit set begins for any party that is idle
   pub counts_starts : first_of kinds.Counts base.capacity call.start
       ((opening_of kinds.Counts).kept base.capacity)
       ≡ Some (call.flight c m)
@@ -182,6 +184,7 @@ module _ {T C M E : Type 0} (code : Coding T) (call : Calling T C M E) (base : V
   counts_starts first may = set_starts counting_set counts_laws code base.capacity base.capacity (λ c ws es turns same holds. holds.sized ∙ same)
       (λ t h. h) call base c m refl by first may
 
+  -- a call on a bit set begins for any party that is idle
   pub bits_starts : first_of kinds.Bits base.capacity call.start ((opening_of kinds.Bits).kept base.capacity)
       ≡ Some (call.flight c m)
       → ((p : ℕ)
@@ -202,8 +205,8 @@ module _ (capacity : ℕ) (small : capacity < 2 ^ 32) where
 
   pub counts_open : (words : List ℕ) → words ≡ replicate (capacity + 1) 0
       → IsMachine one_word kinds.Counts capacity (opening words [] (first_view capacity))
-  counts_open x0 x1 = grind (arith, opens, one_word, most, least, one_more)
+  counts_open words words_are = grind (arith, opens, one_word, most, least, one_more)
 
   pub bits_open : (words : List ℕ) → words ≡ replicate (1 + elements capacity + 1) 0
       → IsMachine one_word kinds.Bits capacity (opening words [] (first_view capacity))
-  bits_open x0 x1 = grind (arith, opens, one_word, most, least, one_more, elements)
+  bits_open words words_are = grind (arith, opens, one_word, most, least, one_more, elements)

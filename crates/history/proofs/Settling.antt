@@ -122,6 +122,7 @@ module _ {T : Type 0} (hearing : Hearing T) where
     abbrev pub table_settled : State (Unit {0}) (View T)
     table_settled = record { words = s.words; homes = s.homes; views = slice_set s.views id view_settled }
 
+    -- the view that has settled has gained the turn of the answer
     gains_settled : Gains s.views v v.asked v.aside (steps_of_run code kind key between_then.one.turns)
     unfolding between_then between
     gains_settled =
@@ -180,6 +181,7 @@ module _ {T : Type 0} (hearing : Hearing T) where
     run_then : IsRun code kind v.capacity u_then
     run_then = subst (λ n. IsRun code kind n u_then) (sym known) between_then.run
 
+    -- a pass whose call rests settles by the answer
     pub settles : Settles code kind v view_settled
     settles =
         record {
@@ -207,6 +209,7 @@ module _ {T : Type 0} (hearing : Hearing T) where
 
   -- ---- a look with which the call that rests is ended
 
+  -- it may do so by a load of any word
   pub settles_at : (key slots id word : ℕ) (v : View T) → v.capacity ≡ key → IsResting code v
       → Allows (IsMachine code kind key) slots id (v, []) word (λ n. n) (λ found me. Settles code kind v me.0 × (me.1 ≡ []))
   settles_at key slots id word v known h s r long at small =
@@ -285,6 +288,7 @@ module _ {T : Type 0} (hearing : Hearing T) where
       below : ask.word < words
       below = (let low = word.1 in omega arith)
 
+      -- the first step of the next call keeps the rule
       first_keeps : OwesAsk (λ (z : View T). z.asked) (IsMachine code kind key) words slots id (ToldRested c m) ask.word ask.op (v, [])
       first_keeps = (
         below,
@@ -333,6 +337,7 @@ module _ {T : Type 0} (hearing : Hearing T) where
       (stays : (v w : View T) (c : C) (m : M) → Settles code kind v w → Begins v c m → Begins w c m)
       (first : (v : View T) (c : C) (m : M) → Begins v c m → v.going ≡ None → v.other ≡ [] → 0 < v.share.part → Stage v v c m)
       (apart : (base v : View T) (c : C) (m : M) → IsResting code v → Begins v c m → Stage base v c m → ⊥) where
+    -- a call that begins after one that rests keeps the rule
     pub keeps_waiting : KeepsRule (λ (z : View T). z.asked) (λ (z : View T). z.capacity)
         (AtWaiting code kind Begins Stage) (EndsSettled code kind Over) (λ key. size_of key + 1)
         (λ key. key) (λ key. IsMachine code kind key) want after kept
@@ -349,6 +354,7 @@ module _ {T : Type 0} (hearing : Hearing T) where
       (Begins : ℕ → C → M → Type 0) (asks : (capacity : ℕ) (c : C) (m : M) → Begins capacity c m → AsksFor (size_of capacity) (want c))
       (first : (v : View T) (c : C) (m : M) → Begins v.capacity c m → v.going ≡ None → v.other ≡ [] → 0 < v.share.part → Stage v v c m)
       (apart : (base v : View T) (c : C) (m : M) → IsResting code v → Begins v.capacity c m → Stage base v c m → ⊥) where
+    -- a call keeps the rule whether the one before it rests or has ended
     pub keeps_rested : KeepsRule (λ (z : View T). z.asked) (λ (z : View T). z.capacity) (AtRested code kind Begins Stage Over)
         (EndsRested code kind Begins Stage Over) (λ key. size_of key + 1)
         (λ key. key) (λ key. IsMachine code kind key) want after kept

@@ -29,6 +29,7 @@ module _ {T C M E : Type 0} (code : Coding T) (kind : Kind) (size_of : ℕ → �
       → Told (λ (z : View T). z.capacity) AtSized EndsSized after kept c m x n w
   told_sized = grind (arith, one_size, sized_next)
 
+  -- calls that keep the rule for each capacity keep it as one family
   pub keeps_sized : ((n : ℕ)
       → KeepsRule (λ (z : View T). z.asked) (λ (z : View T). z.capacity) (At code kind (call n)) (Ends code kind (call n))
       (λ key. size_of key + 1) (λ key. key) (λ key. IsMachine code kind key) want after kept)

@@ -65,6 +65,7 @@ module _ {T : Type 0} where
     wrote_by p (flights.Bits flight) span = K.wrote p flight span
     wrote_by p flight span = []
 
+    -- what the frame asks to know of the family of a kind
     abbrev pub outline : Outline T
     outline =
         record {

@@ -74,6 +74,7 @@ module _ {T : Type 0} (K : SetOutline T) where
 
   -- ---- what it owes as a family
 
+  -- `c` is the capacity, and `L` what the kind owes
   module _ (code : Coding T) (c : ℕ) (L : SetLaws code c) where
     no_question : (wrote : List (Event T)) (start : Start T) (flight : Flight T)
         → FlightAt (K.At c wrote) start flight → is_question (want_of code flight) ≡ false
@@ -90,6 +91,7 @@ module _ {T : Type 0} (K : SetOutline T) where
     paid p events words since changes backs (flights.Bits flight) h = L.paid p events words since changes backs flight h
     paid p events words since changes backs flight h = absurd h
 
+    -- what a call knows it knows after a turn of another party
     still : (q : ℕ) (words : List ℕ) (events : List (Event T)) (turns changes : ℕ) (words' : List ℕ) (es : List (Event T)) (changes' : ℕ)
         → K.Preserves c words events turns changes words' es changes' → BeginsNone q es → (since backs : ℕ) (flight : Flight T)
         → KnowsFlight (K.Knows q events words since changes backs) flight → KnowsFlight (K.Knows q (events ++ es) words' since changes' backs) flight
@@ -97,7 +99,9 @@ module _ {T : Type 0} (K : SetOutline T) where
         L.still q words events turns changes words' es changes' preserves none since backs flight h
     still q words events turns changes words' es changes' preserves none since backs flight h = absurd h
 
+    -- party `p` takes a turn of the run `t`
     module _ (t : Trace T) (s : Sound (family K code c) t) (p : ℕ) where
+      -- a step of a call that stands there shows what the family's step has to
       step_shows : (x : Party T) (since : ℕ) (start : Start T) (flight : Flight T) → StandsThere (family K code c) t s p x since start flight
           → families.StepOf (outline K) (scene_of (outline K) code c t s p x.steps x.backs since) start flight
       step_shows x since (Bits start) (flights.Bits flight) here =
@@ -127,6 +131,7 @@ module _ {T : Type 0} (K : SetOutline T) where
           → (mine : BitsFlight) × (flight ≡ flights.Bits mine) × (first K.kind c start ≡ Some mine)
       some_first = grind arith
 
+      -- a call that begins shows what the family's begin has to
       begin_shows : (start : Start T) (flight : Flight T) → first_of K.kind c start registries.Nothing ≡ Some flight
           → first_row ((begin_of K.kind c start).rows registries.Nothing p) ≡ None
           → families.Begins (outline K) (scene_of (outline K) code c t s p 0 0 t.world.changes) start flight
@@ -164,6 +169,7 @@ module _ {T : Type 0} (K : SetOutline T) where
   May t turn = Unit {0}
 
   module _ (laws_of : (code : Coding T) (c : ℕ) → SetLaws code c) where
+    -- a call of another party stands where it stood, and has written what it had
     stays : (scene : Scene T (SetState T)) (s' : SetState T) (es : List (Event T)) → s'.events ≡ scene.events ++ es → scene.state.events ≡ scene.events
         → AreOwn scene.party es → (q : ℕ) → q ≢ scene.party → (start : Start T) (flight : Flight T)
         → FlightAt (K.At scene.capacity (wrote_in (span_of q scene.state.events))) start flight
@@ -174,6 +180,7 @@ module _ {T : Type 0} (K : SetOutline T) where
         ap (span_of q) is ∙ (span_of-other scene.party q scene.events es ne own ∙ ap (span_of q) (sym was)) in
         (subst (λ a. FlightAt (K.At scene.capacity (wrote_in a)) start flight) (sym same) at, ap (wrote_by K q flight) same)
 
+    -- each turn of a set may be taken, as the frame asks it of a family
     turns : (code : Coding T) (c : ℕ) → Turns (outline K) code c May
     turns code c =
         let L = laws_of code c in
@@ -194,6 +201,7 @@ module _ {T : Type 0} (K : SetOutline T) where
           no_owners = λ s. refl;
         })
 
+    -- all that the frame asks of a family is so of the set's
     owed : (code : Coding T) (c : ℕ) → Owed (outline K) code c
     owed code c =
         let L = laws_of code c in
@@ -207,6 +215,7 @@ module _ {T : Type 0} (K : SetOutline T) where
           tells = λ t turn e s. L.tells t turn (after_turn t turn);
         }
 
+    -- all turns of a set are sound
     all_turns : AllTurns (outline K) May
     all_turns =
         record {

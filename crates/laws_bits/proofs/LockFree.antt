@@ -42,6 +42,7 @@ abbrev set_left : List ℕ → ℕ → SetStage → ℕ
 set_left words bit setting.LoadsElement = 1
 set_left words bit (setting.ExchangesElement found) = cond (get_or words (element_of bit) 0 == found) 0 1
 
+-- a reset of the next one: the places that are still to be tested
 abbrev next_left : List ℕ → ℕ → ResetNextStage → ℕ
 next_left words c resetting.LoadsPosition = c + 2
 next_left words c (resetting.LoadsElement start passed) = c - (passed + 1) + 2
@@ -49,6 +50,7 @@ next_left words c (resetting.ExchangesElement start passed found) =
     cond (get_or words (element_of (place_after c start passed)) 0 == found) 1 (c - (passed + 1) + 2)
 next_left words c (resetting.StoresPosition place) = 0
 
+-- any call of a bit set
 abbrev bits_left : List ℕ → BitsFlight → ℕ
 bits_left words (calls.Set run) = set_left words run.given run.call.stage
 bits_left words (calls.ResetNext run) = next_left words run.call.capacity run.call.stage
@@ -93,6 +95,7 @@ next_few = grind arith
 
 -- ---- where a call stands
 
+-- a call of a bit set
 abbrev BitsStand : ℕ → BitsFlight → Type 0
 BitsStand c (calls.Set run) = Unit {0}
 BitsStand c (calls.ResetNext run) = run.call.capacity ≡ c
@@ -100,6 +103,7 @@ BitsStand c (calls.ResetAll run) = (run.call.end ≡ 1 + elements c) × (1 ≤ r
 BitsStand c (calls.IsSet run) = Unit {0}
 BitsStand c flight = ⊥
 
+-- a call of a counting set
 abbrev CountsStand : ℕ → BitsFlight → Type 0
 CountsStand c (calls.Count run) = Unit {0}
 CountsStand c (calls.TakeAll run) = run.call.end ≡ c
@@ -135,6 +139,7 @@ module _ {T : Type 0} where
   Kept registries.Nothing = Unit {0}
   Kept kept = ⊥
 
+  -- what the frame of lock-freedom asks to know of the bit sets
   abbrev bits_outline : Outline T
   bits_outline =
       record {
@@ -146,6 +151,7 @@ module _ {T : Type 0} where
         measure = λ code c. measure c;
       }
 
+  -- what the frame of lock-freedom asks to know of the counting sets
   abbrev counts_outline : Outline T
   counts_outline =
       record {
@@ -225,6 +231,7 @@ module _ {T : Type 0} where
             rw (t, u) (inl (same, omega arith, one))
         go false t false u = rw (t, u) tt
 
+    -- each step of a reset of the next one falls
     next_falls : (c : ℕ) (stage : ResetNextStage) → Shown (next_at c stage)
     next_falls c resetting.LoadsPosition = go (nat_lt 0 c) refl
       where
@@ -271,6 +278,7 @@ module _ {T : Type 0} where
             absurd (omega arith)
         go false t u e = rw t tt
 
+    -- each step of any call of a bit set falls
     bits_fall : (c : ℕ) (start : Start T) (flight : Flight T) → FlightStands (BitsStand c) start flight → StepFalls M code words flight
     bits_fall c (starts.Bits start) (flights.Bits (calls.Set run)) at = set_falls run.given run.call.stage
     bits_fall c (starts.Bits start) (flights.Bits (calls.ResetNext run)) at = next_falls run.call.capacity run.call.stage
@@ -282,6 +290,7 @@ module _ {T : Type 0} where
     abbrev CountShown : BitsFlight → Type 0
     CountShown flight = StepFalls (counts_measure n) code words (flights.Bits flight)
 
+    -- each step of a reset of all counts falls
     takes_fall : (word end : ℕ) (room : OneWord)
         → CountShown (calls.TakeAll (record { call = record { word = word; end = end }; given = tt; room = room }))
     takes_fall word end room = go (nat_lt (word + 1) end) refl (nat_lt word end) refl
@@ -302,6 +311,8 @@ module _ {T : Type 0} where
 
   -- ---- no call has more left
 
+  -- no call of a bit set has more steps left than the capacity and two, or more changes to make
+  -- than the measure names
   bits_most : (c : ℕ) (words : List ℕ) (start : Start T) (flight : Flight T) → FlightStands (BitsStand c) start flight
       → (left words flight ≤ c + 2) × (pays flight ≤ max 1 (elements c - 1))
   bits_most c words (starts.Bits start) (flights.Bits (calls.Set run)) at =
@@ -328,6 +339,7 @@ module _ {T : Type 0} where
         → Kept kept → Kept (step_of code words beside p start flight old kept).kept
     stays = grind arith
 
+    -- a call goes on after a step as its kind's table says, whatever is kept beside the words
     told : (stands : BitsFlight → Type 0) (words : List ℕ) (beside : Option (ℕ × ℕ)) (p : ℕ) (start : Start T) (flight : Flight T) (old : ℕ)
         (kept : Registry T)
         → FlightStands stands start flight → Kept kept
@@ -349,6 +361,7 @@ module _ {T : Type 0} where
     bits_ask : (start : Start T) (flight : Flight T) → FlightStands (BitsStand c) start flight → is_question (want_of code flight) ≡ false
     bits_ask = grind arith
 
+    -- all that is owed for the measure holds of the calls of a bit set
     bits_laws : TableLaws bits_outline code c
     bits_laws =
         record {
@@ -375,6 +388,7 @@ module _ {T : Type 0} where
     counts_ask : (start : Start T) (flight : Flight T) → FlightStands (CountsStand c) start flight → is_question (want_of code flight) ≡ false
     counts_ask = grind arith
 
+    -- all that is owed for the measure holds of the calls of a counting set
     counts_laws : TableLaws counts_outline code c
     counts_laws =
         record {

@@ -88,6 +88,8 @@ module _ {T : Type 0} (adding : Adding T) (i : ℕ)
 
     -- ---- a step that changes nothing and writes nothing
 
+    -- a step that leaves the words and writes nothing leads an add to its next stage, where the
+    -- conditions of that stage hold
     calm_step : (stage next : AddStage) (ask : Option Ask) → words_after ws ask ≡ ws → Here stage
         → add_owes next ≡ true → steps + step_count ask ≤ add_number c code.size next (backs_then scene false)
         → AddAt c code.size (all scene) (done scene) owner next
@@ -119,6 +121,8 @@ module _ {T : Type 0} (adding : Adding T) (i : ℕ)
       abbrev number : ℕ
       number = count_in code c (before scene) i
 
+      -- the step in which an add loads the number of the element leads on: to the words under
+      -- an even one, and to the hiding under an odd one
       loads_step : StepOf scene start (at_stage (adds.LoadsCount i))
       loads_step =
           on_bool (λ b. Leads scene start (Some (set_stages.loads (count_word c i))) false scene.states []
@@ -151,6 +155,8 @@ module _ {T : Type 0} (adding : Adding T) (i : ℕ)
       abbrev now_at : ℕ
       now_at = count_in code c (before scene) i
 
+      -- the step in which an add hides what stands there shows what it has to, whether it finds
+      -- the number or another
       hides_step : StepOf scene start (at_stage (adds.Hides i count))
       hides_step =
           on_bool (λ b. Leads scene start (Some (exchanges (count_word c i) count (one_more count))) false scene.states
@@ -197,6 +203,8 @@ module _ {T : Type 0} (adding : Adding T) (i : ℕ)
       abbrev store_it : Option Ask
       store_it = Some (stores_to (element_word c code.size i at) (get_or (code.words_of value) at 0))
 
+      -- a store of a word leads to the stage behind it, where the add knows there what that
+      -- stage asks
       store_to : (next : AddStage) → add_owes next ≡ true
           → steps + 1 ≤ add_number c code.size next (backs_then scene false)
           → AddAt c code.size (all scene) (done scene) owner next
@@ -212,6 +220,7 @@ module _ {T : Type 0} (adding : Adding T) (i : ℕ)
           (was_well_formed scene start tt here.span (words_after ws store_it) (then_at next store_it) [] tt) (λ was. owe))
           few (refl, refl, fits, stands) known
 
+      -- after a store of a word one word more of the value is written
       one_more_word : (next : AddStage)
           → Writes code c owner i value (at + 1)
           (view scene.terms (words_after ws store_it) scene.states (put p (then_at next store_it) latest) events p
@@ -225,6 +234,7 @@ module _ {T : Type 0} (adding : Adding T) (i : ℕ)
                 (w.has before_it (acts.stays before_it.kept));
           }
 
+      -- the step in which an add stores a word leads on, to the next word or to the placing
       stores_step : StepOf scene start (at_stage (adds.Stores i at))
       stores_step =
           on_bool (λ b. Leads scene start (Some (stores_to (element_word c code.size i at) (get_or (code.words_of value) at 0)))
@@ -267,6 +277,7 @@ module _ {T : Type 0} (adding : Adding T) (i : ℕ)
       new : words_after ws add_it ≡ set ws (count_word c i) (one_more count_now)
       new = adds_to_count scene inv i below
 
+      -- the step in which an add makes the number odd places the value
       places_step : StepOf scene start (at_stage (adds.AddsCount i))
       places_step =
           on_bool (λ b. Leads scene start (Some (adds_one (count_word c i))) false scene.states
@@ -311,6 +322,7 @@ module _ {T : Type 0} (adding : Adding T) (i : ℕ)
       abbrev end_it : Option Ask
       end_it = Some (adds_one (change_word c))
 
+      -- the step in which an add counts the change ends it
       ends_step : StepOf scene start (at_stage (adds.AddsChange i))
       ends_step =
           let y = party_then scene start end_it false (Done (Index i)) in
@@ -337,6 +349,8 @@ module _ {T : Type 0} (adding : Adding T) (i : ℕ)
 module _ {T : Type 0} (adding : Adding T) where
   open adding use {scene, value, owner}
 
+  -- any step of an add that stands at a stage, and knows what the stage tells, shows what it
+  -- has to
   pub add_step : (stage : AddStage) → IsHere scene (Add value owner) (add_at scene.capacity value owner stage)
       → AddAt scene.capacity scene.coding.size (all scene) (done scene) owner stage
       → AddKnows scene.coding scene.capacity value owner stage (sees_now scene)

@@ -69,6 +69,7 @@ module _ {T : Type 0} (adding : Adding T) (stage : AcquireStage)
         → OwesStill scene inv words' y es well_formed
     still words' y es well_formed = owes_none scene start flight y here refl
 
+    -- an add whose acquire fails ends with that failure
     refuses : (failure : UniqueIndexSetAcquireFailure) (ask : Option Ask) (back : Bool)
         → words_after ws ask ≡ ws → WhyNot (of_set scene) (inv_of_set scene inv) owner fits acts.alive 0 failure
         → set_knows.IsPaid (set_stages.sees (of_set scene) ask back)
@@ -103,6 +104,8 @@ module _ {T : Type 0} (adding : Adding T) (stage : AcquireStage)
         ) well_formed (λ holds. tt) same (λ i b. refl) (still (words_after ws ask) y es well_formed))
         ((refl, why.2), tt) (omega arith) (omega arith)
 
+    -- what the acquire of the set leads to, in an add: each of its steps, its grant, and each
+    -- of its failures
     caller : Caller (of_set scene) (inv_of_set scene inv) owner fits acts.alive 0 Lead
     caller =
         record {

@@ -17,6 +17,7 @@ use Rattle.laws_container.proofs.ReplaceFound.{replace_step}
 use Rattle.laws_container.proofs.Sound.{Shown}
 
 module _ {T : Type 0} where
+  -- each step of each call shows what it has to
   calls : (scene : Scene T) → Inv scene → CallSteps scene
   calls scene inv =
       record {
@@ -42,6 +43,7 @@ module _ {T : Type 0} where
         lock = λ none here k s. lock_step scene inv here none k s;
       }
 
+  -- all that is shown of the turns of a container
   pub shown : Shown T
   shown =
       record {

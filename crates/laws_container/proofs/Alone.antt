@@ -51,6 +51,7 @@ module _ {T : Type 0} where
   all_stay p q span [] ne h = refl
   all_stay p q span (e ∷ es) ne h = ap (λ s. fold (span_after q) s es) (theirs_stays p q span e ne h.0) ∙ all_stay p q span es ne h.1
 
+  -- while a call is alone, no other party has one under way
   pub others_shut : (p q : ℕ) (events : List (Event T)) → q ≢ p → WasAlone p events → IsShut (span_of q events)
   others_shut p q events ne h =
       let began : span_of q (h.before ++ Begun p h.start ∷ h.since) ≡ span_of q h.before =

@@ -9,6 +9,7 @@ module _ {T : Type 0} where
   one_stays : (i : ℕ) (value : T) (e : Event T) (o : Option T) (c : Bool) → contents_after i o e ≡ Some value → c ≡ true → announced_after i c e ≡ true
   one_stays i value e o c here h = grind arith
 
+  -- what was announced, and had its value after each of these events, is announced after them
   all_stays : (i : ℕ) (value : T) (es part : List (Event T))
       → ((mid rest : List (Event T)) → es ≡ mid ++ rest → contents_of i (part ++ mid) ≡ Some value)
       → announced_of i part ≡ true → announced_of i (part ++ es) ≡ true
@@ -27,6 +28,8 @@ module _ {T : Type 0} where
   none_rest p (Begun q s ∷ es) rest h = none_rest p es rest h.1
   none_rest p (e ∷ es) rest h = none_rest p es rest h
 
+  -- what was announced when a call began, and has stood through it with one value, is announced
+  -- now
   pub announced_through : (p i : ℕ) (value : T) (events : List (Event T)) → WasAnnounced p i events
       → StoodThrough p i value events → announced_of i events ≡ true
   announced_through p i value events said through =

@@ -127,6 +127,7 @@ module _ {T : Type 0} (shown : Shown T) (terms : Terms) (code : Coding T) (t : T
           is_question (want code flight) ≡ true → HasAsked flight → Wrote false (starts.Find owner) flight 0
           → StoppedIf well_formed p owner t (after_turn t (Decide p false))
 
+      -- a no that ends a find at its question stops it as the promise says
       stage_stops : (capacity given : ℕ) (room : buffers.Buffer 128) (stage : FindStage) → Stops (find_at capacity given room stage)
       stage_stops capacity given room (finds.LoadsCell k found) due asked e = absurd (cc)
       stage_stops capacity given room (finds.LoadsCount k found) due asked e = absurd (cc)
@@ -155,6 +156,7 @@ module _ {T : Type 0} (shown : Shown T) (terms : Terms) (code : Coding T) (t : T
     by_turn : (p : ℕ) (said : Bool) → turn ≡ Decide p said → IsAllowed t.world (Decide p said)
     by_turn p said is = subst (λ u. IsAllowed t.world u) is r
 
+    -- each find that a no ends in the turn has counted up to the index that it asked about
     pub finds_up_to : (well_formed : Type 0)
         (so_far : well_formed → IsWellFormedSoFar terms (after_turn t turn).world.latest (after_turn t turn).events)
         → FindsUpToIf well_formed t turn (after_turn t turn)
@@ -176,6 +178,8 @@ module _ {T : Type 0} (shown : Shown T) (terms : Terms) (code : Coding T) (t : T
         let d = decided shown terms code c t s may p said (by_turn p said is) in
         subst (λ u. question_at (after_turn t u) p ≡ None) (sym is) (d.goes.asks ∙ waits_none code p d.goes.flight d.goes.answer d.due)
 
+    -- a party that asks about an element after the turn has copied it in the turn, or asked so
+    -- before
     once : AsksOnce t (after_turn t turn)
     once p index value e ne =
         ⊎_elim
@@ -184,6 +188,7 @@ module _ {T : Type 0} (shown : Shown T) (terms : Terms) (code : Coding T) (t : T
         (λ other. absurd (ne (sym (going.goes.others p other) ∙ e))) (cases_eq p going.party))
         (any_turn shown terms code c t s may turn r)
       where
+        -- a party whose call goes on to a question has written the copy that it asks about
         here : (going : IsGoing shown terms code c t s may turn) → p ≡ going.party → HasWritten (Copied p index value) t (after_turn t turn)
         here going is =
             let g = going.goes in
@@ -203,6 +208,7 @@ module _ {T : Type 0} (shown : Shown T) (terms : Terms) (code : Coding T) (t : T
                   first.is);
             })
 
+    -- all that the turn writes of questions and answers is right
     all_right : AllRight t turn (after_turn t turn)
     all_right =
         record {

@@ -48,6 +48,7 @@ module _ {T : Type 0} (shown : Shown T) (terms : Terms) (code : Coding T) (t : T
       → Silent code q (state_of q s.state.states) (Number number) flight old
   silent_there = grind (arith, stage_silent)
 
+  -- a turn in which a find ends writes nothing before that end
   ends_alone : (wrote : List (Event T)) → events_of t.world turn ≡ wrote ++ Finished p (Container (starts.Find owner)) (Number number) ∷ [] → wrote ≡ []
   ends_alone wrote e =
       ⊎_elim
@@ -55,6 +56,8 @@ module _ {T : Type 0} (shown : Shown T) (terms : Terms) (code : Coding T) (t : T
       (λ (going : IsGoing shown terms code c t s may turn). by going.party going.goes)
       (any_turn shown terms code c t s may turn r)
     where
+      -- a turn in which a party's call goes on, and that ends a find, writes nothing before
+      -- that end
       by : (q : ℕ) → GoesOn shown terms code c t s may turn q → wrote ≡ []
       by q g =
           let state = state_of q s.state.states in
@@ -74,6 +77,7 @@ module _ {T : Type 0} (shown : Shown T) (terms : Terms) (code : Coding T) (t : T
     (s : frame.Sound (family_by terms code t.world.capacity) t) (may : MayGoOn terms t) (turn : Turn T)
     (r : IsAllowed t.world turn)
     (well_formed : Type 0) (so_far : well_formed → IsWellFormedSoFar terms (after_turn t turn).world.latest (after_turn t turn).events) where
+  -- each find that ends in a turn that is no no to it has counted over the whole container
   pub finds_all : FindsAllIf well_formed t turn (after_turn t turn)
   finds_all p owner number ends ne =
       let none = ends_alone shown terms code t s may turn r p owner number ends.wrote (append_cancel_left t.events (events_of t.world turn) _ ends.is) in

@@ -50,6 +50,7 @@ module _ {T : Type 0} where
 
 -- ---- a call goes on
 
+-- `c` is the capacity, `t` the run so far, and `s` what is sound of it
 module _ {T : Type 0} (shown : Shown T) (terms : Terms) (code : Coding T) (c : ℕ) (t : Trace T)
     (s : frame.Sound (family_by terms code c) t) (may : MayGoOn terms t) where
   -- the party's call goes on, handed this answer
@@ -77,6 +78,7 @@ module _ {T : Type 0} (shown : Shown T) (terms : Terms) (code : Coding T) (c : �
     pub due : is_question (want code goes.flight) ≡ true
     pub answer_is : goes.answer ≡ number_of said
 
+  -- party `q`, whose call is `x`, takes this turn
   module _ (turn : Turn T) (q answer : ℕ) (mine : IsParty turn q) (x : Party T) (since : ℕ) (found : party_of q t.world.latest ≡ Some x) where
     abbrev stepping : Coding T → Registry T → Start T → Flight T → Step (Flight T) (Registry T) T
     stepping y kept a flight = step_of y t.world.words (beside_of t.world.words kept t.world.latest q) q a flight answer kept
@@ -102,6 +104,7 @@ module _ {T : Type 0} (shown : Shown T) (terms : Terms) (code : Coding T) (c : �
         → ((p : ℕ) → p ≢ q → question_at (after_turn t turn) p ≡ question_at t p) → ByYes y flight
         → question_at t q ≡ question_in y (Some flight) → Went flight
 
+    -- a call that stands there by the events has gone on in this turn
     by_names : (a : Start T) (flight : Flight T) → StandsThere (family_by terms code c) t s q x since a flight
         → From code (kept_now shown terms code c t s) a flight
     by_names (Container start) (flights.Container flight) stands wrote asks others told asked =
@@ -140,6 +143,7 @@ module _ {T : Type 0} (shown : Shown T) (terms : Terms) (code : Coding T) (c : �
   abbrev next_number : Party T → Doing T → ℕ
   next_number x doing = old_of t.world.words (ask_of_doing t.world.coding doing)
 
+  -- a step of a party whose call waits for no decision lets its call go on
   next_by : (q : ℕ) (x : Party T) → party_of q t.world.latest ≡ Some x → is_none (flight_in t.world q) ≡ false
       → is_due t.world.coding (flight_in t.world q) ≡ false → (doing : Doing T) → x.doing ≡ doing → GoesOn (Next q) q
   next_by q x found some free (Over others) d =
@@ -163,9 +167,11 @@ module _ {T : Type 0} (shown : Shown T) (terms : Terms) (code : Coding T) (c : �
       (λ due not. absurd (cc))
       (ap (question_in w.coding) here)).on
 
+  -- a step that is not refused lets the party's call go on
   next_goes : (q : ℕ) → call_refusal t.world (Next q) ≡ None → GoesOn (Next q) q
   next_goes q r = by (party_of q t.world.latest) refl
     where
+      -- whatever that party has under way, its call goes on
       by : (o : Option (Party T)) → party_of q t.world.latest ≡ o → GoesOn (Next q) q
       by None found =
           let first = row_passed (is_none (flight_in t.world q)) Idle _ r in
@@ -179,6 +185,7 @@ module _ {T : Type 0} (shown : Shown T) (terms : Terms) (code : Coding T) (c : �
 
   -- ---- a decision
 
+  -- a decision of a party whose call waits for one lets it go on with that answer
   decision_by : (q : ℕ) (said : Bool) (x : Party T) → party_of q t.world.latest ≡ Some x
       → is_due t.world.coding (flight_in t.world q) ≡ true → (doing : Doing T) → x.doing ≡ doing → IsDecided q said
   decision_by q said x found due (Over others) d =
@@ -209,12 +216,14 @@ module _ {T : Type 0} (shown : Shown T) (terms : Terms) (code : Coding T) (c : �
       is_yes true some = refl
       is_yes false some = absurd (some refl)
 
+  -- a decision that is allowed lets the call that waits for it go on with that answer
   pub decided : (q : ℕ) (said : Bool) → IsAllowed t.world (Decide q said) → IsDecided q said
   decided q said r = by (party_of q t.world.latest) refl
     where
       due : is_due t.world.coding (flight_in t.world q) ≡ true
       due = r
 
+      -- whatever that party has under way, its call goes on with this answer
       by : (o : Option (Party T)) → party_of q t.world.latest ≡ o → IsDecided q said
       by None found =
           let none : is_due t.world.coding (flight_in t.world q) ≡ false = ap (λ o. is_due t.world.coding (flight_of (doing_of o))) found in
@@ -230,6 +239,7 @@ module _ {T : Type 0} (shown : Shown T) (terms : Terms) (code : Coding T) (c : �
     pub ends_none : (p : ℕ) (start : Start T) (answer : Answer T) (wrote : List (Event T)) → events_of t.world turn ≡ wrote ++ Finished p start answer ∷ [] → ⊥
     pub asks : (p index : ℕ) (value : T) → question_at (after_turn t turn) p ≡ Some (index, value) → question_at t p ≡ Some (index, value)
 
+  -- after a begin each party asks only what it asked before
   begun_asks : (q : ℕ) (start : Start T) (o : Option (Flight T))
       → first_of t.world.kind t.world.capacity start t.world.kept ≡ o → (p index : ℕ) (value : T)
       → world_asks (after_begin t.world q start o) p ≡ Some (index, value) → world_asks t.world p ≡ Some (index, value)
@@ -242,6 +252,7 @@ module _ {T : Type 0} (shown : Shown T) (terms : Terms) (code : Coding T) (c : �
           (party_put_other p q (party_at_begin start flight t.world.changes) t.world.latest ne))
           ∙ e
 
+      -- no call begins with a question
       none_of : (start : Start T) (flight : Flight T)
           → first_of kinds.Container t.world.capacity start t.world.kept ≡ Some flight
           → question_in t.world.coding (Some flight) ≡ None
@@ -250,6 +261,7 @@ module _ {T : Type 0} (shown : Shown T) (terms : Terms) (code : Coding T) (c : �
           subst (λ f. question_in t.world.coding (Some (flights.Container f)) ≡ None) own.0 (question_first t.world.coding t.world.capacity a)
       none_of a one is = absurd (begins_own t.world.capacity t.world.kept a one is)
 
+      -- the party that begins asks only what it asked before
       here : p ≡ q → world_asks t.world p ≡ Some (index, value)
       here is =
           let named : first_of kinds.Container t.world.capacity start t.world.kept ≡ Some flight =
@@ -264,10 +276,12 @@ module _ {T : Type 0} (shown : Shown T) (terms : Terms) (code : Coding T) (c : �
 
   -- ---- any turn
 
+  -- some party's call goes on in the turn
   pub record IsGoing (turn : Turn T) : Type 0 where
     pub party : ℕ
     pub goes : GoesOn turn party
 
+  -- any turn that is allowed is calm, or lets one party's call go on
   pub any_turn : (turn : Turn T) → IsAllowed t.world turn → IsCalm turn ⊎ IsGoing turn
   any_turn (Begin q start) r =
       inl

@@ -14,6 +14,7 @@ use Rattle.laws_container.proofs.Sound.{MayGoOn, Shown as Proved}
 use Rattle.laws_container.proofs.CallProgress.{At}
 use Rattle.laws_container.proofs.Terms.{Terms}
 
+-- party `q` takes a turn of the run `t`, at the capacity `c`
 module _ {T : Type 0} (code : Coding T) (c : ℕ) (t : Trace T) (turn : Turn T) (q : ℕ) where
   abbrev R : Event T → Type 0
   R e = WritesRight t turn (after_turn t turn) e
@@ -30,6 +31,7 @@ module _ {T : Type 0} (code : Coding T) (c : ℕ) (t : Trace T) (turn : Turn T) 
   abbrev ByYes : ContainerFlight T → ℕ → Type 0
   ByYes flight old = is_question (want code flight) ≡ true → old ≢ 0 → turn ≡ Decide q true
 
+  -- all that a call writes of a question as it goes on is right
   any_call_right : (state : Option (ContainerState T)) (v : View T) → v.events ≡ t.events → v.party ≡ q
       → (start : ContainerStart T) (flight : ContainerFlight T) (old : ℕ)
       → span_of q t.events ≡ Open (Container start) (wrote_of q t.events)

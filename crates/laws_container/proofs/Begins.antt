@@ -87,6 +87,7 @@ module _ {T : Type 0} (scene : Scene T)
   new_other : (q : ℕ) → q ≢ p → state_of q (with_state p (fresh code c) scene.states) ≡ state_of q scene.states
   new_other q ne = found_put_other q p (fresh code c) scene.states ne
 
+  -- a begin leaves the states of the other parties
   other_states : (start : ContainerStart T) (q : ℕ) → q ≢ p → state_of q (states' start) ≡ state_of q scene.states
   other_states starts.GetState q ne = new_other q ne
   other_states starts.UpdateState q ne = go (is_some (state_of p scene.states))
@@ -104,6 +105,7 @@ module _ {T : Type 0} (scene : Scene T)
       → Rests code c (m' start) p s
   rests_then start s no_look found = let rests = still_rests start s in grind arith
 
+  -- a begin keeps what holds of the machine
   does : (start : ContainerStart T) → Does scene scene.words (states' start) (y start) (begun start)
   does start =
       record {
@@ -135,6 +137,7 @@ module _ {T : Type 0} (scene : Scene T)
     abbrev removing : ContainerStart T
     removing = starts.Remove index owner mode
 
+    -- a remove knows as it begins what its first stage tells
     remove_knows : (b : Bool) → nat_lt index c ≡ b
         → RemoveKnows code c (if b then index else c) owner mode
         (if nat_lt (if b then index else c) c then removes.LoadsCount else removes.Refuses)
@@ -157,6 +160,7 @@ module _ {T : Type 0} (scene : Scene T)
     abbrev replacing : ContainerStart T
     replacing = starts.Replace index value owner
 
+    -- a replace knows as it begins what its first stage tells
     replaces_know : (b : Bool) → nat_lt index c ≡ b
         → ReplacesKnow code c (if b then index else c) value owner
         (if nat_lt (if b then index else c) c then replaces.LoadsCell else replaces.Refuses)
@@ -176,6 +180,7 @@ module _ {T : Type 0} (scene : Scene T)
         own = λ getting i value ne is. let none : None ≡ Some value = sym (shows_same _ c i) ∙ is in absurd (cc);
       }
 
+  -- a look that is no get_state finds its party's state as it was left, or a new one
   old_state : (start : ContainerStart T) → start ≢ starts.GetState → (o : Option (ContainerState T))
       → state_of p scene.states ≡ o
       → LookRests code c (view scene.terms scene.words (if is_some o then scene.states else with_state p (fresh code c) scene.states)
@@ -200,6 +205,7 @@ module _ {T : Type 0} (scene : Scene T)
       → is_gone by owner (events ++ begun (starts.Recover owner mode)) ≡ true
   gone_then = grind (arith, fold-append, false, gone_begun)
 
+  -- each call knows as it begins what its first stage tells
   knows_first : (start : ContainerStart T) → MayRecover scene.terms.by events start → Knows code c (first c start) (v start)
   knows_first (starts.Add value owner) r =
       record { paid = paid (starts.Add value owner); scanned = tt; owns = tt; says = tt; gone = tt }

@@ -17,6 +17,8 @@ use Rattle.laws_container.proofs.CallProgress.{RecoverAt, LookAt, At}
 
 -- ---- how many steps a call has taken
 
+-- `c` is the capacity, `z` the words of a value; the call has done `all` to the set, and `done`
+-- to elements
 module _ {T : Type 0} (c z : ℕ) (all : List SetAct) (done : List (Act T)) where
   add_most : (owner : ℕ) (stage : AddStage) (backs : ℕ) → AddAt c z all done owner stage → add_number c z stage backs ≤ c + 7 + z + backs * (c + 1)
   add_most owner stage backs at = grind arith
@@ -58,10 +60,12 @@ module _ {T : Type 0} where
   abbrev Pays : View T → Type 0
   Pays v = v.backs ≤ v.changes - v.since
 
+  -- `c` is the capacity, and `v` what the party sees
   module _ (code : Coding T) (c : ℕ) (v : View T) where
     pays : (flight : ContainerFlight T) → Knows code c flight v → Pays v
     pays flight h = grind arith
 
+  -- no call has taken more steps than are promised, and each turn back is paid by a change
   pub bounds : (code : Coding T) (c : ℕ) → frame.Bounds (family code c)
   bounds code c = record { most = at_most; paid = paid }
     where

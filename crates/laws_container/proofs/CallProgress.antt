@@ -24,6 +24,7 @@ use Rattle.model.specs.Families.Indices.Robust.Bounds as set_bounds
 -- ---- the calls by their stages
 
 module _ {T : Type 0} where
+  -- an add at a stage
   abbrev pub add_at : ℕ → T → ℕ → AddStage → ContainerFlight T
   add_at c value owner stage =
       Add
@@ -33,6 +34,7 @@ module _ {T : Type 0} where
         room = tt;
       })
 
+  -- a remove at a stage
   abbrev pub remove_at : ℕ → ℕ → ℕ → ReleaseMode → RemoveStage → ContainerFlight T
   remove_at c index owner mode stage =
       Remove
@@ -42,6 +44,7 @@ module _ {T : Type 0} where
         room = tt;
       })
 
+  -- a replace at a stage
   abbrev pub replace_at : ℕ → ℕ → T → ℕ → ReplaceStage → ContainerFlight T
   replace_at c index value owner stage =
       Replace
@@ -51,6 +54,7 @@ module _ {T : Type 0} where
         room = tt;
       })
 
+  -- a find at a stage
   abbrev pub find_at : ℕ → ℕ → buffers.Buffer 128 → FindStage → ContainerFlight T
   find_at c owner room stage =
       Find
@@ -60,6 +64,7 @@ module _ {T : Type 0} where
         room = room;
       })
 
+  -- a recovery at a stage
   abbrev pub recover_at : ℕ → ℕ → ReleaseMode → buffers.Buffer 128 → RecoverStage → ContainerFlight T
   recover_at c owner mode room stage =
       Recover
@@ -82,6 +87,7 @@ module _ {T : Type 0} where
 
 -- ---- how many steps they have taken at most, where a value has z words
 
+-- an add, after so many turns back
 abbrev pub add_number : ℕ → ℕ → AddStage → ℕ → ℕ
 add_number c z (adds.Acquires stage) backs = acquire_number c stage backs
 add_number c z (adds.LoadsCount index) backs = c + 3 + backs * (c + 1)
@@ -95,6 +101,7 @@ abbrev pub release_total : ℕ → ℕ → ℕ → ReleaseMode → ℕ → ℕ
 release_total c index owner mode backs =
     set_bounds.most_steps c (set_starts.Release index owner mode) backs
 
+-- a remove, whose release alone turns back
 abbrev pub remove_number : ℕ → ℕ → ℕ → ReleaseMode → RemoveStage → ℕ → ℕ
 remove_number c index owner mode removes.Refuses backs = 0
 remove_number c index owner mode removes.LoadsCount backs = 0
@@ -105,6 +112,7 @@ remove_number c index owner mode (removes.Hides count state) backs =
 remove_number c index owner mode (removes.AddsChange state) backs =
     2 + release_total c index owner mode backs
 
+-- a replace, which never turns back
 abbrev pub replace_number : ℕ → ReplaceStage → ℕ
 replace_number z replaces.Refuses = 0
 replace_number z replaces.LoadsCell = 0
@@ -114,6 +122,7 @@ replace_number z (replaces.Stores at) = 3 + at
 replace_number z replaces.AddsCount = 3 + z
 replace_number z replaces.AddsChange = 4 + z
 
+-- a find, which never turns back
 abbrev pub find_number : ℕ → FindStage → ℕ
 find_number z (finds.LoadsCell index found) = index * (z + 3)
 find_number z (finds.LoadsCount index found) = 1 + index * (z + 3)
@@ -130,6 +139,7 @@ abbrev pub for_index : ℕ → ℕ → ReleaseMode → ℕ
 for_index c z Default = z + 7
 for_index c z LockIfLastIndex = z + c + 10
 
+-- a recovery, after so many turns back
 abbrev pub recover_number : ℕ → ℕ → ReleaseMode → RecoverStage → ℕ → ℕ
 recover_number c z mode recovers.LoadsCounter backs = 0
 recover_number c z mode (recovers.LoadsCell index) backs =
@@ -155,6 +165,7 @@ recover_number c z mode recovers.LoadsCounterAgain backs =
 recover_number c z mode (recovers.AddsChange state) backs =
     2 + c * for_index c z mode + backs * for_back c z mode
 
+-- a look, after so many turns back
 abbrev pub look_number : ℕ → LookStage → ℕ → ℕ
 look_number z looks.LoadsChange backs = 0
 look_number z (looks.LoadsCount index) backs = 1 + index * (z + 2) + backs * (z + 1)
@@ -163,6 +174,7 @@ look_number z (looks.LoadsWord index count at) backs =
 look_number z (looks.ChecksCount index count) backs =
     2 + z + index * (z + 2) + backs * (z + 1)
 
+-- any call at its stage, after so many turns back
 abbrev pub number_of : {T : Type 0} → ℕ → ℕ → ContainerFlight T → ℕ → ℕ
 number_of c z (Add run) backs = add_number c z run.call.stage backs
 number_of c z (Remove run) backs =
@@ -180,6 +192,8 @@ number_of c z (IsLocked run) backs = 0
 abbrev pub AreBelow : ℕ → List ℕ → Type 0
 AreBelow bound indices = AllByRecursion (λ i. i < bound) indices
 
+-- `c` is the capacity, `z` the words of a value; the call has done `all` to the set, and `done`
+-- to elements
 module _ {T : Type 0} (c z : ℕ) (all : List SetAct) (done : List (Act T)) where
   -- it may have hidden what an earlier owner left
   abbrev pub MayHaveHidden : ℕ → Type 0
@@ -188,6 +202,7 @@ module _ {T : Type 0} (c z : ℕ) (all : List SetAct) (done : List (Act T)) wher
   abbrev pub IsGranted : ℕ → ℕ → Type 0
   IsGranted owner index = (index < c) × (all ≡ Fills index owner ∷ Grants index owner ∷ [])
 
+  -- an add at its stage: which index it was granted, and whether it may have hidden something
   abbrev pub AddAt : ℕ → AddStage → Type 0
   AddAt owner (adds.Acquires stage) = AcquireAt c owner all stage × (done ≡ [])
   AddAt owner (adds.LoadsCount index) = IsGranted owner index × (done ≡ [])
@@ -198,6 +213,8 @@ module _ {T : Type 0} (c z : ℕ) (all : List SetAct) (done : List (Act T)) wher
   AddAt owner (adds.AddsCount index) = IsGranted owner index × MayHaveHidden index
   AddAt owner (adds.AddsChange index) = IsGranted owner index
 
+  -- a remove at its stage: whether the index is one of the container, and how far its release
+  -- is
   abbrev pub RemoveAt : ℕ → ℕ → ReleaseMode → RemoveStage → Type 0
   RemoveAt index owner mode removes.Refuses = (c ≤ index) × (all ≡ [])
   RemoveAt index owner mode removes.LoadsCount =
@@ -210,6 +227,8 @@ module _ {T : Type 0} (c z : ℕ) (all : List SetAct) (done : List (Act T)) wher
   RemoveAt index owner mode (removes.AddsChange state) =
       (index < c) × HasDone {T = T} (starts.Remove index owner mode) (State state) all []
 
+  -- a replace at its stage: whether the index is one of the container, and whether it may have
+  -- hidden something
   abbrev pub ReplaceAt : ℕ → ReplaceStage → Type 0
   ReplaceAt index replaces.Refuses = (c ≤ index) × (all ≡ []) × (done ≡ [])
   ReplaceAt index replaces.LoadsCell = (index < c) × (all ≡ []) × (done ≡ [])
@@ -225,6 +244,8 @@ module _ {T : Type 0} (c z : ℕ) (all : List SetAct) (done : List (Act T)) wher
   abbrev pub CopiesAt : ℕ → ℕ → ℕ → Type 0
   CopiesAt index count at = (index < c) × AreBelow index (seen_in done) × (count % 2 ≡ 1)
 
+  -- a find at its stage: it has come to indices below the one where it is, and has done nothing
+  -- to the set
   abbrev pub FindAt : FindStage → Type 0
   FindAt (finds.LoadsCell index found) =
       (all ≡ []) × (index < c) × AreBelow index (seen_in done)
@@ -247,6 +268,7 @@ module _ {T : Type 0} (c z : ℕ) (all : List SetAct) (done : List (Act T)) wher
     pub asked : AreBelow bound (asked_in all)
     pub freed : (i : ℕ) → IsOneOf (Frees i owner) all → AskedOrShown owner i
 
+  -- a recovery at its stage: how far it has come, and what it has asked, freed or hidden last
   abbrev pub RecoverAt : ℕ → ReleaseMode → RecoverStage → Type 0
   RecoverAt owner mode recovers.LoadsCounter = (all ≡ []) × (done ≡ [])
   RecoverAt owner mode (recovers.LoadsCell index) = IsInCourse owner index index
@@ -271,6 +293,8 @@ module _ {T : Type 0} (c z : ℕ) (all : List SetAct) (done : List (Act T)) wher
       (i : ℕ) → IsOneOf (Frees i owner) all → AskedOrShown owner i
   RecoverAt owner mode (recovers.AddsChange state) = Unit {0}
 
+  -- a look at its stage: it has come to indices below the one where it is, and has done nothing
+  -- to the set
   abbrev pub LookAt : LookStage → Type 0
   LookAt looks.LoadsChange = (all ≡ []) × (done ≡ [])
   LookAt (looks.LoadsCount index) =

@@ -49,6 +49,7 @@ module _ {T : Type 0} (code : Coding T) (c : ℕ) where
   module _ (words : List ℕ) (events : List (Event T)) (whole : IsWhole words events) (wide : length words ≡ 2 + (c + c) + z * c) (i : ℕ) (below : i < c) where
     -- ---- a writer stores a word
 
+    -- the writer has stored the first `k` words of the value
     module _ (value : T) (k : ℕ) (ks : k < z) (w : Writing words i value k) where
       abbrev x : ℕ
       x = get_or (code.words_of value) k 0
@@ -60,6 +61,8 @@ module _ {T : Type 0} (code : Coding T) (c : ℕ) where
       other_data : (a : ℕ) → a ≢ i → (j : ℕ) → j < z → datum_at c z stored a j ≡ datum_at c z words a j
       other_data a ne j js = data_stay c z words i k x a j ne js ks
 
+      -- a store of a word by the writer leaves what stands at other indices, and nothing stands
+      -- at its own
       pub store_whole : IsWhole stored events
       store_whole a low = ⊎_elim here there (cases_eq a i)
         where
@@ -84,6 +87,8 @@ module _ {T : Type 0} (code : Coding T) (c : ℕ) where
       is_now : count_at c counted i ≡ n
       is_now = count_set c z words i n (omega arith)
 
+      -- a changed count leaves what stands elsewhere, and at the index there stands what the
+      -- event left there
       count_there : (e : Event T) (o : Option T)
           → ((a : ℕ) → a ≢ i → contents_of a (events ++ e ∷ []) ≡ contents_of a events)
           → contents_of i (events ++ e ∷ []) ≡ o → Stands counted i o → IsWhole counted (events ++ e ∷ [])
@@ -108,6 +113,7 @@ module _ {T : Type 0} (code : Coding T) (c : ℕ) where
     pub hide_some : count_at c words i % 2 ≡ 1 → contents_of i events ≢ None
     hide_some odd = some_stands words i (contents_of i events) (whole i below) odd
 
+    -- an even count over a value that is hidden leaves the words whole
     pub hide_whole : (p n : ℕ) → n % 2 ≡ 0 → IsWhole (set words (count_word c i) n) (events ++ Hidden p i ∷ [])
     hide_whole = grind (arith, count_there, fold-append, at_other, at_same, is_now)
 

@@ -18,6 +18,8 @@ module _ {T : Type 0} (code : Coding T) (c : ℕ) where
 
   -- ---- a word is read, by a step that leaves the words
 
+  -- after a step that leaves the words, a copy into which the next word was read has one word
+  -- more
   pub copying_more : (v v' : View T) (index count : ℕ) (copy : List ℕ) (at : ℕ) → at < code.size → code.size ≤ 128
       → v'.words ≡ v.words → (Keeps v'.terms → Keeps v.terms) → (WellFormed (now v') → WellFormed (now v))
       → Copying code c index count copy at v
@@ -46,6 +48,7 @@ module _ {T : Type 0} (code : Coding T) (c : ℕ) where
 
   -- ---- all its words are read, and the number is there still
 
+  -- a copy that is whole, and whose number is there still, is the value that stands
   pub copied_value : (v : View T) (index count : ℕ) (copy : List ℕ) → IsCoding code
       → (WellFormed (now v) → IsWhole code c v.words v.events) → Copying code c index count copy code.size v
       → count_in code c (now v) index ≡ count → WellFormed (now v)
@@ -55,6 +58,7 @@ module _ {T : Type 0} (code : Coding T) (c : ℕ) where
       big : nat_lt (length copy) code.size ≡ false
       big = let room = h.room in let few = coded.few in grind (arith, nat_tests)
 
+      -- what stands under that number is the value of the copy
       by : (o : Option T) → Stands code c v.words index o → o ≡ Some (value_in code.value_of code.size copy)
       by None stands = let odd = h.odd in absurd (omega arith)
       by (Some value) stands =

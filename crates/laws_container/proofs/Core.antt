@@ -31,9 +31,11 @@ places_apart z a b i j is js ne e = ⊎_elim less more (cases_lt a b)
 pub data_within : (c z i j : ℕ) → i < c → j < z → element_word c z i j < 2 + (c + c) + z * c
 data_within c z i j below js = let step : z * (i + 1) ≤ z * c = mul-le-mul_left z (omega arith) in omega arith
 
+-- `c` is the capacity, and `z` the words of a value
 module _ (c z : ℕ) (words : List ℕ) where
   -- ---- a data word changes
 
+  -- word `k` of the element at index `i` becomes `x`
   module _ (i k x : ℕ) where
     abbrev stored : List ℕ
     stored = set words (element_word c z i k) x
@@ -54,6 +56,7 @@ module _ (c z : ℕ) (words : List ℕ) where
 
   -- ---- an element count changes
 
+  -- the count of index `i` becomes `n`
   module _ (i n : ℕ) where
     abbrev counted : List ℕ
     counted = set words (count_word c i) n

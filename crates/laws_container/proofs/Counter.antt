@@ -64,6 +64,7 @@ recover_old (recovers.Locks index lock) n cell = lock_old lock n cell
 recover_old stage n cell = cell
 
 module _ {T : Type 0} where
+  -- the counter after a step of any call
   abbrev pub container_then : ContainerFlight T → ℕ → ℕ
   container_then (Add run) n = add_then run.call.stage n
   container_then (Remove run) n = remove_then run.call.stage n
@@ -71,6 +72,7 @@ module _ {T : Type 0} where
   container_then (Count which run) n = count_then run.call.count n
   container_then flight n = n
 
+  -- what a step of any call is handed, where its cell has this value
   abbrev pub container_old : ContainerFlight T → ℕ → ℕ → ℕ
   container_old (Add run) n cell = add_old run.call.stage n cell
   container_old (Remove run) n cell = remove_old run.call.stage n cell
@@ -79,10 +81,13 @@ module _ {T : Type 0} where
   container_old flight n cell = cell
 
 module _ {T : Type 0} (code : Coding T) (words : List ℕ) where
+  -- what an operation of any call finds is what is told of its stage: the counter where the
+  -- call of the set does its operation there, and else the word's own value
   pub container_finds : (flight : ContainerFlight T)
       → old_of words (ask_of (want code flight)) ≡ container_old flight (counter_of words) (old_of words (ask_of (want code flight)))
   container_finds (Add run) = add_finds run.call.stage
     where
+      -- an add finds what is told of its stage
       add_finds : (stage : AddStage)
           → old_of words (ask_of (add_asks code.words_of code.size run.call.capacity stage run.given))
           ≡ add_old stage (counter_of words) (old_of words (ask_of (add_asks code.words_of code.size run.call.capacity stage run.given)))
@@ -94,6 +99,7 @@ module _ {T : Type 0} (code : Coding T) (words : List ℕ) where
       add_finds (adds.AddsChange index) = refl
   container_finds (Remove run) = remove_finds run.call.stage
     where
+      -- a remove finds what is told of its stage
       remove_finds : (stage : RemoveStage)
           → old_of words (ask_of (remove_asks run.call.capacity stage run.given))
           ≡ remove_old stage (counter_of words) (old_of words (ask_of (remove_asks run.call.capacity stage run.given)))
@@ -106,6 +112,7 @@ module _ {T : Type 0} (code : Coding T) (words : List ℕ) where
   container_finds (Find run) = refl
   container_finds (Recover run) = recover_finds run.call.stage
     where
+      -- a recovery finds what is told of its stage
       recover_finds : (stage : RecoverStage)
           → old_of words (ask_of (recover_asks code.size run.call.capacity stage run.given.owner))
           ≡ recover_old stage (counter_of words) (old_of words (ask_of (recover_asks code.size run.call.capacity stage run.given.owner)))
@@ -137,6 +144,7 @@ module _ {T : Type 0} (code : Coding T) (words : List ℕ) where
         → counter_of (words_after words (Some (record { word = element_word c size index at; op = op }))) ≡ counter_of words
     element_leaves size index at op = other_then words some (element_word c size index at) op (omega arith)
 
+    -- what an operation of an add leaves in the counter
     add_leaves : (stage : AddStage) (given : Owned T)
         → counter_of (words_after words (ask_of (add_asks code.words_of code.size c stage given))) ≡ add_then stage (counter_of words)
     add_leaves (adds.Acquires stage) given = acquire_leaves words some stage given.owner
@@ -146,6 +154,7 @@ module _ {T : Type 0} (code : Coding T) (words : List ℕ) where
     add_leaves (adds.AddsCount index) given = count_leaves_it index (AddBy 1)
     add_leaves (adds.AddsChange index) given = change_leaves
 
+    -- what an operation of a remove leaves in the counter
     remove_leaves : (stage : RemoveStage) (given : GiveBack)
         → counter_of (words_after words (ask_of (remove_asks c stage given))) ≡ remove_then stage (counter_of words)
     remove_leaves removes.Refuses given = refl
@@ -154,6 +163,7 @@ module _ {T : Type 0} (code : Coding T) (words : List ℕ) where
     remove_leaves (removes.Hides count state) given = count_leaves_it given.index (Exchange count (one_more count))
     remove_leaves (removes.AddsChange state) given = change_leaves
 
+    -- no operation of a replace changes the counter
     replace_leaves : (stage : ReplaceStage) (given : Replacement T)
         → counter_of (words_after words (ask_of (replace_asks code.words_of code.size c stage given))) ≡ counter_of words
     replace_leaves replaces.Refuses given = refl
@@ -164,6 +174,7 @@ module _ {T : Type 0} (code : Coding T) (words : List ℕ) where
     replace_leaves replaces.AddsCount given = count_leaves_it given.index (AddBy 1)
     replace_leaves replaces.AddsChange given = change_leaves
 
+    -- no operation of a find changes the counter
     find_leaves : (stage : FindStage) → counter_of (words_after words (ask_of (find_asks code.size c stage))) ≡ counter_of words
     find_leaves (finds.LoadsCell index found) = other_then words some (cell_word index) Load (omega arith)
     find_leaves (finds.LoadsCount index found) = count_leaves_it index Load
@@ -171,6 +182,7 @@ module _ {T : Type 0} (code : Coding T) (words : List ℕ) where
     find_leaves (finds.ChecksCount index found count) = count_leaves_it index (Exchange count count)
     find_leaves (finds.Asks index found) = refl
 
+    -- what an operation of a recovery leaves in the counter
     recover_leaves : (stage : RecoverStage) (owner : ℕ)
         → counter_of (words_after words (ask_of (recover_asks code.size c stage owner))) ≡ recover_then stage (counter_of words)
     recover_leaves recovers.LoadsCounter owner = first_then words some Load
@@ -192,6 +204,7 @@ module _ {T : Type 0} (code : Coding T) (words : List ℕ) where
     look_leaves (looks.LoadsWord index count at) = element_leaves code.size index at Load
     look_leaves (looks.ChecksCount index count) = count_leaves_it index (Exchange count count)
 
+  -- what an operation of any call leaves in the counter is what is told of its stage
   pub container_leaves : 0 < length words → (flight : ContainerFlight T)
       → counter_of (words_after words (ask_of (want code flight))) ≡ container_then flight (counter_of words)
   container_leaves some (Add run) = add_leaves some run.call.capacity run.call.stage run.given

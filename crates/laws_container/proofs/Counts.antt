@@ -78,6 +78,8 @@ module _ {T : Type 0} (scene : Scene T) (inv : Inv scene) where
   abbrev ws : List ℕ
   ws = scene.words
 
+  -- so many were filled: none before the first index, as many past an empty cell, and one more
+  -- past a filled one
   said : IsSaid (of_set scene) (inv_of_set scene inv) (set_knows.Borrowed (set_stages.now (of_set scene)))
   said =
       record {
@@ -126,6 +128,7 @@ module _ {T : Type 0} (scene : Scene T) (inv : Inv scene) where
         well_formed (λ holds. places_not T which p number events) (still (words_after ws ask) y es well_formed))
         ((refl, does_count T which number (all scene) (done scene) none), tt) (few_count T which c code.size _ (backs_then scene false) few) (omega arith)
 
+    -- a step of a count shows what it has to
     counts_move : counts_to (Some (count_ask count)) (count_goes_back count (old_of ws (Some (count_ask count))))
         (count_after c count (old_of ws (Some (count_ask count))))
     counts_move =
@@ -160,6 +163,7 @@ module _ {T : Type 0} (scene : Scene T) (inv : Inv scene) where
           some = λ f. says;
         }) paid (omega arith))
 
+  -- a step of a len or an is_empty that stands at its stage shows what it has to
   pub count_step : (which : CountOf) (count : Counting) → IsHere scene (counts_as which) (count_at which c count)
       → CountAt c count → all scene ≡ [] → Knows code c (count_at which c count) (sees_now scene)
       → steps ≤ count_number c count + backs * (c + 2) → StepOf scene (counts_as which) (count_at which c count)
@@ -169,6 +173,7 @@ module _ {T : Type 0} (scene : Scene T) (inv : Inv scene) where
   count_step which (parts.ExchangesCounter number filled) here at none k s =
       counts_move which (parts.ExchangesCounter number filled) here at none k s
 
+  -- the one step of an is_locked ends it
   pub lock_step : IsHere scene starts.IsLocked lock_at → all scene ≡ []
       → Knows code c lock_at (sees_now scene) → steps ≤ 0 → StepOf scene starts.IsLocked lock_at
   lock_step here none k s =

@@ -39,6 +39,7 @@ module _ {T : Type 0} (terms : Terms) (code : Coding T) (c : ℕ) (words dead : 
   same_left : (i : ℕ) → left_of i (events ++ es) ≡ left_of i events
   same_left i = fold-append (left_after i) true events es
 
+  -- a run that is well-formed after a death was so before it
   was_well_formed : WellFormed m' → WellFormed m
   was_well_formed well_formed =
       record {
@@ -54,6 +55,7 @@ module _ {T : Type 0} (terms : Terms) (code : Coding T) (c : ℕ) (words dead : 
   leaves : (q : ℕ) → Leaves code c q m m'
   leaves q = let contents = same_contents in let left = same_left in grind arith
 
+  -- what is so of the elements and of the states is so after a death
   elements_then : Elements code c m' states (turns + 1)
   elements_then =
       record {
@@ -73,6 +75,7 @@ module _ {T : Type 0} (terms : Terms) (code : Coding T) (c : ℕ) (words dead : 
         fresh = λ q. rests_later code c m m' es refl passes q _ (h.fresh q);
       }
 
+  -- the death of an owner shows all that it has to
   pub dies : Dies terms code c words dead states latest events turns o
   dies =
       record {

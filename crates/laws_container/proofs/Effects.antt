@@ -77,6 +77,8 @@ module _ {T : Type 0} (scene : Scene T) (inv : Inv scene) (words' : List ℕ) (y
     same_change : change_in code c m' ≡ change_in code c m
     same_change = rest (change_word c) (omega arith)
 
+    -- a turn that leaves the numbers and the words of the elements, and writes nothing of them,
+    -- does to them what it may
     pub calmly : Changes scene words' y es
     calmly =
         record {
@@ -117,11 +119,14 @@ module _ {T : Type 0} (scene : Scene T) (inv : Inv scene) (words' : List ℕ) (y
     datum_as_it_was : (i j : ℕ) → datum_in code c m' i j ≡ datum_in code c m i j
     datum_as_it_was = grind (arith, changes_no_datum, one_more)
 
+    -- a turn that counts a change, and announces only what stands, does to the elements what it
+    -- may
     pub counts_change : Changes scene words' y es
     counts_change = grind (arith, count_as_it_was, datum_as_it_was, raised, raised_few, length, length-set, one_more, is_some, still_stands)
 
   -- ---- a word of an element, by one who writes there
 
+  -- word `k` of the value is stored at index `i`
   module _ (i : ℕ) (below : i < c) (k : ℕ) (ks : k < code.size) (value : T) (owner : ℕ)
       (mine : WellFormed m → IsWriter p i owner events) (writing : WellFormed m → Writing code c ws i value k)
       (new : words' ≡ set ws (element_word c code.size i k) (get_or (code.words_of value) k 0)) (calm : IsCalm) (still : OwesStill) where
@@ -142,6 +147,8 @@ module _ {T : Type 0} (scene : Scene T) (inv : Inv scene) (words' : List ℕ) (y
     not_theirs : WellFormed m' → (q : ℕ) → q ≢ p → (a o : ℕ) → IsWriter q a o events → a ≢ i
     not_theirs holds q ne a o theirs same = grind arith
 
+    -- a turn that stores a word of a value, by the one who may write there, does to the
+    -- elements what it may
     pub stores : Changes scene words' y es
     stores =
         record {
@@ -212,6 +219,8 @@ module _ {T : Type 0} (scene : Scene T) (inv : Inv scene) (words' : List ℕ) (y
       pub lost : WellFormed m' → (o : ℕ) → is_gone scene.terms.by o events ≡ true → filled_of i events ≡ Some o → count_in code c m i % 2 ≡ 1
       pub whole : WellFormed m' → IsWhole code c words' (events ++ es)
 
+    -- a turn that adds one to the number of an element, as it may be counted, does to the
+    -- elements what it may
     pub counts_one : IsCounted → Changes scene words' y es
     counts_one h =
         record {

@@ -129,6 +129,7 @@ module _ {T : Type 0} (finding : Finding T) where
           ),
         )
 
+    -- a find whose check finds another number passes the index without having copied it
     fails : count_now ≢ count → Leads scene start check_it false scene.states [] (as_find room (find_comes_to first (k + 1) found))
     fails other =
         comes_to_next finding room (finds.ChecksCount k found count) here stands.0 check_it
@@ -136,6 +137,8 @@ module _ {T : Type 0} (finding : Finding T) where
         (below_more k (k + 1) _ (omega arith) stands.1.1) h.0.1
         (found_past finding k found (λ holds through. other (h.1 holds through)) h.0.2) h.2.room
 
+    -- the step in which a find checks the number shows what it has to, whether it is the same
+    -- or not
     check_step : StepOf scene start (find_at c owner room (finds.ChecksCount k found count))
     check_step =
         on_bool (λ b. Leads scene start (Some (exchanges (count_word c k) count count)) false scene.states
@@ -147,6 +150,7 @@ module _ {T : Type 0} (finding : Finding T) where
 
   -- ---- it is told whether to go on
 
+  -- any answer to a question of a find leads on: a no to its end, and a yes to the next index
   pub find_decided : (room : buffers.Buffer 128) (k found : ℕ)
       → FindAt c z (all scene) (done scene) (finds.Asks k found)
       → IsHere scene (Find owner) (find_at c owner room (finds.Asks k found))
@@ -155,6 +159,7 @@ module _ {T : Type 0} (finding : Finding T) where
       → AnswerOf scene (Find owner) (find_at c owner room (finds.Asks k found)) None answer
   find_decided room k found at here h s answer = go (answer == 0)
     where
+      -- a find that was told ends, or goes to the next index
       go : (b : Bool) → Leads scene start None false scene.states [] (as_find room (if b then Done found else find_comes_to first (k + 1) found))
       go true = let all_of = times_below c k (z + 3) at.1 in
           let below = at.1 in
@@ -164,6 +169,8 @@ module _ {T : Type 0} (finding : Finding T) where
 
   -- ---- any step
 
+  -- any step of a find that stands at a stage, and knows what the stage tells, shows what it
+  -- has to
   pub find_step : (room : buffers.Buffer 128) (stage : FindStage) → FindAt c z (all scene) (done scene) stage
       → IsHere scene (Find owner) (find_at c owner room stage) → Knows code c (find_at c owner room stage) v
       → steps ≤ find_number z stage → StepOf scene (Find owner) (find_at c owner room stage)

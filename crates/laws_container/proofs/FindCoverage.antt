@@ -77,6 +77,8 @@ module _ {T : Type 0} (scene : Scene T) (inv : Inv scene) (owner : ℕ) (fits : 
   ended : (k found number : ℕ) → k < c → (c ≤ k + 1) × (found ≡ number) → Has (k + 1) found → Has c number
   ended = grind arith
 
+  -- a find that stands there, and ends with this number when it is handed what it loaded, or a
+  -- yes, has counted over the whole container
   abbrev Tells : ℕ → Bool → ContainerFlight T → Type 0
   Tells number due flight =
       IsHere scene (Find owner) flight → Knows code c flight (sees_now scene) → is_question (want code flight) ≡ due
@@ -84,6 +86,8 @@ module _ {T : Type 0} (scene : Scene T) (inv : Inv scene) (owner : ℕ) (fits : 
       → (due ≡ true → answer ≢ 0)
       → answer_in (any_call (after code (state_of p scene.states) flight answer)) ≡ Some (Number number) → Has c number
 
+  -- a find that has its answer to a load, or a yes, and so ends with a number, has that number
+  -- for the whole container, whatever its stage
   stage_tells : (number : ℕ) (due : Bool) (room : buffers.Buffer 128) (stage : FindStage)
       → FindAt c code.size (all scene) (done scene) stage → Tells number due (find_at c owner room stage)
   stage_tells number due room (finds.LoadsCell k found) at here h asks answer loads told e = go (answer == owner) refl (done_is _ number _ e)
@@ -178,6 +182,8 @@ module _ {T : Type 0} (scene : Scene T) (inv : Inv scene) (owner : ℕ) where
   owner_fits (calls.Find run) at = at.2
   owner_fits flight at = absurd at
 
+  -- a find that ends when it is handed what it has loaded, or a yes, has its number for the
+  -- whole container
   find_tells : (number : ℕ) (due : Bool) (flight : ContainerFlight T)
       → (at : At c code.size (all scene) (done scene) (Find owner) flight) → (fits : owner < empty)
       → Tells scene inv owner fits number due flight
@@ -187,6 +193,8 @@ module _ {T : Type 0} (scene : Scene T) (inv : Inv scene) (owner : ℕ) where
       (stage_tells scene inv owner fits number due run.room run.call.stage at.3)
   find_tells number due flight at fits = absurd at
 
+  -- a find that a no ends has its number for the indices up to the one that it asked about,
+  -- that one among them
   find_stops : (number index : ℕ) (value : T) (flight : ContainerFlight T)
       → At c code.size (all scene) (done scene) (Find owner) flight → (fits : owner < empty)
       → Stops scene inv owner fits number index value flight
@@ -197,6 +205,7 @@ module _ {T : Type 0} (scene : Scene T) (inv : Inv scene) (owner : ℕ) where
   find_stops number index value flight at fits = absurd at
 
 module _ {T : Type 0} where
+  -- a call's name is a find's where it reads as one
   find_name : (start : ContainerStart T) (owner : ℕ) → ◌≡◌ {A = Start T} (Container start) (Container (Find owner)) → start ≡ Find owner
   find_name start owner e = cc
 
@@ -240,6 +249,8 @@ module _ {T : Type 0} (handed : Handed T) where
   abbrev end_of : ContainerFlight T → Option (Answer T)
   end_of flight = answer_in (any_call (after code (state_of q s.state.states) flight answer))
 
+  -- a step that wrote only that the find of this party is done was a step of that party, of a
+  -- call of that name, which ended with that number
   wrote_end : (start : ContainerStart T) (flight : ContainerFlight T)
       → Wrote code (kept_now shown terms code c t s) (Container start) (flights.Container flight)
       → IsEnd q p (Container start) (Container (Find owner)) (end_of flight) (Number number)
@@ -256,6 +267,7 @@ module _ {T : Type 0} (handed : Handed T) where
         → IsWellFormedSoFar terms (put q y t.world.latest) (t.events ++ Finished p (Container (Find owner)) (Number number) ∷ [])
         → IsFoundWhole p owner bound number t.events
 
+  -- what a find has for the indices below a bound is so of its end
   ends_with : (bound : ℕ) (flight : ContainerFlight T) → q ≡ p
       → IsHere scene (Find owner) flight → (fits : owner < empty)
       → Has scene inv owner fits bound number
@@ -269,6 +281,8 @@ module _ {T : Type 0} (handed : Handed T) where
             (Finished p (Container (Find owner)) (Number number) ∷ []) (ap Some (sym is), tt) well_formed));
       }
 
+  -- a call that stands there, was handed what it has loaded, or a yes, and wrote that the find
+  -- is done, has counted over the whole container
   counted : (due : Bool) → (due ≡ true → answer ≢ 0) → (start : Start T) (flight : Flight T)
       → StandsThere (family_by terms code c) t s q x since start flight → is_question (want_of code flight) ≡ due
       → (due ≡ false → answer ≡ old_of s.state.words (ask_of (want_of code flight)))
@@ -283,6 +297,8 @@ module _ {T : Type 0} (handed : Handed T) where
       there.here there.knows asks answer loads told end.done)
   counted due told start flight h asks loads e = absurd h.at
 
+  -- a call that stands there, was told no about an index, and wrote that the find is done, has
+  -- counted over the indices up to that one
   stopped : (index : ℕ) (value : T) → answer ≡ 0 → (start : Start T) (flight : Flight T)
       → StandsThere (family_by terms code c) t s q x since start flight
       → question_in code (Some flight) ≡ Some (index, value) → Wrote code (kept_now shown terms code c t s) start flight
@@ -314,6 +330,8 @@ module _ {T : Type 0} (handed : Handed T) where
     pub own_party : q ≡ p
     own_party = own_end x.start flight there_is by_now
 
+    -- a find that wrote its end when it was handed what it had loaded, or a yes, has counted
+    -- over the whole container
     pub all_counted : (due : Bool) → (due ≡ true → answer ≢ 0) → is_question (want_of t.world.coding flight) ≡ due
         → (due ≡ false → answer ≡ old_of t.world.words (ask_of (want_of t.world.coding flight))) → Ends c
     all_counted due told asks loads =
@@ -330,11 +348,14 @@ module _ {T : Type 0} (handed : Handed T) where
 
 -- ---- any turn
 
+-- `c` is the capacity, `t` the run so far, `s` what is sound of it; party `p` finds for the
+-- owner
 module _ {T : Type 0} (shown : Shown T) (terms : Terms) (code : Coding T) (c : ℕ) (t : Trace T)
     (s : frame.Sound (family_by terms code c) t) (p owner number : ℕ) where
   abbrev Ended : List (Event T) → Type 0
   Ended es = es ≡ Finished p (Container (Find owner)) (Number number) ∷ []
 
+  -- this step of the call of party `q`, as the record above has it
   abbrev handed : (q : ℕ) {x : Party T} → MayGoOn terms t → party_of q t.world.latest ≡ Some x → ℕ → (turn : Turn T) → IsParty turn q → ℕ → Handed T
   handed q {x} may found since turn mine answer =
       record {
@@ -364,6 +385,7 @@ module _ {T : Type 0} (shown : Shown T) (terms : Terms) (code : Coding T) (c : �
       × (IsWellFormedSoFar terms latest (t.events ++ Finished p (Container (Find owner)) (Number number) ∷ [])
       → IsFoundWhole p owner bound number t.events)
 
+  -- a step that wrote only that the find is done tells of the whole container
   next_tells : (q : ℕ) → MayGoOn terms t → is_due t.world.coding (flight_in t.world q) ≡ false
       → (o : Option (Party T)) → party_of q t.world.latest ≡ o → Ended (events_of_next t.world q o)
       → Told c (after_next t.world q o).latest
@@ -380,6 +402,8 @@ module _ {T : Type 0} (shown : Shown T) (terms : Terms) (code : Coding T) (c : �
           (λ told. absurd (cc)) (rw here at free) (λ no. refl) in
           (h.count, h.whole _)
 
+  -- a decision that wrote only that the find is done, and that is no no to its party, tells of
+  -- the whole container
   decision_tells : (q : ℕ) (said : Bool) → MayGoOn terms t → is_due t.world.coding (flight_in t.world q) ≡ true
       → ◌≢◌ {A = Turn T} (Decide q said) (Decide p false) → (o : Option (Party T)) → party_of q t.world.latest ≡ o
       → Ended (events_of_decision t.world q said o)
@@ -404,6 +428,8 @@ module _ {T : Type 0} (shown : Shown T) (terms : Terms) (code : Coding T) (c : �
               let party = own_party (handed q may found since (Decide q said) refl (number_of said)) flight d e in
               absurd (ne (ap (λ n. Decide n said) party ∙ ap (λ b. Decide p b) is))
 
+  -- a no to a find about an index, which wrote only that it is done, tells of the indices up to
+  -- that one
   stop_tells : (index : ℕ) (value : T) → MayGoOn terms t → (o : Option (Party T)) → party_of p t.world.latest ≡ o
       → question_in t.world.coding (flight_of (doing_of o)) ≡ Some (index, value)
       → Ended (events_of_decision t.world p false o) → Told (index + 1) (after_decision t.world p false o).latest
@@ -423,6 +449,8 @@ module _ {T : Type 0} (shown : Shown T) (terms : Terms) (code : Coding T) (c : �
   not_due : (q : ℕ) → call_refusal t.world (Next q) ≡ None → is_due t.world.coding (flight_in t.world q) ≡ false
   not_due = grind (arith, row_passed, is_none)
 
+  -- a turn that wrote only that the find is done, and that is no no to its party, tells of the
+  -- whole container
   tells : MayGoOn terms t → (turn : Turn T) → IsAllowed t.world turn → Ended (events_of t.world turn)
       → turn ≢ Decide p false → Told c (after_turn t turn).world.latest
   tells may (Begin q start) r e ne = absurd (cc)
@@ -442,6 +470,8 @@ module _ {T : Type 0} (shown : Shown T) (terms : Terms) (code : Coding T) (t : T
       → CountsIf well_formed p owner bound number t.events
   right = grind (arith, after_turn)
 
+  -- a find that ends in a turn that is no no to its party has counted right over the whole
+  -- container
   pub counts_all : (p owner number : ℕ)
       → (after_turn t turn).events ≡ t.events ++ Finished p (Container (Find owner)) (Number number) ∷ []
       → turn ≢ Decide p false → CountsIf well_formed p owner t.world.capacity number t.events
@@ -450,6 +480,7 @@ module _ {T : Type 0} (shown : Shown T) (terms : Terms) (code : Coding T) (t : T
       (tells shown terms code t.world.capacity t s p owner number may turn r
       (append_cancel_left t.events (events_of t.world turn) _ is) ne)
 
+  -- a find that a no about an index ends has counted right over the indices up to that one
   pub counts_up_to : (p owner number index : ℕ) (value : T)
       → (after_turn t turn).events ≡ t.events ++ Finished p (Container (Find owner)) (Number number) ∷ []
       → turn ≡ Decide p false → question_at t p ≡ Some (index, value)

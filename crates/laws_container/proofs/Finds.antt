@@ -97,6 +97,7 @@ module _ {T : Type 0} (finding : Finding T) where
   -- ---- what a cell tells
 
   module _ (k found : ℕ) (below : k < c) where
+    -- a cell that has the owner adds one to those counted
     one_counts : cell ws k ≡ owner → Counted k found → Counted (k + 1) (one_more found)
     one_counts is counted =
         let few = inv.good.few in
@@ -117,6 +118,7 @@ module _ {T : Type 0} (finding : Finding T) where
       is_counted : count_below (chosen_with h.count.chosen k b) (k + 1) ≡ new
       is_counted = grind (arith, suc, count_below, count_with)
 
+      -- the count with this index added to it, or left out
       abbrev counted_with : IsCount p (IsFilledWith owner) (k + 1) new events
       counted_with =
           record {
@@ -126,6 +128,8 @@ module _ {T : Type 0} (finding : Finding T) where
             through = still_through p (IsFilledWith owner) k found events h.count b new adds once not;
           }
 
+      -- an index that is counted, or not, adds to the number below the next bound and is still
+      -- to be copied
       found_with : HasFoundBelow code c owner (k + 1) k new v
       found_with =
           record {
@@ -143,6 +147,8 @@ module _ {T : Type 0} (finding : Finding T) where
                 (λ ne. h.copied i (omega arith) (sym (with_there h.count.chosen k b i ne) ∙ chosen) through) (cases_eq i k);
           }
 
+    -- a cell that has the owner adds one to those that are found, of which this one is still to
+    -- be copied
     found_one : cell ws k ≡ owner → HasFound k k found → Counted k found → HasFound (k + 1) k (one_more found)
     found_one is h counted well_formed =
         let few = inv.good.few in
@@ -179,6 +185,8 @@ module _ {T : Type 0} (finding : Finding T) where
     right_none : (words' : List ℕ) (y : Party T) → AreAllRight scene words' y []
     right_none = grind arith
 
+    -- a step that leaves the words and writes nothing leads a find to its next stage, where the
+    -- conditions of that stage hold
     calm_step : (room' : buffers.Buffer 128) (next : FindStage) (ask : Option Ask) → words_after ws ask ≡ ws
         → steps + step_count ask ≤ find_number z next → FindAt c z (all scene) (done scene) next
         → Knows code c (find_at c owner room' next) (SeesCalmly room' next ask)
@@ -200,6 +208,7 @@ module _ {T : Type 0} (finding : Finding T) where
       λ holds. let g = found (was_well_formed_calmly scene start tt here.span (then_at room' next ask) holds) in record { count = g.count; copied = g.copied },
     )
 
+    -- a step that leaves the words ends a find with the number that it has counted
     pub ends_there : (ask : Option Ask) → words_after ws ask ≡ ws → (bound number : ℕ) → bound ≤ c → IsPaid v
         → steps + step_count ask ≤ c * (z + 3) → Counted bound number
         → Leads scene start ask false scene.states [] (Done (answers.Number number))
@@ -219,6 +228,8 @@ module _ {T : Type 0} (finding : Finding T) where
         }))
         ((refl, nothing), tt) few (omega arith)
 
+    -- a step that leaves the words brings a find to the next index, or to its end behind the
+    -- last
     pub comes_to_next : (ask : Option Ask) → words_after ws ask ≡ ws → (k found : ℕ) → k < c → IsPaid v
         → steps + step_count ask ≤ (k + 1) * (z + 3) → AreBelow (k + 1) (seen_in (done scene)) → Counted (k + 1) found
         → HasFound (k + 1) (k + 1) found → IsLong room
@@ -239,6 +250,7 @@ module _ {T : Type 0} (finding : Finding T) where
       (here : IsHere scene (Find owner) (find_at c owner room (finds.LoadsCell k found)))
       (at : FindAt c z (all scene) (done scene) (finds.LoadsCell k found))
       (h : Finds code c owner k k found v) (s : steps ≤ k * (z + 3)) where
+    -- the step in which a find loads a cell shows what it has to
     pub cell_step : StepOf scene start (find_at c owner room (finds.LoadsCell k found))
     cell_step =
         on_bool (λ b. Leads scene start (Some (set_stages.loads (cell_word k))) false scene.states []
@@ -276,6 +288,8 @@ module _ {T : Type 0} (finding : Finding T) where
     abbrev load_it : Option Ask
     load_it = Some (set_stages.loads (count_word c k))
 
+    -- the step in which a find loads the number of an element leads on: past an even one, and
+    -- to the words under an odd one
     pub count_step : StepOf scene start (find_at c owner room (finds.LoadsCount k found))
     count_step =
         on_bool (λ b. Leads scene start (Some (set_stages.loads (count_word c k))) false scene.states []
@@ -336,6 +350,7 @@ module _ {T : Type 0} (finding : Finding T) where
         k count room.words at stands.2 inv.elements.coded.few same_words (λ kept. kept)
         (was_well_formed_calmly scene start tt here.span (then_at room (finds.LoadsWord k found count at) here stands.0 room' next load_word)) h.2
 
+    -- after a word is loaded, what is said of the number under which it is copied stays so
     steady_on : (next : FindStage) → Steady code c k count (SeesCalmly room (finds.LoadsWord k found count at) here stands.0 room' next load_word)
     steady_on next holds through =
         ap (λ w. count_at c w k) same_words
@@ -352,6 +367,8 @@ module _ {T : Type 0} (finding : Finding T) where
     long_on : IsLong room'
     long_on = length-set room.words at word ∙ h.2.room
 
+    -- the step in which a find loads a word leads on, to the next word or to the check of the
+    -- number
     pub word_step : StepOf scene start (find_at c owner room (finds.LoadsWord k found count at))
     word_step =
         on_bool (λ b. Leads scene start (Some (set_stages.loads (element_word c z k at))) false scene.states []

@@ -44,6 +44,7 @@ no_index i = ⊥
 -- ---- what a finished call has done to elements
 
 module _ {T : Type 0} where
+  -- an add and a replace placed their value, and a remove and a recovery hid what they freed
   abbrev pub EndsRight : List (Event T) → Event T → Type 0
   EndsRight before (Finished p (Container (Add value owner)) (Index index)) =
       PlacesRight before (Finished p (Container (Add value owner)) (Index index))

@@ -19,6 +19,8 @@ module _ {T : Type 0} where
       → i ≡ index → contents_of index events ≡ None → EmptySinceFreed p owner i events
   empty_now = grind (arith, held_now)
 
+-- party `q` knows this of the index in the machine `m`, and another takes a turn; `c` is the
+-- capacity
 module _ {T : Type 0} (code : Coding T) (c q owner index count : ℕ) (m : Now T) (words' : List ℕ)
     (latest' : List (ℕ × Party T)) (es : List (Event T)) (goes : Goes m.words words' m.events es)
     (spares : Spares m.terms.by q m.events es)
@@ -28,6 +30,7 @@ module _ {T : Type 0} (code : Coding T) (c q owner index count : ℕ) (m : Now T
   abbrev m' : Now T
   m' = record { terms = m.terms; words = words'; latest = latest'; events = m.events ++ es }
 
+  -- a number that was covered before a remove is so after another party's turn
   pub remove_covers : (IsCalm m.terms.by m.events → is_gone m.terms.by owner m.events ≡ false
       → SinceBegin q (λ part since. settled_of index part ≡ Some owner) m.events → IsBy q index owner m.events)
       → RemoveCovers code c q owner index count m → RemoveCovers code c q owner index count m'
@@ -53,6 +56,7 @@ module _ {T : Type 0} (code : Coding T) (c q owner index count : ℕ) (m : Now T
   pub hidden_stands : HasHidden code c q owner (StillStands code c index count m) m → HasHidden code c q owner (StillStands code c index count m') m'
   hidden_stands = grind (arith, inl, held_later, stands_on, is_some)
 
+-- party `q` knows this in the machine `m`, and another takes a turn; `c` is the capacity
 module _ {T : Type 0} (code : Coding T) (c q owner : ℕ) (But : ℕ → Type 0) (m : Now T) (words' : List ℕ)
     (latest' : List (ℕ × Party T)) (es : List (Event T)) (spares : Spares m.terms.by q m.events es)
     (passes : Passes code c m (record { terms = m.terms; words = words'; latest = latest'; events = m.events ++ es })) where

@@ -15,6 +15,7 @@ use Rattle.laws_container.proofs.Turns.{Now, WellFormed, count_in}
 
 -- ---- what is exempt no more
 
+-- party `p` frees indices of the owner in the machine `m`; `c` is the capacity
 module _ {T : Type 0} (code : Coding T) (c p owner index count : ℕ) (m : Now T) where
   -- under an even number nothing stands
   pub hidden_even : (WellFormed m → IsWhole code c m.words m.events) → index < c → count % 2 ≡ 0
@@ -53,6 +54,8 @@ module _ {T : Type 0} (scene : Scene T) (start : ContainerStart T) (none : NoRep
     abbrev then_is : Now T
     then_is = after scene words' y es
 
+    -- what a call knows to be hidden of what it has freed is so after a step that frees
+    -- nothing, if each exempt index stays exempt or is hidden now
     hidden_so : (But But' : ℕ → Type 0)
         → (WellFormed then_is → (i : ℕ) → IsOneOf (Frees i owner) (set_acts_of p (events ++ es)) → But i
         → EmptySinceFreed p owner i (events ++ es) ⊎ But' i)
@@ -65,6 +68,8 @@ module _ {T : Type 0} (scene : Scene T) (start : ContainerStart T) (none : NoRep
     pub hidden_on : HasHidden code c p owner no_index (before scene) → HasHidden code c p owner no_index then_is
     hidden_on h = hidden_so no_index no_index (λ well_formed i freed but. absurd but) h
 
+    -- over a step that leaves the number and what stands at the index, that index alone is
+    -- exempt still
     pub stands_on : (index count : ℕ) → count_at c words' index ≡ count_in code c (before scene) index
         → contents_of index (events ++ es) ≡ contents_of index events
         → HasHidden code c p owner (StillStands code c index count (before scene)) (before scene)
@@ -121,6 +126,8 @@ module _ {T : Type 0} (scene : Scene T) (start : ContainerStart T) (none : NoRep
         → EmptySinceFreed p owner i (events ++ free) ⊎ StillStands code c index count freed_is i
     freed_now = grind (arith, inl, empty_now, same_contents, inr, is_some)
 
+    -- once an index is freed, all that was freed earlier is hidden still, and this one is
+    -- exempt while what stood there stands
     pub hidden_freed : HasHidden code c p owner no_index (before scene)
         → (WellFormed (before scene) → WellFormed freed_is → Covered code c index count (before scene))
         → HasHidden code c p owner (StillStands code c index count freed_is) freed_is

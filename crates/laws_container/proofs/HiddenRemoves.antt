@@ -120,6 +120,7 @@ module _ {T : Type 0} (removing : Removing T) where
         let other : count_now ≢ count = grind (arith, nat_tests) in
         ap counter_of (fails_same ws (count_word c index) count (one_more count) other) ∙ end)
 
+    -- what a remove's state will say is so still after the exchange
     says_then : (m : ReleaseMode) (t : ReleaseState) (es : List (Event T)) → BeginsNone p es → (y : Party T)
         → RemoveSays code c index owner m t (sees_now scene)
         → RemoveSays code c index owner m t (then_sees scene hide_it false scene.states y es)
@@ -133,6 +134,8 @@ module _ {T : Type 0} (removing : Removing T) where
           h.1,
     )
 
+    -- the step in which a remove hides what stands at its index shows what it has to, whether
+    -- it finds the number or another
     pub hides_step : StepOf scene start (at_stage (removes.Hides count state))
     hides_step =
         on_bool (λ b. Leads scene start (Some (exchanges (count_word c index) count (one_more count))) false scene.states
@@ -207,6 +210,7 @@ module _ {T : Type 0} (removing : Removing T) where
         (Finished p (Container (Remove index owner m)) (answers.State t))
     answers_right = grind (arith, inl, worn_on, counter_stays_then, inr)
 
+    -- the step in which a remove counts the change ends it
     pub end_step : StepOf scene start (at_stage (removes.AddsChange state))
     end_step =
         let y = party_then scene start end_it false (Done (answers.State state)) in

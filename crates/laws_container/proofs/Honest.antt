@@ -34,6 +34,8 @@ module _ {T : Type 0} (events : List (Event T)) where
   IsForLiving (Remove index owner mode) = is_gone Word owner events ≡ false
   IsForLiving start = Unit {0}
 
+  -- `c` is the capacity, `z` the words of a value; the call has done `all` to the set, and
+  -- `done` to elements
   module _ (code : Coding T) (c z : ℕ) (all : List SetAct) (done : List (Act T)) where
     living_by : (start : ContainerStart T) (flight : ContainerFlight T) → At c z all done start flight → acts_for_gone Word events flight ≡ false
         → IsForLiving start
@@ -90,6 +92,8 @@ module _ {T : Type 0} (p : ℕ) where
       pub span : span_of p events ≡ Open (Container start) wrote
       pub living : IsForLiving events start
 
+    -- an event that a step writes for a call that acts for nobody who is gone is honest, and
+    -- leaves the call so
     one : (events : List (Event T)) (e : Event T) → IsEffectOf (Next p) e → StandsRight promise c events e → Goes events
         → ActsForRight events e × Goes (events ++ e ∷ [])
     one events e its right goes =
@@ -104,6 +108,7 @@ module _ {T : Type 0} (p : ℕ) where
           },
         )
 
+    -- all that a step writes for such a call is honest, and leaves the call so
     all_right : (events es : List (Event T)) → AllByRecursion (IsEffectOf (Next p)) es → Each (StandsRight promise c) (events ++ es) → Goes events
         → AreRight ActsForRight events es × Goes (events ++ es)
     all_right events [] its spans goes = (tt, subst Goes (sym (append-nil events)) goes)
@@ -117,6 +122,7 @@ module _ {T : Type 0} (p : ℕ) where
         → AreRight ActsForRight events (ending_of p (Container start) outcome)
     end_right events outcome live = grind arith
 
+    -- an honest run is honest after a step of such a call, and after its end
     honest_more : (events did : List (Event T)) (outcome : Option (Answer T)) → AllByRecursion (IsEffectOf (Next p)) did → Goes events → IsHonest events
         → Each (StandsRight promise c) (events ++ (did ++ ending_of p (Container start) outcome))
         → IsHonest (events ++ (did ++ ending_of p (Container start) outcome))
@@ -130,6 +136,7 @@ module _ {T : Type 0} (p : ℕ) where
 
 -- ---- one turn
 
+-- `c` is the capacity, `t` the run so far, and `s` what is sound of it
 module _ {T : Type 0} (terms : Terms) (code : Coding T) (c : ℕ) (t : Trace T) (s : frame.Sound (family_by terms code c) t) (honest : IsHonest t.events) where
   abbrev Spans : List (Event T) → Type 0
   Spans es = Each (StandsRight promise c) (t.events ++ es)
@@ -142,11 +149,14 @@ module _ {T : Type 0} (terms : Terms) (code : Coding T) (c : ℕ) (t : Trace T) 
   Minds (flights.Container flight) = (acts_for_gone Word t.events flight ≡ false) ⊎ (is_question (want t.world.coding flight) ≡ true)
   Minds flight = Unit {0}
 
+  -- the call `x` of party `p` is handed this answer
   module _ (p answer : ℕ) (x : Party T) (since : ℕ) where
     abbrev writes : Registry T → Start T → Flight T → List (Event T)
     writes kept start flight =
         events_of_step p start (step_of t.world.coding t.world.words (beside_of t.world.words kept t.world.latest p) p start flight answer kept)
 
+    -- a call that stands there by the events, and acts for nobody who is gone or waits for an
+    -- answer, leaves the run honest
     by_name : (start : Start T) (flight : Flight T) → StandsThere (family_by terms code c) t s p x since start flight → Minds flight
         → Spans (writes (registries.Container s.state.dead s.state.states) start flight)
         → Honest (writes (registries.Container s.state.dead s.state.states) start flight)
@@ -186,6 +196,7 @@ module _ {T : Type 0} (terms : Terms) (code : Coding T) (c : ℕ) (t : Trace T) 
       → flight_in t.world p ≡ Some flight
   flies p x flight since e d = ap (λ o. flight_of (doing_of o)) e ∙ ap (λ d. flight_of (Some d)) d
 
+  -- a step of a party that takes none for one who is gone leaves the run honest
   next_honest : (p : ℕ) → is_for_gone t.events (flight_in t.world p) ≡ false → (o : Option (Party T)) → party_of p t.world.latest ≡ o
       → Spans (events_of_next t.world p o) → Honest (events_of_next t.world p o)
   next_honest p steps None e spans = same
@@ -198,6 +209,7 @@ module _ {T : Type 0} (terms : Terms) (code : Coding T) (c : ℕ) (t : Trace T) 
           went p (old (Going flight since)) x since flight e d
           (by_steps flight (subst (λ o. is_for_gone t.events o ≡ false) (flies p x flight since e d) steps)) spans
 
+  -- a decision leaves the run honest
   decision_honest : (p : ℕ) (said : Bool) → is_due t.world.coding (flight_in t.world p) ≡ true → (o : Option (Party T)) → party_of p t.world.latest ≡ o
       → Spans (events_of_decision t.world p said o) → Honest (events_of_decision t.world p said o)
   decision_honest p said due None e spans = same
@@ -209,6 +221,8 @@ module _ {T : Type 0} (terms : Terms) (code : Coding T) (c : ℕ) (t : Trace T) 
       go (Going flight since) d spans =
           went p (number_of said) x since flight e d (by_question flight (subst (λ o. is_due t.world.coding o ≡ true) (flies p x flight since e d) due)) spans
 
+  -- a turn that an open run does not refuse, and that takes no step for one who is gone, leaves
+  -- the run honest
   pub turn_honest : (turn : Turn T) → open_refusal t.world turn ≡ None → steps_for_gone t turn ≡ false
       → frame.Sound (family_by terms code c) (after_turn t turn) → IsHonest (after_turn t turn).events
   turn_honest (Begin p start) e steps next = Each-append ActsForRight t.events (Begun p start ∷ []) honest (tt, tt)

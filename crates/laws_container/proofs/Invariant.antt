@@ -95,6 +95,7 @@ module _ {T : Type 0} where
     pub rests : (q : ℕ) (s : ContainerState T) → is_idle q m.latest → state_of q states ≡ Some s → Rests code c m q s
     pub fresh : (q : ℕ) → Rests code c m q (fresh code c)
 
+  -- what is so of the machine, of the latest calls and of the events, after so many turns
   pub record Holds (terms : Terms) (code : Coding T) (c : ℕ) (s : ContainerNow T) (latest : List (ℕ × Party T))
       (events : List (Event T)) (turns : ℕ) : Type 0 where
     pub same : s.events ≡ events
@@ -121,6 +122,7 @@ module _ {T : Type 0} where
   Knowing code c (flights.Container flight) v = Knows code c flight v
   Knowing code c flight v = ⊥
 
+  -- what a party sees of the machine
   abbrev pub view : Terms → List ℕ → List (ℕ × ContainerState T) → List (ℕ × Party T) → List (Event T) → ℕ → ℕ → ℕ → ℕ → View T
   view terms words states latest events p since changes backs =
       record {
@@ -135,6 +137,7 @@ module _ {T : Type 0} where
         backs = backs;
       }
 
+  -- what the frame asks to know of the family
   abbrev pub outline : Terms → Outline T
   outline terms =
       record {
@@ -160,6 +163,7 @@ module _ {T : Type 0} where
   abbrev pub family : Coding T → ℕ → Family T
   family code c = family_by dying code c
 
+  -- what is so before a turn of a party, in a machine that has room for it
   pub record Inv (scene : Scene T) : Type 0 where
     pub good : set.Good scene.terms.by scene.capacity scene.words scene.dead scene.events scene.turns
     pub elements : Elements scene.coding scene.capacity (moment scene.terms scene.words scene.latest scene.events) scene.states scene.turns
@@ -218,9 +222,11 @@ module _ {T : Type 0} (scene : Scene T) where
     abbrev m' : Now T
     m' = after words' y es
 
+    -- the states of parties that are in no look rest after the turn
     still_rests : (q : ℕ) (s : ContainerState T) → is_idle q (put p y latest) → state_of q states' ≡ Some s → Rests code c m' q s
     still_rests q s idle found = ⊎_elim here there (cases_eq q p)
       where
+        -- the party's own state rests after the turn
         here : q ≡ p → Rests code c m' q s
         here e =
             subst (λ n. Rests code c m' n s) (sym e)
@@ -233,6 +239,7 @@ module _ {T : Type 0} (scene : Scene T) where
             rests_later code c before m' es refl does.changes.passes q s
             (h.rests q s (ap (λ o. is_looking (flight_of (doing_of o))) (sym (party_put_other q p y latest ne)) ∙ idle) (sym (does.others q ne) ∙ found))
 
+    -- what is so of the elements and of the states is so after the turn
     pub elements_then : Elements code c m' states' (turns + 1)
     elements_then =
         record {
@@ -263,6 +270,7 @@ module _ {T : Type 0} (scene : Scene T) where
 module _ {T : Type 0} (scene : Scene T) where
   open scene use {coding as code, capacity as c, party as p, turns as turns, latest as latest, events as events}
 
+  -- the machine after the turn
   abbrev pub then_is : List ℕ → List (ℕ × ContainerState T) → Party T → List (Event T) → ContainerNow T
   then_is words' states' y es =
       record {
@@ -273,6 +281,8 @@ module _ {T : Type 0} (scene : Scene T) where
         events = events ++ es;
       }
 
+  -- what is so after a turn that leaves these words and states, writes these events, and has
+  -- changed words so often
   pub record Shows (words' : List ℕ) (states' : List (ℕ × ContainerState T)) (from : Span T) (y : Party T) (es : List (Event T)) (changes' : ℕ) : Type 0 where
     pub does : Does scene words' states' y es
     pub stands : AllFollow (Stands promise c) from es
@@ -318,6 +328,7 @@ module _ {T : Type 0} (scene : Scene T) where
     still_wrote : (q : ℕ) → q ≢ p → wrote_of q (events ++ es) ≡ wrote_of q old.events
     still_wrote = grind (arith, span_of-other)
 
+    -- what a turn shows is what it owes the frame
     pub owes : span_of p events ≡ from → frame.Owes (family_by scene.terms code c) (then_is words' states' y es) p y latest events es changes'
     owes is =
         frame.owes (family_by scene.terms code c) old (then_is words' states' y es) from p y latest events es scene.changes changes' is inv
@@ -341,6 +352,7 @@ module _ {T : Type 0} (scene : Scene T) where
     elements : Elements code c (before scene) scene.states turns
     elements = grind (arith, here)
 
+    -- all that holds of the machine holds after the turn
     pub holds_more : Holds scene.terms code c (then_is words' states' y es) (put p y latest) (events ++ es) (turns + 1)
     holds_more =
         record {

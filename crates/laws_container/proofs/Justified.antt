@@ -24,6 +24,8 @@ use Rattle.laws_container.proofs.TurnPromises.{tells_if}
 use Rattle.laws_container.proofs.Written.{all_effects}
 
 module _ {T : Type 0} (shown : Shown T) (code : Coding T) (c : ℕ) where
+  -- what a step of a call that stands there writes down is effects of the step's party, and
+  -- then the call's end
   writes : (t : Trace T) (turn : Turn T) (p : ℕ) → IsParty turn p → (answer : ℕ) (s : ContainerNow T) (start : Start T) (flight : Flight T)
       → (family code c).At s p start flight
       → Writes (outline dying) t turn (answered_from t p t.world.coding answer s.words (registries.Container s.dead s.states) start flight)
@@ -38,10 +40,12 @@ module _ {T : Type 0} (shown : Shown T) (code : Coding T) (c : ℕ) where
       ≡ goes_of z p flight answer (registries.Container s.dead s.states)
   told s p start flight at z words beside answer = grind arith
 
+  -- a turn that the rows allow tells all that the promise says
   tells_all : (t : Trace T) (turn : Turn T) → refusal_of t.world turn ≡ None
       → frame.Sound (family code c) t → promise.tells t turn (after_turn t turn)
   tells_all t turn e s = here (subst (λ n. frame.Sound (family code n) t) (sym s.capacity) s)
     where
+      -- by the machine's own capacity it does
       here : frame.Sound (family code t.world.capacity) t → promise.tells t turn (after_turn t turn)
       here h =
           let passed = passes t.world turn e in
@@ -62,6 +66,7 @@ module _ {T : Type 0} (shown : Shown T) (code : Coding T) (c : ℕ) where
             visits = tells.visits;
           }
 
+  -- all that the frame asks of a family is so of the container's
   owed : Owed (outline dying) code c
   owed =
       record {

@@ -35,6 +35,8 @@ module _ {T : Type 0} where
       → WasFilled owner index v → WellFormed (now v) → MayReplace v.party index owner v.events
   may_replace = grind arith
 
+  -- a replace that has found its owner may write at its index, in a well-formed run, if that
+  -- owner is not gone
   pub replacing : (c index owner : ℕ) (value : T) (v : View T) → ReplaceKnows c index owner value v
       → WellFormed (now v) → Lives owner v → Replacing v.party index owner v.events
   replacing = grind (arith, may_replace)
@@ -55,6 +57,7 @@ module _ {T : Type 0} where
     pub same_party : party_of v.party latest_then ≡ party_of v.party v.latest
     pub same_state : state_of v.party states_then ≡ state_of v.party v.states
 
+-- `c` is the capacity, and `v` what the party sees
 module _ {T : Type 0} (code : Coding T) (c : ℕ) (v : View T) (turn : OthersTurn code c v) where
   open turn use {
     words_then as words',
@@ -71,6 +74,7 @@ module _ {T : Type 0} (code : Coding T) (c : ℕ) (v : View T) (turn : OthersTur
     same_party as same_party,
   }
 
+  -- what the party sees after the turn
   abbrev pub later : View T
   later =
       record {
@@ -124,6 +128,7 @@ module _ {T : Type 0} (code : Coding T) (c : ℕ) (v : View T) (turn : OthersTur
   replace_owns : (index owner : ℕ) → ReplaceOwns v.terms.by q index owner events → ReplaceOwns v.terms.by q index owner (events ++ es)
   replace_owns index owner h = replace_later v.terms.by events es q index owner spares h
 
+  -- a replace that has found its owner knows so after another party's turn
   replace_knows : (index owner : ℕ) (value : T) → ReplaceKnows c index owner value v → ReplaceKnows c index owner value later
   replace_knows index owner value h =
       record {
@@ -157,6 +162,7 @@ module _ {T : Type 0} (code : Coding T) (c : ℕ) (v : View T) (turn : OthersTur
   stood : (owner index : ℕ) → index < c → IsTheWriter owner index → Stood code c owner index v → Stood code c owner index later
   stood = grind (arith, lives)
 
+  -- an add at any stage knows after another party's turn what it knew
   pub add_knows : (value : T) (owner : ℕ) (stage : AddStage) → AddKnows code c value owner stage v → AddKnows code c value owner stage later
   add_knows value owner (adds.Acquires stage) h = set_knows (acquire_at c owner stage) h
   add_knows value owner (adds.LoadsCount index) h = add_owns owner index h
@@ -169,6 +175,7 @@ module _ {T : Type 0} (code : Coding T) (c : ℕ) (v : View T) (turn : OthersTur
   add_knows value owner (adds.AddsChange index) h =
       (add_owns owner index h.0, placed index value h.1, stood owner index h.0.within (adds_write owner index h.0) h.2)
 
+  -- a replace at any stage knows after another party's turn what it knew
   pub replaces_know : (index : ℕ) (value : T) (owner : ℕ) (stage : ReplaceStage)
       → ReplacesKnow code c index value owner stage v → ReplacesKnow code c index value owner stage later
   replaces_know index value owner replaces.Refuses h = paid h
@@ -210,6 +217,8 @@ module _ {T : Type 0} (code : Coding T) (c : ℕ) (v : View T) (turn : OthersTur
   release_left : (index count : ℕ) (stage : ReleaseStage) → ReleaseLeft code c index count stage v → ReleaseLeft code c index count stage later
   release_left index count stage h = grind arith
 
+  -- what a release in a remove knows of the element that stood there is so after another
+  -- party's turn
   release_hides : (index owner : ℕ) (mode : ReleaseMode) (count : ℕ) (stage : ReleaseStage)
       → set.Knows c (release_at c index owner mode stage) (of_set v) → ReleaseLeft code c index count stage v
       → ReleaseHides code c index owner count stage v → ReleaseHides code c index owner count stage later
@@ -220,6 +229,7 @@ module _ {T : Type 0} (code : Coding T) (c : ℕ) (v : View T) (turn : OthersTur
   release_hides index owner mode count (releases.Locks lock) k left h =
       hidden_stands code c q owner index count (now v) words' latest' es goes spares passes leaves left.within h
 
+  -- a remove at any stage knows after another party's turn what it knew
   pub remove_knows : (index owner : ℕ) (mode : ReleaseMode) (stage : RemoveStage)
       → RemoveKnows code c index owner mode stage v → RemoveKnows code c index owner mode stage later
   remove_knows index owner mode removes.Refuses h = paid h
@@ -249,6 +259,7 @@ module _ {T : Type 0} (code : Coding T) (c : ℕ) (v : View T) (turn : OthersTur
   through_before : (i : ℕ) → StoodThere q i (events ++ es) → StoodThere q i events
   through_before i through = through_less q (λ part. is_some (contents_of i part) ≡ true) events es spares.none through
 
+  -- the indices that a find has counted, and copied, are so after another party's turn
   found_below : (owner bound k number : ℕ) → HasFoundBelow code c owner bound k number v → HasFoundBelow code c owner bound k number later
   found_below owner bound k number h =
       record {
@@ -270,6 +281,7 @@ module _ {T : Type 0} (code : Coding T) (c : ℕ) (v : View T) (turn : OthersTur
   steady : (index count : ℕ) → index < c → Steady code c index count v → Steady code c index count later
   steady = grind (arith, through_before, through_now, is_some)
 
+  -- a find at any stage knows after another party's turn what it knew
   pub find_knows : (owner : ℕ) (room : buffers.Buffer 128) (stage : FindStage) → FindKnows code c owner room stage v → FindKnows code c owner room stage later
   find_knows owner room (finds.LoadsCell index number) h = finds_on owner index index number h
   find_knows owner room (finds.LoadsCount index number) h = (finds_on owner (index + 1) index number h.0, once (IsFilledWith owner index) h.1)

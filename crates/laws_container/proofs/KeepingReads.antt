@@ -30,6 +30,7 @@ use Rattle.laws_container.proofs.Keeping.{find_knows, found, has_copied, has_lef
 use Rattle.laws_container.proofs.Keeping.{replaces_know, set_knows, worn}
 use Rattle.model.proofs.Locks.{locked_later}
 
+-- `c` is the capacity, and `v` what the party sees
 module _ {T : Type 0} (code : Coding T) (c : ℕ) (v : View T) (turn : OthersTurn code c v) where
   open turn use {
     words_then as words',
@@ -79,6 +80,8 @@ module _ {T : Type 0} (code : Coding T) (c : ℕ) (v : View T) (turn : OthersTur
   gone_but : (owner : ℕ) (Here : ℕ → Type 0) → IsGone owner v → GoneBut code c owner Here v → GoneBut code c owner Here later
   gone_but = grind (arith, inl, lost, inr, honest_less, told_before)
 
+  -- what a recovery knows it knows after another party's turn, where what it has hidden stays
+  -- so
   recovers_then : (owner k : ℕ) (Here But But' : ℕ → Type 0)
       → (HasHidden code c q owner But (now v) → HasHidden code c q owner But' (now later))
       → Recovers code c owner k Here But v → Recovers code c owner k Here But' later
@@ -99,6 +102,7 @@ module _ {T : Type 0} (code : Coding T) (c : ℕ) (v : View T) (turn : OthersTur
       → RecoverCovers code c owner index count (now later)
   covers_on owner index count below dead h = recover_covers code c q owner index count (now v) words' latest' es goes spares passes leaves below dead h
 
+  -- an owner who was recovered before another party's turn is so after it
   recovered : (owner : ℕ) → IsGone owner v → HasRecoveredBy v.terms.by q owner events → HasRecoveredBy v.terms.by q owner (events ++ es)
   recovered owner dead h =
       record {
@@ -106,6 +110,7 @@ module _ {T : Type 0} (code : Coding T) (c : ℕ) (v : View T) (turn : OthersTur
         asked = λ i through. asked_later i owner (h.asked i (through_less q (StillToFree q owner i) events es spares.none through));
       }
 
+  -- what the state says with which a recovery will end holds after another party's turn
   recover_says : (owner : ℕ) (mode : ReleaseMode) (state : ReleaseState) → RecoverSays code c owner mode state v → RecoverSays code c owner mode state later
   recover_says owner mode states.Locked h = locked_later events es h
   recover_says owner mode states.Unlocked h = (
@@ -125,6 +130,7 @@ module _ {T : Type 0} (code : Coding T) (c : ℕ) (v : View T) (turn : OthersTur
   abbrev none : ℕ → Type 0
   none i = ⊥
 
+  -- a recovery at any stage knows after another party's turn what it knew
   recover_knows : (owner : ℕ) (mode : ReleaseMode) (room : buffers.Buffer 128) (stage : RecoverStage)
       → RecoverKnows code c owner mode room stage v → RecoverKnows code c owner mode room stage later
   recover_knows owner mode room recovers.LoadsCounter h = (
@@ -199,6 +205,7 @@ module _ {T : Type 0} (code : Coding T) (c : ℕ) (v : View T) (turn : OthersTur
   calls_on : CallsOn q None events (events ++ es)
   calls_on = calls_same q events (events ++ es) span
 
+  -- a look has gone over the same indices after another party's turn
   looks_on : (k x : ℕ) → Looks code c k x v → Looks code c k x later
   looks_on k x h =
       record {
@@ -207,6 +214,7 @@ module _ {T : Type 0} (code : Coding T) (c : ℕ) (v : View T) (turn : OthersTur
         course = course_later code c (now v) m' es refl passes q h.state calls_on spares.none leaves.alone k x h.course;
       }
 
+  -- a look that copies an element copies it still after another party's turn
   look_copies : (index count k : ℕ) → LookCopies code c index count k v → LookCopies code c index count k later
   unfolding looks_on
   look_copies index count k h =
@@ -216,6 +224,7 @@ module _ {T : Type 0} (code : Coding T) (c : ℕ) (v : View T) (turn : OthersTur
         copying = copying code c v turn index count h.looks.state.shown.copy k h.copying;
       }
 
+  -- a state that rests does so after another party's turn
   look_rests : LookRests code c v → LookRests code c later
   look_rests h =
       record {
@@ -225,6 +234,7 @@ module _ {T : Type 0} (code : Coding T) (c : ℕ) (v : View T) (turn : OthersTur
         own = own_later q None events (events ++ es) calls_on h.state c h.own;
       }
 
+  -- a look at any stage knows after another party's turn what it knew
   look_knows : (stage : LookStage) → LookKnows code c stage v → LookKnows code c stage later
   look_knows looks.LoadsChange h = (paid code c v turn h.0, look_rests h.1)
   look_knows (looks.LoadsCount index) h = (paid code c v turn h.0, looks_on index c h.1)
@@ -236,6 +246,7 @@ module _ {T : Type 0} (code : Coding T) (c : ℕ) (v : View T) (turn : OthersTur
 
   -- ---- any call
 
+  -- any call knows after another party's turn what it knew
   pub still_knows : (flight : ContainerFlight T) → Knows code c flight v → Knows code c flight later
   still_knows (Add run) h = add_knows code c v turn run.given.value run.given.owner run.call.stage h
   still_knows (Remove run) h = remove_knows code c v turn run.given.index run.given.owner run.given.mode run.call.stage h

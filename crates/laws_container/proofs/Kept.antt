@@ -32,6 +32,7 @@ module _ {T : Type 0} where
 
 -- ---- what is promised
 
+-- `t` is the run so far, and `s` what is sound of it
 module _ {T : Type 0} (terms : Terms) (code : Coding T) (t : Trace T) (s : frame.Sound (family_by terms code t.world.capacity) t) where
   abbrev c : ℕ
   c = t.world.capacity
@@ -74,7 +75,9 @@ module _ {T : Type 0} (terms : Terms) (code : Coding T) (t : Trace T) (s : frame
 
 -- ---- where owners die
 
+-- `t` is the run so far, and `s` what is sound of it
 module _ {T : Type 0} (code : Coding T) (t : Trace T) (s : frame.Sound (family code t.world.capacity) t) where
+  -- what holds of the machine is what is promised of a container where owners die
   pub container_kept : IsContainer t
   container_kept =
       let e = s.holds.elements in

@@ -65,6 +65,7 @@ module _ {T : Type 0} where
   has_more : (one : Act T) (all more : List (Act T)) → IsOneOf one all → IsOneOf one (all ++ more)
   has_more = grind (arith, append_assoc)
 
+  -- the call of party `p` has written `w`
   module _ (p : ℕ) (events : List (Event T)) (start : Start T) (w : List (Event T)) (here : span_of p events ≡ Open start w) where
     module _ (what : Option (ℕ × T)) (es : List (Event T)) (own : AreOwn p es) (span : Span T)
         (is : fold own_after (Open start w) es ≡ span) (name : name_of span ≡ Some start)

@@ -70,6 +70,8 @@ module _ {T : Type 0} where
         → FilledBut worn mode p owner NoIndex events → FilledSinceEachBy worn mode p owner events
     filled_each worn mode events free h = grind arith
 
+    -- what was said of the locks at the end of a recovery is so after events that do nothing to
+    -- the set
     pub each_later : (worn worn' : Type 0) → (worn → worn') → (mode : ReleaseMode) (events es : List (Event T))
         → BeginsNone p es → set_acts_of p (events ++ es) ≡ set_acts_of p events → FilledSinceEachBy worn mode p owner events
         → FilledSinceEachBy worn' mode p owner (events ++ es)

@@ -56,6 +56,7 @@ module _ {T : Type 0} where
 
   -- ---- what a begin and a death make of them
 
+  -- a begin on a container that is none of a look of this party leaves its state
   held_stays : (code : Coding T) (capacity p q : ℕ) (start : ContainerStart T) (kept : Registry T) (w : World T)
       → is_look_of w q (Begin p (Container start)) ≡ false
       → state_in (keeps code capacity start p kept) q ≡ state_in kept q
@@ -72,6 +73,7 @@ module _ {T : Type 0} where
   loan_stays : (q : ℕ) (start : LoanStart) (kept : Registry T) → state_in (loan_keeps start kept) q ≡ state_in kept q
   loan_stays = grind arith
 
+  -- any begin that is none of a look of this party leaves its state
   begun_stays : (code : Coding T) (capacity p q : ℕ) (start : Start T) (kept : Registry T) (w : World T)
       → is_look_of w q (Begin p start) ≡ false
       → state_in (kept_after_begin code capacity start p kept) q ≡ state_in kept q
@@ -86,6 +88,8 @@ module _ {T : Type 0} where
 
 -- ---- a step of a party's call
 
+-- `c` is the capacity, `t` the run so far, `s` what is sound of it; `x` is the call of party
+-- `q`
 module _ {T : Type 0} (shown : Shown T) (terms : Terms) (code : Coding T) (c : ℕ) (t : Trace T)
     (s : frame.Sound (family_by terms code c) t) (q : ℕ) (x : Party T) (since : ℕ)
     (found : party_of q t.world.latest ≡ Some x) where
@@ -107,11 +111,13 @@ module _ {T : Type 0} (shown : Shown T) (terms : Terms) (code : Coding T) (c : �
 
 -- ---- any turn
 
+-- `t` is the run so far, and `s` what is sound of it
 module _ {T : Type 0} (shown : Shown T) (terms : Terms) (code : Coding T) (t : Trace T) (s : frame.Sound (family_by terms code t.world.capacity) t) where
   flies : (q : ℕ) (x : Party T) (flight : Flight T) (since : ℕ) → party_of q t.world.latest ≡ Some x
       → x.doing ≡ Going flight since → flight_in t.world q ≡ Some flight
   flies = grind arith
 
+  -- a step leaves a party's state if it is not a step of a look of its own
   next_moves : (q p : ℕ) → ((q == p) && is_looking (flight_in t.world q)) ≡ false → (o : Option (Party T))
       → party_of q t.world.latest ≡ o → state_in (after_next t.world q o).kept p ≡ state_in t.world.kept p
   next_moves q p none None found = refl
@@ -128,6 +134,7 @@ module _ {T : Type 0} (shown : Shown T) (terms : Terms) (code : Coding T) (t : T
           any_stays shown terms code t.world.capacity t s q x since found _ flight d p
           (apart_is p q flight (subst (λ o. ((q == p) && is_looking o) ≡ false) here none))
 
+  -- a decision leaves each party's state
   decision_moves : (q p : ℕ) (said : Bool) → is_due t.world.coding (flight_in t.world q) ≡ true
       → (o : Option (Party T)) → party_of q t.world.latest ≡ o
       → state_in (after_decision t.world q said o).kept p ≡ state_in t.world.kept p
@@ -173,6 +180,7 @@ module _ {T : Type 0} (shown : Shown T) (terms : Terms) (code : Coding T) (t : T
   abbrev end : LookEnd shown terms code t.world.capacity t s may p UpdateState (Truth false) ends.is_look ends.wrote (after_turn t turn)
   end = ended shown terms code t turn r s may p UpdateState (Truth false) ends
 
+  -- an update that answers false has taken one step
   one_step : steps_of (progress_in (after_turn t turn).world p) ≡ 1
   one_step =
       let l = end.turn in
@@ -185,6 +193,7 @@ module _ {T : Type 0} (shown : Shown T) (terms : Terms) (code : Coding T) (t : T
       let one : l.next.steps ≡ 1 = omega arith in
       ap (λ o. steps_of (progress_after (after_turn t turn).world.changes o)) latest ∙ one
 
+  -- an update that answers false leaves its party's state as it was
   state_left : state_in (after_turn t turn).world.kept p ≡ state_in t.world.kept p
   state_left = by (state_in (after_turn t turn).world.kept p) refl (looks_leave shown terms code t turn r s may p UpdateState (Truth false) ends)
     where
@@ -199,6 +208,7 @@ module _ {T : Type 0} (shown : Shown T) (terms : Terms) (code : Coding T) (t : T
 module _ {T : Type 0} (shown : Shown T) (terms : Terms) (code : Coding T) (t : Trace T) (turn : Turn T)
     (r : IsAllowed t.world turn) (s : frame.Sound (family_by terms code t.world.capacity) t)
     (may : MayGoOn terms t) where
+  -- each turn keeps the states of the parties as the promise says
   pub keeps_states : KeepsStates t turn (after_turn t turn)
   keeps_states =
       record {

@@ -36,6 +36,7 @@ module _ {T : Type 0} (q : ℕ) (events : List (Event T)) where
 
 -- ---- a step of a party's call
 
+-- `c` is the capacity, `t` the run so far, and `s` what is sound of it
 module _ {T : Type 0} (shown : AllShown T) (terms : Terms) (code : Coding T) (c : ℕ) (t : Trace T)
     (s : frame.Sound (family_by terms code c) t) (may : MayGoOn terms t) (q : ℕ) (x : Party T) (since : ℕ)
     (found : party_of q t.world.latest ≡ Some x) where
@@ -64,6 +65,7 @@ module _ {T : Type 0} (shown : AllShown T) (terms : Terms) (code : Coding T) (c 
 
 module _ {T : Type 0} (shown : AllShown T) (terms : Terms) (code : Coding T) (t : Trace T) (turn : Turn T)
     (s : frame.Sound (family_by terms code t.world.capacity) t) (may : MayGoOn terms t) where
+  -- what a step writes of visits is right
   next_visits : (q : ℕ) (o : Option (Party T)) → party_of q t.world.latest ≡ o → All q t.events (events_of_next t.world q o)
   next_visits q None found = tt
   next_visits q (Some x) found = go x.doing refl
@@ -72,6 +74,7 @@ module _ {T : Type 0} (shown : AllShown T) (terms : Terms) (code : Coding T) (t 
       go (Over others) d = tt
       go (Going flight since) d = any_visits shown terms code t.world.capacity t s may q x since found _ flight d
 
+  -- what a decision writes of visits is right
   decision_visits : (q : ℕ) (said : Bool) (o : Option (Party T)) → party_of q t.world.latest ≡ o → All q t.events (events_of_decision t.world q said o)
   decision_visits q said None found = tt
   decision_visits q said (Some x) found = go x.doing refl

@@ -41,6 +41,7 @@ IsLong room = length room.words ≡ 128
 
 -- ---- what they see of the machine
 
+-- the machine as a party sees it
 pub record View (T : Type 0) : Type 0 where
   pub terms : Terms
   pub words : List ℕ
@@ -85,11 +86,14 @@ module _ {T : Type 0} where
   abbrev pub WasOpen : View T → Type 0
   WasOpen v = HeldSometime v.party IsUnlocked v.events
 
+  -- the index had this owner at some time since the call began
   abbrev pub WasFilled : ℕ → ℕ → View T → Type 0
   WasFilled owner index v = HeldSometime v.party (IsFilledWith owner index) v.events
 
   -- ---- an add that was granted an index, and a replace that has found its owner
 
+  -- it has the right to the index, and its owner holds it, in a calm run while its owner is not
+  -- gone
   pub record AddOwns (c owner index : ℕ) (v : View T) : Type 0 where
     pub paid : IsPaid v
     pub within : index < c
@@ -104,6 +108,7 @@ module _ {T : Type 0} where
     pub span : span_of v.party v.events
         ≡ Open (Container (starts.Replace index value owner)) wrote
 
+  -- it has found its owner in the cell, and its right stands
   pub record ReplaceKnows (c index owner : ℕ) (value : T) (v : View T) : Type 0 where
     pub paid : IsPaid v
     pub within : index < c
@@ -136,6 +141,8 @@ module _ {T : Type 0} (code : Coding T) (c : ℕ) where
       WellFormed (now v) → Lives owner v
       → (left_of index v.events ≡ false) × (is_some (contents_of index v.events) ≡ true)
 
+  -- an add knows what the acquire of the set knows, and from its grant on that the index is its
+  -- own, and how far its value is stored
   abbrev pub AddKnows : T → ℕ → AddStage → View T → Type 0
   AddKnows value owner (adds.Acquires stage) v =
       set.Knows c (acquire_at c owner stage) (of_set v)
@@ -149,6 +156,8 @@ module _ {T : Type 0} (code : Coding T) (c : ℕ) where
   AddKnows value owner (adds.AddsChange index) v =
       AddOwns c owner index v × HasPlaced index value v × Stood owner index v
 
+  -- a replace knows that its right stands, and once it has found its owner how far its value is
+  -- stored
   abbrev pub ReplacesKnow : ℕ → T → ℕ → ReplaceStage → View T → Type 0
   ReplacesKnow index value owner replaces.Refuses v = IsPaid v
   ReplacesKnow index value owner replaces.LoadsCell v =
@@ -196,6 +205,8 @@ module _ {T : Type 0} (code : Coding T) (c : ℕ) where
   ReleaseHides index owner count stage v =
       HasHidden code c v.party owner (StillStands code c index count (now v)) (now v)
 
+  -- a remove knows what the release of the set knows, what it has left at the index, and what
+  -- its state will say
   abbrev pub RemoveKnows : ℕ → ℕ → ReleaseMode → RemoveStage → View T → Type 0
   RemoveKnows index owner mode removes.Refuses v = IsPaid v
   RemoveKnows index owner mode removes.LoadsCount v =
@@ -249,6 +260,7 @@ module _ {T : Type 0} (code : Coding T) (c : ℕ) where
   Steady index count v =
       WellFormed (now v) → StoodThere v.party index v.events → count_in code c (now v) index ≡ count
 
+  -- a find knows what it has counted and copied, and how far the copy at its index is
   abbrev pub FindKnows : ℕ → buffers.Buffer 128 → FindStage → View T → Type 0
   FindKnows owner room (finds.LoadsCell index found) v =
       Finds owner index index found v
@@ -281,6 +293,8 @@ module _ {T : Type 0} (code : Coding T) (c : ℕ) where
   abbrev pub Gone : ℕ → View T → Type 0
   Gone owner v = GoneBut owner (λ i. ⊥) v
 
+  -- it has come to the indices below k; its owner is gone; `Now` is the index that it frees
+  -- now, and `But` those where what it freed is not hidden yet
   pub record Recovers (owner k : ℕ) (Now But : ℕ → Type 0) (v : View T) : Type 0 where
     pub dead : IsGone owner v
     pub was_open : WasOpen v
@@ -288,6 +302,8 @@ module _ {T : Type 0} (code : Coding T) (c : ℕ) where
     pub gone : GoneBut owner Now v
     pub hidden : HasHidden code c v.party owner But (now v)
 
+  -- what the state says with which a recovery will end: that all is locked, or that the owner's
+  -- indices are recovered
   abbrev pub RecoverSays : ℕ → ReleaseMode → ReleaseState → View T → Type 0
   RecoverSays owner mode states.Locked v = is_locked v.events ≡ true
   RecoverSays owner mode states.Unlocked v =
@@ -295,6 +311,8 @@ module _ {T : Type 0} (code : Coding T) (c : ℕ) where
       × HasRecoveredBy v.terms.by v.party owner v.events
       × FilledSinceEachBy (Worn v) mode v.party owner v.events
 
+  -- a recovery knows what it has asked about, freed and hidden below its index, and what it
+  -- knows of the element there
   abbrev pub RecoverKnows : ℕ → ReleaseMode → buffers.Buffer 128 → RecoverStage → View T → Type 0
   RecoverKnows owner mode room recovers.LoadsCounter v =
       IsPaid v × IsGone owner v × Gone owner v
@@ -371,12 +389,15 @@ module _ {T : Type 0} (code : Coding T) (c : ℕ) where
     pub number : number_at looks.state index ≡ count
     pub copying : Copying index count looks.state.shown.copy k v
 
+  -- the state as the party's last look left it
   pub record LookRests (v : View T) : Type 0 where
     pub state : ContainerState T
     pub found : state_of v.party v.states ≡ Some state
     pub rests : Rests code c (now v) v.party state
     pub own : ShowsOwn v.party state c v.events
 
+  -- a look knows its party's state, how far it has gone over it, and how far the copy at its
+  -- index is
   abbrev pub LookKnows : LookStage → View T → Type 0
   LookKnows looks.TheVariants.LoadsChange v = IsPaid v × LookRests v
   LookKnows (looks.TheVariants.LoadsCount index) v = IsPaid v × Looks index c v
@@ -387,6 +408,7 @@ module _ {T : Type 0} (code : Coding T) (c : ℕ) where
 
   -- ---- any call
 
+  -- any call of the container knows what its kind knows at its stage
   abbrev pub Knows : ContainerFlight T → View T → Type 0
   Knows (Add run) v = AddKnows run.given.value run.given.owner run.call.stage v
   Knows (Remove run) v = RemoveKnows run.given.index run.given.owner run.given.mode run.call.stage v

@@ -25,6 +25,7 @@ module _ {T : Type 0} (p : ℕ) where
   effects_leave [] h = tt
   effects_leave (e ∷ es) h = (effect_leaves e h.0, effects_leave es h.1)
 
+-- `c` is the capacity, `t` the run so far, and `s` what is sound of it
 module _ {T : Type 0} (terms : Terms) (code : Coding T) (c : ℕ) (t : Trace T) (s : frame.Sound (family_by terms code c) t) where
   -- ---- what a step writes
 
@@ -33,6 +34,7 @@ module _ {T : Type 0} (terms : Terms) (code : Coding T) (c : ℕ) (t : Trace T) 
     writes kept start flight =
         events_of_step p start (step_of t.world.coding t.world.words (beside_of t.world.words kept t.world.latest p) p start flight answer kept)
 
+    -- what a step of a call that stands there writes is no death
     step_leaves : (start : Start T) (flight : Flight T) → (family_by terms code c).At s.state p start flight
         → AllByRecursion Leaves (writes (registries.Container s.state.dead s.state.states) start flight)
     step_leaves (Container start) (flights.Container flight) at =

@@ -68,6 +68,7 @@ module _ {T : Type 0} (code : Coding T) (c : ℕ) where
   place_within : (index : ℕ) → place_of c index ≤ c
   place_within = grind (arith, nat_tests)
 
+  -- a call that does not lock stands at its place when it begins
   first_stands : (start : ContainerStart T) → IsDefault (starts.Container start) → CallStands c (first c start)
   first_stands (container_starts.Add value owner) such = (refl, tt)
   first_stands (container_starts.Remove index owner LockIfLastIndex) such = absurd such
@@ -98,6 +99,7 @@ module _ {T : Type 0} (code : Coding T) (c : ℕ) where
   abbrev has_state : ℕ → List (ℕ × ContainerState T) → Type 0
   has_state p states = is_some (state_of p states) ≡ true
 
+  -- a party that has a state has one after any party's state is put there
   put_has : (p q : ℕ) (state : ContainerState T) (states : List (ℕ × ContainerState T)) → has_state q states → has_state q (with_state p state states)
   put_has p q state states has = ⊎_elim here there (cases_eq q p)
     where
@@ -107,6 +109,7 @@ module _ {T : Type 0} (code : Coding T) (c : ℕ) where
       there : q ≢ p → has_state q (with_state p state states)
       there ne = ap is_some (found_put_other q p state states ne) ∙ has
 
+  -- a party that has a state has one after that of a party that has one is changed
   set_has : (p q : ℕ) (state was : ContainerState T) (states : List (ℕ × ContainerState T)) → state_of p states ≡ Some was → has_state q states
       → has_state q (set_state p state states)
   set_has p q state was states found has = ⊎_elim here there (cases_eq q p)
@@ -127,6 +130,7 @@ module _ {T : Type 0} (code : Coding T) (c : ℕ) where
   steps_has p q (calls.Look which call) old states has = looks_has p q call old states (state_of p states) refl has
   steps_has p q flight old states has = has
 
+  -- a party that has a state has one after any call has begun
   begins_has : (p q : ℕ) (start : ContainerStart T) (states : List (ℕ × ContainerState T)) → has_state q states
       → has_state q (states_at_begin code c start p states)
   begins_has p q container_starts.GetState states has = put_has p q (fresh code c) states has
@@ -166,6 +170,7 @@ module _ {T : Type 0} (code : Coding T) (c : ℕ) where
 
   -- ---- each step of a call falls
 
+  -- each step of a call that does not lock falls
   pub call_falls : (words : List ℕ) (p : ℕ) (dead : List ℕ) (states : List (ℕ × ContainerState T)) (flight : ContainerFlight T) → CallStands c flight
       → Known p (in_states dead states) (flights.Container flight) → ShownBy code c words (state_of p states) flight
   call_falls words p dead states (calls.Add run) at known =
@@ -195,6 +200,7 @@ module _ {T : Type 0} (code : Coding T) (c : ℕ) where
       subst (λ n. ShownBy code c words (state_of p states) (count_at which n run.call.count)) (sym at) (count_falls code c words which run.call.count)
   call_falls words p dead states (calls.IsLocked run) at known = tt
 
+  -- each step of a call that stands at its place on a container's registry falls
   falls : (words : List ℕ) (p : ℕ) (kept : Registry T) (start : Start T) (flight : Flight T) → At code c start flight → Kept kept → Known p kept flight
       → StepFallsBy (measure code.size c) code words p kept flight
   falls words p (registries.Container dead states) (starts.Container start) (flights.Container flight) at held known =
@@ -209,6 +215,7 @@ module _ {T : Type 0} (code : Coding T) (c : ℕ) where
       (said : Bool) → is_question (want code flight) ≡ true
       → FallsIn (M code c words) words words 0 (flights.Container flight) (any_call code c words (after code state flight (number_of said)))
 
+  -- a find that is told a decision falls
   find_decides : (words : List ℕ) (owner : ℕ) (room : buffers.Buffer 128) (stage : FindStage) → Decided words None (find_at c owner room stage)
   find_decides words owner room (finds.LoadsCell index found) said due = absurd (cc)
   find_decides words owner room (finds.LoadsCount index found) said due = absurd (cc)
@@ -218,6 +225,7 @@ module _ {T : Type 0} (code : Coding T) (c : ℕ) where
       find_comes code c words words 0 index found owner room room (finds.Asks index found) refl (omega arith)
   find_decides words owner room (finds.Asks index found) false due = tt
 
+  -- a recovery that does not lock and is told a decision falls
   recover_decides : (words : List ℕ) (owner : ℕ) (room : buffers.Buffer 128) (stage : RecoverStage)
       → Decided words None (recover_at c owner Default room stage)
   recover_decides words owner room (recovers.Asks index count) true due = inl (refl, omega arith, omega arith)
@@ -250,6 +258,7 @@ module _ {T : Type 0} (code : Coding T) (c : ℕ) where
   pub never_asks : (flight : ContainerFlight T) → is_question (want code flight) ≡ true → may_ask flight ≡ true
   never_asks = grind arith
 
+  -- any call that does not lock and is told a decision falls
   pub call_decides : (words : List ℕ) (state : Option (ContainerState T)) (flight : ContainerFlight T) → CallStands c flight → Decided words state flight
   call_decides words state (calls.Find run) at said due =
       subst (λ n. Decided words state (find_at n run.given run.room run.call.stage)) (sym at)
@@ -267,6 +276,7 @@ module _ {T : Type 0} (code : Coding T) (c : ℕ) where
 
   -- ---- what it owes
 
+  -- a decision that a call that stands at its place is told falls
   decides : (words : List ℕ) (p : ℕ) (kept : Registry T) (start : Start T) (flight : Flight T) (said : Bool) → At code c start flight → Kept kept
       → is_question (want_of code flight) ≡ true
       → FallsIn (measure code.size c) words words 0 flight (goes_of code p flight (number_of said) kept)
@@ -279,6 +289,8 @@ module _ {T : Type 0} (code : Coding T) (c : ℕ) where
       → At code c start flight → Kept kept → (step_of code words beside p start flight old kept).after ≡ goes_of code p flight old kept
   told = grind arith
 
+  -- after a step of such a call the registry is a container's, and each party that had a state
+  -- has one
   stays : (words : List ℕ) (beside : Option (ℕ × ℕ)) (p : ℕ) (start : Start T) (flight : Flight T) (old : ℕ) (kept : Registry T)
       → At code c start flight → Kept kept
       → Kept (step_of code words beside p start flight old kept).kept × Lasts outline kept (step_of code words beside p start flight old kept).kept
@@ -292,6 +304,7 @@ module _ {T : Type 0} (code : Coding T) (c : ℕ) where
   own_after start (GoOn flight) h = h
   own_after start (Done answer) h = tt
 
+  -- a call that goes on stands at its place, and its party has a state if it looks
   goes : (p : ℕ) (start : Start T) (flight : Flight T) (old : ℕ) (kept : Registry T) → At code c start flight → Kept kept → Known p kept flight
       → OwnAfter outline code c start (goes_of code p flight old kept) × KnownAfter outline p kept (goes_of code p flight old kept)
   goes p (starts.Container start) (flights.Container flight) old (registries.Container dead states) at held known = (
@@ -311,6 +324,8 @@ module _ {T : Type 0} (code : Coding T) (c : ℕ) where
   is_first (starts.Container start) kept flight e = (start, refl, grind arith)
   is_first start kept flight e = absurd (grind arith)
 
+  -- the party of a call that has just begun has a state if the call looks, and no party loses
+  -- its own
   pub knows : (start : Start T) (kept : Registry T) (flight : Flight T) (p : ℕ) → Kept kept
       → first_of kinds.Container c start kept ≡ Some flight
       → Known p (kept_after_begin code c start p kept) flight × Lasts outline kept (kept_after_begin code c start p kept)
@@ -331,6 +346,8 @@ module _ {T : Type 0} (code : Coding T) (c : ℕ) where
   dies (registries.Container dead states) owner held = (tt, lasts_by dead (dead_with owner dead) states states (λ q has. has))
   dies kept owner held = absurd held
 
+  -- all that is owed for this measure holds of the calls that do not lock, for each coding and
+  -- admitted capacity
   laws : IsCoding code → capacity_error kinds.Container c ≡ None → OwnLaws outline code c
   laws coded admitted =
       record {

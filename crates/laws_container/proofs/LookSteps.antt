@@ -21,6 +21,7 @@ module _ {T : Type 0} where
       let wide = length-set es i e in
       slice_get-get_or (set es i e) i e (omega arith) ∙ ap Some (get_or-set_same es i e e low)
 
+  -- an element that is put at one index leaves those at the others
   pub put_there : (es : List (Element T)) (i a : ℕ) (e : Element T) → a ≢ i → slice_get (set es i e) a ≡ slice_get es a
   put_there es i a e ne = ⊎_elim within past (cases_lt a (length es))
     where
@@ -41,12 +42,14 @@ module _ {T : Type 0} where
     pub change : s'.shown.change ≡ s.shown.change
     pub copy : s'.shown.copy ≡ s.shown.copy
 
+  -- the element at index `i` of the state `s`
   module _ (s : ContainerState T) (i : ℕ) (low : i < length s.shown.elements) where
     -- the element that stands there
     pub record Stood : Type 0 where
       pub element : Element T
       pub found : slice_get s.shown.elements i ≡ Some element
 
+    -- an index below the number of elements has an element
     pub stood_there : Stood
     stood_there = go (slice_get s.shown.elements i) refl
       where
@@ -68,6 +71,7 @@ module _ {T : Type 0} where
       elements_then : counting.shown.elements ≡ set s.shown.elements i (record { count = n; value = stood_there.element.value })
       elements_then = ap (λ o. counted o s.shown.elements i n) stood_there.found
 
+      -- a state with another number at an index shows the same elements elsewhere
       pub count_put : IsPut s counting i
       count_put =
           record {
@@ -97,6 +101,7 @@ module _ {T : Type 0} where
       abbrev pub showing : ContainerState T
       showing = record s { shown = with_value value_of size s.shown i n }
 
+      -- a state with another value at an index shows the same elements elsewhere
       pub value_put : IsPut s showing i
       value_put =
           record {
@@ -113,6 +118,7 @@ module _ {T : Type 0} where
       pub value_here : is_even n ≡ false → shows showing i ≡ Some (value_in value_of size s.shown.copy)
       value_here = grind (arith, put_here, value_in)
 
+-- party `p` looks at the machine `m`, of capacity `c`
 module _ {T : Type 0} (code : Coding T) (c : ℕ) (m : Now T) (p : ℕ) where
   -- ---- the look begins to go over the indices
 
@@ -122,6 +128,8 @@ module _ {T : Type 0} (code : Coding T) (c : ℕ) (m : Now T) (p : ℕ) where
 
   -- ---- at an index
 
+  -- the look has come to index `k`, its state `s` becomes `s'`, and `x` is the index that it
+  -- was copying, if any
   module _ (s s' : ContainerState T) (k x : ℕ) (below : k < c) (h : Course code c m p s k x) (put : IsPut s s' k)
       (number : number_at s' k ≡ count_in code c m k) where
     number_there : (i : ℕ) → i ≢ k → number_at s' i ≡ number_at s i
@@ -144,6 +152,7 @@ module _ {T : Type 0} (code : Coding T) (c : ℕ) (m : Now T) (p : ℕ) where
 
     -- it is to be copied: what is shown of it is not yet its value
     module _ (apart : (i : ℕ) → i < c → i ≢ k → i ≢ x) where
+      -- only indices of the container are shown
       within : (i : ℕ) (value : T) → shows s i ≡ Some value → i < c
       within i value is = ⊎_elim (λ low. low) (λ high. past high) (cases_lt i c)
         where
@@ -153,6 +162,7 @@ module _ {T : Type 0} (code : Coding T) (c : ℕ) (m : Now T) (p : ℕ) where
               let none : shows s i ≡ None = ap value_if (slice_get_past s.shown.elements i (omega arith)) in
               some_none (shows s i) value none is
 
+      -- a look that begins to copy the element at an index has gone over those below it
       pub course_copying : Course code c m p s' k k
       course_copying =
           record {
@@ -196,6 +206,7 @@ module _ {T : Type 0} (code : Coding T) (c : ℕ) (m : Now T) (p : ℕ) where
       before_or : (i : ℕ) → i < k + 1 → i ≢ k → i < k
       before_or i less ne = omega arith
 
+      -- a look that is done with an index has gone over one index more
       pub course_passed : Course code c m p s' (k + 1) c
       course_passed =
           record {
@@ -255,6 +266,7 @@ module _ {T : Type 0} (code : Coding T) (c : ℕ) (m : Now T) (p : ℕ) where
   over_length [] (x ∷ xs) e = absurd (omega arith)
   over_length (n ∷ ns) (x ∷ xs) e = let more : length (numbers_over ns xs) ≡ length xs = over_length ns xs (omega arith) in omega arith
 
+  -- the numbers taken over from the elements are, at each index, the element's own
   over_at : (counts : List ℕ) (es : List (Element T)) (i : ℕ) → length counts ≡ length es → i < length es
       → slice_index_or (numbers_over counts es) i 0 ≡ number_in (slice_get es i)
   over_at counts [] i e low = absurd (omega arith)

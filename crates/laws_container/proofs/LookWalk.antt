@@ -83,11 +83,14 @@ module _ {T : Type 0} (scene : Scene T) (inv : Inv scene) where
   IsRight (Some copy) =
       AreBelow copy.0 (seen_in (done scene)) × (WellFormed m → contents_of copy.0 events ≡ Some copy.1)
 
+  -- a look at a stage
   abbrev pub call_at : LookStage → Look T
   call_at stage = record { capacity = c; stage = stage; of = record {} }
 
   -- ---- what the caller shows
 
+  -- what each way on of a look leads to: to another stage, to its end behind the last index, or
+  -- to its end where nothing has changed
   pub record Walker (s : ContainerState T) (ask : Option Ask) (Lead : Bool → List (Event T) → ContainerState T → After (Look T) Bool → Type 0) : Type 0 where
     pub goes : (next : LookStage) (back : Bool) (what : Option (ℕ × T)) (s' : ContainerState T) → IsRight what → words_after ws ask ≡ ws
         → LookAt c code.size (all scene ++ set_acts (copies_of p what)) (done scene ++ acts (copies_of p what)) next
@@ -128,6 +131,7 @@ module _ {T : Type 0} (scene : Scene T) (inv : Inv scene) where
         none_more : (what : Option (ℕ × T)) → all scene ++ set_acts (copies_of p what) ≡ []
         none_more = grind arith
 
+        -- a look that is done with an index comes to the next one, or ends behind the last
         comes_to : (what : Option (ℕ × T)) (s' : ContainerState T) → IsRight what
             → AreBelow (index + 1) (seen_in (done scene ++ acts (copies_of p what)))
             → steps + step_count ask ≤ 1 + (index + 1) * (code.size + 2) + backs_then scene back * (code.size + 1)
@@ -152,6 +156,7 @@ module _ {T : Type 0} (scene : Scene T) (inv : Inv scene) where
 
         -- ---- a number is found that is not the one seen
 
+        -- `x` is the index that the look was copying, if any
         module _ (x : ℕ) (apart : (i : ℕ) → i ≢ index → i ≢ c → i ≢ x) (course : Course code c m p s index x)
             (seen : AreBelow index (seen_in (done scene)))
             (few : steps + step_count ask ≤ 2 + index * (code.size + 2) + backs_then scene back * (code.size + 1)) where
@@ -170,6 +175,7 @@ module _ {T : Type 0} (scene : Scene T) (inv : Inv scene) where
           number_is : (m' : Now T) (what : Option (ℕ × T)) → Comes m' what → number_at s' index ≡ count_in code c m' index
           number_is m' what comes = counted_number s index low n ∙ sym (count_same m' what comes)
 
+          -- under an even number the look is past the index, and the state shows nothing there
           passed_even : is_even n ≡ true → (m' : Now T) → Comes m' None → Course code c m' p s' (index + 1) c
           passed_even even m' comes =
               course_passed code c m' p s s' index x below (comes.later s index x course) (count_put s index low n) (number_is m' None comes) apart
@@ -180,6 +186,8 @@ module _ {T : Type 0} (scene : Scene T) (inv : Inv scene) where
               (inv.elements.whole (comes.well_formed well_formed) index below) (even_is n even)))
               (λ getting value is. some_none (shows s' index) value (counted_none s index low n even) is)
 
+          -- a look that finds at an index a number that it has not seen goes on to copy the
+          -- element, or comes past it
           finds : Lead back [] s' (look_finds (call_at stage) index n)
           finds =
               on_bool (λ b. Lead back [] s' (if b then look_comes_to (call_at stage) (index + 1) else GoOn (call_at (stages.LoadsWord index n 0)))) (is_even n)
@@ -215,6 +223,8 @@ module _ {T : Type 0} (scene : Scene T) (inv : Inv scene) where
 
           -- the number that was seen: the index is as it was
           module _ (was : n ≡ number_at s index) (other : index ≢ x) where
+            -- where the number is the one that was seen, the look is past the index, and the
+            -- state shows there what it did
             passed_same : (m' : Now T) → Comes m' None → Course code c m' p s' (index + 1) c
             passed_same m' comes =
                 let h = comes.later s index x course in
@@ -228,6 +238,8 @@ module _ {T : Type 0} (scene : Scene T) (inv : Inv scene) where
 
       -- ---- the number of changes is loaded
 
+      -- the step in which a look loads the number of changes: it ends if that is the one seen,
+      -- and else it goes to the first index
       pub walks_change : Walker s (Some (loads (change_word c))) Lead → steps ≤ 0 → IsPaid (sees_now scene)
           → done scene ≡ [] → Rests code c m p s → ShowsOwn p s c events → WalkAt stages.LoadsChange
       walks_change walker few paid nothing rests own =
@@ -263,6 +275,8 @@ module _ {T : Type 0} (scene : Scene T) (inv : Inv scene) where
 
       -- ---- the number of an element is loaded
 
+      -- the step in which a look loads the number of an element: it passes the index, or goes
+      -- on to copy what stands there
       pub walks_count : (index : ℕ) → index < c → Walker s (Some (loads (count_word c index))) Lead
           → steps ≤ 1 + index * (code.size + 2) + backs * (code.size + 1) → IsPaid (sees_now scene)
           → AreBelow index (seen_in (done scene)) → Course code c m p s index c
@@ -295,6 +309,7 @@ module _ {T : Type 0} (scene : Scene T) (inv : Inv scene) where
         abbrev with_it : ContainerState T
         with_it = record s { shown = with_word s.shown at (datum_in code c m index at) }
 
+        -- after a load of a word the check that is to come is paid for as before
         paid_then : (words' : List ℕ) (states' : List (ℕ × ContainerState T)) (latest' : List (ℕ × Party T)) (es' : List (Event T))
             → Comes (record { terms = scene.terms; words = words'; latest = latest'; events = es' }) None
             → CheckPaid code c index count
@@ -302,6 +317,7 @@ module _ {T : Type 0} (scene : Scene T) (inv : Inv scene) where
             (backs_then scene false))
         paid_then = grind (arith, inl, count_at, inr)
 
+        -- the step in which a look loads a word: it goes to the next word, or to the check
         pub walks_word : Walker s (Some (loads (element_word c code.size index at))) Lead → WalkAt (stages.LoadsWord index count at)
         walks_word walker =
             by_test (Lead false [] with_it) (nat_lt (at + 1) code.size)
@@ -386,6 +402,8 @@ module _ {T : Type 0} (scene : Scene T) (inv : Inv scene) where
           same_count : words_after ws check_ask ≡ ws
           same_count = grind (arith, exchange_sets, set, set-get_or)
 
+          -- where the number is the one under which it was copied, the look is past the index,
+          -- and the state shows the copy
           passed_copied : (m' : Now T) → Comes m' (Some (index, value)) → Course code c m' p shown_now (index + 1) c
           passed_copied m' comes =
               course_passed code c m' p s shown_now index index below (comes.later s index index course)
@@ -402,6 +420,8 @@ module _ {T : Type 0} (scene : Scene T) (inv : Inv scene) where
               let eq : value ≡ shown = cc in
               subst (λ v. HasCopied p index v m'.events) eq (comes.on.now index value refl))
 
+        -- the step in which a look exchanges the number for itself: it shows the copy if the
+        -- number is that one, and else it looks there again
         pub walks_check : Walker s (Some (exchanges (count_word c index) count count)) Lead → WalkAt (stages.ChecksCount index count)
         walks_check walker =
             on_bool (λ b. Lead (not b) (if b then Copied p index (copy_in code s) ∷ [] else []) (record s {

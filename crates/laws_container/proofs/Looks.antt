@@ -50,6 +50,7 @@ module _ {X : Type 0} where
   written_same p x y [] found = absurd (cc)
   written_same p x y (e ∷ es) found = same_by p x y e es (is_eq (nat_cmp p e.0)) refl found (written_same p x y es)
 
+  -- a party's state is found as before after another's is written
   pub written_other : (q p : ℕ) (x : X) (es : List (ℕ × X)) → q ≢ p → found_at q (set_value (is_at (nat_cmp p)) es x) ≡ found_at q es
   written_other q p x [] ne = refl
   written_other q p x (e ∷ es) ne =
@@ -143,6 +144,7 @@ module _ {T : Type 0} (scene : Scene T) (inv : Inv scene) (which : LookOf) (stag
     copied_now : (o : Option (ℕ × T)) (i : ℕ) (value : T) → o ≡ Some (i, value) → WasCopied p i value (events ++ (copies_of p o ++ rest))
     copied_now o i value e = grind arith
 
+    -- the machine after such a step of a look has come there from the machine before it
     pub comes : Comes scene inv (after scene words' y es) what
     comes =
         record {
@@ -181,6 +183,8 @@ module _ {T : Type 0} (scene : Scene T) (inv : Inv scene) (which : LookOf) (stag
       Leads scene (looks_as which) ask back (set_state p (settled_if a st) scene.states) (did ++ []) (look_came which st a)
 
   module _ (ask : Option Ask) where
+    -- a look goes on to its next stage, with the state that it has made, where that stage's
+    -- conditions hold
     goes_with : (next : LookStage) (back : Bool) (what : Option (ℕ × T)) (st : ContainerState T) → IsRight scene inv what → words_after ws ask ≡ ws
         → LookAt c code.size (all scene ++ set_acts (copies_of p what)) (done scene ++ acts (copies_of p what)) next
         → steps + step_count ask ≤ look_number code.size next (backs_then scene back)
@@ -219,6 +223,7 @@ module _ {T : Type 0} (scene : Scene T) (inv : Inv scene) (which : LookOf) (stag
         (comes words' same y (Some copy) [] (tt, tt) (refl, tt) tt contents (on_now (Some copy) None))
         (written_same p st s scene.states found))
 
+    -- a look that has gone over all indices ends with true
     ends_with : (back : Bool) (what : Option (ℕ × T)) (st : ContainerState T) → IsRight scene inv what → words_after ws ask ≡ ws → all scene ≡ []
         → steps + step_count ask ≤ 1 + c * (code.size + 2) + backs_then scene back * (code.size + 1)
         → backs_then scene back + since_then scene ask ≤ changes_then scene ask
@@ -270,6 +275,7 @@ module _ {T : Type 0} (scene : Scene T) (inv : Inv scene) (which : LookOf) (stag
         set_acts_one : (copy : ℕ × T) → all scene ≡ [] → set_acts (wrote_of p events ++ Copied p copy.0 copy.1 ∷ []) ≡ []
         set_acts_one = grind (arith, flat_map-append)
 
+    -- a look that finds the number of changes as it was ends with false
     stays_with : words_after ws ask ≡ ws → all scene ≡ [] → steps + step_count ask ≤ 1
         → backs_then scene false + since_then scene ask ≤ changes_then scene ask → Rests code c m p s
         → ShowsOwn p s c events → s.shown.change ≡ change_in code c m → Lead ask false [] s (Done false)
@@ -322,6 +328,7 @@ module _ {T : Type 0} (scene : Scene T) (inv : Inv scene) where
   state_known (stages.LoadsWord index count word) k = let h = k.1 in record { state = h.looks.state; found = h.looks.found }
   state_known (stages.ChecksCount index count) k = let h = k.1 in record { state = h.looks.state; found = h.looks.found }
 
+  -- any step of a look leads to what its caller shows of each way on
   pub walks : (stage : LookStage) → LookAt c code.size (all scene) (done scene) stage
       → (k : LookKnows code c stage (sees_now scene)) → steps ≤ look_number code.size stage backs
       → (Leads_to : Option Ask → Bool → List (Event T) → ContainerState T → After (Look T) Bool → Type 0)
@@ -338,6 +345,8 @@ module _ {T : Type 0} (scene : Scene T) (inv : Inv scene) where
       let h = k.1 in
       walks_check scene inv h.looks.state _ at.0 index count at.1.0 at.1.2 few k.0 at.1.1 h.looks.course h.copying (walks_to _)
 
+  -- any step of a look that stands at a stage, and knows what the stage tells, shows what it
+  -- has to
   pub look_step : (which : LookOf) (stage : LookStage) → IsHere scene (looks_as which) (look_at which c stage)
       → LookAt c code.size (all scene) (done scene) stage → Knows code c (look_at which c stage) (sees_now scene)
       → steps ≤ look_number code.size stage backs

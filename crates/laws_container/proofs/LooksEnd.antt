@@ -90,6 +90,8 @@ module _ {T : Type 0} (scene : Scene T) (inv : Inv scene) (which : LookOf) (stag
   EndsSo ask back did st (Done true) = HasPassed ask did st
   EndsSo ask back did st (Done false) = IsSame did st
 
+  -- a look that ends has gone over all indices if it says true, and nothing had changed if it
+  -- says false
   ends_so : EndsSo ask_now (look_goes_back stage old) (look_effects p (copy_in code h.state) stage old)
       (look_shows code (call_at scene inv stage) h.state old)
       (look_after code.size (call_at scene inv stage) h.state.seen old)
@@ -117,6 +119,7 @@ module _ {T : Type 0} (scene : Scene T) (inv : Inv scene) (which : LookOf) (stag
         all_moments : ShowsMoments p c (settled st) m'.events
         all_moments = λ i low. course.once holds i low low
 
+      -- the machine after the look's last step is one after its copy, with the end written
       comes_end : (what : Option (ℕ × T))
           → Comes scene inv (after scene (words_after ws ask_now) y (copies_of p what ++ Finished p (Container start) answer ∷ [])) what
       comes_end None =
@@ -136,6 +139,8 @@ module _ {T : Type 0} (scene : Scene T) (inv : Inv scene) (which : LookOf) (stag
           IsWellFormedSoFar scene.terms (put p y latest) (events ++ es)
           → IsCurrent p c (settled st) (events ++ es) × ShowsMoments p c (settled st) (events ++ es)
 
+      -- the settled state of a look that has gone over all indices is current, and shows what
+      -- stood, in a well-formed run
       passed_current : Current (did ++ Finished p (Container start) answer ∷ [])
       passed_current =
           subst (λ d. Current (d ++ Finished p (Container start) answer ∷ [])) (sym passed.is)
@@ -147,6 +152,7 @@ module _ {T : Type 0} (scene : Scene T) (inv : Inv scene) (which : LookOf) (stag
       abbrev Own : List (Event T) → Type 0
       Own es = ShowsCopied p (settled st) events (events ++ es)
 
+      -- all that the settled state shows the party has copied, now or before
       passed_own : Own (did ++ Finished p (Container start) answer ∷ [])
       passed_own =
           subst (λ d. Own (d ++ Finished p (Container start) answer ∷ [])) (sym passed.is)
@@ -172,6 +178,7 @@ module _ {T : Type 0} (scene : Scene T) (inv : Inv scene) (which : LookOf) (stag
         still : (i : ℕ) → contents_of i (events ++ es) ≡ contents_of i events
         still i = fold-append (contents_after i) None events es
 
+        -- where nobody else was in a call when nothing had changed, no party owes now
         nobody : {A : Type 0} → WasAlone p events → Owing latest → A
         nobody {A = A} was o = ⊎_elim mine theirs (cases_eq o.party p)
           where
@@ -181,6 +188,7 @@ module _ {T : Type 0} (scene : Scene T) (inv : Inv scene) (which : LookOf) (stag
             theirs : o.party ≢ p → A
             theirs ne = absurd (alone_now o.party o.is (others_shut p o.party events ne was))
 
+        -- a state by which nothing had changed is current
         same_current : IsCurrent p c st (events ++ es)
         same_current =
             record {
@@ -196,6 +204,7 @@ module _ {T : Type 0} (scene : Scene T) (inv : Inv scene) (which : LookOf) (stag
                   (λ o. nobody less o) (same.rests.sight.owed holds.kept same.change i low low);
             }
 
+      -- where nothing had changed, the state is current after the end, in a well-formed run
       unchanged_current : IsWellFormedSoFar scene.terms (put p y latest) (events ++ (did ++ Finished p (Container start) answer ∷ []))
           → IsCurrent p c st (events ++ (did ++ Finished p (Container start) answer ∷ []))
       unchanged_current = grind (arith, same_current)
@@ -215,6 +224,7 @@ module _ {T : Type 0} (scene : Scene T) (inv : Inv scene) (which : LookOf) (stag
     is_left : (wrote : ContainerState T) → state_of p (set_state p wrote scene.states) ≡ Some left → wrote ≡ left
     is_left = grind (arith, written_same)
 
+    -- a look that ends in some way tells right of the state that it leaves
     by_after : (r : After (Look T) Bool) → EndsSo ask_now (look_goes_back stage old) did st r
         → answer_in (any_call (look_came which st r)) ≡ Some answer
         → state_of p (set_state p (settled_if r st) scene.states) ≡ Some left → Tells answer did left (Some h.state)
@@ -243,6 +253,7 @@ module _ {T : Type 0} (scene : Scene T) (inv : Inv scene) (which : LookOf) (stag
           );
         }))
       where
+        -- the run was well-formed a turn ago if it is after the end
         was : (y : Party T)
             → IsWellFormedSoFar scene.terms (put p y latest) (events ++ (did ++ Finished p (Container start) (looked which st false) ∷ []))
             → WellFormed m
@@ -260,6 +271,7 @@ module _ {T : Type 0} (scene : Scene T) (inv : Inv scene) (which : LookOf) (stag
       → state_of p (writes_state code p (call_at scene inv stage) old o scene.states) ≡ Some left
       → Tells answer (look_effects_of code p stage old o ++ []) left o
 
+  -- a look's answer and the state that it leaves are as the promise says them
   pub look_tells : (answer : Answer T) (left : ContainerState T)
       → answer_in (any_call (goes_after code (state_of p scene.states) (look_at which c stage) old)) ≡ Some answer
       → state_of p (states_after code p (look_at which c stage) old scene.states) ≡ Some left

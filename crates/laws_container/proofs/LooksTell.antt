@@ -36,11 +36,14 @@ use Rattle.laws_container.proofs.Allowed.{IsAllowed}
 -- ---- a turn that ends a call writes its end last
 
 module _ {T : Type 0} where
+  -- the step is of this party and this name, and ends the call so
   pub record IsLast (q p : ℕ) (a b : Start T) (outcome : Option (Answer T)) (answer : Answer T) : Type 0 where
     pub party : q ≡ p
     pub name : a ≡ b
     pub done : outcome ≡ Some answer
 
+  -- where events that are no ends, and then the end of a call if it has one, stop with this
+  -- end, the call is this one and it ended so
   pub ends_last : (turn : Turn T) (q p : ℕ) (es : List (Event T)) (a b : Start T) (outcome : Option (Answer T))
       (answer : Answer T) (wrote : List (Event T))
       → AllByRecursion (IsEffectOf turn) es
@@ -67,17 +70,20 @@ module _ {T : Type 0} where
   no_end e p b answer [] other is = let same : e ≡ Finished p b answer = cc in other same
   no_end e p b answer (w ∷ ws) other is = let none : [] ≡ ws ++ Finished p b answer ∷ [] = cc in no_more ws (Finished p b answer) [] none
 
+  -- names that read the same are the same
   pub container_is : (a b : ContainerStart T) → ◌≡◌ {A = Start T} (Container a) (Container b) → a ≡ b
   container_is a b e = cc
 
   -- ---- the call that stands there is a look
 
+  -- the call is a look at a stage
   record IsLookFlight (c z : ℕ) (made : List SetAct) (did : List (Act T)) (a : ContainerStart T) (flight : ContainerFlight T) : Type 0 where
     pub which : LookOf
     pub stage : LookStage
     pub name : a ≡ looks_as which
     pub is : flight ≡ look_at which c stage
 
+  -- a call of the container under a look's name is a look at a stage
   look_flight : (c z : ℕ) (made : List SetAct) (did : List (Act T)) (a : ContainerStart T) (flight : ContainerFlight T)
       → IsLook a → At c z made did a flight → IsLookFlight c z made did a flight
   look_flight c z made did starts.GetState (calls.Look which call) look at =
@@ -107,6 +113,8 @@ look_counts size c stage = grind arith
 
 -- ---- a step in which a look ends
 
+-- `c` is the capacity, `t` the run so far, `s` what is sound of it; the look of party `p` ends
+-- with this answer
 module _ {T : Type 0} (shown : Shown T) (terms : Terms) (code : Coding T) (c : ℕ) (t : Trace T)
     (s : frame.Sound (family_by terms code c) t) (may : MayGoOn terms t) (p : ℕ) (start : ContainerStart T)
     (answer : Answer T) (look : IsLook start) (wrote : List (Event T)) where
@@ -135,6 +143,7 @@ module _ {T : Type 0} (shown : Shown T) (terms : Terms) (code : Coding T) (c : �
         ++ Finished q (Container (looks_as which)) answer ∷ []
     pub done : answer_in (any_call (goes_after code (state_of q s.state.states) (look_at which c stage) (old stage))) ≡ Some answer
 
+  -- `x` is the call of party `q`
   module _ (q : ℕ) (x : Party T) (since : ℕ) (found : party_of q t.world.latest ≡ Some x) (turn : Turn T) (mine : IsParty turn q) where
     abbrev stepping : ℕ → Coding T → Registry T → Start T → Flight T → Step (Flight T) (Registry T) T
     stepping n y kept a flight = step_of y t.world.words (beside_of t.world.words kept t.world.latest q) q a flight n kept
@@ -145,6 +154,8 @@ module _ {T : Type 0} (shown : Shown T) (terms : Terms) (code : Coding T) (c : �
         → Ended (events_of_step q a (stepping n y kept a flight))
         → LookTurn q (stepping n y kept a flight).kept (put q next t.world.latest) (events_of_step q a (stepping n y kept a flight))
 
+    -- a step of this call, from where it stands by the events, is the end of the look if it
+    -- wrote that end last
     abbrev Case : ContainerStart T → ContainerFlight T → Type 0
     Case a flight =
         (n : ℕ) → StandsThere (family_by terms code c) t s q x since (Container a) (flights.Container flight)
@@ -163,6 +174,8 @@ module _ {T : Type 0} (shown : Shown T) (terms : Terms) (code : Coding T) (c : �
         (answer_in (any_call (goes_after code (state_of q s.state.states) flight n))) answer wrote
         (all_effects turn q mine code (state_of q s.state.states) flight n) e
 
+    -- a step of a look that wrote this end last is the step in which the look ends, with what
+    -- it leaves and writes
     look_case : (which : LookOf) (stage : LookStage) → Case (looks_as which) (look_at which c stage)
     look_case which stage n stands is =
         subst (λ k. StepFrom k code (kept_now shown terms code c t s) (Container (looks_as which))
@@ -211,6 +224,7 @@ module _ {T : Type 0} (shown : Shown T) (terms : Terms) (code : Coding T) (c : �
 
   -- ---- any turn
 
+  -- a step that wrote this end last is one of a look that ends so
   next_look : (q : ℕ) → (o : Option (Party T)) → party_of q t.world.latest ≡ o → Ended (events_of_next t.world q o)
       → LookTurn q (after_next t.world q o).kept (after_next t.world q o).latest (events_of_next t.world q o)
   next_look q None found e = absurd (no_more wrote (Finished p (Container start) answer) [] e)
@@ -225,6 +239,7 @@ module _ {T : Type 0} (shown : Shown T) (terms : Terms) (code : Coding T) (c : �
           any_look q x since found (Next q) refl (old_of t.world.words (ask_of (want_of t.world.coding flight))) flight
           d (λ no. refl) _ (λ no. refl) e
 
+  -- a decision that wrote this end last is one of a look that ends so
   decision_look : (q : ℕ) (said : Bool) → is_due t.world.coding (flight_in t.world q) ≡ true
       → (o : Option (Party T)) → party_of q t.world.latest ≡ o → Ended (events_of_decision t.world q said o)
       → LookTurn q (after_decision t.world q said o).kept (after_decision t.world q said o).latest (events_of_decision t.world q said o)
@@ -250,6 +265,7 @@ module _ {T : Type 0} (shown : Shown T) (terms : Terms) (code : Coding T) (c : �
     pub is : new.events ≡ t.events ++ events
     pub turn : LookTurn party new.world.kept new.world.latest events
 
+  -- a turn that wrote this end last is the turn of a look that ends
   pub look_end : (turn : Turn T) → IsAllowed t.world turn → Ended (events_of t.world turn) → LookEnd (after_turn t turn)
   look_end (Begin q a) r e = absurd (no_end (Begun q a) p (Container start) answer wrote (λ h. cc) e)
   look_end (Next q) r e = record { party = q; events = events_of t.world (Next q); is = refl; turn = next_look q (party_of q t.world.latest) refl e }
@@ -288,6 +304,8 @@ module _ {T : Type 0} (shown : Shown T) (terms : Terms) (code : Coding T) (c : �
         → AnswersOfState a answer (state_in t.world.kept n) state
         × (well_formed → IsCurrent n c state new.events × MomentsOfState n c a answer state new.events)
 
+    -- what the look leaves answers as it said, and in a well-formed run it is current and shows
+    -- what stood
     here_right : Right end.party (looks_as l.which)
     here_right state is =
         let left : state_of end.party (states_after code end.party (look_at l.which c l.stage) (old l.stage) s.state.states)
@@ -315,6 +333,7 @@ module _ {T : Type 0} (shown : Shown T) (terms : Terms) (code : Coding T) (c : �
         (state : ContainerState T) → state_in new.world.kept n ≡ Some state → a ≡ starts.GetState
         → (i : ℕ) (value : T) → shows state i ≡ Some value → HasCopied n i value new.events
 
+    -- all that a get_state shows its party has copied itself
     here_own : Own end.party (looks_as l.which)
     here_own state is gets i value shown_there =
         let left : state_of end.party (states_after code end.party (look_at l.which c l.stage) (old l.stage) s.state.states)
@@ -345,6 +364,7 @@ module _ {T : Type 0} (shown : Shown T) (terms : Terms) (code : Coding T) (t : T
       → LookEnd shown terms code t.world.capacity t s may p start answer ends.is_look ends.wrote (after_turn t turn)
   ended = grind (arith, look_end, append_cancel_left)
 
+  -- each look that ends in the turn has told right
   pub looks_right : (well_formed : Type 0)
       (so_far : well_formed → IsWellFormedSoFar terms (after_turn t turn).world.latest (after_turn t turn).events)
       → LooksRightIf well_formed t turn (after_turn t turn)

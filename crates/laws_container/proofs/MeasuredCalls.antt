@@ -53,6 +53,7 @@ module _ (size c : ℕ) where
   abbrev pub behind : ℕ → ℕ → ℕ
   behind each index = (c - (index + 1)) * each
 
+  -- an add, where the counter is so
   abbrev pub add_left : ℕ → AddStage → ℕ
   add_left now (adds.Acquires stage) = acquire_left c now stage + (size - 1 + 5)
   add_left now (adds.LoadsCount index) = size - 1 + 4
@@ -61,6 +62,7 @@ module _ (size c : ℕ) where
   add_left now (adds.AddsCount index) = 1
   add_left now (adds.AddsChange index) = 0
 
+  -- a remove, where the counter is so
   abbrev pub remove_left : ℕ → RemoveStage → ℕ
   remove_left now removes.Refuses = 0
   remove_left now removes.LoadsCount = 5
@@ -68,6 +70,7 @@ module _ (size c : ℕ) where
   remove_left now (removes.Hides count state) = 1
   remove_left now (removes.AddsChange state) = 0
 
+  -- a replace
   abbrev pub replace_left : ReplaceStage → ℕ
   replace_left replaces.Refuses = 0
   replace_left replaces.LoadsCell = size - 1 + 5
@@ -77,6 +80,7 @@ module _ (size c : ℕ) where
   replace_left replaces.AddsCount = 1
   replace_left replaces.AddsChange = 0
 
+  -- a find
   abbrev pub find_left : FindStage → ℕ
   find_left (finds.LoadsCell index found) = behind (size - 1 + 4) index + (size - 1 + 4)
   find_left (finds.LoadsCount index found) = behind (size - 1 + 4) index + (size - 1 + 3)
@@ -84,6 +88,7 @@ module _ (size c : ℕ) where
   find_left (finds.ChecksCount index found count) = behind (size - 1 + 4) index + 1
   find_left (finds.Asks index found) = behind (size - 1 + 4) index
 
+  -- a recovery that does not lock
   abbrev pub recover_left : List ℕ → RecoverStage → ℕ
   recover_left words recovers.LoadsCounter = behind (size - 1 + 8) 0 + (size - 1 + 10)
   recover_left words (recovers.LoadsCell index) = behind (size - 1 + 8) index + (size - 1 + 9)
@@ -99,6 +104,7 @@ module _ (size c : ℕ) where
   recover_left words recovers.LoadsCounterAgain = 1
   recover_left words (recovers.AddsChange state) = 0
 
+  -- a look
   abbrev pub look_left : List ℕ → LookStage → ℕ
   look_left words looks.LoadsChange = behind (size - 1 + 3) 0 + (size - 1 + 3)
   look_left words (looks.LoadsCount index) = behind (size - 1 + 3) index + (size - 1 + 2)
@@ -106,6 +112,7 @@ module _ (size c : ℕ) where
       behind (size - 1 + 3) index + (size - (at + 1) + 1 + again_at words index count)
   look_left words (looks.ChecksCount index count) = behind (size - 1 + 3) index + again_at words index count
 
+  -- any call of the container
   abbrev pub call_left : {T : Type 0} → List ℕ → ContainerFlight T → ℕ
   call_left words (calls.Add run) = add_left (get_or words 0 0) run.call.stage
   call_left words (calls.Remove run) = remove_left (get_or words 0 0) run.call.stage
@@ -148,6 +155,7 @@ recover_pays c (recovers.Locks index lock) = 0
 recover_pays c recovers.LoadsCounterAgain = 0
 recover_pays c (recovers.AddsChange state) = 0
 
+-- any call of the container; those that are not named make none
 abbrev pub call_pays : {T : Type 0} → ℕ → ContainerFlight T → ℕ
 call_pays c (calls.Add run) = add_pays run.call.stage
 call_pays c (calls.Remove run) = remove_pays run.call.stage
@@ -175,6 +183,7 @@ abbrev pub ReplaceStands : ReplaceStage → Type 0
 ReplaceStands (replaces.Hides count) = is_even count ≡ false
 ReplaceStands stage = Unit {0}
 
+-- a recovery that does not lock, within the indices, and it hides under an odd number
 abbrev pub RecoverStands : ℕ → RecoverStage → Type 0
 RecoverStands c (recovers.LoadsCell index) = index < c
 RecoverStands c (recovers.LoadsCount index) = index < c
@@ -192,6 +201,7 @@ LookStands c (looks.LoadsCount index) = index < c
 LookStands c (looks.LoadsWord index count at) = index < c
 LookStands c (looks.ChecksCount index count) = index < c
 
+-- any call of the container that does not lock, of this capacity
 abbrev pub CallStands : {T : Type 0} → ℕ → ContainerFlight T → Type 0
 CallStands c (calls.Add run) = (run.call.capacity ≡ c) × AddStands c run.call.stage
 CallStands c (calls.Remove run) =
@@ -229,6 +239,7 @@ module _ {T : Type 0} where
       is_some (state_of p states) ≡ true
   Known p kept flight = Unit {0}
 
+  -- the calls that do not lock, with this measure, as the frame of lock-freedom asks it
   abbrev pub outline : Outline T
   outline =
       record {
@@ -256,6 +267,8 @@ module _ (size c : ℕ) (old new : List ℕ) (same : get_or new 0 0 ≡ get_or o
   look_fewer (looks.LoadsWord index count at) = let here = fewer index count in omega arith
   look_fewer (looks.ChecksCount index count) = let here = fewer index count in omega arith
 
+  -- words with the same counter, in which no copy takes more steps to be made again, leave no
+  -- call more steps
   pub leaves : {T : Type 0} → LeavesAll (measure {T = T} size c) old new
   leaves (flights.Container (calls.Add run)) = rw same (omega arith)
   leaves (flights.Container (calls.Remove run)) = rw same (omega arith)
@@ -290,6 +303,8 @@ module _ (size c : ℕ) (words : List ℕ) where
   apart_leaves word new some apart =
       leaves size c words (set words word new) (get_or-set_other words word 0 new 0 (λ e. absurd (omega arith))) fewer
     where
+      -- after a store to a word that is no number of an element no copy takes more steps to be
+      -- made again
       fewer : (index count : ℕ) → again_at size c (set words word new) index count ≤ again_at size c words index count
       fewer index count =
           by_bool (nat_lt index c)
@@ -314,6 +329,7 @@ module _ (size c : ℕ) (words : List ℕ) where
     inside : (stood == count) ≡ true → count_word c index < length words
     inside found = ⊎_elim (λ less. less) past (cases_lt (count_word c index) (length words))
       where
+        -- a word that is not there reads as an even number, so an odd one is there
         past : length words ≤ count_word c index → count_word c index < length words
         past far =
             let none : get_or words (count_word c index) 0 ≡ 0 = get_or_past words (count_word c index) 0 far in
@@ -321,9 +337,11 @@ module _ (size c : ℕ) (words : List ℕ) where
             let even : is_even count ≡ true = rw zero refl in
             absurd (cc)
 
+    -- where what stands at an index is hidden, no copy takes more steps to be made again
     hidden_fewer : (stood == count) ≡ true → (i n : ℕ) → again_at size c hidden i n ≤ again_at size c words i n
     hidden_fewer found i n = ⊎_elim here there (cases_eq i index)
       where
+        -- at the hidden index itself nothing is copied again
         here : i ≡ index → again_at size c hidden i n ≤ again_at size c words i n
         here e =
             let stands : get_or hidden (count_word c index) 0 ≡ one_more count =
@@ -336,6 +354,8 @@ module _ (size c : ℕ) (words : List ℕ) where
             let stays = get_or-set_other words (count_word c index) (count_word c i) (one_more count) 0 (λ e. ne (omega arith)) in
             rw stays (omega arith)
 
+    -- the exchange by which an element goes leaves no call more steps, whether it finds the
+    -- number or another
     pub hide_leaves : {T : Type 0} → LeavesAll (measure {T = T} size c) words (set words (count_word c index) (cond (stood == count) (one_more count) stood))
     hide_leaves {T} =
         on_bool (λ t. LeavesAll (measure {T = T} size c) words (set words (count_word c index) (cond t (one_more count) stood))) (stood == count)

@@ -83,6 +83,7 @@ module _ {T : Type 0} (code : Coding T) (c : ℕ) (words : List ℕ) where
 
     -- ---- an add
 
+    -- an add that sees the counter falls by a step, at a stage with steps enough left
     acquire_sees_falls : (new : List ℕ) (value : T) (owner : ℕ) (stage : AcquireStage) → new ≡ words
         → c - 1 + 3 ≤ acquire_left c now stage
         → FallsIn M words new 1 (flights.Container (add_at c value owner (adds.Acquires stage)))
@@ -99,6 +100,7 @@ module _ {T : Type 0} (code : Coding T) (c : ℕ) (words : List ℕ) where
         go false t false u true v = let self = same_is now in rw (t, u, v) (inl (same, rw self (omega arith), omega arith))
         go false t false u false v = let self = same_is now in rw (t, u, v) (inl (same, rw self (omega arith), omega arith))
 
+    -- each step of an add that still acquires its index falls
     acquire_falls : (value : T) (owner : ℕ) (stage : AcquireStage) → AcquireStands c stage
         → Shown (add_at c value owner (adds.Acquires stage))
     acquire_falls value owner acquires.LoadsCounter at =
@@ -143,6 +145,7 @@ module _ {T : Type 0} (code : Coding T) (c : ℕ) (words : List ℕ) where
         go false s false t true u = rw (s, t, u) (inl (load_leaves words 0, rw s (omega arith), omega arith))
         go false s false t false u = let self = same_is now in rw (s, t, u) (inl (load_leaves words 0, rw (self, s) (omega arith), omega arith))
 
+    -- each step of an add falls
     pub add_falls : (value : T) (owner : ℕ) (stage : AddStage) → AddStands c stage → Shown (add_at c value owner stage)
     add_falls value owner (adds.Acquires stage) at = acquire_falls value owner stage at
     add_falls value owner (adds.LoadsCount index) at =
@@ -163,6 +166,7 @@ module _ {T : Type 0} (code : Coding T) (c : ℕ) (words : List ℕ) where
 
     -- ---- a remove
 
+    -- each step of a remove in its release falls
     release_falls : (index owner count : ℕ) (stage : ReleaseStage) → index ≤ c → RemoveStands (removes.Releases count stage)
         → Shown (remove_at c index owner Default (removes.Releases count stage))
     release_falls index owner count releases.EmptiesCell within at =
@@ -194,6 +198,7 @@ module _ {T : Type 0} (code : Coding T) (c : ℕ) (words : List ℕ) where
         go false s false t false u v e = let self = same_is now in rw (s, t, u) (inl (load_leaves words 0, rw (self, s) (omega arith), omega arith))
     release_falls index owner count (releases.Locks lock) within at = absurd at
 
+    -- each step of a remove that does not lock falls
     pub remove_falls : (index owner : ℕ) (stage : RemoveStage) → index ≤ c → RemoveStands stage → Shown (remove_at c index owner Default stage)
     remove_falls index owner removes.Refuses within at = tt
     remove_falls index owner removes.LoadsCount within at = inl (load_leaves words (count_word c index), omega arith, omega arith)
@@ -204,6 +209,7 @@ module _ {T : Type 0} (code : Coding T) (c : ℕ) (words : List ℕ) where
 
     -- ---- a replace
 
+    -- each step of a replace falls
     pub replace_falls : (index : ℕ) (value : T) (owner : ℕ) (stage : ReplaceStage) → ReplaceStands stage → Shown (replace_at c index value owner stage)
     replace_falls index value owner replaces.Refuses at = tt
     replace_falls index value owner replaces.LoadsCell at =

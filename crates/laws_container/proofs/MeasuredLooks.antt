@@ -63,6 +63,7 @@ module _ {T : Type 0} (code : Coding T) (c : ℕ) (words : List ℕ) where
       rw u (inl (same, omega arith, omega arith)))
       (λ u. rw u tt)
 
+  -- each step of a find falls
   pub find_falls : (owner : ℕ) (room : buffers.Buffer 128) (stage : FindStage) → There (find_at c owner room stage)
   find_falls owner room (finds.LoadsCell index found) =
       by_bool (get_or words (cell_word index) 0 == owner)
@@ -110,6 +111,7 @@ module _ {T : Type 0} (code : Coding T) (c : ℕ) (words : List ℕ) where
       rw u (inl (same, omega arith, omega arith)))
       (λ u. rw u (inl (same, omega arith, omega arith)))
 
+  -- each step of a recovery that does not lock falls
   pub recover_falls : (owner : ℕ) (room : buffers.Buffer 128) (stage : RecoverStage) → RecoverStands c stage → There (recovering owner room stage)
   recover_falls owner room recovers.LoadsCounter at = go (now == locked) refl (nat_lt 0 c) refl
     where
@@ -220,6 +222,7 @@ module _ {T : Type 0} (code : Coding T) (c : ℕ) (words : List ℕ) where
         rw u (inl (same, omega arith, omega arith)))
         (λ u. rw u tt)
 
+    -- each step of a look whose party has a state falls
     pub look_falls : (stage : LookStage) → LookStands c stage → Sees stage
     look_falls looks.LoadsChange at = go (get_or words (1 + c) 0 == state.seen.change) refl (nat_lt 0 c) refl
       where
@@ -267,6 +270,7 @@ module _ {T : Type 0} (code : Coding T) (c : ℕ) (words : List ℕ) where
 
   -- ---- a number of elements
 
+  -- each step of a count of elements falls
   pub count_falls : (which : CountOf) (count : Count) → There (count_at which c count)
   count_falls which counts.LoadsCounter = go (now == locked) refl (nat_lt 0 c) refl (now == greatest) refl
     where

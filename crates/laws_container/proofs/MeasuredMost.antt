@@ -60,6 +60,7 @@ module _ (c size : ℕ) (some : 1 ≤ c) (wide : 1 ≤ size) (words : List ℕ) 
       let each = fewer_each (c - 1) z 4 in
       omega arith
 
+  -- the indices behind one take a look no more steps than all indices but one take a recovery
   looks_behind : (index : ℕ) → behind size c (z + 3) index ≤ (c - 1) * (z + 8)
   looks_behind index =
       let few = worth (c - (index + 1)) (c - 1) (z + 3) (omega arith) in
@@ -86,6 +87,7 @@ module _ (c size : ℕ) (some : 1 ≤ c) (wide : 1 ≤ size) (words : List ℕ) 
       worth_each : (c - 1) * 8 ≤ (c - 1) * (z + 8)
       worth_each = omega arith
 
+  -- a find has no more steps left than the most of a call
   find_most : (stage : FindStage) → find_left size c stage ≤ alone
   find_most (finds.LoadsCell index found) = ends_most (z + 4) _ (finds_behind index) (omega arith)
   find_most (finds.LoadsCount index found) = ends_most (z + 3) _ (finds_behind index) (omega arith)
@@ -93,6 +95,7 @@ module _ (c size : ℕ) (some : 1 ≤ c) (wide : 1 ≤ size) (words : List ℕ) 
   find_most (finds.ChecksCount index found count) = ends_most 1 _ (finds_behind index) (omega arith)
   find_most (finds.Asks index found) = let most = ends_most 0 _ (finds_behind index) (omega arith) in omega arith
 
+  -- a recovery has no more steps left than the most of a call
   recover_most : (stage : RecoverStage) → recover_left size c words stage ≤ alone
   recover_most recovers.LoadsCounter = let max = two in ends_most (z + 10) _ (recovers_behind 0) (omega arith)
   recover_most (recovers.LoadsCell index) = let max = two in ends_most (z + 9) _ (recovers_behind index) (omega arith)
@@ -113,6 +116,7 @@ module _ (c size : ℕ) (some : 1 ≤ c) (wide : 1 ≤ size) (words : List ℕ) 
   recover_most recovers.LoadsCounterAgain = few_most 1 (omega arith)
   recover_most (recovers.AddsChange end) = omega arith
 
+  -- a look has no more steps left than the most of a call
   look_most : (stage : LookStage) → look_left size c words stage ≤ alone
   look_most looks.LoadsChange = ends_most (z + 3) _ (looks_behind 0) (omega arith)
   look_most (looks.LoadsCount index) = ends_most (z + 2) _ (looks_behind index) (omega arith)
@@ -142,6 +146,7 @@ module _ (c size : ℕ) (some : 1 ≤ c) (wide : 1 ≤ size) (words : List ℕ) 
   release_few now (releases.Raises raise) = let most = raise_most c some now raise in omega arith
   release_few now (releases.Locks lock) = omega arith
 
+  -- an add has no more steps left than twice the capacity, the size and six
   add_most : (now : ℕ) (stage : AddStage) → add_left size c now stage ≤ 2 * c + size + 6
   add_most now (adds.Acquires stage) = let most = acquire_few now stage in omega arith
   add_most now (adds.LoadsCount index) = omega arith
@@ -150,6 +155,7 @@ module _ (c size : ℕ) (some : 1 ≤ c) (wide : 1 ≤ size) (words : List ℕ) 
   add_most now (adds.AddsCount index) = omega arith
   add_most now (adds.AddsChange index) = omega arith
 
+  -- a remove has no more steps left than twice the capacity, the size and six
   remove_most : (now : ℕ) (stage : RemoveStage) → remove_left size c now stage ≤ 2 * c + size + 6
   remove_most now (removes.Releases count stage) = let most = release_few now stage in omega arith
   remove_most now removes.Refuses = omega arith
@@ -175,6 +181,7 @@ module _ (c size : ℕ) (some : 1 ≤ c) (wide : 1 ≤ size) (words : List ℕ) 
   recovers_pay : (stage : RecoverStage) → recover_pays c stage ≤ c
   recovers_pay = grind arith
 
+  -- no call has more steps left, or more changes to make, than the most that the measure names
   pub most : {T : Type 0} → (flight : Flight T) → (left size c words flight ≤ alone) × (pays c flight ≤ max 2 c)
   most (flights.Container (calls.Add run)) =
       let few = two_of in let pays = adds_pay run.call.stage in

@@ -108,6 +108,7 @@ module _ {T : Type 0} (scene : Scene T) (inv : Inv scene) (shown : CallSteps sce
   lives : (owner : ℕ) → has_died owner scene.dead ≡ false → is_dead owner events ≡ false
   lives owner alive = sym (inv.good.died owner) ∙ alive
 
+  -- the step of a call that stands there, and acts for nobody who is gone, shows what it has to
   abbrev Moves : ContainerStart T → ContainerFlight T → Type 0
   Moves start flight =
       IsHere scene start flight → acts_for_dead scene.dead flight ≡ false
@@ -115,6 +116,8 @@ module _ {T : Type 0} (scene : Scene T) (inv : Inv scene) (shown : CallSteps sce
       → steps ≤ number_of c code.size flight backs → Knows code c flight (sees_now scene)
       → StepOf scene start flight
 
+  -- each step of any call that stands at its place, and acts for nobody who is gone, shows what
+  -- it has to
   pub step_moves : (start : ContainerStart T) (flight : ContainerFlight T) → At c code.size (all scene) (done scene) start flight → Moves start flight
   step_moves (starts.Add value owner) (calls.Add run) at =
       subst (Moves (starts.Add value owner))
@@ -160,6 +163,7 @@ module _ {T : Type 0} (scene : Scene T) (inv : Inv scene) (shown : CallSteps sce
       IsHere scene start flight → is_question (want code flight) ≡ true → steps ≤ number_of c code.size flight backs
       → Knows code c flight (sees_now scene) → DecisionOf scene start flight said
 
+  -- each answer to a question of a find shows what it has to
   find_decides : (said : Bool) (owner : ℕ) → owner < empty → (room : buffers.Buffer 128) (stage : FindStage)
       → FindAt c code.size (all scene) (done scene) stage
       → Decides said (starts.Find owner) (find_at c owner room stage)
@@ -170,6 +174,7 @@ module _ {T : Type 0} (scene : Scene T) (inv : Inv scene) (shown : CallSteps sce
   find_decides said owner fits room (finds.Asks index found) at here asks s k =
       shown.find_decided owner fits room index found at here k s (said_is said)
 
+  -- each answer to a question of a recovery shows what it has to
   recover_decides : (said : Bool) (owner : ℕ) (mode : ReleaseMode) → owner < empty
       → (room : buffers.Buffer 128) (stage : RecoverStage)
       → RecoverAt c code.size (all scene) (done scene) owner mode stage
@@ -194,6 +199,7 @@ module _ {T : Type 0} (scene : Scene T) (inv : Inv scene) (shown : CallSteps sce
   undecided : (start : ContainerStart T) (flight : ContainerFlight T) (said : Bool) → is_question (want code flight) ≡ false → Decides said start flight
   undecided start flight said none = λ here asks s k. both_ways (is_question (want code flight)) none asks
 
+  -- each answer to a question of any call that stands at its place shows what it has to
   pub decision_moves : (said : Bool) (start : ContainerStart T) (flight : ContainerFlight T)
       → At c code.size (all scene) (done scene) start flight → Decides said start flight
   decision_moves said (starts.Add value owner) (calls.Add run) at =

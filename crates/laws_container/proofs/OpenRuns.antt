@@ -42,6 +42,7 @@ module _ {T : Type 0} (kept : Bool) (code : Coding T) (c : ℕ) where
   abbrev Sound : Trace T → Type 0
   Sound t = frame.Sound (family_by terms code c) t
 
+  -- `t` is the run so far, and `s` what is sound of it
   module _ (t : Trace T) (s : Sound t) (few : kept ≡ true → t.world.turns < 2 ^ 64 - 2) where
     may : MayGoOn terms t
     may = record { room = tt; few = few }
@@ -68,6 +69,7 @@ module _ {T : Type 0} (kept : Bool) (code : Coding T) (c : ℕ) where
         (subst (λ words. frame.Comes (family_by terms code c) t p (kept_after_begin code c start p now) words y (Begun p start ∷ []) t.world.changes)
         (sym s.fit.words) (begin_comes shown terms code c t s p start flight recovers free named))
 
+    -- a begin that is not refused leaves the machine sound
     begins : (p : ℕ) (start : Start T) → MayRecoverIn shown terms code c t s p start → flight_in t.world p ≡ None
         → is_none (first_of t.world.kind t.world.capacity start t.world.kept) ≡ false → Sound (after_turn t (Begin p start))
     begins p start recovers free call =
@@ -84,6 +86,8 @@ module _ {T : Type 0} (kept : Bool) (code : Coding T) (c : ℕ) where
     free_by None e = refl
     free_by (Some flight) e = absurd (cc)
 
+    -- a turn that an open run does not refuse leaves the machine sound, if it takes no step for
+    -- one who is gone where the run keeps to that
     pub open_turn_sound : (turn : Turn T) → open_refusal t.world turn ≡ None → (kept ≡ true → steps_for_gone t turn ≡ false) → Sound (after_turn t turn)
     open_turn_sound (Begin p (Container (Recover owner mode))) e faithful =
         let start : Start T = Container (Recover owner mode) in
@@ -125,6 +129,7 @@ module _ {T : Type 0} where
   attempt_grows t turn None = turn_grows t turn
   attempt_grows t turn (Some refusal) = omega arith
 
+  -- no run takes back turns that were counted
   run_grows : (turns : List (Turn T)) (t : Trace T) → t.world.turns ≤ (run_open turns t).world.turns
   run_grows [] t = omega arith
   run_grows (turn ∷ turns) t =
@@ -152,6 +157,8 @@ module _ {T : Type 0} (kept : Bool) (code : Coding T) (c : ℕ) where
   attempted t turn None e s few faithful = open_turn_sound kept code c t s few turn e faithful
   attempted t turn (Some refusal) e s few faithful = s
 
+  -- a run from a sound machine, faithful and of few turns where the run keeps to that, leads to
+  -- a sound machine
   run_sound : (turns : List (Turn T)) (t : Trace T) → Holds t → (kept ≡ true → is_faithful turns t ≡ true)
       → (kept ≡ true → (run_open turns t).world.turns < 2 ^ 64 - 2) → Holds (run_open turns t)
   run_sound [] t s faithful few = s
@@ -167,6 +174,8 @@ module _ {T : Type 0} (code : Coding T) (c : ℕ) where
   abbrev Any : Trace T → Type 0
   Any t = Holds false code c t
 
+  -- an attempted turn that takes no step for one who is gone leaves an honest machine honest,
+  -- and sound
   attempt_honest : (t : Trace T) (turn : Turn T) (o : Option Refusal) → open_refusal t.world turn ≡ o → Any t → IsHonest t.events
       → steps_for_gone t turn ≡ false → Any (unless_refused t (after_turn t turn) o) × IsHonest (unless_refused t (after_turn t turn) o).events
   attempt_honest t turn None e s honest steps =
@@ -174,6 +183,7 @@ module _ {T : Type 0} (code : Coding T) (c : ℕ) where
       (next, turn_honest (terms false code c) code c t s honest turn e steps next)
   attempt_honest t turn (Some refusal) e s honest steps = (s, honest)
 
+  -- a faithful run from an honest machine leads to an honest one
   run_honest : (turns : List (Turn T)) (t : Trace T) → Any t → IsHonest t.events → is_faithful turns t ≡ true → IsHonest (run_open turns t).events
   run_honest [] t s honest faithful = honest
   run_honest (turn ∷ turns) t s honest faithful =
@@ -181,10 +191,12 @@ module _ {T : Type 0} (code : Coding T) (c : ℕ) where
       let next = attempt_honest t turn (open_refusal t.world turn) refl s honest (not_true (steps_for_gone t turn) both.0) in
       run_honest turns (attempt_open t turn) next.0 next.1 both.1
 
+-- `t` is the machine that an open run has reached
 module _ {T : Type 0} (t : Trace T) (is : t.world.kind ≡ kinds.Container) (r : IsReachedOpen t) where
   abbrev first : Trace T
   first = opening t.world.coding t.world.kind t.world.capacity t.world.parties
 
+  -- the machine of an open run is sound as it opens
   open_at_first : (kept : Bool) → Holds kept t.world.coding t.world.capacity first
   open_at_first kept =
       let w = t.world in
@@ -192,6 +204,8 @@ module _ {T : Type 0} (t : Trace T) (is : t.world.kind ≡ kinds.Container) (r :
       subst (λ kind. Holds kept w.coding w.capacity (opening w.coding kind w.capacity w.parties)) (sym is)
       (opening_sound shown (terms kept w.coding w.capacity) w.coding w.capacity w.parties r.coded may.0 may.1)
 
+  -- where an open run has led is sound, on terms that are kept only if the run is faithful and
+  -- has few turns
   reached_sound : (kept : Bool) → (kept ≡ true → is_faithful r.turns first ≡ true) → (kept ≡ true → t.world.turns < 2 ^ 64 - 2)
       → Holds kept t.world.coding t.world.capacity t
   reached_sound kept faithful few =
@@ -229,6 +243,7 @@ module _ {T : Type 0} (t : Trace T) (is : t.world.kind ≡ kinds.Container) (r :
       let s = reached_open_sound in
       ap length s.fit.words ∙ s.holds.elements.wide
 
+  -- what is promised of each open run of a container holds of this one
   pub reached_open_kept : IsOpenContainer t r
   reached_open_kept =
       let w = t.world in
@@ -266,6 +281,8 @@ module _ {T : Type 0} (t : Trace T) (is : t.world.kind ≡ kinds.Container) (r :
   is_few : (n : ℕ) → n < 2 ^ 64 - 2 → nat_lt n (2 ^ 64 - 2) ≡ true
   is_few n less = grind (arith, nat_tests)
 
+  -- a turn that an open run does not refuse tells what is promised of it, and some of it only
+  -- where the run is faithful, and with this turn well-formed and honest
   pub reached_open_tells : (turn : Turn T) → open_refusal t.world turn ≡ None
       → TellsIf (IsFaithfulRun t r × IsWellFormedRun (after_turn t turn) × IsHonest (after_turn t turn).events) t turn (after_turn t turn)
   reached_open_tells turn e =

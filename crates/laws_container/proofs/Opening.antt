@@ -16,6 +16,7 @@ use Rattle.laws_container.proofs.Turns.{Now}
 
 -- ---- the words
 
+-- `z` is the words of a value, and `c` the capacity
 module _ (z c : ℕ) where
   abbrev first : List ℕ
   first = set_opening.opening_words c
@@ -49,6 +50,7 @@ module _ (z c : ℕ) where
       let long = first_long in
       get_or-append first (replicate rest 0) 0 (1 + i) (omega arith) ∙ opening_cell c i below
 
+  -- the words of the opening are those of a set in which nothing is filled
   words_good : {T : Type 0} (by : GoneBy) → 1 ≤ c → c < 2 ^ 32 → set.Good {T = T} by c (opening_words z c) [] [] 0
   words_good by some few =
       let long = first_long in
@@ -96,6 +98,7 @@ module _ {T : Type 0} (terms : Terms) (code : Coding T) (c : ℕ) (coded : IsCod
   sight : (q : ℕ) → Sight code c m q (fresh code c) c c
   sight = grind (arith, length-replicate, number_is, shows_is, inl, no_count)
 
+  -- a new state rests for each party
   rests : (q : ℕ) → Rests code c m q (fresh code c)
   rests q =
       record {
@@ -106,6 +109,7 @@ module _ {T : Type 0} (terms : Terms) (code : Coding T) (c : ℕ) (coded : IsCod
         room = length-replicate {A = ℕ} 128 0;
       }
 
+  -- the opening shows all that it has to
   pub opens : Opens terms code c
   opens =
       let long = first_long code.size c in

@@ -62,6 +62,7 @@ module _ {T : Type 0} (recovery : Recovery T) where
     paid_again : backs_then scene false + since_then scene load_again ≤ changes_then scene load_again
     paid_again = let paid = k.0 in omega arith
 
+    -- a recovery that has come past all indices has recovered its owner
     recovered : HasRecoveredBy scene.terms.by p owner events
     recovered =
         record {
@@ -79,6 +80,7 @@ module _ {T : Type 0} (recovery : Recovery T) where
         → FilledSinceEachBy (IsWorn scene.terms.by (words_after ws load_again)) mode p owner events
     each_again = grind (arith, each_on, loads_same)
 
+    -- what a recovery has freed is hidden as before, after it has loaded the counter again
     hidden_again : (state : ReleaseState)
         → HasHidden code c p owner none (after scene (words_after ws load_again) (then_at recovery room recovers.LoadsCounterAgain here room
         (recovers.AddsChange state) load_again false)
@@ -88,6 +90,7 @@ module _ {T : Type 0} (recovery : Recovery T) where
         (recovers.AddsChange state) load_again false)
         k.1.hidden
 
+    -- the step in which a recovery looks at the counter again shows what it has to
     again_step : StepOf scene (Recover owner mode) (recover_at c owner mode room recovers.LoadsCounterAgain)
     again_step =
         on_bool (λ b. Becomes recovery (Some (set_stages.loads 0)) false [] room
@@ -138,6 +141,7 @@ module _ {T : Type 0} (recovery : Recovery T) where
         (Finished p (Container (Recover owner mode)) (answers.State state))
     answers_right = grind (arith, each_on, worn_on, counter_stays)
 
+    -- the step in which a recovery counts the change ends it
     end_step : StepOf scene (Recover owner mode) (recover_at c owner mode room (recovers.AddsChange state))
     end_step =
         let y = party_then scene (Recover owner mode) end_it false (Done (answers.State state)) in
@@ -160,6 +164,7 @@ module _ {T : Type 0} (recovery : Recovery T) where
 
   -- ---- any step
 
+  -- the step of a recovery that stands there shows what it has to
   abbrev Moves : buffers.Buffer 128 → RecoverStage → Type 0
   Moves room stage =
       RecoverAt c z (all scene) (done scene) owner mode stage → Here recovery room stage
@@ -167,6 +172,8 @@ module _ {T : Type 0} (recovery : Recovery T) where
       → steps ≤ recover_number c z mode stage backs
       → StepOf scene (Recover owner mode) (recover_at c owner mode room stage)
 
+  -- any step of a recovery that stands at a stage, and knows what the stage tells, shows what
+  -- it has to
   pub recover_step : (room : buffers.Buffer 128) (stage : RecoverStage) → Moves room stage
   recover_step room recovers.LoadsCounter at here k s = counter_step recovery room here k.0 at k.1 s
   recover_step room (recovers.LoadsCell index) at here k s = cell_step recovery room index here k.0 at k.1 s k.2
@@ -196,6 +203,7 @@ module _ {T : Type 0} (recovery : Recovery T) where
   recover_step room recovers.LoadsCounterAgain at here k s = again_step room here k.0 at k.1 s k.2
   recover_step room (recovers.AddsChange state) at here k s = end_step room state here k.1 s
 
+  -- any answer to a question of a recovery shows what it has to
   pub recover_decided : (room : buffers.Buffer 128) (index count : ℕ)
       → RecoverAt c z (all scene) (done scene) owner mode (recovers.Asks index count)
       → Here recovery room (recovers.Asks index count)

@@ -51,6 +51,8 @@ module _ {T : Type 0} (recovery : Recovery T) where
       (stays : set_effects.Stays (of_set scene) (words_after ws ask))
       (paid : backs_then scene back + since_then scene ask ≤ changes_then scene ask) (index : ℕ)
       (rec : Recovers code c owner (index + 1) none none (sees_now scene)) where
+    -- over a step that leaves all words but the counter, and writes nothing, a recovery that
+    -- has come past an index knows what it knew
     pub stays_recs : (y : Party T) → Recovers code c owner (index + 1) none none (then_sees scene ask back scene.states y [])
     stays_recs y =
         let goes = (set_effects.quietly (of_set scene) (inv_of_set scene inv) (words_after ws ask) [] stays.leaves set_effects.quiet_none tt tt tt).goes in
@@ -58,6 +60,8 @@ module _ {T : Type 0} (recovery : Recovery T) where
         (asked_on recovery room stage here ask back y [] tt tt none_lengthens goes (index + 1) rec.asked)
         (told_none recovery room stage here) (λ i e. absurd e) (λ i e. absurd e) (hidden_still recovery room stage here ask y rec.hidden)
 
+    -- a recovery goes on from a step that leaves all words but the counter, and writes nothing,
+    -- where the next stage's conditions hold
     pub stays_on : (next : RecoverStage)
         → steps + step_count ask ≤ recover_number c z mode next (backs_then scene back)
         → RecoverAt c z (all scene ++ []) (done scene ++ []) owner mode next
@@ -69,6 +73,8 @@ module _ {T : Type 0} (recovery : Recovery T) where
         (then_at recovery room stage here room next ask back) refl)
         tt few at known
 
+    -- a step that leaves all words but the counter, and writes nothing, brings a recovery to
+    -- the next index, or to its last steps
     pub stays_next : Few recovery ask back 1 (index + 1)
         → Course recovery index (index + 1)
         → FilledBut (IsWorn scene.terms.by (words_after ws ask)) mode p owner NoIndex (events ++ [])
@@ -120,6 +126,7 @@ module _ {T : Type 0} (recovery : Recovery T) where
       new : words_after ws empty_it ≡ set ws (cell_word index) empty
       new = exchange_sets ws (cell_word index) owner empty is
 
+      -- the number of the element is the same after the cell is emptied
       stays_count : count_at c (words_after ws empty_it) index ≡ count_in code c (before scene) index
       stays_count =
           rest_set scene inv (Recover owner mode)
@@ -131,6 +138,7 @@ module _ {T : Type 0} (recovery : Recovery T) where
       filled : filled_of index events ≡ Some owner
       filled = filled_by (of_set scene) (inv_of_set scene inv) index stands.0.within owner fits is
 
+      -- for the set the exchange frees the index, and does nothing else
       set_does : set_invariant.Does (of_set scene) (words_after ws empty_it) freeing
       set_does =
           set_frees.frees (of_set scene) (inv_of_set scene inv) (words_after ws empty_it) index owner
@@ -146,6 +154,7 @@ module _ {T : Type 0} (recovery : Recovery T) where
       was_known : IsOneOf (Yes index owner) (all scene) ⊎ WasShown p index events
       was_known = grind (arith, inl, by_latest, all, inr, has_latest, done)
 
+      -- the exchange that empties the cell does for the machine what freeing the index does
       does : (y : Party T) → owes (flight_of (Some y.doing)) ≡ true → Does scene (words_after ws empty_it) scene.states y freeing
       does y owe =
           frees scene inv (Recover owner mode) (recover_at c owner mode room (recovers.EmptiesCell index count)) tt here y (words_after ws empty_it)
@@ -158,6 +167,8 @@ module _ {T : Type 0} (recovery : Recovery T) where
           index owner set_does (was_well_formed scene (Recover owner mode) tt here.span (words_after ws empty_it) y freeing (refl, tt)) (λ was. owe)
           (subst (FreedBy scene.terms.by p index owner events) (sym here.span) (refl, k.1.dead, was_known))
 
+      -- once the cell is empty the recovery has come past the index, and what stood there under
+      -- the number still stands
       recs_freed : (y : Party T)
           → Recovers code c owner (index + 1) none
           (StillStands code c index count (after scene (words_after ws empty_it) y freeing))
@@ -187,6 +198,8 @@ module _ {T : Type 0} (recovery : Recovery T) where
           (hidden_even code c p owner index count (after scene (words_after ws empty_it) y freeing)
           (does y owe).changes.whole stands.0.within (even_is count t) (recs_freed y).hidden)
 
+      -- once the cell is empty, what a call that may lock has to show of each index that it has
+      -- freed is shown of all but this one
       fills_freed : (y : Party T) → FilledBut (IsWorn scene.terms.by (words_after ws empty_it)) mode p owner (λ i. i ≡ index) (events ++ freeing)
       fills_freed y =
           fills_on recovery room (recovers.EmptiesCell index count) here empty_it false
@@ -195,6 +208,7 @@ module _ {T : Type 0} (recovery : Recovery T) where
           (was_one (Frees i owner) (Frees index owner) (all scene) was))
           (λ i e. absurd e) f
 
+      -- the recovery that has freed an index it had asked about, or was shown, is in its course
       course_freed : IsInCourse c z (all scene ++ Frees index owner ∷ []) (done scene ++ []) owner index (index + 1)
       course_freed =
           course_then c z (all scene) (Frees index owner ∷ []) (done scene) [] owner index (index + 1) index
@@ -205,6 +219,8 @@ module _ {T : Type 0} (recovery : Recovery T) where
           (⊎_elim (λ yes. inl yes.1) (λ shown. inr (has_latest (Sees index) (done scene) shown)) stands.1)))
           (was_one (Frees j owner) (Frees index owner) (all scene) was))
 
+      -- the exchange that finds the owner leads on, to the hiding if the number is odd and else
+      -- to the counter
       empties : (b : Bool) → is_even count ≡ b
           → Leads scene (Recover owner mode) empty_it false scene.states freeing (as_recover recovery room
           (if b then recover_raises (first recovery) index else GoOn (record (first recovery) { stage = recovers.Hides index count })))
@@ -234,6 +250,8 @@ module _ {T : Type 0} (recovery : Recovery T) where
             fills_freed y,
           )
 
+    -- the step in which a recovery empties the cell shows what it has to, whether it finds the
+    -- owner or another
     pub empties_step : StepOf scene (Recover owner mode) (recover_at c owner mode room (recovers.EmptiesCell index count))
     empties_step =
         on_bool (λ b. Leads scene (Recover owner mode) (Some (exchanges (cell_word index) owner empty)) false scene.states
@@ -271,6 +289,8 @@ module _ {T : Type 0} (recovery : Recovery T) where
     just : HasJustFreed (all scene)
     just = record { index = index; owner = owner; latest = stands.2 }
 
+    -- the step in which a recovery hides what stands at an index shows what it has to, whether
+    -- it finds the number or another
     pub hides_step : StepOf scene (Recover owner mode) (recover_at c owner mode room (recovers.Hides index count))
     hides_step =
         on_bool (λ b. Leads scene (Recover owner mode) (Some (exchanges (count_word c index) count (one_more count))) false

@@ -79,6 +79,7 @@ module _ {T : Type 0} (recovery : Recovery T) where
       filled_calm p owner (IsWorn scene.terms.by ws) (IsWorn scene.terms.by (words_after ws ask))
       (λ end. subst (IsWorn scene.terms.by) (sym same) end) mode But events f
 
+  -- a step that leaves all words but the counter leaves what a recovery knows of its locks
   pub fill_stays : (ask : Option Ask) → set_effects.Stays (of_set scene) (words_after ws ask) → (But : ℕ → Type 0)
       → FilledBut (IsWorn scene.terms.by ws) mode p owner But events
       → FilledBut (IsWorn scene.terms.by (words_after ws ask)) mode p owner But (events ++ [])
@@ -93,6 +94,8 @@ module _ {T : Type 0} (recovery : Recovery T) where
 
     -- ---- what a step does
 
+    -- a step that leaves the words, and writes events that change nothing, keeps what holds of
+    -- the machine
     pub reads_does : (words' : List ℕ) → words' ≡ ws → (y : Party T) (es : List (Event T))
         → AllByRecursion Silent es → AreOwn p es → AreAllRight scene words' y es
         → owes (flight_of (Some y.doing)) ≡ true → Does scene words' scene.states y es
@@ -113,6 +116,7 @@ module _ {T : Type 0} (recovery : Recovery T) where
 
     -- ---- it goes on
 
+    -- a recovery goes on to its next stage, where that stage's conditions hold
     pub go_on :
         (room' : buffers.Buffer 128) (next : RecoverStage) (ask : Option Ask) (back : Bool) (es : List (Event T))
         → Lengthens es → Does scene (words_after ws ask) scene.states (then_at room' next ask back) es
@@ -133,6 +137,8 @@ module _ {T : Type 0} (recovery : Recovery T) where
           (i : ℕ) → IsOneOf (Yes i owner) (set_acts_of p events ++ set_acts es) ⊎ IsOneOf (Sees i) (acts_of p events ++ acts es)
           → (IsOneOf (Yes i owner) (set_acts_of p events) ⊎ WasShown p i events) ⊎ New i
 
+      -- what a recovery knows after a step, from what it knew, what it has come past, and what
+      -- it was told or shown in it
       pub recs : (k k' : ℕ) (Was Now New But But' : ℕ → Type 0) → Recovers code c owner k Was But (sees_now scene)
           → AskedBelow code c owner k' (then_sees scene ask back scene.states y es) → Told New
           → ((i : ℕ) → Was i → (filled_of i (events ++ es) ≢ Some owner) ⊎ Now i)
@@ -162,6 +168,8 @@ module _ {T : Type 0} (recovery : Recovery T) where
           (since_then scene ask) (changes_then scene ask) (backs_then scene back) es fresh
           (set_acts_more scene start here.span es own longer) (acts_more scene start here.span es own longer) goes k h
 
+      -- a recovery has come to one index more, if it need not free it, or has asked about it,
+      -- or was shown it
       pub asked_more : (k : ℕ) → AskedBelow code c owner k (sees_now scene)
           → (HeldThroughout p (StillToFree p owner k) (events ++ es)
           → IsOneOf (Asks k owner) (set_acts_of p (events ++ es)) ⊎ WasShown p k (events ++ es))
@@ -195,6 +203,8 @@ module _ {T : Type 0} (recovery : Recovery T) where
         (paid : backs_then scene back + since_then scene ask ≤ changes_then scene ask)
         (rec : (y : Party T) → Recovers code c owner (index + 1) none none (then_sees scene ask back scene.states y es))
         (fill : FilledBut (IsWorn scene.terms.by (words_after ws ask)) mode p owner NoIndex (events ++ es)) where
+      -- a recovery that has come past an index goes on to the next one, or to the counter
+      -- behind the last
       pub comes_to_next : ShowsThen scene start ask back scene.states es (as_recover room (recover_comes_to first (index + 1)))
       comes_to_next =
           on_bool (λ b. ShowsThen scene start ask back scene.states es

@@ -96,6 +96,8 @@ module _ {T : Type 0} (recovery : Recovery T) where
         none none h (asked_on recovery room stage here ask back y [] tt tt none_lengthens goes k h.asked)
         (told_none recovery room stage here) (λ i e. absurd e) (λ i e. absurd e) (hidden_still recovery room stage here ask y h.hidden)
 
+    -- a recovery that has asked about an index, or was shown it, or need not free it, has come
+    -- past it
     calm_recs_more : (y : Party T) (k : ℕ) → Recovers code c owner k none none (sees_now scene)
         → (HeldThroughout p (StillToFree p owner k) (events ++ [])
         → IsOneOf (Asks k owner) (set_acts_of p (events ++ [])) ⊎ WasShown p k (events ++ []))
@@ -106,6 +108,8 @@ module _ {T : Type 0} (recovery : Recovery T) where
         none none none h (asked_more recovery room stage here ask back y [] tt tt none_lengthens goes k h.asked now)
         (told_none recovery room stage here) (λ i e. absurd e) (λ i e. absurd e) (hidden_still recovery room stage here ask y h.hidden)
 
+    -- a recovery goes on from a step that changes and writes nothing, where the next stage's
+    -- conditions hold
     pub calm_on : (room' : buffers.Buffer 128) (next : RecoverStage)
         → steps + step_count ask ≤ recover_number c z mode next (backs_then scene back)
         → RecoverAt c z (all scene ++ []) (done scene ++ []) owner mode next
@@ -118,6 +122,8 @@ module _ {T : Type 0} (recovery : Recovery T) where
         (right_none (words_after ws ask) y) refl)
         tt few at known
 
+    -- a step that changes and writes nothing brings a recovery to the next index, or to its
+    -- last steps
     pub calm_next : (index : ℕ)
         → steps + step_count ask ≤ 1 + (index + 1) * for_index c z mode + backs_then scene back * for_back c z mode
         → Course index index ⊎ Course index (index + 1)
@@ -144,6 +150,8 @@ module _ {T : Type 0} (recovery : Recovery T) where
     nothing_freed : HasHidden code c p owner none (before scene)
     nothing_freed holds i was = absurd (no_more was.before (Frees i owner) was.after (sym at.0 ∙ was.is))
 
+    -- the step in which a recovery loads the counter leads on: it ends locked, or goes to the
+    -- first index
     pub counter_step : StepOf scene (Recover owner mode) (recover_at c owner mode room recovers.LoadsCounter)
     counter_step =
         on_bool (λ b. Leads scene (Recover owner mode) (Some (set_stages.loads 0)) false scene.states []
@@ -170,6 +178,8 @@ module _ {T : Type 0} (recovery : Recovery T) where
         paid_on : backs_then scene false + since_then scene (Some (set_stages.loads 0)) ≤ changes_then scene (Some (set_stages.loads 0))
         paid_on = let paid = k.0 in omega arith
 
+        -- with an unlocked counter the recovery goes to the first index, or to its last steps
+        -- if there is none
         next : counter_of ws ≢ locked → (b : Bool) → nat_lt 0 c ≡ b
             → Becomes (Some (set_stages.loads 0)) false [] room (GoOn (record (first recovery) {
               stage = if b then recovers.LoadsCell 0 else recovers.LoadsCounterAgain;
@@ -216,6 +226,8 @@ module _ {T : Type 0} (recovery : Recovery T) where
         → IsOneOf (Asks index owner) (set_acts_of p (events ++ [])) ⊎ WasShown p index (events ++ [])
     not_to_free = grind (arith, append-nil, through_now)
 
+    -- the step in which a recovery loads a cell leads on: to the number of the element if it
+    -- has the owner, and else to the next index
     pub cell_step : StepOf scene (Recover owner mode) (recover_at c owner mode room (recovers.LoadsCell index))
     cell_step =
         on_bool (λ b. Leads scene (Recover owner mode) (Some (set_stages.loads (cell_word index))) false scene.states []
@@ -341,6 +353,8 @@ module _ {T : Type 0} (recovery : Recovery T) where
         ((if is_even number then Shown p index ∷ [] else []) ++ []) (as_recover recovery room (recover_sees (first recovery) index number))
     sees_number = grind (arith, is_shown, is_copied)
 
+  -- the step in which a recovery loads the number of an element leads on: to its words under an
+  -- odd one, and else to the cell
   pub count_step : (room : buffers.Buffer 128) (index : ℕ)
       (here : Here room (recovers.LoadsCount index)) (long : IsLong room) (course : Course index index)
       (k : RecoverKnows code c owner mode room (recovers.LoadsCount index) (sees_now scene))

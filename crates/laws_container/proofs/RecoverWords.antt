@@ -108,6 +108,8 @@ module _ {T : Type 0} (recovery : Recovery T) where
               (ap (λ w. count_at c w index) same_words) (fold-append (filled_after index) None events []) k.4,
         )
 
+    -- the step in which a recovery loads a word leads on, to the next word or to the check of
+    -- the number
     pub word_step : StepOf scene (Recover owner mode) (recover_at c owner mode room (recovers.LoadsWord index count at))
     word_step =
         on_bool (λ b. Leads scene (Recover owner mode) (Some (set_stages.loads (element_word c z index at))) false
@@ -248,6 +250,8 @@ module _ {T : Type 0} (recovery : Recovery T) where
               (λ i e. e) f,
         )
 
+    -- the step in which a recovery checks the number leads on: it asks under the same number,
+    -- and else begins anew at the number that it finds
     pub check_step : StepOf scene (Recover owner mode) (recover_at c owner mode room (recovers.ChecksCount index count))
     check_step =
         on_bool (λ b. Leads scene (Recover owner mode) (Some (exchanges (count_word c index) count count)) (not b)
@@ -280,6 +284,7 @@ module _ {T : Type 0} (recovery : Recovery T) where
     paid_now : backs_then scene false + since_then scene None ≤ changes_then scene None
     paid_now = let paid = k.0 in omega arith
 
+    -- a recovery that is told yes goes on to empty the cell
     says_yes : Goes None false telling room (recovers.EmptiesCell index count)
     says_yes =
         let y = then_at recovery room (recovers.Asks index count) here room (recovers.EmptiesCell index count) None false in

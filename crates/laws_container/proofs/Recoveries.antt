@@ -57,6 +57,7 @@ module _ {T : Type 0} where
 
 -- ---- what it knows
 
+-- `c` is the capacity, and `v` what the party sees before its turn
 module _ {T : Type 0} (code : Coding T) (c owner : ℕ) (v : View T) (words' : List ℕ)
     (states' : List (ℕ × ContainerState T)) (latest' : List (ℕ × Party T)) (since' changes' backs' : ℕ)
     (es : List (Event T)) (none : BeginsNone v.party es)
@@ -69,6 +70,7 @@ module _ {T : Type 0} (code : Coding T) (c owner : ℕ) (v : View T) (words' : L
   abbrev events : List (Event T)
   events = v.events
 
+  -- what the party sees after the turn
   abbrev pub then_view : View T
   then_view =
       record {
@@ -107,6 +109,8 @@ module _ {T : Type 0} (code : Coding T) (c owner : ℕ) (v : View T) (words' : L
       → ((i : ℕ) → New i → (filled_of i (v.events ++ es) ≢ Some owner) ⊎ Now i) → GoneBut code c owner Now then_view
   gone_then = grind (arith, inl, stays_lost, honest_less, inr)
 
+  -- what a recovery knows after a turn, from what it knew, how far it has come, and what it was
+  -- told or shown in it
   pub recovers_then : (k k' : ℕ) (Was Now New But But' : ℕ → Type 0) → Recovers code c owner k Was But v
       → AskedBelow code c owner k' then_view → SplitsTold New
       → ((i : ℕ) → Was i → (filled_of i (v.events ++ es) ≢ Some owner) ⊎ Now i)

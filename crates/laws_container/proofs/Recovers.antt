@@ -88,6 +88,8 @@ module _ {T : Type 0} (recovery : Recovery T) where
           (fill_stays recovery ask stays (λ i. i ≡ index) f, tt),
         )
 
+    -- the step in which a recovery raises the counter leads on: to the lock in its mode, or to
+    -- the next index
     pub raises_step : raises_to (Some (raise_ask raise)) (raise_goes_back raise (counter_of ws)) (raise_after raise (counter_of ws))
     raises_step =
         let one = back_at_least c z mode in
@@ -157,6 +159,7 @@ module _ {T : Type 0} (recovery : Recovery T) where
     abbrev Says : ℕ → ℕ → Type 0
     Says = FoundFilled p events
 
+    -- a lock that finds an index filled finds it so after all that the recovery has freed
     said : IsSaid (of_set scene) (inv_of_set scene inv) Says
     said =
         record {
@@ -172,6 +175,7 @@ module _ {T : Type 0} (recovery : Recovery T) where
     abbrev locking : List (Event T)
     locking = Locked p ∷ []
 
+    -- a recovery that sets the counter to locked goes on to count its change
     locks_set : (ask : Option Ask) → (IsCalm scene.terms.by events → (i : ℕ) → holder_of i events ≡ None)
         → counter_of ws < greatest → words_after ws ask ≡ set ws 0 locked
         → backs_then scene false + since_then scene ask ≤ changes_then scene ask
@@ -204,6 +208,7 @@ module _ {T : Type 0} (recovery : Recovery T) where
         k.1.hidden))
         (filled_locked p owner (IsWorn scene.terms.by (words_after ws ask)) mode NoIndex (events ++ locking) (fold-append locked_after false events locking))
 
+    -- the step of a lock in a recovery shows what it has to
     pub locks_step : locks_to (Some (lock_ask lock)) (lock_goes_back lock (old_of ws (Some (lock_ask lock))))
         (locked_by p lock (old_of ws (Some (lock_ask lock)))) (lock_after c lock (old_of ws (Some (lock_ask lock))))
     locks_step =

@@ -52,6 +52,7 @@ module _ {T : Type 0} (removing : Removing T) where
     abbrev number : ℕ
     number = count_in code c (before scene) index
 
+    -- the step in which a remove loads the number of the element leads to the release
     loads_step : StepOf scene start (at_stage removes.LoadsCount)
     loads_step =
         let next = removes.Releases number releases.EmptiesCell in
@@ -69,6 +70,7 @@ module _ {T : Type 0} (removing : Removing T) where
 module _ {T : Type 0} (scene : Scene T) (inv : Inv scene) (index owner : ℕ) (mode : ReleaseMode) (fits : owner < empty) (acts : ActsFor scene owner) where
   open scene use {coding as code, capacity as c, party as p, steps as steps, backs as backs, events as events}
 
+  -- what a step of a remove at this stage shows, whose index is placed so
   abbrev Moves : RemoveStage → ℕ → Type 0
   Moves stage at =
       IsHere scene (Remove index owner mode) (remove_at c at owner mode stage)
@@ -97,6 +99,7 @@ module _ {T : Type 0} (scene : Scene T) (inv : Inv scene) (index owner : ℕ) (m
       ((refl, refused_done T index owner mode (all scene) (done scene) none), tt)
       (let most = total_is c code.size index owner mode (backs + 0) T in omega arith) (omega arith)
 
+  -- the remove, where its index is one of the container
   abbrev now : index < c → Removing T
   now below =
       record {
@@ -110,6 +113,8 @@ module _ {T : Type 0} (scene : Scene T) (inv : Inv scene) (index owner : ℕ) (m
         below = below;
       }
 
+  -- any step of a remove that stands at a stage, and knows what the stage tells, shows what it
+  -- has to
   pub remove_step : (stage : RemoveStage) → RemoveAt c code.size (all scene) (done scene) index owner mode stage → Moves stage (place_of c index)
   remove_step removes.Refuses at = past (place_of c index) at.0 at.1
   remove_step removes.LoadsCount at =

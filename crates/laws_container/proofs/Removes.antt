@@ -104,6 +104,8 @@ module _ {T : Type 0} (removing : Removing T) where
 
   -- ---- a step on the counter, or none, that writes nothing
 
+  -- a step of a remove that owes nothing, which leaves all words but the counter and writes
+  -- nothing, keeps what holds of the machine
   stays_does : (stage : RemoveStage) → Here stage → (words' : List ℕ) → set_effects.Stays (of_set scene) words'
       → (y : Party T) → remove_owes stage ≡ false → Does scene words' scene.states y []
   stays_does stage here words' stays y owes =
@@ -115,6 +117,8 @@ module _ {T : Type 0} (removing : Removing T) where
       (set_effects.quietly (of_set scene) (inv_of_set scene inv) words' [] stays.leaves set_effects.quiet_none tt tt tt)
       (right_none scene inv start (at_stage stage) tt here y words')
 
+  -- a remove goes on from a step that leaves all words but the counter, and writes nothing,
+  -- where the next stage's conditions hold
   pub stays_on : (stage next : RemoveStage) → Here stage → remove_owes stage ≡ false → (ask : Option Ask) (back : Bool)
       → set_effects.Stays (of_set scene) (words_after ws ask)
       → steps + step_count ask ≤ remove_number c index owner mode next (backs_then scene back)
@@ -189,6 +193,8 @@ module _ {T : Type 0} (removing : Removing T) where
     has_left : all scene ≡ Frees index owner ∷ [] → HasLeft code c index count (sees_now scene)
     has_left freed = grind arith
 
+    -- over a step that leaves all words but the counter, the release knows at its next stage
+    -- what was left at the index
     left_next : (next : ReleaseStage) (ask : Option Ask) (back : Bool)
         → set_effects.Stays (of_set scene) (words_after ws ask) → ReleaseAt c index owner mode (all scene) next
         → ReleaseLeft code c index count next (SeesCalmly (removes.Releases count next) ask back)
@@ -197,6 +203,7 @@ module _ {T : Type 0} (removing : Removing T) where
         same : count_at c (words_after ws ask) index ≡ count_in code c (before scene) index
         same = stays.others (count_word c index) (omega arith)
 
+        -- after such a step the number at the index is no lower than the one that was loaded
         low : (s : ReleaseStage) → ReleaseAt c index owner mode (all scene) s
             → ReleaseLeft code c index count s (sees_now scene) → Keeps scene.terms
             → count ≤ count_at c (words_after ws ask) index
@@ -216,6 +223,8 @@ module _ {T : Type 0} (removing : Removing T) where
     stands_still : all scene ≡ Frees index owner ∷ [] → HasHidden code c p owner (StillStands code c index count (before scene)) (before scene)
     stands_still freed = grind arith
 
+    -- over a step that leaves all words but the counter, the release knows at its next stage
+    -- what it knew of the element that stood there
     hides_next : (next : ReleaseStage) (ask : Option Ask) (back : Bool)
         → set_effects.Stays (of_set scene) (words_after ws ask) → ReleaseAt c index owner mode (all scene) next
         → ReleaseHides code c index owner count next (SeesCalmly (removes.Releases count next) ask back)
@@ -337,6 +346,7 @@ module _ {T : Type 0} (removing : Removing T) where
         set_does : set_invariant.Does (of_set scene) (words_after ws ask) (Locked p ∷ [])
         set_does = set_locks.locks (of_set scene) (inv_of_set scene inv) (words_after ws ask) [] set_effects.quiet_none tt tt tt nobody less new
 
+        -- for the machine the lock does what locking the set does
         does : (y : Party T) → Does scene (words_after ws ask) scene.states y (Locked p ∷ [])
         does y =
             locks scene inv start (at_stage this) tt here y (words_after ws ask)
@@ -353,6 +363,7 @@ module _ {T : Type 0} (removing : Removing T) where
         says : is_locked (events ++ Locked p ∷ []) ≡ true
         says = fold-append locked_after false events (Locked p ∷ [])
 
+        -- after the lock, what was left at the index is left still
         left_then : (y : Party T) → HasLeft code c index count (then_sees scene ask false scene.states y (Locked p ∷ []))
         left_then y =
             let h = has_left freed in
@@ -372,6 +383,7 @@ module _ {T : Type 0} (removing : Removing T) where
         frees_none : (i : ℕ) → IsOneOf (Frees i owner) (all scene ++ Locks ∷ []) → IsOneOf (Frees i owner) (all scene)
         frees_none i was = ⊎_elim (λ had. had) (λ e. absurd (cc)) (was_one (Frees i owner) Locks (all scene) was)
 
+        -- after the lock, what stood there under the number stands, or has been hidden
         stands_then : (y : Party T)
             → HasHidden code c p owner
             (StillStands code c index count (after scene (words_after ws ask) y (Locked p ∷ [])))
@@ -381,6 +393,8 @@ module _ {T : Type 0} (removing : Removing T) where
             (rest_set scene inv start (at_stage this) tt here y (words_after ws ask) 0 locked (omega arith) new (count_word c index) (omega arith))
             (fold-append (contents_after index) None events (Locked p ∷ [])) (stands_still freed)
 
+    -- what the release of the set leads to, in a remove that goes on: each of its steps, and
+    -- each of its ends
     caller : Caller (of_set scene) (inv_of_set scene inv) index owner mode fits below lives began 1 Lead
     caller =
         record {

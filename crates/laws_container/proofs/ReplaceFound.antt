@@ -84,6 +84,7 @@ module _ {T : Type 0} (replacing : Replacing T) where
     nobody_else : {A : Type 0} → WellFormed (before scene) → (q : ℕ) → q ≢ p → (o : ℕ) → IsWriter q i o events → A
     nobody_else = grind (arith, one_writer, mine)
 
+    -- a replace that has found its owner knows so after a step that writes nothing
     knows_calm : (stage next : ReplaceStage) → Here stage → (ask : Ask) → ReplaceKnows c index owner value (SeesCalmly next ask)
     knows_calm stage next here ask =
         record {
@@ -99,6 +100,7 @@ module _ {T : Type 0} (replacing : Replacing T) where
     module _ (es : List (Event T)) (own : AreOwn p es) (none : BeginsNone p es) (longer : Lengthens es)
         (settled : (o : Option ℕ) → fold (settled_after i) o es ≡ o)
         (replacer : (o : Option ℕ) → fold (replacer_after i owner) o es ≡ o) where
+      -- after such events the replace owns the index as before
       owns_then : ReplaceOwns scene.terms.by p index owner (events ++ es)
       owns_then calm lives may =
           let h =
@@ -109,6 +111,7 @@ module _ {T : Type 0} (replacing : Replacing T) where
             latest = fold-append (replacer_after i owner) None events es ∙ (replacer _ ∙ h.latest);
           }
 
+      -- after such events the replace knows of the index what it knew
       knows_then : (stage next : ReplaceStage) → Here stage → (ask : Ask)
           → ReplaceKnows c index owner value (then_sees scene (Some ask) false scene.states (then_at next (Some ask)) es)
       knows_then stage next here ask =
@@ -121,6 +124,8 @@ module _ {T : Type 0} (replacing : Replacing T) where
             filled = held_later p (IsFilledWith owner index) events es none k.filled;
           }
 
+    -- before its first word a replace has written none of its value, if the number of the
+    -- element is even by then
     first_word : (stage next : ReplaceStage) → Here stage → (ask : Ask) → words_after ws (Some ask) ≡ ws
         → (WellFormed (before scene) → count_in code c (before scene) i % 2 ≡ 0)
         → Writes code c owner i value 0 (SeesCalmly next ask)
@@ -145,6 +150,7 @@ module _ {T : Type 0} (replacing : Replacing T) where
       abbrev number : ℕ
       number = count_in code c (before scene) i
 
+      -- the step in which a replace loads the number of the element shows what it has to
       count_step : StepOf scene start (at_stage replaces.LoadsCount)
       count_step =
           on_bool (λ b. Leads scene start (Some (set_stages.loads (count_word c i))) false scene.states []
@@ -176,6 +182,8 @@ module _ {T : Type 0} (replacing : Replacing T) where
       abbrev now_at : ℕ
       now_at = count_in code c (before scene) i
 
+      -- the step in which a replace hides what stands there shows what it has to, whether it
+      -- finds the number or another
       hide_step : StepOf scene start (at_stage (replaces.Hides count))
       hide_step =
           on_bool (λ b. Leads scene start (Some (exchanges (count_word c i) count (one_more count))) false scene.states
@@ -230,6 +238,8 @@ module _ {T : Type 0} (replacing : Replacing T) where
       abbrev store_it : Ask
       store_it = stores_to (element_word c code.size i at) (get_or (code.words_of value) at 0)
 
+      -- a store of a word leads to the stage behind it, where the replace knows there what that
+      -- stage asks
       store_to : (next : ReplaceStage) → replace_owes next ≡ true → steps + 1 ≤ replace_number code.size next
           → ReplaceAt c code.size (all scene) (done scene) index next
           → Knows code c (at_stage next) (SeesCalmly next store_it)
@@ -243,6 +253,7 @@ module _ {T : Type 0} (replacing : Replacing T) where
           (λ was. owe))
           few (refl, given_is replacing, fits, stands) known
 
+      -- after a store of a word one word more of the value is written
       one_more_word : (next : ReplaceStage) → Writes code c owner i value (at + 1) (SeesCalmly next store_it)
       one_more_word next =
           record {
@@ -253,6 +264,7 @@ module _ {T : Type 0} (replacing : Replacing T) where
                 (w.has before_it (acts.stays before_it.kept));
           }
 
+      -- the step in which a replace stores a word leads on, to the next word or to the placing
       store_step : StepOf scene start (at_stage (replaces.Stores at))
       store_step =
           on_bool (λ b. Leads scene start (Some (stores_to (element_word c code.size i at) (get_or (code.words_of value) at 0)))
@@ -291,6 +303,7 @@ module _ {T : Type 0} (replacing : Replacing T) where
       new : words_after ws (Some add_it) ≡ set ws (count_word c i) (one_more count_now)
       new = adds_to_count scene inv i below
 
+      -- the step in which a replace makes the number odd places the value
       place_step : StepOf scene start (at_stage replaces.AddsCount)
       place_step =
           on_bool (λ b. Leads scene start (Some (adds_one (count_word c i))) false scene.states
@@ -340,6 +353,7 @@ module _ {T : Type 0} (replacing : Replacing T) where
       abbrev end_it : Ask
       end_it = adds_one (change_word c)
 
+      -- the step in which a replace counts the change ends it
       end_step : StepOf scene start (at_stage replaces.AddsChange)
       end_step =
           let y = party_then scene start (Some end_it) false (Done answers.Done) in
@@ -394,6 +408,7 @@ module _ {T : Type 0} (scene : Scene T) (inv : Inv scene) (index : ℕ) (value :
       (inl past) well_formed (λ holds. tt) refl (λ i b. refl) (owes_none scene start (replace_at c at value owner replaces.Refuses) y here refl))
       ((refl, (none_done, nothing)), tt) (omega arith) (omega arith)
 
+  -- the replace, where its index is one of the container and it has done nothing to the set
   abbrev now : index < c → all scene ≡ [] → Replacing T
   now below none_done =
       record {
@@ -408,6 +423,8 @@ module _ {T : Type 0} (scene : Scene T) (inv : Inv scene) (index : ℕ) (value :
         none_done = none_done;
       }
 
+  -- any step of a replace that stands at a stage, and knows what the stage tells, shows what it
+  -- has to
   pub replace_step : (stage : ReplaceStage) → ReplaceAt c code.size (all scene) (done scene) index stage → Moves stage (place_of c index)
   replace_step replaces.Refuses at = refuses (place_of c index) at.0 at.1 at.2
   replace_step replaces.LoadsCell at =

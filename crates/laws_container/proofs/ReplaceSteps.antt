@@ -117,6 +117,8 @@ module _ {T : Type 0} (replacing : Replacing T) where
         span = span_of-own p events es own ∙ (ap (λ s. fold own_after s es) here.span ∙ longer start (wrote_of p events));
       }
 
+  -- after a step that writes nothing the party's call is still this replace, which has taken a
+  -- step
   pub found_calm : (stage next : ReplaceStage) → Here stage → (ask : Ask)
       → HasFound index owner value
       (view scene.terms (words_after ws (Some ask)) scene.states (put p (then_at next (Some ask)) latest) events p
@@ -137,6 +139,8 @@ module _ {T : Type 0} (replacing : Replacing T) where
       view scene.terms (words_after ws (Some ask)) scene.states (put p (then_at next (Some ask)) latest) events p
       (since_then scene (Some ask)) (changes_then scene (Some ask)) (backs_then scene false)
 
+  -- a step that leaves the words and writes nothing leads a replace to its next stage, where
+  -- the conditions of that stage hold
   pub calm_step : (stage next : ReplaceStage) (ask : Ask) → words_after ws (Some ask) ≡ ws → Here stage
       → HeldSometime p (IsFilledWith owner index) events → replace_owes next ≡ true
       → steps + 1 ≤ replace_number code.size next → ReplaceAt c code.size (all scene) (done scene) index next
@@ -156,6 +160,7 @@ module _ {T : Type 0} (replacing : Replacing T) where
     abbrev load_cell : Ask
     load_cell = set_stages.loads (cell_word index)
 
+    -- a replace that does not find its owner in the cell ends with its refusal
     fails : cell ws index ≢ owner → Leads scene start (Some load_cell) false scene.states [] (Done (answers.NotRemoved ContainerHandleNotOwnedByContainer))
     fails other =
         let y = party_then scene start (Some load_cell) false (Done (answers.NotRemoved ContainerHandleNotOwnedByContainer)) in
@@ -179,6 +184,7 @@ module _ {T : Type 0} (replacing : Replacing T) where
     found_now : cell ws index ≡ owner → HeldSometime p (IsFilledWith owner index) events
     found_now = grind (arith, held_now, filled_by, inv_of_set)
 
+    -- a replace that finds its owner in the cell goes on to the number of the element
     finds : cell ws index ≡ owner → Leads scene start (Some load_cell) false scene.states [] (GoOn (at_stage replaces.LoadsCount))
     finds is =
         calm_step replaces.LoadsCell replaces.LoadsCount load_cell
@@ -191,6 +197,8 @@ module _ {T : Type 0} (replacing : Replacing T) where
           filled = found_now is;
         })
 
+    -- the step in which a replace loads the cell shows what it has to, whether it finds its
+    -- owner or not
     pub cell_step : StepOf scene start (at_stage replaces.LoadsCell)
     cell_step =
         on_bool (λ b. Leads scene start (Some (set_stages.loads (cell_word index))) false scene.states []

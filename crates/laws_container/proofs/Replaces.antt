@@ -16,6 +16,7 @@ module _ {T : Type 0} where
 
   -- ---- it begins
 
+  -- a replace has its right as it begins
   pub replace_begun : (by : GoneBy) (p i o : ℕ) (value : T) (events : List (Event T))
       → ReplaceOwns by p i o (events ++ Begun p (Container (Replace i value o)) ∷ [])
   replace_begun by p i o value events calm alive may =
@@ -31,6 +32,8 @@ module _ {T : Type 0} where
 
   -- ---- another party takes a turn
 
+  -- where no event begins to give back or replace at the index for its owner, no later one of
+  -- them does
   none_takes_last : (i o : ℕ) (since es : List (Event T)) → NoneTakes i o (since ++ es) → NoneTakes i o es
   none_takes_last i o [] es h = h
   none_takes_last i o (e ∷ rest) es h = none_takes_last i o rest es h.1
@@ -44,6 +47,8 @@ module _ {T : Type 0} where
   none_takes_first i o [] es h = tt
   none_takes_first i o (e ∷ rest) es h = (h.0, none_takes_first i o rest es h.1)
 
+  -- a replace that may replace after events that begin none of its party might do so before
+  -- them, and none of them begins to give back or replace there for its owner
   pub earlier : (p i o : ℕ) (events es : List (Event T)) → BeginsNone p es → MayReplace p i o (events ++ es) → Earlier p i o events es
   earlier p i o events es none may =
       let k =

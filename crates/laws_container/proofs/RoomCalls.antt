@@ -48,6 +48,7 @@ module _ (size c : ℕ) where
   abbrev pub each : ℕ
   each = size - 1 + 8 + (c - 1 + 3)
 
+  -- a remove, in either mode
   abbrev pub remove_own : ℕ → RemoveStage → ℕ
   remove_own now removes.Refuses = 0
   remove_own now removes.LoadsCount = c - 1 + 8
@@ -55,6 +56,7 @@ module _ (size c : ℕ) where
   remove_own now (removes.Hides count state) = 1
   remove_own now (removes.AddsChange state) = 0
 
+  -- a recovery, in either mode
   abbrev pub recover_own : List ℕ → RecoverStage → ℕ
   recover_own words recovers.LoadsCounter = behind size c each 0 + (each + 2)
   recover_own words (recovers.LoadsCell index) = behind size c each index + (each + 1)
@@ -96,6 +98,7 @@ RemoveAt (removes.Releases count stage) = ReleaseAt stage
 RemoveAt (removes.Hides count state) = is_even count ≡ false
 RemoveAt stage = Unit {0}
 
+-- a recovery within the indices, which hides under an odd number
 abbrev pub RecoverAt : ℕ → RecoverStage → Type 0
 RecoverAt c (recovers.LoadsCell index) = index < c
 RecoverAt c (recovers.LoadsCount index) = index < c
@@ -108,6 +111,7 @@ RecoverAt c (recovers.Raises index raise) = RaiseAt raise
 RecoverAt c (recovers.Locks index lock) = LockAt lock
 RecoverAt c stage = Unit {0}
 
+-- any call of the container, in either mode
 abbrev pub CallAt : {T : Type 0} → ℕ → ContainerFlight T → Type 0
 CallAt c (calls.Add run) = CallStands c (calls.Add run) × AddAt run.call.stage
 CallAt c (calls.Remove run) = (run.call.capacity ≡ c) × (run.given.index ≤ c) × RemoveAt run.call.stage
@@ -135,6 +139,7 @@ module _ {T : Type 0} where
   AtAny code c (starts.Container start) (flights.Container flight) = CallAt c flight
   AtAny code c start flight = ⊥
 
+  -- all calls of a container, with this measure, as the frame of lock-freedom asks it
   abbrev pub room_outline : Outline T
   room_outline =
       record {
@@ -155,6 +160,8 @@ module _ {T : Type 0} (size c : ℕ) (old new : List ℕ) (same : get_or new 0 0
         let here = none (flights.Container (look_at look_of.GetState c (looks.ChecksCount index count))) in
         omega arith
 
+    -- where the counter stays and no copy takes more steps to be made again, a recovery has no
+    -- more own steps
     recover_fewer : (stage : RecoverStage) → recover_own size c new stage ≤ recover_own size c old stage
     recover_fewer (recovers.LoadsWord index count at) = let here = fewer index count in omega arith
     recover_fewer (recovers.ChecksCount index count) = let here = fewer index count in omega arith
@@ -162,6 +169,8 @@ module _ {T : Type 0} (size c : ℕ) (old new : List ℕ) (same : get_or new 0 0
     recover_fewer (recovers.Locks index lock) = rw same (omega arith)
     recover_fewer stage = omega arith
 
+    -- where the counter stays and no copy takes more steps to be made again, no call has more
+    -- own steps
     own_fewer : (flight : ContainerFlight T) → call_own size c new flight ≤ call_own size c old flight
     own_fewer (calls.Remove run) = rw same (omega arith)
     own_fewer (calls.Recover run) = recover_fewer run.call.stage
@@ -226,6 +235,7 @@ module _ {T : Type 0} (size c : ℕ) (old new : List ℕ) where
     pub moved_by : room (get_or new 0 0) + 1 ≤ room (get_or old 0 0) → LeavesAll (room_measure {T = T} size c) old new
     moved_by less other = let more = moves less other other in omega arith
 
+    -- a step that takes one of its own, or leaves the counter less room, falls by the measure
     pub to_falls : (steps s : ℕ) (was : ContainerFlight T) (a : After (ContainerFlight T) (Answer T)) → s ≤ steps → steps ≤ 1
         → (get_or new 0 0 ≡ get_or old 0 0 → LeavesAll (measure {T = T} size c) old new) → CallTo steps was a
         → FallsIn (room_measure size c) old new s (flights.Container was) (as_call flights.Container (λ answer. answer) a)

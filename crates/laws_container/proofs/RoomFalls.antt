@@ -78,6 +78,7 @@ module _ {T : Type 0} (code : Coding T) (c : ℕ) (words : List ℕ) where
     abbrev given : GiveBack
     given = record { index = index; owner = owner; mode = mode }
 
+    -- a remove whose release has a step less has one less itself, or the counter has less room
     released : (n' was count : ℕ) (a : After releasing.Release Released) → ReleaseTo c n n' was a → StaysOrMoves c n n'
         → (new : List ℕ) → get_or new 0 0 ≡ n' → (stage : ReleaseStage) → release_left c n stage ≡ was
         → CallTo code.size c words new 1 (remove (removes.Releases count stage))
@@ -104,6 +105,8 @@ module _ {T : Type 0} (code : Coding T) (c : ℕ) (words : List ℕ) where
     release_leaves_none (releases.Raises raise) same = raise_none code.size c words raise same
     release_leaves_none (releases.Locks lock) same = lock_none code.size c words lock same
 
+    -- each step of a remove, in either mode, takes one of its own or leaves the counter less
+    -- room, and costs the others nothing where the counter stays
     pub remove_owes : (some : 0 < length words) (stage : RemoveStage) → RemoveAt stage → Owes None 1 (remove stage)
     remove_owes some removes.Refuses at = (tt, λ same other. omega arith)
     remove_owes some removes.LoadsCount at =
@@ -176,6 +179,8 @@ module _ {T : Type 0} (code : Coding T) (c : ℕ) (words : List ℕ) where
         within : nat_lt index c ≡ true
         within = grind (arith, nat_tests)
 
+    -- a recovery whose raise of the counter has a step less has one less itself, or the counter
+    -- has less room
     raised : (n' index : ℕ) (raise : raises.Raise) (a : After raises.Raise ReleaseState) → RaiseTo c n n' raise a → (new : List ℕ) → get_or new 0 0 ≡ n'
         → To new 1 (recovers.Raises index raise) (becomes room (recover_raised (at_stage (recovers.Raises index raise)) index mode a))
     raised n' index raise (GoOn next) h new is = (inl (is ∙ h.0, (let le = h.1 in omega arith)), omega arith)
@@ -183,6 +188,8 @@ module _ {T : Type 0} (code : Coding T) (c : ℕ) (words : List ℕ) where
     raised n' index raise (Done states.Locked) (inr h) new is = (inr (rw is h), omega arith)
     raised n' index raise (Done states.Unlocked) h new is = by_mode mode h
       where
+        -- a recovery whose raise has ended, and that locks in the mode for that alone, has a
+        -- step less, or the counter has less room
         by_mode : (m : ReleaseMode) → StaysOrMoves c n n'
             → To new 1 (recovers.Raises index raise)
             (becomes room (recover_raised (at_stage (recovers.Raises index raise)) index m (Done states.Unlocked)))
@@ -191,6 +198,7 @@ module _ {T : Type 0} (code : Coding T) (c : ℕ) (words : List ℕ) where
         by_mode LockIfLastIndex (inl h) = (inl (is ∙ h, omega arith), omega arith)
         by_mode LockIfLastIndex (inr h) = (inr (rw is h), omega arith)
 
+    -- a recovery whose lock has a step less has one less itself, or the counter has less room
     lock_goes : (n' index : ℕ) (lock : locks.Lock) (a : After locks.Lock ReleaseState) → LockTo c n n' lock a → (new : List ℕ) → get_or new 0 0 ≡ n'
         → To new 1 (recovers.Locks index lock) (becomes room (recover_locked (at_stage (recovers.Locks index lock)) index a))
     lock_goes n' index lock (GoOn next) (inl h) new is = (inl (is ∙ h.0, (let le = h.1 in omega arith)), omega arith)
@@ -203,6 +211,7 @@ module _ {T : Type 0} (code : Coding T) (c : ℕ) (words : List ℕ) where
     Steps new stage = To new (recover_steps stage) stage (after code None (recover stage) (old_of words (ask_of (want code (recover stage)))))
 
     module _ (new : List ℕ) (same : get_or new 0 0 ≡ n) where
+      -- a recovery has a step less after the load of the counter
       counter_goes : Steps new recovers.LoadsCounter
       counter_goes = go (n == locked) refl (nat_lt 0 c) refl
         where
@@ -217,6 +226,7 @@ module _ {T : Type 0} (code : Coding T) (c : ℕ) (words : List ℕ) where
           (λ t. rw t (inl (same, omega arith), omega arith))
           (λ t. rw t (comes new 1 index room (recovers.LoadsCell index) (inl same) (omega arith)))
 
+      -- a recovery has a step less after the load of a word
       word_goes : (index count at : ℕ) → Steps new (recovers.LoadsWord index count at)
       word_goes index count at =
           by_bool (nat_lt (at + 1) code.size)
@@ -225,6 +235,7 @@ module _ {T : Type 0} (code : Coding T) (c : ℕ) (words : List ℕ) where
           rw t (inl (same, omega arith), omega arith))
           (λ t. rw t (inl (same, omega arith), omega arith))
 
+      -- a recovery has a step less after the check of the number
       check_goes : (index count : ℕ) → index < c → Steps new (recovers.ChecksCount index count)
       check_goes index count inside = go (stands_at index == count) refl (is_even (stands_at index)) refl
         where
@@ -237,6 +248,7 @@ module _ {T : Type 0} (code : Coding T) (c : ℕ) (words : List ℕ) where
           go false t true u = rw (t, u) (inl (same, omega arith), omega arith)
           go false t false u = let self = same_is (stands_at index) in rw (t, u) (inl (same, rw (within, t, u, self) (omega arith)), omega arith)
 
+      -- a recovery has a step less after the exchange of the cell
       empties_goes : (index count : ℕ) → Steps new (recovers.EmptiesCell index count)
       empties_goes index count = go (get_or words (cell_word index) 0 == owner) refl (is_even count) refl
         where
@@ -250,6 +262,8 @@ module _ {T : Type 0} (code : Coding T) (c : ℕ) (words : List ℕ) where
     stays : (some : 0 < length words) (stage : RecoverStage) → get_or (then_words (recover stage)) 0 0 ≡ recover_then stage n
     stays some stage = container_leaves code words some (recover stage)
 
+    -- each step of a recovery, in either mode, takes one of its own or leaves the counter less
+    -- room, and costs the others nothing where the counter stays
     pub recover_owes : (some : 0 < length words) (stage : RecoverStage) → RecoverAt c stage → Owes None (recover_steps stage) (recover stage)
     recover_owes some recovers.LoadsCounter at = (
       counter_goes (then_words (recover recovers.LoadsCounter)) (stays some recovers.LoadsCounter),
@@ -277,6 +291,7 @@ module _ {T : Type 0} (code : Coding T) (c : ℕ) (words : List ℕ) where
       λ same. check_none (count_word c index) count,
     )
       where
+        -- an exchange for the same number costs nobody a step
         check_none : (word count : ℕ)
             → LeavesAll (measure {T = T} code.size c) words
             (set words word (cond (get_or words word 0 == count) count (get_or words word 0)))

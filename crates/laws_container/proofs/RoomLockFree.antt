@@ -68,6 +68,8 @@ module _ (c size : ℕ) (some : 1 ≤ c) (wide : 1 ≤ size) (words : List ℕ) 
   all_each : (d e k : ℕ) → (d + 1) * (e + 1) + k ≡ d * e + (e + (d + 1) + k)
   all_each d e k = omega arith
 
+  -- the most own steps of a call are those of each index but one, and those of the last one
+  -- with the capacity and the size, or two if that is more
   owns_is : owns size c ≡ (c - 1) * each_is + (each_is + c + max 2 size)
   owns_is =
       let one : c - 1 + 1 ≡ c = omega arith in
@@ -92,6 +94,7 @@ module _ (c size : ℕ) (some : 1 ≤ c) (wide : 1 ≤ size) (words : List ℕ) 
   few_most : (k : ℕ) → k ≤ each_is + c + max 2 size → k ≤ owns size c
   few_most k end = let all = owns_is in omega arith
 
+  -- a remove has no more own steps than the most of a call
   remove_most : (now : ℕ) (stage : RemoveStage) → remove_own size c now stage ≤ owns size c
   remove_most now removes.Refuses = omega arith
   remove_most now removes.LoadsCount = let max = two in few_most (c - 1 + 8) (omega arith)
@@ -101,6 +104,7 @@ module _ (c size : ℕ) (some : 1 ≤ c) (wide : 1 ≤ size) (words : List ℕ) 
   remove_most now (removes.Hides count state) = few_most 1 (omega arith)
   remove_most now (removes.AddsChange state) = omega arith
 
+  -- a recovery has no more own steps than the most of a call
   recover_most : (stage : RecoverStage) → recover_own size c words stage ≤ owns size c
   recover_most recovers.LoadsCounter = let max = two in ends_most (each_is + 2) _ (behind_most 0) (omega arith)
   recover_most (recovers.LoadsCell index) = let max = two in ends_most (each_is + 1) _ (behind_most index) (omega arith)
@@ -129,6 +133,7 @@ module _ (c size : ℕ) (some : 1 ≤ c) (wide : 1 ≤ size) (words : List ℕ) 
       let less : c * (size + 7) ≤ c * (c + size + 10) = omega arith in
       omega arith
 
+  -- no call of the container has more own steps than the most of a call
   call_most : {T : Type 0} (flight : ContainerFlight T) → call_own size c words flight ≤ owns size c
   call_most {T} (calls.Remove run) = remove_most (get_or words 0 0) run.call.stage
   call_most {T} (calls.Recover run) = recover_most run.call.stage
@@ -163,6 +168,8 @@ module _ {T : Type 0} where
   after_plain = grind arith
 
   module _ (size c : ℕ) where
+    -- a call that may not lock has by its own measure the steps and the places that it has and
+    -- pays by the measure of those that do not lock
     plain_is : (words : List ℕ) (flight : ContainerFlight T) → is_plain flight ≡ true
         → (call_own size c words flight ≡ call_left size c words flight) × (call_places c flight ≡ call_pays c flight)
     plain_is words (calls.Remove run) plain = absurd (cc)
@@ -178,6 +185,8 @@ module _ {T : Type 0} where
       abbrev Falls : WordMeasure T → ℕ → ContainerFlight T → After (ContainerFlight T) (Answer T) → Type 0
       Falls M s was a = FallsIn M old new s (flights.Container was) (as_call flights.Container (λ answer. answer) a)
 
+      -- where the counter stays, or has less room, a call that may not lock falls by the
+      -- measure with room if it falls by the one without
       plain_falls : (s : ℕ) → s ≤ 1 → (was : ContainerFlight T) (a : After (ContainerFlight T) (Answer T)) → is_plain was ≡ true → PlainAfter a
           → StaysOrMoves c (get_or old 0 0) (get_or new 0 0) → Falls (measure size c) s was a → Falls (room_measure size c) s was a
       plain_falls s one was (Done answer) plain then moved h = tt
@@ -249,6 +258,7 @@ module _ {T : Type 0} (code : Coding T) (c : ℕ) (some : 1 ≤ c) (wide : 1 ≤
       FallsIn M words (words_after words (ask_of (want code flight))) (step_count (ask_of (want code flight))) (flights.Container flight)
       (as_call flights.Container (λ answer. answer) (after code state flight (old_of words (ask_of (want code flight)))))
 
+  -- each step of a call that may not lock falls by the measure with room
   plain_shown : (words : List ℕ) → 0 < length words → (p : ℕ) (dead : List ℕ) (states : List (ℕ × ContainerState T)) (flight : ContainerFlight T)
       → CallAt c flight → is_plain flight ≡ true → Known p (in_states code c dead states) (flights.Container flight)
       → Shown words (state_of p states) flight
@@ -258,6 +268,7 @@ module _ {T : Type 0} (code : Coding T) (c : ℕ) (some : 1 ≤ c) (wide : 1 ≤
       (after code (state_of p states) flight (old_of words ask)) plain (after_plain code (state_of p states) flight (old_of words ask) plain)
       (plain_moves words there flight at plain) (call_falls code c words p dead states flight (stands flight at plain) known)
 
+  -- each step of any call of the container falls by the measure with room
   step_falls : (words : List ℕ) → 0 < length words → (p : ℕ) (dead : List ℕ) (states : List (ℕ × ContainerState T)) (flight : ContainerFlight T)
       → CallAt c flight → Known p (in_states code c dead states) (flights.Container flight) → Shown words (state_of p states) flight
   step_falls words there p dead states (calls.Remove run) at known =
@@ -278,6 +289,7 @@ module _ {T : Type 0} (code : Coding T) (c : ℕ) (some : 1 ≤ c) (wide : 1 ≤
       few_steps : (stage : RecoverStage) → recover_steps stage ≤ 1
       few_steps = grind arith
 
+      -- the operation of a recovery's stage takes no more steps than its turn
       asks_few : (stage : RecoverStage)
           → step_count (ask_of (want code (recover_at {T = T} c run.given.owner run.given.mode run.room stage))) ≤ recover_steps stage
       asks_few = grind arith
@@ -312,6 +324,7 @@ module _ {T : Type 0} (code : Coding T) (c : ℕ) (some : 1 ≤ c) (wide : 1 ≤
   no_lock : (lock : locks.Lock) → is_question (lock_want lock) ≡ false
   no_lock = grind arith
 
+  -- a recovery that is told a decision falls, whatever it is told
   recover_decides : (words : List ℕ) (mode : ReleaseMode) (owner : ℕ) (room : buffers.Buffer 128) (stage : RecoverStage)
       → Decided words None (recover_at c owner mode room stage)
   recover_decides words mode owner room (recovers.Asks index count) true due =
@@ -335,6 +348,7 @@ module _ {T : Type 0} (code : Coding T) (c : ℕ) (some : 1 ≤ c) (wide : 1 ≤
   recover_decides words mode owner room recovers.LoadsCounterAgain said due = absurd (cc)
   recover_decides words mode owner room (recovers.AddsChange state) said due = absurd (cc)
 
+  -- any call that is told a decision falls, whatever it is told
   any_decides : (words : List ℕ) (state : Option (ContainerState T)) (flight : ContainerFlight T) → CallAt c flight → Decided words state flight
   any_decides words state (calls.Remove run) at said due = let asks = never_asks code c (calls.Remove run) due in absurd (cc)
   any_decides words state (calls.Recover run) at said due =
@@ -349,6 +363,7 @@ module _ {T : Type 0} (code : Coding T) (c : ℕ) (some : 1 ≤ c) (wide : 1 ≤
 
   -- ---- what it owes
 
+  -- each step of a call that stands at its place on a container's registry falls
   falls : (words : List ℕ) (p : ℕ) (kept : Registry T) (start : Start T) (flight : Flight T) → AtAny code c start flight → Kept kept → Known p kept flight
       → 0 < length words → StepFallsBy M code words p kept flight
   falls words p (registries.Container dead states) (starts.Container start) (flights.Container flight) at held known there =
@@ -356,6 +371,7 @@ module _ {T : Type 0} (code : Coding T) (c : ℕ) (some : 1 ≤ c) (wide : 1 ≤
   falls words p kept (starts.Container start) (flights.Container flight) at held known there = absurd held
   falls words p kept start flight at held known there = absurd at
 
+  -- a decision that such a call is told falls
   decides : (words : List ℕ) (p : ℕ) (kept : Registry T) (start : Start T) (flight : Flight T) (said : Bool) → AtAny code c start flight → Kept kept
       → is_question (want_of code flight) ≡ true → FallsIn M words words 0 flight (goes_of code p flight (number_of said) kept)
   decides words p (registries.Container dead states) (starts.Container start) (flights.Container flight) said at held due =
@@ -367,6 +383,8 @@ module _ {T : Type 0} (code : Coding T) (c : ℕ) (some : 1 ≤ c) (wide : 1 ≤
       → AtAny code c start flight → Kept kept → (step_of code words beside p start flight old kept).after ≡ goes_of code p flight old kept
   told = grind arith
 
+  -- after a step of such a call the registry is a container's, and each party that had a state
+  -- has one
   stays : (words : List ℕ) (beside : Option (ℕ × ℕ)) (p : ℕ) (start : Start T) (flight : Flight T) (old : ℕ) (kept : Registry T)
       → AtAny code c start flight → Kept kept
       → Kept (step_of code words beside p start flight old kept).kept
@@ -381,6 +399,7 @@ module _ {T : Type 0} (code : Coding T) (c : ℕ) (some : 1 ≤ c) (wide : 1 ≤
   own_after start (GoOn flight) h = h
   own_after start (Done answer) h = tt
 
+  -- a call that goes on stands at a place of its name, and its party has a state if it looks
   goes : (p : ℕ) (start : Start T) (flight : Flight T) (old : ℕ) (kept : Registry T) → AtAny code c start flight → Kept kept → Known p kept flight
       → OwnAfter room_outline code c start (goes_of code p flight old kept) × KnownAfter room_outline p kept (goes_of code p flight old kept)
   goes p (starts.Container start) (flights.Container flight) old (registries.Container dead states) at held known = (
@@ -395,6 +414,8 @@ module _ {T : Type 0} (code : Coding T) (c : ℕ) (some : 1 ≤ c) (wide : 1 ≤
       → AtAny code c start flight × ((p : ℕ) → Kept (kept_after_begin code c start p kept))
   begins = grind (arith, first_at)
 
+  -- a call has at most so many steps left as the counter's room allows for, and two places at
+  -- most
   most : (words : List ℕ) (start : Start T) (flight : Flight T) → AtAny code c start flight
       → (room_left code.size c words flight ≤ (2 ^ 64 + 1) * (owns code.size c + 1)) × (places c flight ≤ 2)
   most words start flight at =
@@ -404,6 +425,7 @@ module _ {T : Type 0} (code : Coding T) (c : ℕ) (some : 1 ≤ c) (wide : 1 ≤
         two_places c code.size some wide words flight,
       )
 
+  -- all that is owed for the measure with room holds of the calls of a container
   laws : OwnLaws room_outline code c
   laws =
       record {

@@ -65,6 +65,7 @@ module _ {T : Type 0} (code : Coding T) (c : ℕ) where
   acquired_at : (call : adding.Add T) (a : After acquiring.Acquire Acquired) → AcquireThen c a → AddAfter (add_acquired call a)
   acquired_at = grind arith
 
+  -- an add that goes on from a stage stands at one where it may stand
   add_at_after : (size : ℕ) (call : adding.Add T) (stage : AddStage) (old : ℕ) → call.capacity ≡ c → AddAt stage → AddAfter (add_takes size call stage old)
   add_at_after size call (adds.Acquires stage) old cap at =
       acquired_at call (acquire_takes (inner_acquire call.capacity stage) stage old) (acquire_then_at c (inner_acquire call.capacity stage) stage old cap at)
@@ -90,6 +91,7 @@ module _ {T : Type 0} (code : Coding T) (c : ℕ) where
       → RemoveAfter (remove_released call count a)
   released_at = grind arith
 
+  -- a remove that goes on from a stage stands at one where it may stand
   remove_at_after : (call : removing.Remove) (stage : RemoveStage) (given : GiveBack) (old : ℕ) → call.capacity ≡ c → RemoveAt stage
       → RemoveAfter (remove_takes call stage given old)
   remove_at_after call removes.Refuses given old cap at = tt
@@ -123,6 +125,7 @@ module _ {T : Type 0} (code : Coding T) (c : ℕ) where
       → RecoverAfter (recover_locked call index a)
   locked_at = grind (arith, comes_at)
 
+  -- a recovery that goes on from a stage stands at one where it may stand
   recover_at_after : (size : ℕ) (call : recovering.Recover T (buffers.Buffer 128)) (stage : RecoverStage) (given : DeadOwner) (old : ℕ)
       → call.capacity ≡ c → RecoverAt c stage → RecoverAfter (recover_takes size call stage given old)
   recover_at_after size call recovers.LoadsCounter given old cap at = grind (arith, comes_at)
@@ -154,6 +157,7 @@ module _ {T : Type 0} (code : Coding T) (c : ℕ) where
 
   -- ---- any call
 
+  -- any call that goes on from a place stands at one where it may stand
   pub call_at_after : (state : Option (ContainerState T)) (flight : ContainerFlight T) (old : ℕ) → CallAt c flight → CallAfter (after code state flight old)
   call_at_after state (calls.Add run) old at =
       add_both run.given (add_after code.size run.call old) (call_goes code c state (calls.Add run) old at.0)
@@ -173,6 +177,7 @@ module _ {T : Type 0} (code : Coding T) (c : ℕ) where
   place_within : (index : ℕ) → place_of c index ≤ c
   place_within = grind (arith, nat_tests)
 
+  -- each call begins where it may stand
   pub first_at : (start : ContainerStart T) → CallAt c (first c start)
   first_at (container_starts.Add value owner) = ((refl, tt), tt)
   first_at (container_starts.Remove index owner mode) = (refl, place_within index, go (nat_lt (place_of c index) c))

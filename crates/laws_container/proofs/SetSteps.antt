@@ -37,6 +37,7 @@ module _ {T : Type 0} (scene : Scene T) (inv : Inv scene) (start : ContainerStar
 
   -- an index is filled, or granted, or all is locked
   module _ (words' : List ℕ) (rest : LeavesRest words') (wide : length words' ≡ length ws) where
+    -- filling an index keeps what holds of the machine
     pub fills : (i owner : ℕ) → set_invariant.Does (of_set scene) words' (Filled p i owner ∷ [])
         → (well_formed : WellFormedBefore words' (Filled p i owner ∷ []))
         → OwesStill scene inv words' y (Filled p i owner ∷ []) well_formed
@@ -47,6 +48,7 @@ module _ {T : Type 0} (scene : Scene T) (inv : Inv scene) (start : ContainerStar
         (reads_same scene inv words' y (Filled p i owner ∷ []) well_formed (λ j o. refl) (λ j b. refl) (λ j b. refl)) still) does
         (record { asks = (tt, tt); recovers = (tt, tt); answers = (tt, tt); contains = λ holds. (tt, tt); places = λ holds. (tt, tt) })
 
+    -- granting an index keeps what holds of the machine
     pub grants : (i owner : ℕ) → set_invariant.Does (of_set scene) words' (Granted p i owner ∷ [])
         → (well_formed : WellFormedBefore words' (Granted p i owner ∷ []))
         → OwesStill scene inv words' y (Granted p i owner ∷ []) well_formed
@@ -57,6 +59,7 @@ module _ {T : Type 0} (scene : Scene T) (inv : Inv scene) (start : ContainerStar
         (reads_same scene inv words' y (Granted p i owner ∷ []) well_formed (λ j o. refl) (λ j b. refl) (λ j b. refl)) still) does
         (record { asks = (tt, tt); recovers = (tt, tt); answers = (tt, tt); contains = λ holds. (tt, tt); places = λ holds. (tt, tt) })
 
+    -- locking the set keeps what holds of the machine
     pub locks : set_invariant.Does (of_set scene) words' (Locked p ∷ [])
         → (well_formed : WellFormedBefore words' (Locked p ∷ []))
         → OwesStill scene inv words' y (Locked p ∷ []) well_formed → Does scene words' scene.states y (Locked p ∷ [])
@@ -89,6 +92,8 @@ module _ {T : Type 0} (scene : Scene T) (inv : Inv scene) (start : ContainerStar
       left_on : (j : ℕ) → left_of j events ≡ true → left_of j (events ++ free) ≡ true
       left_on j was = let left = fold-append (left_after j) true events free in grind arith
 
+      -- where another party may write, and nothing is left, nothing is left after the index is
+      -- freed
       spared : WellFormed (after scene words' y free) → (q : ℕ) → q ≢ p → (j o : ℕ)
           → is_gone scene.terms.by o events ≡ false → IsWriter q j o events → left_of j events ≡ false
           → left_of j (events ++ free) ≡ false
@@ -97,6 +102,7 @@ module _ {T : Type 0} (scene : Scene T) (inv : Inv scene) (start : ContainerStar
           (λ other. fold-append (left_after j) true events free ∙ (at_other i j true (left_of j events) other ∙ was))
           (cases_eq j i)
 
+      -- freeing an index, as a party may, keeps what holds of the machine
       pub frees : OwesStill scene inv words' y free well_formed
           → RecoversBy scene.terms.by events (FreedOf p i owner)
           → Does scene words' scene.states y (FreedOf p i owner ∷ [])

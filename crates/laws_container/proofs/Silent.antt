@@ -20,6 +20,7 @@ module _ {T : Type 0} where
   EndsSilently (Replace index value owner) = ⊥
   EndsSilently start = Unit {0}
 
+  -- the events that change nothing of the set nor of what stands
   abbrev pub Silent : Event T → Type 0
   Silent (Asked p index owner) = Unit {0}
   Silent (Told p index owner) = Unit {0}

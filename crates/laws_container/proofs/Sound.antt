@@ -46,6 +46,7 @@ module _ {T : Type 0} where
   abbrev pub first_party : ℕ → ℕ → ContainerStart T → Party T
   first_party c changes start = party_at_begin (Container start) (flights.Container (first c start)) changes
 
+  -- a call that begins: what it does, where it stands, and what it knows
   pub record Begins (scene : Scene T) (start : ContainerStart T) : Type 0 where
     pub does : Does scene scene.words (states_at_begin scene.coding scene.capacity start scene.party scene.states)
         (first_party scene.capacity scene.changes start) (Begun scene.party (Container start) ∷ [])
@@ -55,6 +56,7 @@ module _ {T : Type 0} where
         (put scene.party (first_party scene.capacity scene.changes start) scene.latest)
         (scene.events ++ Begun scene.party (Container start) ∷ []) scene.party scene.changes scene.changes 0)
 
+  -- the death of an owner: what holds after it, and what every call knows still
   pub record Dies (terms : Terms) (code : Coding T) (c : ℕ) (words dead : List ℕ)
       (states : List (ℕ × ContainerState T)) (latest : List (ℕ × Party T)) (events : List (Event T))
       (turns o : ℕ) : Type 0 where
@@ -64,6 +66,7 @@ module _ {T : Type 0} where
         → Knows code c flight (view terms words states latest events q since changes backs)
         → Knows code c flight (view terms words states latest (events ++ Died o ∷ []) q since changes backs)
 
+  -- the opening: what holds of it
   pub record Opens (terms : Terms) (code : Coding T) (c : ℕ) : Type 0 where
     pub good : set.Good {T = T} terms.by c (opening_words code.size c) [] [] 0
     pub elements : Elements code c (moment terms (opening_words code.size c) [] []) [] 0
@@ -122,10 +125,12 @@ module _ {T : Type 0} where
       → t.world.turns < 2 ^ 64 - 2 → MayGoOn terms t
   may_go_on terms code c t s small = let by_few_room = few_room in grind arith
 
+-- `c` is the capacity, `t` the run so far, and `s` what is sound of it
 module _ {T : Type 0} (shown : Shown T) (terms : Terms) (code : Coding T) (c : ℕ) (t : Trace T) (s : frame.Sound (family_by terms code c) t) where
   abbrev pub kept_now : Registry T
   kept_now = registries.Container s.state.dead s.state.states
 
+  -- the turn of a call of this party
   abbrev pub scene_of : ℕ → Party T → ℕ → Scene T
   scene_of p x since =
       record {
@@ -148,6 +153,7 @@ module _ {T : Type 0} (shown : Shown T) (terms : Terms) (code : Coding T) (c : �
   pub state_is : s.state ≡ record { words = s.state.words; dead = s.state.dead; states = s.state.states; latest = t.world.latest; events = t.events }
   state_is = grind arith
 
+  -- `x` is the call of party `p`
   module _ (p : ℕ) (x : Party T) (since : ℕ) (found : party_of p t.world.latest ≡ Some x) where
     pub inv_with : MayGoOn terms t → Inv (scene_of p x since)
     inv_with may = grind arith
@@ -180,6 +186,8 @@ module _ {T : Type 0} (shown : Shown T) (terms : Terms) (code : Coding T) (c : �
     IsRightly (flights.Container flight) = Keeps terms → acts_for_gone terms.by t.events flight ≡ false
     IsRightly flight = Unit {0}
 
+    -- a step of a call that stands there, passes the rows and acts for nobody who is gone,
+    -- comes from there to a sound machine
     pub comes : MayGoOn terms t → (start : Start T) (flight : Flight T) → IsRightly flight
         → first_row (going_rows code kept_now (Some flight) None) ≡ None
         → StandsThere (family_by terms code c) t s p x since start flight
@@ -200,6 +208,7 @@ module _ {T : Type 0} (shown : Shown T) (terms : Terms) (code : Coding T) (c : �
 
     -- ---- a decision
 
+    -- a decision that a call that stands there is told comes from there to a sound machine
     pub decides : MayGoOn terms t → (said : Bool) (start : Start T) (flight : Flight T)
         → is_question (want_of code flight) ≡ true → StandsThere (family_by terms code c) t s p x since start flight
         → DecidesFrom (family_by terms code c) t s p x since code (number_of said) s.state.words kept_now start flight
@@ -223,6 +232,8 @@ module _ {T : Type 0} (shown : Shown T) (terms : Terms) (code : Coding T) (c : �
     span_begun : (start : ContainerStart T) → span_of p (t.events ++ Begun p (Container start) ∷ []) ≡ Open (Container start) []
     span_begun start = span_of-own p t.events (Begun p (Container start) ∷ []) (refl, tt)
 
+    -- a call that begins on the container comes to a sound machine, with its begin as the one
+    -- event
     begins_now : (start : ContainerStart T) → names_owner start ≡ true → MayRecover terms.by t.events start
         → flight_of (doing_of (party_of p t.world.latest)) ≡ None
         → frame.Comes (family_by terms code c) t p (kept_after_begin code c (Container start) p kept_now) s.state.words
@@ -270,6 +281,7 @@ module _ {T : Type 0} (shown : Shown T) (terms : Terms) (code : Coding T) (c : �
     pub recovers_by : (start : Start T) → MayBegin t.world p start → MayRecoverIn start
     recovers_by start may = grind arith
 
+    -- any call that the container begins, of a name that it may begin, comes to a sound machine
     pub begin_comes : (start : Start T) (flight : Flight T) → MayRecoverIn start
         → flight_of (doing_of (party_of p t.world.latest)) ≡ None
         → first_of kinds.Container c start kept_now ≡ Some flight
@@ -279,6 +291,7 @@ module _ {T : Type 0} (shown : Shown T) (terms : Terms) (code : Coding T) (c : �
 
   -- ---- an owner dies
 
+  -- the machine after the death
   abbrev died_now : ℕ → ContainerNow T
   died_now o =
       record {
@@ -289,6 +302,7 @@ module _ {T : Type 0} (shown : Shown T) (terms : Terms) (code : Coding T) (c : �
         events = t.events ++ Died o ∷ [];
       }
 
+  -- the death of an owner who may die comes to a sound machine
   death_comes : (o : ℕ) → MayDie t.world o → frame.ComesByDeath (family_by terms code c) t s o
   death_comes o may =
       let g = s.holds.good in
@@ -309,6 +323,7 @@ module _ {T : Type 0} (shown : Shown T) (terms : Terms) (code : Coding T) (c : �
             (subst (λ (n : ContainerNow T). Knowing code c flight (view terms n.words n.states n.latest t.events q since t.world.changes backs)) state_is h);
       }
     where
+      -- what each party knows of its call it knows after the death
       knows_then : (o : ℕ) → Dies terms code c s.state.words s.state.dead s.state.states t.world.latest t.events t.world.turns o
           → (q since backs : ℕ) (flight : Flight T)
           → Knowing code c flight (view terms s.state.words s.state.states t.world.latest t.events q since t.world.changes backs)
@@ -326,6 +341,7 @@ module _ {T : Type 0} (shown : Shown T) where
   abbrev pub May : Trace T → Turn T → Type 0
   May t turn = MayGoOn dying t
 
+  -- where owners die each turn of a container may be taken, as the frame asks it of a family
   turns : (code : Coding T) (c : ℕ) → Turns (outline dying) code c May
   turns code c =
       record {
@@ -337,6 +353,7 @@ module _ {T : Type 0} (shown : Shown T) where
         death = λ t o s may. death_comes shown dying code c t s o may;
       }
 
+  -- the opening of a container of an admitted capacity is sound
   opens : (terms : Terms) (code : Coding T) (c : ℕ) → IsCoding code → 1 ≤ c → c < 2 ^ 32 → laws.Opens (outline terms) code c
   opens terms code c coded some few =
       let o = shown.opens terms code c coded some few in
@@ -351,6 +368,7 @@ module _ {T : Type 0} (shown : Shown T) where
       → frame.Sound (family_by terms code c) (opening code kinds.Container c parties)
   opening_sound terms code c parties coded some few = laws.opening_sound (outline terms) code c (opens terms code c coded some few) parties
 
+  -- all turns of a container where owners die are sound, if the counter has room
   pub all_turns : AllTurns (outline dying) May
   all_turns =
       record {

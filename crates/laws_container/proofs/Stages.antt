@@ -37,6 +37,7 @@ module _ {T : Type 0} where
   pub none_lengthens : Lengthens []
   none_lengthens start w = ap (λ es. Open (Container start) es) (sym (append-nil w))
 
+  -- the call is no replace
   abbrev pub NoReplace : ContainerStart T → Type 0
   NoReplace (starts.Replace index value owner) = ⊥
   NoReplace start = Unit {0}
@@ -145,6 +146,8 @@ module _ {T : Type 0} (scene : Scene T) where
 
   -- ---- the call goes on, or is done
 
+  -- a call goes on to its next stage, where it stands and knows what the stage tells, with the
+  -- steps that are left to it
   pub goes_on :
       (start : ContainerStart T) (flight : ContainerFlight T) (ask : Option Ask) (back : Bool)
       (states' : List (ℕ × ContainerState T)) (did : List (Event T))
@@ -170,6 +173,7 @@ module _ {T : Type 0} (scene : Scene T) where
         seen = is_seen ws ask changes;
       }
 
+  -- a call ends, within its steps, and writes its end last
   pub ends :
       (start : ContainerStart T) (answer : Answer T) (ask : Option Ask) (back : Bool)
       (states' : List (ℕ × ContainerState T)) (did : List (Event T))
@@ -229,6 +233,7 @@ module _ {T : Type 0} (scene : Scene T) where
       → StandsWellFormed p o events
   no_replace start none span o = grind arith
 
+  -- in a call that is no replace the run was well-formed a turn ago if it is now
   pub was_well_formed : (start : ContainerStart T) → NoReplace start
       → span_of p events ≡ Open (Container start) (wrote_of p events)
       → (words' : List ℕ) (y : Party T) (es : List (Event T)) → AreOwn p es

@@ -62,6 +62,7 @@ module _ {T : Type 0} (code : Coding T) (c : ℕ) where
 
   -- ---- any turn
 
+  -- a turn leads from the machine `m` to `m'`; `s` is the state of party `q`
   module _ (m m' : Now T) (es : List (Event T)) (more : m'.events ≡ m.events ++ es) (passes : Passes code c m m') (q : ℕ) (s : ContainerState T) where
     -- a number that a state has found is there still, if it is there then
     still : Keeps m'.terms → (i : ℕ) → i < c → number_at s i ≤ count_in code c m i

@@ -40,6 +40,8 @@ module _ {T : Type 0} (scene : Scene T) (inv : Inv scene) (start : ContainerStar
 
   -- ---- it changes nothing, and writes nothing
 
+  -- a step that leaves the words and writes nothing keeps what holds of the machine, if what is
+  -- owed is owed still
   pub loads : (words' : List ℕ) → words' ≡ ws → (well_formed : WellFormedBefore words' [])
       → OwesStill scene inv words' y [] well_formed → Does scene words' scene.states y []
   loads words' same well_formed still =
@@ -52,6 +54,8 @@ module _ {T : Type 0} (scene : Scene T) (inv : Inv scene) (start : ContainerStar
 
   -- ---- a writer stores a word
 
+  -- a store of the next word of a value by the one who may write there keeps what holds of the
+  -- machine
   pub stores_word :
       (words' : List ℕ) (i : ℕ) (below : i < c) (k : ℕ) (ks : k < code.size) (value : T) (owner : ℕ)
       → (WellFormed (before scene) → IsWriter p i owner events)
@@ -84,6 +88,7 @@ module _ {T : Type 0} (scene : Scene T) (inv : Inv scene) (start : ContainerStar
       hidden_here : contents_of i (events ++ Hidden p i ∷ []) ≡ None
       hidden_here = grind (arith, fold-append, at_same)
 
+      -- an odd number that is made even, with the element there hidden, is counted right
       counted : IsCounted scene inv words' y (Hidden p i ∷ []) well_formed i below new (refl, tt) (Container start) (wrote_of p events) here.span owed
       counted =
           record {
@@ -110,6 +115,7 @@ module _ {T : Type 0} (scene : Scene T) (inv : Inv scene) (start : ContainerStar
           gone : {A : Type 0} → (a : ℕ) → a ≡ i → announced_of a (events ++ Hidden p i ∷ []) ≡ true → A
           gone = grind (arith, both_ways, fold-append, false, at_same)
 
+      -- hiding what stands at an index keeps what holds of the machine
       pub hides : Does scene words' scene.states y (Hidden p i ∷ [])
       hides =
           does_with scene inv start flight none here words' y (Hidden p i ∷ [])
@@ -139,6 +145,7 @@ module _ {T : Type 0} (scene : Scene T) (inv : Inv scene) (start : ContainerStar
       fills_it : {A : Type 0} → WellFormed (before scene) → (o : ℕ) → is_gone scene.terms.by o events ≡ true → filled_of i events ≡ Some o → A
       fills_it holds o dead filled = grind arith
 
+      -- an even number that is made odd, with a value placed there, is counted right
       placed_one : IsCounted scene inv words' y (Placed p i value ∷ []) well_formed i below new (refl, tt) (Container start) (wrote_of p events) here.span owed
       placed_one =
           record {
@@ -162,6 +169,7 @@ module _ {T : Type 0} (scene : Scene T) (inv : Inv scene) (start : ContainerStar
           unannounced : WellFormed (before scene) → (a : ℕ) → a ≡ i → announced_of a events ≡ true → ⊥
           unannounced = grind (arith, both_ways, is_some, nothing)
 
+      -- placing the value by the one who may write there keeps what holds of the machine
       pub places : Does scene words' scene.states y (Placed p i value ∷ [])
       places =
           does_with scene inv start flight none here words' y (Placed p i value ∷ [])
@@ -182,6 +190,8 @@ module _ {T : Type 0} (scene : Scene T) (inv : Inv scene) (start : ContainerStar
       miscounted : IsCounted scene inv words' y [] well_formed i below new tt (Container start) (wrote_of p events) here.span owed
       miscounted = grind (arith, fold-append, left_after)
 
+      -- in an ill-formed run a number that is counted up with nothing written keeps what holds
+      -- of the machine
       pub misplaces : Does scene words' scene.states y []
       misplaces =
           does_with scene inv start flight none here words' y []

@@ -2,6 +2,7 @@
 -- who is, and that turns are few, so that no number of an element comes round.
 use Rattle.laws_container.proofs.Names.{◌≡◌, Bool, true, GoneBy, Death}
 
+-- by what an owner is gone, and whether the run keeps to that
 pub record Terms : Type 0 where
   pub by : GoneBy
   pub kept : Bool

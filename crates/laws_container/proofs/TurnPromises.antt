@@ -16,6 +16,7 @@ use Rattle.laws_container.proofs.Terms.{Terms}
 module _ {T : Type 0} (shown : Shown T) (terms : Terms) (code : Coding T) (t : Trace T)
     (s : frame.Sound (family_by terms code t.world.capacity) t) (may : MayGoOn terms t) (turn : Turn T) (r : IsAllowed t.world turn)
     (well_formed : Type 0) (so_far : well_formed → IsWellFormedSoFar terms (after_turn t turn).world.latest (after_turn t turn).events) where
+  -- a turn of a container tells all that is promised of it
   pub tells_if : TellsIf well_formed t turn (after_turn t turn)
   tells_if =
       record {

@@ -31,6 +31,7 @@ replace_owes replaces.LoadsCell = false
 replace_owes stage = true
 
 module _ {T : Type 0} where
+  -- a call owes the changes a raise, from the stage on at which it may have changed an element
   abbrev pub flight_owes : ContainerFlight T → Bool
   flight_owes (calls.Add run) = add_owes run.call.stage
   flight_owes (calls.Remove run) = remove_owes run.call.stage
@@ -42,12 +43,14 @@ module _ {T : Type 0} where
   owes (Some (flights.Container flight)) = flight_owes flight
   owes flight = false
 
+  -- some party's call under way owes the changes a raise
   pub record Owing (latest : List (ℕ × Party T)) : Type 0 where
     pub party : ℕ
     pub is : owes (flight_of (doing_of (party_of party latest))) ≡ true
 
 -- ---- the machine between two turns
 
+-- its words, the parties' latest calls, and the events so far
 pub record Now (T : Type 0) : Type 0 where
   pub terms : Terms
   pub words : List ℕ

@@ -9,6 +9,8 @@ use Rattle.laws_container.proofs.Replaces.{earlier}
 use Rattle.laws_container.proofs.Terms.{Terms, dying, Keeps}
 
 module _ {T : Type 0} where
+  -- the run keeps to its terms and is calm, each replace that has replaced was begun where that
+  -- might be, and so was each under way that has found its owner
   pub record IsWellFormedSoFar (terms : Terms) (latest : List (ℕ × Party T)) (events : List (Event T)) : Type 0 where
     pub kept : Keeps terms
     pub calm : IsCalm terms.by events
@@ -32,6 +34,7 @@ module _ {T : Type 0} where
       (earlier q index owner events es none
       (h index owner value wrote (same ∙ span) steps (held_later q (IsFilledWith owner index) events es none found))).may
 
+  -- the call `y` of party `p` writes the events `es`
   module _ (terms : Terms) (p : ℕ) (y : Party T) (latest : List (ℕ × Party T)) (events es : List (Event T)) (own : AreOwn p es) where
     abbrev pub IsWellFormedThen : Type 0
     IsWellFormedThen = IsWellFormedSoFar terms (put p y latest) (events ++ es)

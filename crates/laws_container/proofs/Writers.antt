@@ -18,6 +18,7 @@ module _ {T : Type 0} where
   abbrev pub IsWriter : ℕ → ℕ → ℕ → List (Event T) → Type 0
   IsWriter p i o events = IsBy p i o events ⊎ Replacing p i o events
 
+  -- party `p` may write at index `i` for the owner `o`, and party `q` for `u`
   module _ (p q i o u : ℕ) (events : List (Event T)) (owned : AreOwned events) where
     pub one_writer : IsWriter p i o events → IsWriter q i u events → p ≡ q
     one_writer a b = grind arith

@@ -57,6 +57,7 @@ module _ {T : Type 0} (scene : Scene T IndexSet) (inv : Inv outline scene) where
         → Does stage ask back (Done (Err failure))
     fails = grind arith
 
+    -- an acquire that has found a head goes on to a stage before its exchange
     goes_to : (stage' : AcquireStage) → acquire_counts stage' ≡ 0 → AcquireAt c stage'
         → steps + 1 ≤ acquire_number c stage' (backs_then scene back)
         → AcquireKnows c (words_after ws (Some ask)) (since_then scene (Some ask)) (changes_then scene (Some ask))
@@ -72,6 +73,8 @@ module _ {T : Type 0} (scene : Scene T IndexSet) (inv : Inv outline scene) where
         let all = all_in_use scene (acquire_at c stage) here in
         (rw inv.holds.tally (omega arith), inv.holds.lock ∙ open_says (head_of ws) unlocked)
 
+    -- an acquire that has found a head fails if that is locked or counts the capacity, and else
+    -- goes on from it
     pub sees : Does stage ask back (acquire_sees (call_at stage) (head_of ws))
     sees =
         by_test (Does stage ask back) (says_locked (head_of ws)) (Done (Err failures.IsLocked)) _
@@ -128,6 +131,7 @@ module _ {T : Type 0} (scene : Scene T IndexSet) (inv : Inv outline scene) where
       lock_same : says_locked (head_of (words_after ws (Some exchange))) ≡ says_locked (head_of ws)
       lock_same = grind (arith, open_says, head_of, unlocked_for, busy, good_taken, not_locked)
 
+      -- after its exchange an acquire goes on to a claim, or to a scan
       goes_to_claim : (stage : AcquireStage) → acquire_counts stage ≡ 1 → AcquireAt c stage
           → steps + 1 ≤ acquire_number c stage (backs_then scene false)
           → AcquireKnows c (words_after ws (Some exchange)) (since_then scene (Some exchange))
@@ -135,6 +139,8 @@ module _ {T : Type 0} (scene : Scene T IndexSet) (inv : Inv outline scene) where
           → Does exchanging exchange false (GoOn (at_acquire (call_at exchanging) stage))
       goes_to_claim = grind (arith, goes_on, false, good_taken, lock_same)
 
+      -- the exchange of the head leads to the claim of the index that it proposed, or to a scan
+      -- from the first on
       exchange_succeeds : Does exchanging exchange false (GoOn (at_acquire (call_at exchanging) (first_claim c head)))
       exchange_succeeds =
           by_test (λ stage. Does exchanging exchange false (GoOn (at_acquire (call_at exchanging) stage)))
@@ -145,9 +151,12 @@ module _ {T : Type 0} (scene : Scene T IndexSet) (inv : Inv outline scene) where
           goes_to_claim (acquires.Scans 0) refl (omega arith) (omega arith)
           (inl (λ i below. absurd (omega arith), omega arith)))
 
+    -- the step in which an acquire exchanges the head leads to its claim, or back to the head
+    -- that it finds
     pub exchanges : IsHere scene (acquire_at c exchanging) → StepOf scene Acquire (acquire_at c exchanging)
     exchanges here = go (head_of ws == head) refl
       where
+        -- a head that is as it was found is exchanged, and another one is looked at anew
         go : (b : Bool) → (head_of ws == head) ≡ b → StepOf scene Acquire (acquire_at c exchanging)
         go true t =
             let is : head_of ws ≡ head = grind (arith, nat_tests) in
@@ -204,6 +213,8 @@ module _ {T : Type 0} (scene : Scene T IndexSet) (inv : Inv outline scene) where
         (λ busy' e. let is : busy scene ≡ busy' = omega arith in claims_again c ws hs i below busy' stood (subst (λ n. Good c ws hs n) is g))
         refl refl refl (ap says_locked head_same) tt low (refl, at) knows
 
+  -- the claim of the proposed index ends the acquire, or leads to a scan from the first on
+  -- where that flag stands
   claims_proposed : (i : ℕ) → i < c → IsHere scene (acquire_at c (acquires.Claims i))
       → IsPaid since changes backs → steps ≤ 3 + backs * max 2 c
       → StepOf scene Acquire (acquire_at c (acquires.Claims i))
@@ -251,9 +262,13 @@ module _ {T : Type 0} (scene : Scene T IndexSet) (inv : Inv outline scene) where
         tries_on scanning i below here refl scan_paid stood true (acquires.Scans 0) refl (omega arith)
         (omega arith) (inl (λ j less. absurd (omega arith), omega arith))
 
+    -- the step in which an acquire scans a flag leads to its end, to the next flag, or back to
+    -- the first one
     pub scans : StepOf scene Acquire (acquire_at c scanning)
     scans = go (has_flag (get_or ws (flag_word c i) 0) i) refl (nat_lt (i + 1) c) refl
       where
+        -- a flag that is clear ends the acquire, and one that stands leads to the next flag, or
+        -- from the last back to the first
         go : (b : Bool) → has_flag (get_or ws (flag_word c i) 0) i ≡ b → (d : Bool) → nat_lt (i + 1) c ≡ d → StepOf scene Acquire (acquire_at c scanning)
         go true t true u =
             let more : i + 1 < c = grind (arith, nat_tests) in
@@ -283,6 +298,8 @@ module _ {T : Type 0} (scene : Scene T IndexSet) (inv : Inv outline scene) where
 
   -- ---- any step
 
+  -- any step of an acquire that stands at a stage, and knows what the stage tells, shows what
+  -- it has to
   pub acquire_step : (stage : AcquireStage) → IsHere scene (acquire_at c stage) → AcquireAt c stage
       → AcquireKnows c ws since changes backs stage → steps ≤ acquire_number c stage backs
       → StepOf scene Acquire (acquire_at c stage)

@@ -33,6 +33,7 @@ one_held (Some p) = 1
 abbrev pub held_below : List (Option ℕ) → ℕ → ℕ
 held_below holders n = sum_below (λ i. one_held (holder holders i)) n
 
+-- where an index is held by another, or by nobody, the number of those held moves by that one
 pub held_below_set : (holders : List (Option ℕ)) (n i : ℕ) (o : Option ℕ) → i < n → length holders ≡ n
     → held_below (set holders i o) n + one_held (holder holders i) ≡ held_below holders n + one_held o
 held_below_set holders n i o below long =
@@ -96,6 +97,7 @@ module _ (c : ℕ) where
       pub clear_clears : is_claimed (set words (flag_word c i) (bit_and word (2 ^ 64 - 1 - flag i))) i ≡ false
       clear_clears = grind (arith, has_flag, get_or-set_same, flag, without_clear)
 
+      -- a flag that is cleared leaves the others
       pub clear_leaves : (j : ℕ) → j ≢ i → is_claimed (set words (flag_word c i) (bit_and word (2 ^ 64 - 1 - flag i))) j ≡ is_claimed words j
       clear_leaves = grind (arith, claim_stays, flag, without_leaves)
 

@@ -25,6 +25,7 @@ abbrev pub Tally : ℕ → ℕ → ℕ → Type 0
 Tally capacity counted total =
     ((counted ≡ total) × (total ≤ capacity)) ⊎ ((counted ≡ locked) × (total ≡ 0))
 
+-- `c` is the capacity
 module _ (c counted total : ℕ) (few : c < locked) (h : Tally c counted total) where
   pub counts_all : counted ≢ locked → (counted ≡ total) × (total ≤ c)
   counts_all unlocked = ⊎_elim (λ x. x) (λ x. absurd (unlocked x.0)) h

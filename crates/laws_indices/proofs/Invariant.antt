@@ -24,6 +24,7 @@ use Rattle.laws_indices.proofs.Core.{head_of, holder, held_below, Good}
 use Rattle.laws_indices.proofs.Knows.{counts, takes, gives, flight_wrote, number_of, At, FlightKnows, IsSeen}
 use Rattle.laws_indices.proofs.Totals.{weight_of, weight_at, total, total_put, total_longer}
 
+-- the words, who holds what, and how many parties have begun a call
 pub record IndexSet : Type 0 where
   pub words : List ℕ
   pub holders : List (Option ℕ)
@@ -90,6 +91,7 @@ module _ {T : Type 0} where
   Knowing c words since changes backs (flights.Indices flight) = FlightKnows c words since changes backs flight
   Knowing c words since changes backs flight = ⊥
 
+  -- the set after a turn
   abbrev pub set_then : Scene T IndexSet → List ℕ → List (Option ℕ) → IndexSet
   set_then scene words holders =
       record { words = words; holders = holders; seats = seats_with scene.state.seats scene.party }
@@ -116,6 +118,7 @@ module _ {T : Type 0} where
     pub seen : IsSeen scene.state.words s'.words scene.changes changes'
     pub keeps : (q : ℕ) → q ≢ scene.party → (index : ℕ) → holder scene.state.holders index ≡ Some q → holder s'.holders index ≡ Some q
 
+  -- what the frame asks to know of the family
   abbrev pub outline : Outline T
   outline =
       record {
@@ -153,6 +156,7 @@ module _ {T : Type 0} where
     no_call : (q : ℕ) → set.seats ≤ q → party_of q latest ≡ None
     no_call = grind arith
 
+    -- what the calls under way count for moves as the party's own call does
     weight_moves : (weight : IndexFlight → ℕ)
         → total (of_any weight) latest' seats' + weight_of (of_any weight) was
         ≡ total (of_any weight) latest set.seats + weight_of (of_any weight) (flight_of (Some y.doing))
@@ -162,6 +166,7 @@ module _ {T : Type 0} where
         let before : weight_at (of_any weight) latest p ≡ weight_of (of_any weight) was = ap (weight_of (of_any weight)) is in
         omega arith
 
+    -- what was so of each party, and is so of this one, is so of each afterwards
     of_each : (P : ℕ → Party T → Type 0) → P p y → ((q : ℕ) (x : Party T) → party_of q latest ≡ Some x → P q x)
         → (q : ℕ) (x : Party T) → party_of q latest' ≡ Some x → P q x
     of_each P mine theirs q x found = ⊎_elim here there (cases_eq q p)
@@ -176,6 +181,7 @@ module _ {T : Type 0} where
         there : q ≢ p → P q x
         there ne = theirs q x (sym (party_put_other q p y latest ne) ∙ found)
 
+    -- what holds of the machine holds after a turn that preserves it
     pub holds_more : Holds c s' latest' (events ++ es)
     holds_more =
         record {

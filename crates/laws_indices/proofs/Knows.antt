@@ -15,6 +15,7 @@ abbrev pub acquire_at : ℕ → AcquireStage → IndexFlight
 acquire_at c stage =
     Acquire (record { call = record { capacity = c; stage = stage }; given = tt; room = tt })
 
+-- a release in mode Default at a stage
 abbrev pub default_at : ℕ → ℕ → ReleaseStage → IndexFlight
 default_at c index stage =
     ReleaseDefault
@@ -24,6 +25,7 @@ default_at c index stage =
       room = tt;
     })
 
+-- a release that may lock at a stage
 abbrev pub lock_at : ℕ → ℕ → ReleaseStage → IndexFlight
 lock_at c index stage =
     ReleaseLock
@@ -51,6 +53,7 @@ release_counts (releases.StoresNext head) = 1
 release_counts (releases.ExchangesHead head) = 1
 release_counts releases.Subtracts = 1
 
+-- any call
 abbrev pub counts : IndexFlight → ℕ
 counts (Acquire run) = acquire_counts run.call.stage
 counts (ReleaseDefault run) = release_counts run.call.stage
@@ -76,6 +79,7 @@ gives (IsLocked run) = 0
 -- ---- what they have written, and how many steps they have taken at most
 
 module _ {T : Type 0} where
+  -- a release has written that its index is free, once it has cleared the flag
   abbrev pub release_wrote : ℕ → ℕ → ReleaseStage → List (Event T)
   release_wrote p index releases.ClearsFlag = []
   release_wrote p index releases.LoadsHead = Freed p index ∷ []
@@ -83,6 +87,7 @@ module _ {T : Type 0} where
   release_wrote p index (releases.ExchangesHead head) = Freed p index ∷ []
   release_wrote p index releases.Subtracts = Freed p index ∷ []
 
+  -- any call
   abbrev pub flight_wrote : ℕ → IndexFlight → List (Event T)
   flight_wrote p (Acquire run) = []
   flight_wrote p (ReleaseDefault run) = release_wrote p run.given run.call.stage
@@ -90,6 +95,7 @@ module _ {T : Type 0} where
   flight_wrote p (BorrowedIndices run) = []
   flight_wrote p (IsLocked run) = []
 
+-- an acquire, after so many turns back
 abbrev pub acquire_number : ℕ → AcquireStage → ℕ → ℕ
 acquire_number c acquires.LoadsHead backs = 0
 acquire_number c (acquires.LoadsNext head) backs = 1 + backs * max 2 c
@@ -97,6 +103,7 @@ acquire_number c (acquires.ExchangesHead head next) backs = 2 + backs * max 2 c
 acquire_number c (acquires.Claims index) backs = 3 + backs * max 2 c
 acquire_number c (acquires.Scans index) backs = 4 + index + backs * max 2 c
 
+-- a release, after so many turns back
 abbrev pub release_number : ReleaseStage → ℕ → ℕ
 release_number releases.ClearsFlag backs = 0
 release_number releases.LoadsHead backs = 1
@@ -104,6 +111,7 @@ release_number (releases.StoresNext head) backs = 2 + backs * 2
 release_number (releases.ExchangesHead head) backs = 3 + backs * 2
 release_number releases.Subtracts backs = 4
 
+-- any call at its stage, after so many turns back
 abbrev pub number_of : ℕ → IndexFlight → ℕ → ℕ
 number_of c (Acquire run) backs = acquire_number c run.call.stage backs
 number_of c (ReleaseDefault run) backs = release_number run.call.stage 0
@@ -117,6 +125,7 @@ number_of c (IsLocked run) backs = 0
 abbrev pub IsOpen : ℕ → ℕ → Type 0
 IsOpen c head = (borrowed head ≢ locked) × (borrowed head ≢ c)
 
+-- an acquire has an open head up to its exchange, and then an index of the set
 abbrev pub AcquireAt : ℕ → AcquireStage → Type 0
 AcquireAt c acquires.LoadsHead = Unit {0}
 AcquireAt c (acquires.LoadsNext head) = IsOpen c head
@@ -160,6 +169,8 @@ PaidUnless P since changes backs = (P × IsPaid since changes backs) ⊎ (backs 
 abbrev pub AllClaimed : ℕ → List ℕ → ℕ → Type 0
 AllClaimed c words index = (i : ℕ) → i < index → is_claimed c words i ≡ true
 
+-- an acquire knows that its turns back are paid, and one more if the head has moved, or a flag
+-- that it has passed does not stand any more
 abbrev pub AcquireKnows : ℕ → List ℕ → ℕ → ℕ → ℕ → AcquireStage → Type 0
 AcquireKnows c words since changes backs acquires.LoadsHead = IsPaid since changes backs
 AcquireKnows c words since changes backs (acquires.LoadsNext head) =
@@ -171,6 +182,8 @@ AcquireKnows c words since changes backs (acquires.Claims index) =
 AcquireKnows c words since changes backs (acquires.Scans index) =
     PaidUnless (AllClaimed c words index) since changes backs
 
+-- a release that may lock knows that its turns back are paid, and one more if the head has
+-- moved
 abbrev pub LockKnows : List ℕ → ℕ → ℕ → ℕ → ReleaseStage → Type 0
 LockKnows words since changes backs releases.ClearsFlag = IsPaid since changes backs
 LockKnows words since changes backs releases.LoadsHead = IsPaid since changes backs

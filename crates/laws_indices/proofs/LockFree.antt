@@ -45,6 +45,7 @@ module _ (c : ℕ) where
   abbrev scans : List ℕ → ℕ → ℕ
   scans words i = min (c - 1) (scan c words i)
 
+  -- an acquire
   abbrev acquire_left : List ℕ → AcquireStage → ℕ
   acquire_left words acquires.LoadsHead = c + 3
   acquire_left words (acquires.LoadsNext head) = cond (head_of words == head) (c + 2) (c + 4)
@@ -60,6 +61,7 @@ acquire_pays (acquires.Claims i) = 0
 acquire_pays (acquires.Scans i) = 0
 acquire_pays stage = 1
 
+-- a release in mode Default
 abbrev default_left : ReleaseStage → ℕ
 default_left releases.ClearsFlag = 4
 default_left releases.LoadsHead = 3
@@ -75,6 +77,7 @@ lock_left now (releases.StoresNext head) = cond (now == head) 1 3
 lock_left now (releases.ExchangesHead head) = cond (now == head) 0 2
 lock_left now releases.Subtracts = 0
 
+-- any call
 abbrev call_left : ℕ → List ℕ → IndexFlight → ℕ
 call_left c words (calls.Acquire run) = acquire_left c words run.call.stage
 call_left c words (calls.ReleaseDefault run) = default_left run.call.stage
@@ -100,10 +103,12 @@ module _ {T : Type 0} where
 
 -- ---- words in which the head is the same and no flag more stands cost nobody a step
 
+-- `c` is the capacity
 module _ (c : ℕ) (old new : List ℕ) (same : head_of new ≡ head_of old) (fewer : (j : ℕ) → is_claimed c new j ≡ true → is_claimed c old j ≡ true) where
   scans_fewer : (i : ℕ) → scans c new i ≤ scans c old i
   scans_fewer i = let fewer = scan_fewer c old new fewer i in grind arith
 
+  -- an acquire has no more steps left in such words
   acquire_fewer : (stage : AcquireStage) → acquire_left c new stage ≤ acquire_left c old stage
   acquire_fewer acquires.LoadsHead = omega arith
   acquire_fewer (acquires.LoadsNext head) = rw same (omega arith)
@@ -118,6 +123,7 @@ module _ (c : ℕ) (old new : List ℕ) (same : head_of new ≡ head_of old) (fe
       go false t = omega arith
   acquire_fewer (acquires.Scans i) = scans_fewer i
 
+  -- no call has more steps left in such words
   leaves : {T : Type 0} → LeavesAll (measure {T = T} c) old new
   leaves (flights.Indices (calls.Acquire run)) = acquire_fewer run.call.stage
   leaves (flights.Indices (calls.ReleaseDefault run)) = omega arith
@@ -157,6 +163,7 @@ module _ {T : Type 0} (code : Coding T) (c : ℕ) (words : List ℕ) where
       go false t false u true v = let self = same_is now in rw (t, u, v) (inl (same, rw self (omega arith), one))
       go false t false u false v = let self = same_is now in rw (t, u, v) (inl (same, rw self (omega arith), one))
 
+  -- a claim has no more steps left than the capacity
   claims_most : 1 ≤ c → (new : List ℕ) (i : ℕ) → acquire_left c new (acquires.Claims i) ≤ c
   claims_most some new i = go (is_claimed c new i)
     where
@@ -167,6 +174,7 @@ module _ {T : Type 0} (code : Coding T) (c : ℕ) (words : List ℕ) where
   scans_most : 1 ≤ c → (new : List ℕ) (i : ℕ) → scans c new i + 1 ≤ c
   scans_most = grind arith
 
+  -- the step in which an acquire exchanges the head falls
   exchange_falls : 1 ≤ c → (head next : ℕ) → Shown (acquire_at c (acquires.ExchangesHead head next))
   exchange_falls some head next = go (now == head) refl (nat_lt (proposed head) c) refl
     where
@@ -189,6 +197,7 @@ module _ {T : Type 0} (code : Coding T) (c : ℕ) (words : List ℕ) where
     tried_head : head_of tried ≡ now
     tried_head = head_stays c words (flag_word c i) _ (omega arith)
 
+    -- after a claim of a flag that stood no flag more stands
     tried_fewer : (j : ℕ) → is_claimed c tried j ≡ true → is_claimed c words j ≡ true
     tried_fewer j t = ⊎_elim here there (cases_eq j i)
       where
@@ -210,6 +219,7 @@ module _ {T : Type 0} (code : Coding T) (c : ℕ) (words : List ℕ) where
       one_on : (next here : ℕ) → next + 1 ≤ here → here ≤ c - 1 → min (c - 1) next + 1 ≤ min (c - 1) here
       one_on = grind arith
 
+      -- each step of a scan falls, while a flag is free
       scans_fall : Shown (acquire_at c (acquires.Scans i))
       scans_fall = go (nat_lt (i + 1) c) refl
         where
@@ -228,6 +238,7 @@ module _ {T : Type 0} (code : Coding T) (c : ℕ) (words : List ℕ) where
               let on = one_on (scan c words 0) (scan c words i) (scan_wraps c words free i below last stood) most in
               rw (stood, t) (inr (omega arith, inl (leaves c words tried tried_head tried_fewer, omega arith)))
 
+  -- each step of an acquire falls
   acquire_falls : (holders : List (Option ℕ)) (busy_calls : ℕ) → Good c words holders busy_calls → (stage : AcquireStage) → AcquireAt c stage
       → counts (acquire_at c stage) ≤ busy_calls → Shown (acquire_at c stage)
   acquire_falls holders busy_calls g acquires.LoadsHead at heavy =
@@ -259,6 +270,7 @@ module _ {T : Type 0} (code : Coding T) (c : ℕ) (words : List ℕ) where
     cleared_head : head_of cleared ≡ now
     cleared_head = head_stays c words (flag_word c index) _ (omega arith)
 
+    -- after a flag is cleared no flag more stands
     cleared_fewer : (j : ℕ) → is_claimed c cleared j ≡ true → is_claimed c words j ≡ true
     cleared_fewer j t = ⊎_elim here there (cases_eq j index)
       where
@@ -283,6 +295,7 @@ module _ {T : Type 0} (code : Coding T) (c : ℕ) (words : List ℕ) where
     stored_fewer : (head j : ℕ) → is_claimed c (stored head) j ≡ true → is_claimed c words j ≡ true
     stored_fewer head j t = sym (claims_stay c words (next_word index) (proposed head) j (omega arith)) ∙ t
 
+    -- each step of a release in mode Default falls
     default_falls : (stage : ReleaseStage) → Shown (default_at c index stage)
     default_falls releases.ClearsFlag = inr (omega arith, inl (leaves c words cleared cleared_head cleared_fewer, omega arith))
     default_falls releases.LoadsHead = inl (load_leaves words 0, omega arith, omega arith)
@@ -295,6 +308,7 @@ module _ {T : Type 0} (code : Coding T) (c : ℕ) (words : List ℕ) where
         go false t = rw t (inl (load_leaves words 0, omega arith, omega arith))
     default_falls releases.Subtracts = tt
 
+    -- each step of a release that may lock falls
     lock_falls : (stage : ReleaseStage) → Shown (lock_at c index stage)
     lock_falls releases.ClearsFlag = inr (omega arith, inl (leaves c words cleared cleared_head cleared_fewer, omega arith))
     lock_falls releases.LoadsHead = let self = same_is now in inl (load_leaves words 0, rw self (omega arith), omega arith)
@@ -314,6 +328,7 @@ module _ {T : Type 0} (code : Coding T) (c : ℕ) (words : List ℕ) where
         go false t = let self = same_is now in rw t (inl (load_leaves words 0, rw (self, t) (omega arith), omega arith))
     lock_falls releases.Subtracts = tt
 
+  -- each step of any call of the set falls
   call_falls : (holders : List (Option ℕ)) (busy_calls p : ℕ) → Good c words holders busy_calls → (start : IndexStart) (flight : IndexFlight)
       → At c holders p start flight → counts flight ≤ busy_calls → Shown flight
   call_falls holders busy_calls p g starts.Acquire (calls.Acquire run) at heavy =
@@ -339,6 +354,7 @@ module _ (c : ℕ) (some : 1 ≤ c) (words : List ℕ) where
   scans_low : (i : ℕ) → scans c words i ≤ c + 3
   scans_low = grind arith
 
+  -- an acquire has no more steps left than the capacity and four
   acquire_most : (stage : AcquireStage) → acquire_left c words stage ≤ c + 4
   acquire_most acquires.LoadsHead = omega arith
   acquire_most (acquires.LoadsNext head) = one_of _ (c + 2) (c + 4) (c + 4) (omega arith) (omega arith)
@@ -346,6 +362,7 @@ module _ (c : ℕ) (some : 1 ≤ c) (words : List ℕ) where
   acquire_most (acquires.Claims i) = let low = scans_low 0 in one_of _ (scans c words 0 + 1) 0 (c + 4) (omega arith) (omega arith)
   acquire_most (acquires.Scans i) = let low = scans_low i in omega arith
 
+  -- no call has more steps left than the capacity and four, or more than one change to make
   most : {T : Type 0} → (flight : Flight T) → (left c words flight ≤ c + 4) × (pays flight ≤ 1)
   most (flights.Indices (calls.Acquire run)) = (acquire_most run.call.stage, grind arith)
   most (flights.Indices (calls.ReleaseDefault run)) = (grind arith, omega arith)
@@ -356,12 +373,14 @@ module _ (c : ℕ) (some : 1 ≤ c) (words : List ℕ) where
 
 -- ---- of each machine that turns have reached
 
+-- party `p`, whose call is `x`, takes a step of the run `t`
 module _ {T : Type 0} (t : Trace T) (s : Sound (family t.world.coding t.world.capacity) t) (p : ℕ) (x : Party T) (since : ℕ) where
   good : Good t.world.capacity t.world.words s.state.holders (busy (scene_of outline t.world.coding t.world.capacity t s p x.steps x.backs since))
   good =
       subst (λ ws. Good t.world.capacity ws s.state.holders (busy (scene_of outline t.world.coding t.world.capacity t s p x.steps x.backs since)))
       (sym s.fit.words) s.holds.good
 
+  -- each step of a call on a machine that turns have reached falls
   flight_falls : (start : Start T) (flight : Flight T) → FlightAt t.world.capacity s.state.holders p start flight
       → party_of p t.world.latest ≡ Some x → x.doing ≡ Going flight since → flight_of (doing_of (party_of p t.world.latest)) ≡ Some flight
       → FallsBy (of_words (measure t.world.capacity)) t.world p x flight (ask_of (want_of t.world.coding flight))
@@ -384,6 +403,7 @@ module _ {T : Type 0} where
       → FlightAt c holders p start flight → is_question (want_of code flight) ≡ false
   never_asks = grind arith
 
+  -- all that is owed for the measure holds of the calls of the set
   laws : FramedLaws kinds.Indices (family {T = T}) (λ c. of_words (measure c))
   laws =
       record {

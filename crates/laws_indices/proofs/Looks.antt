@@ -46,6 +46,8 @@ module _ {T : Type 0} (scene : Scene T IndexSet) (inv : Inv outline scene) (stra
       shut : is_locked events ≡ true → borrowed_number (head_of ws) ≡ 0
       shut = grind arith
 
+      -- while the set is not locked, what it counts lies between what is held and what is in
+      -- use
       unlocked : is_locked events ≡ false → ((tally_of events).held ≤ borrowed_number (head_of ws)) × (borrowed_number (head_of ws) ≤ in_use (tally_of events))
       unlocked t =
           let says : says_locked (head_of ws) ≡ false = sym inv.holds.lock ∙ t in

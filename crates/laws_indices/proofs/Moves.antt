@@ -149,6 +149,7 @@ module _ (c : ℕ) (words : List ℕ) (holders : List (Option ℕ)) where
     pub still_claimed : (busy j : ℕ) → Good c words holders busy → is_claimed c words j ≡ true → is_claimed c (set words place (bit_or old (flag i))) j ≡ true
     still_claimed = grind (arith, set, flag, claim_sets, within, claim_leaves, cases_eq)
 
+    -- after a claim of a flag that stands already the words are right for the same holders
     pub claims_again : (busy : ℕ) → is_claimed c words i ≡ true → Good c words holders busy → Good c (set words place (bit_or old (flag i))) holders busy
     claims_again busy stood g =
         let same : counted_in words ≡ counted_in (set words place (bit_or old (flag i))) =

@@ -117,6 +117,7 @@ module _ {T : Type 0} (scene : Scene T IndexSet) (inv : Inv outline scene) (inde
     default_works = let mine = busy_here scene (default stage) here in omega arith
 
   module _ (straight : backs ≡ 0) where
+    -- the clear of its flag frees the index, and leads to the load of the head
     default_clears : holder hs index ≡ Some p → steps ≤ 0 → StepOf scene started (default releases.ClearsFlag)
     default_clears holds s =
         frees_index scene inv index Default (default releases.ClearsFlag)
@@ -127,6 +128,7 @@ module _ {T : Type 0} (scene : Scene T IndexSet) (inv : Inv outline scene) (inde
     default_loads : steps ≤ 1 → StepOf scene started (default releases.LoadsHead)
     default_loads = grind (arith, goes_on, head_of, false, good_same, loads_same)
 
+    -- the store of the next index leads to the exchange of the head
     default_stores : (head : ℕ) → steps ≤ 2 → StepOf scene started (default (releases.StoresNext head))
     default_stores head s =
         goes_on scene inv started (default (releases.StoresNext head))
@@ -134,6 +136,8 @@ module _ {T : Type 0} (scene : Scene T IndexSet) (inv : Inv outline scene) (inde
         (λ busy' e. good_stored head busy' (omega arith)) refl refl refl (ap says_locked (store_head head))
         (omega arith) (omega arith) (refl, refl, below, tt) (omega arith)
 
+    -- the exchange of the head ends the release, or leads to the subtraction where the head has
+    -- moved
     default_exchanges : (head : ℕ) → IsHere scene (default (releases.ExchangesHead head)) → steps ≤ 3
         → StepOf scene started (default (releases.ExchangesHead head))
     default_exchanges head here s = go (head_of ws == head) refl
@@ -163,6 +167,7 @@ module _ {T : Type 0} (scene : Scene T IndexSet) (inv : Inv outline scene) (inde
             (ap (λ w. says_locked (head_of w)) same) (omega arith) (omega arith) (refl, refl, below, tt)
             (omega arith))
 
+    -- the subtraction from the head ends the release
     default_subtracts : IsHere scene (default releases.Subtracts) → steps ≤ 4 → StepOf scene started (default releases.Subtracts)
     default_subtracts here s =
         let works = default_works releases.Subtracts here refl in
@@ -172,6 +177,7 @@ module _ {T : Type 0} (scene : Scene T IndexSet) (inv : Inv outline scene) (inde
         (still_open works subtract x refl (less_number (head_of ws) (some_number works).0)) (omega arith)
         (omega arith) (omega arith)
 
+    -- any step of a release in mode Default that stands at its stage shows what it has to
     pub default_step : (stage : ReleaseStage) → IsHere scene (default stage) → ReleaseAt hs p index stage
         → steps ≤ release_number stage 0 → StepOf scene started (default stage)
     default_step releases.ClearsFlag here at s = default_clears at s
@@ -188,6 +194,7 @@ module _ {T : Type 0} (scene : Scene T IndexSet) (inv : Inv outline scene) (inde
   abbrev started_lock : IndexStart
   started_lock = Release index LockIfLastIndex
 
+  -- the clear of its flag frees the index, and leads to the load of the head
   lock_clears : holder hs index ≡ Some p → IsPaid since changes backs → steps ≤ 0 → StepOf scene started_lock (locking releases.ClearsFlag)
   lock_clears holds paid s =
       frees_index scene inv index LockIfLastIndex (locking releases.ClearsFlag)
@@ -198,6 +205,7 @@ module _ {T : Type 0} (scene : Scene T IndexSet) (inv : Inv outline scene) (inde
   lock_loads : IsPaid since changes backs → steps ≤ 1 → StepOf scene started_lock (locking releases.LoadsHead)
   lock_loads = grind (arith, goes_on, head_of, false, good_same, loads_same, inl)
 
+  -- the store of the next index leads to the exchange of the head
   lock_stores : (head : ℕ) → PaidUnless (head_of ws ≡ head) since changes backs → steps ≤ 2 + backs * 2
       → StepOf scene started_lock (locking (releases.StoresNext head))
   lock_stores head knows s =
@@ -251,9 +259,13 @@ module _ {T : Type 0} (scene : Scene T IndexSet) (inv : Inv outline scene) (inde
         → Does true (GoOn (locking (releases.StoresNext (head_of ws))))
     goes_back_to = grind arith
 
+    -- the exchange of the head locks the set, ends the release, or leads back to the store
+    -- where the head has moved
     lock_exchanges : StepOf scene started_lock exchanging
     lock_exchanges = go (head_of ws == head) refl (borrowed head == 1) refl
       where
+        -- a head that is as it was found locks the set if it counts one, and else ends the
+        -- release; another leads back to the store
         go : (b : Bool) → (head_of ws == head) ≡ b → (d : Bool) → (borrowed head == 1) ≡ d → StepOf scene started_lock exchanging
         go true t true u =
             let is : head_of ws ≡ head = grind (arith, nat_tests) in
@@ -281,6 +293,7 @@ module _ {T : Type 0} (scene : Scene T IndexSet) (inv : Inv outline scene) (inde
             subst (λ a. Does (goes_back exchanging (head_of ws)) a) (sym goes)
             (subst (λ b. Does b (GoOn (locking (releases.StoresNext (head_of ws))))) (sym back) (goes_back_to same other))
 
+  -- any step of a release that may lock, and that stands at its stage, shows what it has to
   pub lock_step : (stage : ReleaseStage) → IsHere scene (locking stage) → ReleaseAt hs p index stage
       → LockKnows ws since changes backs stage → steps ≤ release_number stage backs
       → StepOf scene started_lock (locking stage)

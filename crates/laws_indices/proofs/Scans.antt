@@ -16,6 +16,7 @@ module _ (c : ℕ) where
 
   -- ---- each of those stands
 
+  -- no more stand in a row than there are
   run_most : (n : ℕ) (words : List ℕ) (i : ℕ) → run n words i ≤ n
   run_most zero words i = omega arith
   run_most (suc n) words i = go (is_claimed c words i) (run_most n words (i + 1))
@@ -24,6 +25,7 @@ module _ (c : ℕ) where
       go true rest = omega arith
       go false rest = omega arith
 
+  -- each of those in a row stands
   run_claimed : (n : ℕ) (words : List ℕ) (i j : ℕ) → j < run n words i → is_claimed c words (i + j) ≡ true
   run_claimed zero words i j below = absurd (omega arith)
   run_claimed (suc n) words i j below = go (is_claimed c words i) refl (λ k. run_claimed n words (i + 1) k) j below
@@ -35,6 +37,7 @@ module _ (c : ℕ) where
       go false t rest j below = absurd (omega arith)
 
   module _ (words : List ℕ) (free : ((j : ℕ) → j < c → is_claimed c words j ≡ true) → ⊥) where
+    -- not all stand from the first on, where one is free
     from_first : run c words 0 < c
     from_first = ⊎_elim (λ less. less) (λ more. absurd (free (λ j below. all more j below))) (cases_lt (run c words 0) c)
       where
@@ -47,6 +50,7 @@ module _ (c : ℕ) where
     before : (i : ℕ) → i < c → run (c - i) words i ≡ c - i → run c words 0 < i
     before i low whole = ⊎_elim (λ less. less) (λ more. absurd (free (λ j below. all more j below))) (cases_lt (run c words 0) i)
       where
+        -- if no flag before i were free, all would stand
         all : i ≤ run c words 0 → (j : ℕ) → j < c → is_claimed c words j ≡ true
         all more j below = ⊎_elim first rest (cases_lt j i)
           where
@@ -62,6 +66,8 @@ module _ (c : ℕ) where
 
     -- ---- so a scan that is under way finds one
 
+    -- a scan from an index of the set passes fewer flags than there are indices, where one is
+    -- free
     pub scan_few : (i : ℕ) → i < c → scan words i ≤ c - 1
     scan_few i low = go (run (c - i) words i == c - i) refl
       where
@@ -75,6 +81,7 @@ module _ (c : ℕ) where
             let other : run (c - i) words i < c - i = grind (arith, nat_tests) in
             omega arith
 
+    -- a scan at the last index, whose flag stands, passes one less from the first on
     pub scan_wraps : (i : ℕ) → i < c → c ≤ i + 1 → is_claimed c words i ≡ true → scan words 0 + 1 ≤ scan words i
     scan_wraps i low last stood =
         let one : c - i ≡ suc 0 = omega arith in
@@ -96,6 +103,7 @@ module _ (c : ℕ) where
   -- ---- and no more where no flag more stands
 
   module _ (old new : List ℕ) (fewer : (j : ℕ) → is_claimed c new j ≡ true → is_claimed c old j ≡ true) where
+    -- in a row no more stand where no flag more stands
     run_fewer : (n i : ℕ) → run n new i ≤ run n old i
     run_fewer zero i = omega arith
     run_fewer (suc n) i = go (is_claimed c new i) refl (run_fewer n (i + 1))

@@ -44,6 +44,7 @@ module _ {T : Type 0} where
   writes c t p words holders (Indices start) (flights.Indices flight) at = laws.only_effects outline t (Next p) _ (all_effects p _ _)
   writes c t p words holders start flight at = absurd at
 
+  -- the opening of a set of an admitted capacity is sound
   opens : (code : Coding T) (c : ℕ) → 1 ≤ c → c < locked → Opens outline code c
   opens code c some few =
       record {
@@ -71,6 +72,7 @@ module _ {T : Type 0} where
       → is_question (want_of code flight) ≡ false
   no_question = grind arith
 
+  -- each turn of a set may be taken, as the frame asks it of a family
   turns : (code : Coding T) (c : ℕ) → Turns outline code c May
   turns code c =
       laws.turns_alone outline code c May
@@ -84,6 +86,7 @@ module _ {T : Type 0} where
         no_owners = λ s. refl;
       })
 
+  -- all that the frame asks of a family is so of the set's
   owed : (code : Coding T) (c : ℕ) → Owed outline code c
   owed code c =
       record {
@@ -96,6 +99,7 @@ module _ {T : Type 0} where
         tells = λ t turn e s. tt;
       }
 
+  -- all turns of a set are sound
   all_turns : AllTurns {T = T} outline May
   all_turns =
       record {

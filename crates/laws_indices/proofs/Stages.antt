@@ -114,6 +114,8 @@ module _ {T : Type 0} (scene : Scene T IndexSet) where
         let mine = weighs counts in
         omega arith
 
+    -- the calls under way that count in the head are no more than those that take an index and
+    -- those that give one back
     pub all_in_use : busy + (takes flight + gives flight) ≤ all_taking latest scene.state.seats + all_giving latest scene.state.seats + counts flight
     all_in_use =
         let over =

@@ -41,6 +41,7 @@ module _ {T : Type 0} (scene : Scene T IndexSet) (inv : Inv outline scene) where
       → StepOf scene (starts.Release index Default) (default_at n i stage)
   default_moves = grind arith
 
+  -- a release that may lock, of this capacity and index, leads on as the one named by them
   lock_moves : (n i index : ℕ) (stage : ReleaseStage) → n ≡ c → i ≡ index
       → (IsHere scene (lock_at c index stage) → StepOf scene (starts.Release index LockIfLastIndex) (lock_at c index stage))
       → IsHere scene (lock_at n i stage)
@@ -49,6 +50,8 @@ module _ {T : Type 0} (scene : Scene T IndexSet) (inv : Inv outline scene) where
       subst (λ m. IsHere scene (lock_at m i stage) → StepOf scene (starts.Release index LockIfLastIndex) (lock_at m i stage)) (sym e)
       (subst (λ j. IsHere scene (lock_at c j stage) → StepOf scene (starts.Release index LockIfLastIndex) (lock_at c j stage)) (sym f) moves)
 
+  -- any step of a call that stands at its stage, and knows what the stage tells, shows what it
+  -- has to
   pub step_moves : (start : IndexStart) (flight : IndexFlight) → IsHere scene flight → At c hs p start flight
       → scene.steps ≤ number_of c flight scene.backs
       → FlightKnows c scene.state.words scene.since scene.changes scene.backs flight → StepOf scene start flight
@@ -64,7 +67,9 @@ module _ {T : Type 0} (scene : Scene T IndexSet) (inv : Inv outline scene) where
 
 -- ---- what a step and a begin show
 
+-- `c` is the capacity, `t` the run so far, `s` what is sound of it; party `p` takes a turn
 module _ {T : Type 0} (code : Coding T) (c : ℕ) (t : Trace T) (s : frame.Sound (family code c) t) (p : ℕ) where
+  -- a step of a call that stands there shows what the family's step has to
   pub step_shows : (x : Party T) (since : ℕ) → party_of p t.world.latest ≡ Some x → (start : Start T) (flight : Flight T)
       → StandsThere (family code c) t s p x since start flight → families.StepOf outline (scene_of outline code c t s p x.steps x.backs since) start flight
   step_shows x since found (Indices start) (flights.Indices flight) here =
@@ -74,6 +79,7 @@ module _ {T : Type 0} (code : Coding T) (c : ℕ) (t : Trace T) (s : frame.Sound
       record { state = set_then (scene_of outline code c t s p x.steps x.backs since) _ _; kept = refl; words = refl; shows = moves }
   step_shows x since found start flight here = absurd here.at
 
+  -- a call that begins shows what the family's begin has to
   pub begin_shows : (start : Start T) (flight : Flight T)
       → first_of kinds.Indices c start (registries.Indices s.state.holders) ≡ Some flight
       → first_row ((begin_of kinds.Indices c start).rows (registries.Indices s.state.holders) p) ≡ None

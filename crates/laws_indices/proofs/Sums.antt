@@ -7,6 +7,7 @@ sum_below f zero = 0
 sum_below f (suc n) = f n + sum_below f n
 
 module _ (f g : ℕ → ℕ) where
+  -- sums of the same terms are the same
   pub sum_same : (n : ℕ) → ((i : ℕ) → i < n → f i ≡ g i) → sum_below f n ≡ sum_below g n
   sum_same zero same = refl
   sum_same (suc n) same =
@@ -38,6 +39,7 @@ module _ (f : ℕ → ℕ) where
       let rest = sum_all n (λ i below. one i (omega arith)) in
       omega arith
 
+  -- one term is no more than the sum
   pub sum_one : (n p : ℕ) → p < n → f p ≤ sum_below f n
   sum_one zero p below = absurd (omega arith)
   sum_one (suc n) p below = ⊎_elim (before (sum_one n p)) here (cases_lt p n)
@@ -48,6 +50,7 @@ module _ (f : ℕ → ℕ) where
       here : n ≤ p → f p ≤ f n + sum_below f n
       here = grind arith
 
+  -- terms that count nothing sum to nothing
   pub sum_none : (n : ℕ) → ((i : ℕ) → i < n → f i ≡ 0) → sum_below f n ≡ 0
   sum_none zero none = refl
   sum_none (suc n) none =

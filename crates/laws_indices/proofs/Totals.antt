@@ -17,6 +17,7 @@ module _ {T : Type 0} (weight : Flight T → ℕ) where
   abbrev pub total : List (ℕ × Party T) → ℕ → ℕ
   total latest n = sum_below (weight_at latest) n
 
+  -- the latest call of party `p` becomes `y`
   module _ (latest : List (ℕ × Party T)) (p : ℕ) (y : Party T) where
     weight_here : weight_at (put p y latest) p ≡ weight_of (flight_of (Some y.doing))
     weight_here = ap (λ o. weight_of (flight_of (doing_of o))) (party_put_same p y latest)

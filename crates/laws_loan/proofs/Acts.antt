@@ -99,6 +99,7 @@ reclaim_silent = grind arith
 
 -- ---- what an act tells
 
+-- `p` is the party whose step it is, in the machine `m` with a call under way
 module _ {T : Type 0} (m : Underway T) (p : ℕ) where
   open m use {slots, queue, trace as t, sound as s}
 
@@ -157,6 +158,8 @@ module _ {T : Type 0} (m : Underway T) (p : ℕ) where
 
   -- ---- a send
 
+  -- what a step of a send says of who acts is right, where its push knows of the queue what its
+  -- stage should
   pub send_right : (index : ℕ) (stage : PushStage)
       → KnowsOverflowPush queue k.submission index stage → Acting (pushes_at slots queue stage index)
   send_right index overflow_pushes.HandsBack known asks = tt
@@ -183,6 +186,8 @@ module _ {T : Type 0} (m : Underway T) (p : ℕ) where
   made_right : p ≢ 0 → AddsOne (read_word t.world.capacity) t.world.words asked → (push : Option (ℕ × ℕ)) → waits ≡ push → Right (room_made push)
   made_right = grind arith
 
+  -- where the write position is at a read position that is not past the queue's, no index waits by
+  -- the events
   none_waits : (read : ℕ) → read ≤ k.submission.read → k.submission.write ≡ read → waiting t.events ≡ []
   none_waits read low same =
       let write = s.holds.parts.submission.write in
@@ -190,6 +195,8 @@ module _ {T : Type 0} (m : Underway T) (p : ℕ) where
       subst (λ es. waiting es ≡ []) s.holds.same
       (waiting_is k.events (items k.submission.waiting) s.holds.told.book ∙ ap items none)
 
+  -- what a step of a receive says of who acts is right, where its party is not the sender and its
+  -- pop knows of the queue what its stage should
   pub receive_right : p ≢ 0 → (since changes backs : ℕ) (stage : PopStage) (room : OneWord)
       → KnowsBacks k.submission since changes backs stage → Acting (receive_at slots queue p stage room)
   receive_right other since changes backs overflow_pops.FindsNone room known asks = tt

@@ -36,6 +36,7 @@ module _ (slots queue : ℕ) (some : 1 ≤ queue) where
   loads_first : (queue == 0) ≡ false
   loads_first = grind (arith, nat_tests)
 
+  -- a send begins with the load of the write position of the submission queue
   send_is : (index : ℕ) → send_of slots queue index ≡ Send (record {
     call = record { slots = slots; queue = queue; stage = sends.Pushes overflow_pushes.LoadsWrite };
     given = index;
@@ -43,6 +44,7 @@ module _ (slots queue : ℕ) (some : 1 ≤ queue) where
   })
   send_is index = rw loads_first refl
 
+  -- a receive begins with the load of the read position of the submission queue
   receive_is : (p : ℕ) → receive_of slots queue p ≡ Receive p (record {
     call = record { base = submission_word slots; call = record { capacity = queue; stage = overflow_pops.LoadsRead } };
     given = tt;
@@ -78,6 +80,7 @@ module _ {T : Type 0} (code : Coding T) (slots queue : ℕ) (s : Channel T) (lat
       × (reclaims_early s.book start ≡ false)
   passed = grind (arith, rows_passed, asks_for)
 
+  -- where no row refuses its begin, the first stage of a call has what a begin has to show
   pub first_is : (start : LoanStart) → first_row (call_rows slots s.book p start) ≡ None → First start (first slots s.book start)
   first_is calls.Loan r =
       let e = passed calls.Loan r in
@@ -137,6 +140,8 @@ module _ {T : Type 0} (code : Coding T) (slots queue : ℕ) where
   abbrev channel : frame.Family T
   channel = family code slots queue
 
+  -- a begin that the turns admit, and for which there is a first stage, comes to what the frame
+  -- asks of a begin
   pub begin_comes : (t : Trace T) (p : ℕ) (start : Start T) (flight : Flight T) (sound : frame.Sound channel t)
       → MayBegin t.world p start → first_of t.world.kind t.world.capacity start t.world.kept ≡ Some flight
       → frame.Comes channel t p (kept_after_begin t.world.coding t.world.capacity start p t.world.kept)

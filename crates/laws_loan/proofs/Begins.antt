@@ -86,6 +86,8 @@ module _ {T : Type 0} (code : Coding T) (slots queue : ℕ) (s : Channel T) (lat
     still_carried : (index q : ℕ) → spot_of index s.events ≡ Passing q → Carries index (span_of q events_then)
     still_carried = grind (arith, shut_none, shut, theirs_stays, cases_eq)
 
+    -- what holds of the channel's parts holds after the begin, with the sender's call counted as
+    -- it is then
     parts_then : Holds slots queue after (counted_for (sends_at (put p began latest)))
     parts_then =
         let light = weighs_same counted_for first.light in
@@ -96,6 +98,7 @@ module _ {T : Type 0} (code : Coding T) (slots queue : ℕ) (s : Channel T) (lat
     same_receiver : receiver_of events_then ≡ receiver_of s.events
     same_receiver = fold-append receiver_after 1 s.events (begun ∷ [])
 
+    -- a begin whose call is right at first shows what a turn has to
     pub shows : Shows slots queue s after p began latest turns (begun ∷ [])
     shows =
         let sent = h.sent in

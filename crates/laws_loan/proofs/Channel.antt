@@ -17,6 +17,7 @@ use Rattle.laws_loan.proofs.Placed.{IsBy, Placed}
 
 -- ---- the state
 
+-- the words of the indices and the two queues, and what is known beside them
 pub record Channel (T : Type 0) : Type 0 where
   pub set : List ℕ  -- the words of the indices
   pub claims : List (Option ℕ)  -- who has claimed each: the sender, or nobody
@@ -89,6 +90,8 @@ nobody_by = grind arith
 opening_keeps : {T : Type 0} (slots queue : ℕ) → KeepsBook {T = T} (opening_book slots queue) []
 opening_keeps = grind (arith, all_free, nobody_holds)
 
+-- at the opening no index is claimed, none waits in either queue, and the book and the events say
+-- so too
 opening_placed : {T : Type 0} (slots queue : ℕ) → Placed {T = T} slots (replicate slots None) [] [] (opening_book slots queue) []
 opening_placed slots queue =
     record {
@@ -103,6 +106,8 @@ opening_placed slots queue =
       keeps = opening_keeps slots queue;
     }
 
+-- what holds of the channel's parts holds at the opening, for numbers of slots and of the queue's
+-- capacity that are admitted
 pub opening_holds : {T : Type 0} (slots queue : ℕ) → 1 ≤ slots → slots < locked → 1 ≤ queue → queue < 2 ^ 32 → Holds {T = T} slots queue (opened slots queue) 0
 opening_holds slots queue some few room fits =
     record {

@@ -48,6 +48,7 @@ module _ (slots queue : ℕ) (some : 1 ≤ slots) (few : slots < locked) (fits :
   low_flag : (index : ℕ) → index < slots → flag_word slots index ≢ read_word slots
   low_flag index below e = let within = flag_within slots index below in absurd (omega arith)
 
+  -- an operation of an acquire leaves the read position of the submission queue
   pub acquire_keeps : (ws : List ℕ) (stage : AcquireStage) → TakesAt slots ws stage → Stays (ask_of (acquire_asks slots stage))
   acquire_keeps ws acquires.LoadsHead at = loads 0
   acquire_keeps ws (acquires.LoadsNext head) at = loads _
@@ -55,6 +56,7 @@ module _ (slots queue : ℕ) (some : 1 ≤ slots) (few : slots < locked) (fits :
   acquire_keeps ws (acquires.Claims i) at = other_word (flag_word slots i) _ (low_flag i at)
   acquire_keeps ws (acquires.Scans i) at = other_word (flag_word slots i) _ (low_flag i at.0)
 
+  -- so does one of a release, of an index below the slots
   pub release_keeps : (index : ℕ) → index < slots → (stage : ReleaseStage) → Stays (ask_of (back_asks slots index stage))
   release_keeps index below releases.ClearsFlag = other_word (flag_word slots index) _ (low_flag index below)
   release_keeps index below releases.LoadsHead = loads 0
@@ -96,6 +98,8 @@ module _ (T : Type 0) (slots queue : ℕ) (some : 1 ≤ slots) (few : slots < lo
   abbrev pub CallCosts : List Place → LoanFlight → Type 0
   CallCosts places flight = AllCosts (flights.Loan flight) (ask_of (want flight)) (goes places flight)
 
+  -- a step of a send's push that goes on leaves the read position and allows the send no more, or
+  -- it allows it less by two at least
   push_costs : (places : List Place) (index : ℕ) (stage : PushStage)
       → CallCosts places (send_at slots queue index (sends.Pushes stage))
   push_costs places index overflow_pushes.HandsBack = inr (omega arith)
@@ -128,6 +132,7 @@ module _ (T : Type 0) (slots queue : ℕ) (some : 1 ≤ slots) (few : slots < lo
       go false t = rw t tt
   push_costs places index (overflow_pushes.LoadsCell read) = inl (loads slots queue some few fits words _, omega arith)
 
+  -- and so does any step of a send that stands as it should
   pub send_costs_so : (places : List Place) (s : Channel T) (index given : ℕ) (stage : SendStage) → SendAt slots queue s index stage
       → CallCosts places (send_at slots queue given stage)
   send_costs_so places s index given (sends.Pushes stage) at = push_costs places given stage

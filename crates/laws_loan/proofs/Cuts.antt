@@ -24,6 +24,8 @@ read xs ws zs n few below =
     ap (λ i. get_or (xs ++ (ws ++ zs)) i 0) (place xs ws n few below)
     ∙ (get_or-append-add xs (ws ++ zs) n 0 ∙ get_or_append_left ws zs 0 n below)
 
+-- a store into a word of a part that has words before it and behind it changes that word of the
+-- part, and nothing else
 stored : (xs ws zs : List ℕ) (n v : ℕ) → length xs + length ws < 2 ^ 64 → n < length ws
     → set (xs ++ (ws ++ zs)) (word_at (length xs) n) v ≡ xs ++ (set ws n v ++ zs)
 stored xs ws zs n v few below =
@@ -40,6 +42,7 @@ module _ (xs ws zs : List ℕ) (few : length xs + length ws < 2 ^ 64) where
       → words_after (xs ++ (ws ++ zs)) (ask_of (shifted (length xs) want)) ≡ xs ++ (words_after ws (ask_of want) ++ zs)
   shifted_words = grind (arith, set, word_at, length, written, read, stored)
 
+  -- an operation on a word of the part counts as many changes in the whole as in the part
   ask_change : (ask : Ask) → ask.word < length ws
       → change_of (xs ++ (ws ++ zs)) (ask_of (shifted (length xs) (wants.Ask ask))) ≡ change_of ws (ask_of (wants.Ask ask))
   ask_change ask below =

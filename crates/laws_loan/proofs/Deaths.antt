@@ -19,6 +19,7 @@ use Rattle.laws_loan.proofs.QueueEvents.{items, Told, told_more}
 
 -- ---- who has died
 
+-- once this owner is among the dead, a party has died just if it is the owner or had died before
 died_with : (q o : ℕ) (dead : List ℕ) → has_died q (dead_with o dead) ≡ ((o == q) || has_died q dead)
 died_with q o dead = ⊎_elim now before (cases_eq q o)
   where
@@ -49,6 +50,8 @@ module _ {T : Type 0} (slots queue : ℕ) (s : Channel T) (o : ℕ) where
 
   -- ---- what holds
 
+  -- where each index is by the events still agrees with the claims, the queues and the book after
+  -- the death
   placed_then : Placed slots s.claims s.submission.waiting s.completion.waiting s.book s.events
       → Placed slots after.claims after.submission.waiting after.completion.waiting after.book after.events
   placed_then h =
@@ -73,6 +76,7 @@ module _ {T : Type 0} (slots queue : ℕ) (s : Channel T) (o : ℕ) where
       told_more queue s.submission.waiting s.submission.waiting s.completion.waiting s.completion.waiting s.events (Died o ∷ []) h
       (record { book = append-nil (items s.submission.waiting); given = append-nil s.completion.waiting; goes = refl; answers = refl })
 
+  -- what holds between two turns holds after the turn in which the owner dies
   now_then : (latest : List (ℕ × Party T)) (turns : ℕ) → HoldsNow slots queue s latest s.events turns
       → HoldsNow slots queue after latest (s.events ++ Died o ∷ []) (turns + 1)
   now_then latest turns h =
@@ -114,6 +118,7 @@ module _ {T : Type 0} (code : Coding T) (slots queue : ℕ) where
       → channel.Knows (after slots queue s o) o (s.events ++ Died o ∷ []) since changes backs flight
   known_on = grind arith
 
+  -- a death that the turns admit comes to what the frame asks of a death
   pub death_comes : (t : Trace T) (owner : ℕ) (sound : frame.Sound channel t) → MayDie t.world owner → frame.ComesByDeath channel t sound owner
   death_comes t owner sound may =
       let s = sound.state in

@@ -71,6 +71,8 @@ module _ {T : Type 0} (scene : Scene T) (wrote : List (Event T)) (small : scene.
   old_is : (stage : PopStage) → IsOn queued (pop_asks queue stage) → value stage ≡ old_of queued (ask_of (pop_asks queue stage))
   old_is stage on = submission_old slots queue s (counted_for (sends_at latest)) h.parts (pop_asks queue stage) on
 
+  -- an operation on the submission queue changes that part of the words alone, to those of the
+  -- queue as it is then
   words_are : (stage : PopStage) (k : Core ℕ) → IsOn queued (pop_asks queue stage)
       → words_after queued (ask_of (pop_asks queue stage)) ≡ layout no_roles k
       → words_after (words_in s) (asks stage) ≡ s.set ++ (layout no_roles k ++ layout no_roles s.completion)
@@ -80,6 +82,8 @@ module _ {T : Type 0} (scene : Scene T) (wrote : List (Event T)) (small : scene.
 
   -- ---- the loads
 
+  -- a step of this pop that changes no word, and goes on without a turn back to a stage where the
+  -- reclaim is right, does what a step should
   loads : (now : PopStage) (after_it : ReclaimStage) → IsOn queued (pop_asks queue now)
       → words_after queued (ask_of (pop_asks queue now)) ≡ queued → reclaim_counts after_it ≡ 0
       → StageAt slots s.submission s.completion s.book.places wrote after_it → x.steps + step_count (asks now) ≤ reclaim_number slots wrote after_it
@@ -155,6 +159,8 @@ module _ {T : Type 0} (scene : Scene T) (wrote : List (Event T)) (small : scene.
       tells_out : Tells queue true s.submission.waiting rest s.completion.waiting s.completion.waiting (hands ∷ [])
       tells_out = grind (arith, pop_front, append-nil, items)
 
+      -- the move past the oldest index hands that index out to the reclaim, which goes on with a
+      -- pop from its first stage
       leads : x.steps ≤ 4 * length (handed_out wrote) + 3
           → steps.Leads scene wrote under r idle (drains moves) k s.completion (hands ∷ []) (drains pops.LoadsRead)
       leads few =

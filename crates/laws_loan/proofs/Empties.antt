@@ -88,6 +88,8 @@ module _ {T : Type 0} (scene : Scene T) (wrote : List (Event T)) (small : scene.
   old_is : (stage : PopStage) → IsOn queued (pop_asks stage) → value stage ≡ old_of queued (ask_of (pop_asks stage))
   old_is stage on = completion_old slots queue s (counted_for (sends_at latest)) h.parts (pop_asks stage) on
 
+  -- an operation on the completion queue changes that part of the words alone, to those of the
+  -- queue as it is then
   words_are : (stage : PopStage) (k : Core ℕ) → IsOn queued (pop_asks stage)
       → words_after queued (ask_of (pop_asks stage)) ≡ layout no_roles k
       → words_after (words_in s) (asks stage) ≡ s.set ++ (layout no_roles s.submission ++ layout no_roles k)
@@ -97,6 +99,8 @@ module _ {T : Type 0} (scene : Scene T) (wrote : List (Event T)) (small : scene.
 
   -- ---- the loads
 
+  -- a step of this pop that changes no word, and goes on without a turn back to a stage where the
+  -- reclaim is right, does what a step should
   loads : (now : PopStage) (after_it : ReclaimStage) → IsOn queued (pop_asks now)
       → words_after queued (ask_of (pop_asks now)) ≡ queued → reclaim_counts after_it ≡ 0
       → StageAt slots s.submission s.completion s.book.places wrote after_it → x.steps + step_count (asks now) ≤ reclaim_number slots wrote after_it
@@ -137,6 +141,7 @@ module _ {T : Type 0} (scene : Scene T) (wrote : List (Event T)) (small : scene.
       abbrev comes_after : Option ℕ → After LoanFlight (Answer T)
       comes_after o = as_call Reclaim Number (reclaim_releases (record { slots = slots; queue = queue; stage = empties load_of_write }) 0 o)
 
+      -- by the load of the write position, to a channel of which the step is one
       pub record Comes (o : Option ℕ) : Type 0 where
         pub channel_then : Channel T
         pub step : To channel_then load_of_write (comes_after o) effects.Quiet
@@ -146,6 +151,7 @@ module _ {T : Type 0} (scene : Scene T) (wrote : List (Event T)) (small : scene.
         ended =
             s_end scene wrote under r (asks load_of_write) s.set 0
 
+        -- where no index is sent, the reclaim ends with the answer that it has released none
         ends_steps : Steps scene 0 ended (Open (start scene wrote) wrote) calls.Reclaim
             (asks load_of_write) false (Done (Number 0)) (end_of (Number 0) ∷ [])
         ends_steps =
@@ -154,6 +160,8 @@ module _ {T : Type 0} (scene : Scene T) (wrote : List (Event T)) (small : scene.
             (steps.busy_none scene wrote under r idle) (ap (hung s.submission.read) here))
             drained emptied (λ j below. none j (omega arith) below) (ap length none_freed) (omega arith) small
 
+      -- by that load the reclaim goes on to release the first index that is sent, or ends where
+      -- none is
       comes : (o : Option ℕ) → ComesTo s.book.places slots 0 o → Comes o
       comes None none = record { channel_then = ended none; step = (ends_steps none, refl) }
       comes (Some index) first =
@@ -219,6 +227,8 @@ module _ {T : Type 0} (scene : Scene T) (wrote : List (Event T)) (small : scene.
       was_returning : spot_of v s.events ≡ Returning
       was_returning = grind (arith, returns_there, first_there)
 
+      -- the store of the next read position takes the first index back into the reclaim, which
+      -- goes on with a pop from its first stage
       leads : x.steps ≤ 4 * (slots + 1) + 4 * length (taken_back wrote) + 3
           → steps.Leads scene wrote under r idle (empties store_of_read) s.submission m (takes ∷ []) (empties pops.LoadsRead)
       leads less =
@@ -252,6 +262,7 @@ module _ {T : Type 0} (scene : Scene T) (wrote : List (Event T)) (small : scene.
         completion_old slots queue s (counted_for (sends_at latest)) h.parts (load (cell_word slots 1 s.completion.read)) (omega arith)
         ∙ (ap (λ n. get_or queued n 0) (sym plain) ∙ completion.first_is slots some few s.completion h.parts.completion reached v rest first)
 
+    -- the store of the next read position does what a step should, where something waits
     stores_read : s.completion.read < s.completion.write → x.steps ≤ 4 * (slots + 1) + 4 * length (taken_back wrote) + 3 → Does_at store_of_read
     stores_read ahead less =
         let write = h.parts.completion.write in

@@ -90,6 +90,8 @@ module _ {T : Type 0} (code : Coding T) (slots queue : ℕ) (s : Channel T) (lat
           (λ (ne : index ≢ i). inl (sym (elsewhere p index s.events (begun ∷ []) (With p) (Passing p) one_move i ne) ∙ e))
           (cases_eq index i)
 
+      -- a call that asks for an index which its party has is right at first, where what is asked
+      -- of the begin holds and its first stage is right once the index is in passing
       asks_one : (flight : LoanFlight) → asks_for start ≡ Some index → counts flight ≡ 0
           → hung {T = T} s.submission.read (Some (flights.Loan flight)) ≡ None → BeginsRight s.events begun
           → reclaims_after (is_reclaiming s.events) begun ≡ reclaims_in (span_of 0 (s.events ++ begun ∷ []))
@@ -154,6 +156,8 @@ module _ {T : Type 0} (code : Coding T) (slots queue : ℕ) (s : Channel T) (lat
     abbrev pub reclaim_at : LoanFlight
     reclaim_at = Reclaim (record { slots = slots; queue = queue; stage = reclaims.Drains overflow_pops.LoadsRead })
 
+    -- a reclaim is right at first, where the receiver has died and no call of the sender is under
+    -- way
     pub reclaim_first : IsShut (span_of 0 s.events) → has_died s.book.receiver s.book.dead ≡ true → First 0 calls.Reclaim reclaim_at
     reclaim_first shut dead =
         let few = waits_few slots s.claims s.submission.waiting s.completion.waiting s.book s.events h.parts.placed in
@@ -199,6 +203,7 @@ module _ {T : Type 0} (code : Coding T) (slots queue : ℕ) (s : Channel T) (lat
         asks_none p calls.Receive refl receive_at refl refl refl (receiver_is p is).1 (as_before calls.Receive)
         (other, refl, refl, refl, refl, λ alive. (is, some)) (omega arith)
 
+    -- a give-back is right at first, of an index below the slots that the receiver has
     pub give_back_first : (index : ℕ) → index < slots → spot_of index s.events ≡ With p → First p (calls.GiveBack index) (give_back_of slots queue p index)
     give_back_first index below has =
         asks_one p (calls.GiveBack index) index refl has (give_back_of slots queue p index) refl refl refl (receiver_is p is).1

@@ -125,6 +125,7 @@ module _ {T : Type 0} (scene : Scene T) (number index : ℕ) (wrote : List (Even
     place_other : (j : ℕ) → index ≢ j → place_at book_freed.places j ≡ place_at s.book.places j
     place_other j ne = get_or-set_other s.book.places index j places.Free places.Free (λ e. ne (sym e))
 
+    -- up to this index none is sent by the table, now that this one is free
     none_sent : (j : ℕ) → j < index + 1 → place_at book_freed.places j ≢ places.Sent
     none_sent j low sent = ⊎_elim mine others (cases_eq index j)
       where
@@ -137,6 +138,7 @@ module _ {T : Type 0} (scene : Scene T) (number index : ℕ) (wrote : List (Even
         others : index ≢ j → ⊥
         others ne = at.stage_at.5 j (omega arith) (sym (place_other j ne) ∙ sent)
 
+    -- the clear of the flag shows what a turn has to, with the event that the index is freed
     shows_freed : Shows slots queue s s_freed 0 y_freed latest turns freed_es
     shows_freed =
         let step = steps_set releases.ClearsFlag r in
@@ -153,6 +155,7 @@ module _ {T : Type 0} (scene : Scene T) (number index : ℕ) (wrote : List (Even
         h.passing (λ i ne carried. tt) (λ q e. absurd (free_passes q e)) in
         grind (arith, open_then, sends_now, append-nil, items, same_receiver, one_move)
 
+    -- the reclaim then stands at the load of the head, in the release of this index
     known_then : ReclaimAt slots queue s_freed wrote_then (Releases number index releases.LoadsHead)
     known_then =
         let more : freed wrote_then ≡ freed wrote ++ index ∷ [] = flat_map-append frees wrote freed_es in
@@ -172,6 +175,8 @@ module _ {T : Type 0} (scene : Scene T) (number index : ℕ) (wrote : List (Even
         (all_less (freed wrote) (index + 0) (index + 1) (omega arith) at.stage_at.4)) in
         grind (arith, none_sent)
 
+    -- the clear of the flag is a step of the machine, after which the reclaim goes on with the
+    -- load of the head
     pub clears_steps : Steps scene 0 s_freed (Open (starts.Loan calls.Reclaim) wrote) calls.Reclaim clears_ask false
         (GoOn (frees_at slots queue number index releases.LoadsHead)) freed_es
     clears_steps =
@@ -214,6 +219,8 @@ module _ {T : Type 0} (scene : Scene T) (number index : ℕ) (wrote : List (Even
       abbrev s_on : Channel T
       s_on = record s { set = words_then; claims = s.claims; book = s.book; events = s.events ++ [] }
 
+      -- a later step of the release is a step of the machine that writes nothing, where the
+      -- reclaim goes on with this index or with the next one
       pub goes_steps : Steps scene 0 s_on (Open (starts.Loan calls.Reclaim) wrote) calls.Reclaim ask false (GoOn flight_on) []
       goes_steps =
           let one = one_step slots index stage in
@@ -228,6 +235,8 @@ module _ {T : Type 0} (scene : Scene T) (number index : ℕ) (wrote : List (Even
     module _ (good : indices.Good slots words_then s.claims 0)
         (none : (j : ℕ) → j < slots → place_at s.book.places j ≢ places.Sent)
         (more : x.steps + 1 ≤ 8 * (slots + 1) + 5 * (number + 1)) (small : turns < 2 ^ 64 - 2) where
+      -- the last step of the last release is one that ends the reclaim, with the number of the
+      -- indices released as its answer
       pub ends_steps : Steps scene 0 (s_end scene wrote (Releases number index stage) r ask words_then (number + 1))
           (Open (starts.Loan calls.Reclaim) wrote) calls.Reclaim ask false (Done (Number (number + 1))) (end_of (Number (number + 1)) ∷ [])
       ends_steps =

@@ -106,6 +106,8 @@ module _ {T : Type 0} (scene : Scene T) (p index : ℕ) where
     old_is : (stage : PushStage) → IsOn queued (want stage) → old stage ≡ old_of queued (ask_of (want stage))
     old_is stage on = completion_old slots queue s (counted_for (sends_at latest)) h.parts (want stage) on
 
+    -- an operation on the completion queue changes that part of the words alone, to those of the
+    -- queue as it is then
     words_are : (stage : PushStage) (k : Core ℕ) → IsOn queued (want stage)
         → words_after queued (ask_of (want stage)) ≡ layout no_roles k
         → words_after (words_in s) (asked stage) ≡ s.set ++ (layout no_roles s.submission ++ layout no_roles k)
@@ -124,6 +126,8 @@ module _ {T : Type 0} (scene : Scene T) (p index : ℕ) where
         (known : KnowsPush one_word slots k index stage') (steps : x.steps + 1 ≤ push_number 1 stage') (low : push_number 1 stage' ≤ 3)
         (pops : (room : List ℕ) (stage : PopStage) → KnowsPop one_word slots s.completion room stage
         → KnowsPop one_word slots k room stage) where
+      -- a step of the push that goes on, and leaves what waits, leaves the give-back at the push's
+      -- next stage, and writes nothing
       goes_on : StepTo k stage (GoOn (give_at slots queue p index stage')) effects.Quiet
       goes_on =
           let one = one_step stage in (
@@ -164,6 +168,8 @@ module _ {T : Type 0} (scene : Scene T) (p index : ℕ) where
     senders_span : span_of 0 (s.events ++ told) ≡ span_of 0 s.events
     senders_span = span_of-other p 0 s.events told (λ e. other (sym e)) (refl, (refl, tt))
 
+    -- where each index is agrees with the claims, the queues and the book once the index waits in
+    -- the completion queue
     placed_end : Placed slots s.claims s.submission.waiting full.waiting s.book (s.events ++ told)
     placed_end =
         let placed =
@@ -174,6 +180,7 @@ module _ {T : Type 0} (scene : Scene T) (p index : ℕ) where
         (record { moves = refl; receiver = λ r. refl; dead = λ q b. refl }, tt) placed)
 
     module _ (good : Good 1 words_of_index slots full) where
+      -- the last step shows what a turn has to: the index is returned, and the give-back ends
       shows_end : Shows slots queue s (given_then slots queue s full (s.events ++ told) p) p y_end latest turns told
       shows_end =
           let below = passes.0 in
@@ -185,6 +192,7 @@ module _ {T : Type 0} (scene : Scene T) (p index : ℕ) where
           (λ i ne held. absurd (ne (sym held.0))) (λ q e. absurd (returning_passes q e)) in
           grind (arith, same_receiver, one_move, placed_end, senders_span)
 
+      -- the store of the next write position so ends the give-back, with the answer `true`
       ends_with : x.steps ≤ 3 → StepTo full last (Done (answers.Truth true)) (effects.Returns index)
       ends_with steps =
           let words =
@@ -210,6 +218,7 @@ module _ {T : Type 0} (scene : Scene T) (p index : ℕ) where
     abbrev store_of_cell : PushStage
     store_of_cell = pushes.StoresCell s.completion.write (cell_word slots 1 s.completion.write) 0
 
+    -- the load of the write position does what a step should
     loads_write : x.steps ≤ 0 → Does load_of_write
     loads_write steps =
         let on : 0 < length queued = (let wide = long in omega arith) in
@@ -225,6 +234,7 @@ module _ {T : Type 0} (scene : Scene T) (p index : ℕ) where
               (refl, (let low = reached in omega arith)) (omega arith) (omega arith) (λ room stage known. known));
         }
 
+    -- the load of the read position does so: there is room, and the push goes on to the cell
     loads_read : x.steps ≤ 1 → Does load_of_read
     loads_read steps =
         let on : 1 < length queued = (let wide = long in omega arith) in
@@ -241,6 +251,7 @@ module _ {T : Type 0} (scene : Scene T) (p index : ℕ) where
               (omega arith) (omega arith) (λ room stage known. known));
         }
 
+    -- the step that stores the index into the cell does so
     stores_cell : x.steps ≤ 2 → Does store_of_cell
     stores_cell steps =
         record {

@@ -26,6 +26,7 @@ module _ (T : Type 0) (slots queue index : ℕ) where
 module _ {T : Type 0} (m : Underway T) where
   open m use {slots, queue, sound}
 
+  -- a give-up that stands at a stage of its release comes on as a step of the machine
   pub give_up_releases : (index : ℕ) (stage : ReleaseStage)
       → Stands m 0 (starts.Loan (calls.GiveUp index)) (flights.Loan (give_up_at slots queue index stage))
       → Comes m 0 (starts.Loan (calls.GiveUp index)) (flights.Loan (give_up_at slots queue index stage))

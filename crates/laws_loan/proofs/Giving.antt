@@ -45,6 +45,7 @@ module _ {T : Type 0} (scene : Scene T) (p : ℕ) (start : LoanStart) (r : Recei
   abbrev s_on : Channel T
   s_on = given_then slots queue s k (s.events ++ []) p
 
+  -- such a step shows what a turn has to, with no event
   shows_on : Shows slots queue s s_on p y_on latest turns []
   shows_on =
       let tells =
@@ -53,6 +54,8 @@ module _ {T : Type 0} (scene : Scene T) (p : ℕ) (start : LoanStart) (r : Recei
       let still = sends_still latest y_on p other in
       grind (arith, append-nil)
 
+  -- and it is a step of the machine, where its call is right at the stage to which it goes on,
+  -- within its number of steps
   pub gives_on : words_after (words_in s) ask ≡ words_in s_on
       → x.steps + step_count ask ≤ number_of {T = T} slots [] flight (x.backs + one_if back) → At slots queue s_on p [] start flight
       → FlightKnows slots queue s_on (since + change_of (words_in s) ask) (changes + change_of (words_in s) ask) (x.backs + one_if back) flight

@@ -60,6 +60,7 @@ module _ {T : Type 0} where
 
   -- ---- what is so of the channel, of the latest calls and of the events
 
+  -- between two turns, after these events and so many turns, where the parties stand so
   pub record HoldsNow (slots queue : ℕ) (s : Channel T) (latest : List (ℕ × Party T)) (events : List (Event T)) (turns : ℕ) : Type 0 where
     pub same : s.events ≡ events
     pub parts : Holds slots queue s (counted_for (sends_at latest))

@@ -29,6 +29,7 @@ use Rattle.laws_loan.proofs.Sender.{any_call}
 use Rattle.laws_loan.proofs.SendStep.{send_at}
 use Rattle.laws_loan.proofs.StepLaw.{channel}
 
+-- `p` is the party whose step it is, in the machine `m` with a call under way
 module _ {T : Type 0} (m : Underway T) (p : ℕ) where
   open m use {coding as code, slots, queue, trace as t, caller as x, since, sound as s}
 
@@ -51,6 +52,7 @@ module _ {T : Type 0} (m : Underway T) (p : ℕ) where
 
   -- ---- the order of what a step writes
 
+  -- what a step of a call writes is in order, where the call stands there by the family
   in_order : (start : Start T) (flight : Flight T)
       → StandsThere (channel code slots queue) t s p x since start flight
       → InOrder t p promise t.world.coding (words_in s.state) (registries.Loan s.state.book) start flight
@@ -74,6 +76,7 @@ module _ {T : Type 0} (m : Underway T) (p : ℕ) where
       }
   in_order start flight there = absurd there.at
 
+  -- so is what a step writes of a call that a party of the machine has under way
   step_in_order : (flight : Flight T) → party_of p t.world.latest ≡ Some x → x.doing ≡ Going flight since
       → InOrder t p promise t.world.coding t.world.words t.world.kept x.start flight
   step_in_order flight found doing =
@@ -88,6 +91,7 @@ told : {T : Type 0} (code z : Coding T) (slots queue : ℕ) (words : List ℕ) (
     → (step_of z words push p start flight answer kept).after ≡ goes_of z p flight answer kept
 told = grind arith
 
+-- the turns of the family write down in order
 orders : {T : Type 0} (code : Coding T) (slots queue : ℕ) → Orders (channel code slots queue)
 orders code slots queue =
     record {

@@ -31,6 +31,8 @@ module _ {T : Type 0} where
   pub waiting_is : (events : List (Event T)) (rest : List (Item T)) → published events ≡ handed_out events ++ rest → waiting events ≡ rest
   waiting_is = grind (arith, drop, length, handed_out, drop_at)
 
+  -- between two turns the words, the book and the events agree as a loan channel's should, where
+  -- who has died does nothing more and the table is right
   channel_kept : (t : Trace T) (queue : ℕ) → (s : frame.Sound (family t.world.coding t.world.capacity queue) t)
       → Each LivesRight t.events → IsTabled t → IsChannel t
   channel_kept t queue s lives tabled =
@@ -102,6 +104,7 @@ module _ {T : Type 0} where
         keeps = subst (λ es. KeepsBook k.book es) hold.same parts.placed.keeps;
       })
 
+  -- and so the machine keeps the promise
   pub kept_by : (t : Trace T) (queue : ℕ) → 1 ≤ t.world.capacity
       → (s : frame.Sound (family t.world.coding t.world.capacity queue) t) → Each LivesRight t.events → IsTabled t
       → IsKeptBy promise t

@@ -47,6 +47,8 @@ module _ {T : Type 0} (m : Underway T) where
       Stands m p (starts.Loan start) (flights.Loan flight)
       → Comes m p (starts.Loan start) (flights.Loan flight)
 
+  -- a step of a call whose party lives comes to what is asked, by the stage at which the call
+  -- stands
   call_comes : (p : ℕ) (start : LoanStart) (flight : LoanFlight) → has_died (rows.party_of flight) sound.state.book.dead ≡ false → Goes p start flight
   call_comes p calls.Loan (Loan run) alive there =
       let at = there.at in
@@ -89,6 +91,7 @@ module _ {T : Type 0} (m : Underway T) where
       → ComesFrom (channel code slots queue) t sound p x since code (words_in sound.state) (registries.Loan sound.state.book) start flight
   comes = grind (arith, call_comes, lives)
 
+  -- a step that no row refuses, of a call under way, comes to what the frame asks of a step
   step_comes : (p : ℕ) (flight : Flight T)
       → first_row (going_rows t.world.coding t.world.kept (Some flight) None) ≡ None
       → party_of p t.world.latest ≡ Some x → x.doing ≡ Going flight since
@@ -106,6 +109,7 @@ module _ {T : Type 0} (code : Coding T) (slots queue : ℕ) where
       → is_question (want_of t.world.coding flight) ≡ true → A
   asks_nothing = grind arith
 
+  -- the family of the loan channel has the laws that the frame asks of one
   pub laws : frame.Laws (channel code slots queue)
   laws =
       record {
@@ -126,6 +130,7 @@ reached {T} t is r = kept_by_runs IsSound keeps t first r
     IsSound : Trace T → Type 0
     IsSound u = (queue : ℕ) × frame.Sound (family t.world.coding t.world.capacity queue) u × Each LivesRight u.events × IsTabled u
 
+    -- a turn that is not refused keeps this
     keeps : (u : Trace T) (turn : Turn T) → refusal_of u.world turn ≡ None → IsSound u → IsSound (after_turn u turn)
     keeps u turn e h =
         let passed = passes u.world turn e in
@@ -138,6 +143,7 @@ reached {T} t is r = kept_by_runs IsSound keeps t first r
           turn_tabled t.world.coding t.world.capacity h.0 u h.1 h.3 turn sound.holds.moves,
         )
 
+    -- the opening has it, at any number that is admitted
     first : (queue : ℕ) → queue_error t.world.kind queue ≡ None → IsSound (opened t.world.coding t.world.kind t.world.capacity queue t.world.parties)
     first queue queued =
         let w = t.world in

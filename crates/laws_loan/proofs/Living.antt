@@ -71,6 +71,8 @@ module _ {T : Type 0} (code : Coding T) (slots queue : ℕ) where
 
     -- ---- any turn
 
+    -- each event of a turn that is not refused is right of the living: its party has not died
+    -- before
     turn_right : (turn : Turn T) → call_refusal t.world turn ≡ None → AreRight LivesRight t.events (events_of t.world turn)
     turn_right (Begin p start) e = (begins p start (may_begin t.world p start e), tt)
     turn_right (Next p) e = next p (next_passes t.world p e) (party_of p t.world.latest) refl

@@ -45,6 +45,7 @@ module _ {T : Type 0} (m : Underway T) (stage : AcquireStage) (there : Stands m 
   abbrev scene : Scene T
   scene = scene_of m
 
+  -- the loan stands at this stage of its acquire, with what that knows of the set
   stands : Loans scene stage
   stands =
       record {
@@ -60,6 +61,8 @@ module _ {T : Type 0} (m : Underway T) (stage : AcquireStage) (there : Stands m 
   With back after =
       ComesBy m 0 calls.Loan ask back after effects.Claims
 
+  -- where the acquire leads on so over the set, the loan goes on, claims an index, or ends with
+  -- none
   leads_on : (acquire : After acquire_calls.Acquire Acquired)
       → AcquireLeads slots stage sound.state.set words_then sound.state.claims acquire
       → With false (loaned_after T acquire)
@@ -85,6 +88,7 @@ module _ {T : Type 0} (m : Underway T) (stage : AcquireStage) (there : Stands m 
       )
   leads_on (Done (Err failures.IsLocked)) l = absurd l
 
+  -- a loan that stands at a stage of its acquire comes on as a step of the machine
   pub loan_acquires : Comes m 0 (starts.Loan calls.Loan) (flights.Loan (loan_at slots stage))
   loan_acquires =
       let does = step scene stage stands in

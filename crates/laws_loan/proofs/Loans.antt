@@ -82,6 +82,7 @@ module _ {T : Type 0} (scene : Scene T) (stage : AcquireStage) (l : Loans scene 
     abbrev s_on : Channel T
     s_on = record s { set = words_then; claims = s.claims; book = s.book; events = s.events ++ [] }
 
+    -- a step after which the acquire goes on is a step of the machine that writes nothing
     pub goes_steps : Steps scene 0 s_on (Open (starts.Loan calls.Loan) [])
         calls.Loan ask false (GoOn (loan_at slots stage')) []
     goes_steps =
@@ -100,6 +101,7 @@ module _ {T : Type 0} (scene : Scene T) (stage : AcquireStage) (l : Loans scene 
     abbrev s_fails : Channel T
     s_fails = record s { set = words_then; claims = s.claims; book = s.book; events = s.events ++ Finished 0 (starts.Loan calls.Loan) none_left ∷ [] }
 
+    -- a step that finds each index claimed ends the loan, with the answer that none is left
     pub fails_steps : Steps scene 0 s_fails
         (Open (starts.Loan calls.Loan) []) calls.Loan ask false (Done none_left) (Finished 0 (starts.Loan calls.Loan) none_left ∷ [])
     fails_steps =
@@ -148,6 +150,8 @@ module _ {T : Type 0} (scene : Scene T) (stage : AcquireStage) (l : Loans scene 
     now_passing : spot_of i (s.events ++ claims_i ∷ []) ≡ Passing 0
     now_passing = spot_moved s.events claims_i (record { index = i; from = Free; to = Passing 0 }) refl
 
+    -- where each index is agrees with the claims, the queues and the book once the sender has
+    -- claimed this one and the loan has ended
     placed_got : Placed slots (set s.claims i (Some 0)) s.submission.waiting s.completion.waiting book_got (s.events ++ told)
     placed_got =
         let first = claims_it slots s.claims s.submission.waiting s.completion.waiting s.book s.events h.parts.placed i below free_before in
@@ -163,6 +167,7 @@ module _ {T : Type 0} (scene : Scene T) (stage : AcquireStage) (l : Loans scene 
     ended_got : span_of 0 (s.events ++ told) ≡ Ended (starts.Loan calls.Loan) got (claims_i ∷ [])
     ended_got = span_after 0 i s.events told Free (With 0) one_move (Open (starts.Loan calls.Loan) []) from
 
+    -- the step that claims an index shows what a turn has to
     shows_got : Shows slots queue s s_got 0 y_got latest turns told
     shows_got =
         let passing =
@@ -171,6 +176,7 @@ module _ {T : Type 0} (scene : Scene T) (stage : AcquireStage) (l : Loans scene 
         let unlocked = step.unlocked in
         grind (arith, ended_got, sends_now, append-nil, items, same_receiver, one_move, placed_got, now_passing, free_before, calm_before, quiet)
 
+    -- it is a step of the machine that ends the loan with this index
     pub claims_steps : Steps scene 0 s_got (Open (starts.Loan calls.Loan) []) calls.Loan ask false (Done got) told
     claims_steps =
         let one = one_step slots stage in

@@ -33,6 +33,7 @@ use Rattle.laws_loan.proofs.Weight.{sender_most, receiver_most, most_sending}
 -- ---- a party without a call
 
 module _ {T : Type 0} where
+  -- a sender without a call may still take the most steps
   free_sender : (slots : ℕ) (o : Option (Party T)) → flight_of (doing_of o) ≡ None → sender_left slots o ≡ most_sending slots
   free_sender slots None e = refl
   free_sender slots (Some x) e = go x.doing refl
@@ -41,6 +42,7 @@ module _ {T : Type 0} where
       go (Going flight since) is = absurd (let on : flight_of (Some x.doing) ≡ Some flight = ap (λ d. flight_of (Some d)) is in cc)
       go (Over others) is = rw is refl
 
+  -- a receiver without a call may still take four
   free_receiver : (read : ℕ) (o : Option (Party T)) → flight_of (doing_of o) ≡ None → receiver_left read o ≡ 4
   free_receiver read None e = refl
   free_receiver read (Some x) e = go x.doing refl
@@ -85,6 +87,7 @@ module _ {T : Type 0} (code : Coding T) (slots queue : ℕ) (t : Trace T) (sound
 
   -- ---- a call begins
 
+  -- the begin of a call makes the weight no greater, where its party has none under way
   begins : (p : ℕ) (start : Start T) → (o : Option (Flight T)) → is_none o ≡ false → flight_in w p ≡ None
       → weight slots (after_begin w p start o) ≤ weight slots w
   begins p start None e free = absurd (cc)
@@ -113,6 +116,8 @@ module _ {T : Type 0} (code : Coding T) (slots queue : ℕ) (t : Trace T) (sound
       were : receivers_left slots w.words w.kept w.latest ≡ cond lost 0 (left (party_of now w.latest))
       were = receivers_are code slots queue t sound
 
+      -- where the receiver's call may take no more than before, the receiver has no more left than
+      -- before, dead or not
       no_more : left (party_of now new.latest) ≤ left (party_of now w.latest)
           → receivers_left slots new.words new.kept new.latest ≤ receivers_left slots w.words w.kept w.latest
       no_more le = go lost (rest) were
@@ -123,6 +128,7 @@ module _ {T : Type 0} (code : Coding T) (slots queue : ℕ) (t : Trace T) (sound
           go true a b = omega arith
           go false a b = omega arith
 
+      -- so it is where the sender begins
       sender : p ≡ 0 → weight slots new ≤ weight slots w
       sender mine =
           let most = sender_most slots (party_of 0 new.latest) in
@@ -131,6 +137,7 @@ module _ {T : Type 0} (code : Coding T) (slots queue : ℕ) (t : Trace T) (sound
           let rests = no_more (omega arith) in
           omega arith
 
+      -- and where another party begins
       other : p ≢ 0 → weight slots new ≤ weight slots w
       other ne =
           let same_sender = ap (sender_left slots) (there 0 (λ e. ne (sym e))) in
@@ -148,6 +155,7 @@ module _ {T : Type 0} (code : Coding T) (slots queue : ℕ) (t : Trace T) (sound
 
   -- ---- a call goes on
 
+  -- a step of a call, by what its party is found to be, lowers the weight or ends a call
   nexts : (p : ℕ) (flight : Flight T) → flight_in w p ≡ Some flight → first_row (going_rows w.coding w.kept (flight_in w p) None) ≡ None
       → (o : Option (Party T)) → party_of p w.latest ≡ o
       → P code slots queue (record { world = after_next w p o; events = t.events ++ events_of_next w p o })
@@ -174,6 +182,7 @@ module _ {T : Type 0} (code : Coding T) (slots queue : ℕ) (t : Trace T) (sound
 
   -- ---- any turn
 
+  -- any turn that is not refused shows this
   shows : (turn : Turn T) → call_refusal w turn ≡ None → P code slots queue (after_turn t turn)
       → There (steps_of w turn) (world_after w turn) (events_of w turn)
   shows (Begin p start) e later =
@@ -210,6 +219,8 @@ module _ {T : Type 0} where
   any_turns [] = tt
   any_turns (turn ∷ turns) = (tt, any_turns turns)
 
+  -- the weight is one by which the channel is lock-free, at most 13 times the number of slots, and
+  -- 11
   weighs : (code : Coding T) (slots queue : ℕ) → Weighs refusal_of any_turn (P code slots queue) (weight slots) (13 * slots + 11)
   weighs code slots queue =
       record {

@@ -54,6 +54,7 @@ module _ {T : Type 0} where
   book_stays : (e : Event T) (book : Book) → ((book_after book e).receiver ≡ book.receiver) × ((book_after book e).dead ≡ book.dead)
   book_stays = grind arith
 
+  -- the receiver and the dead stay in the book, whatever events come
   fold_stays : (es : List (Event T)) (book : Book)
       → ((fold book_after book es).receiver ≡ book.receiver) × ((fold book_after book es).dead ≡ book.dead)
   fold_stays [] book = (refl, refl)
@@ -62,6 +63,7 @@ module _ {T : Type 0} where
       let one = book_stays e book in
       (rest.0 ∙ one.0, rest.1 ∙ one.1)
 
+  -- a step after which its call goes on leaves the receiver and the dead in the book
   book_goes_on : (words : List ℕ) (push : Option (ℕ × ℕ)) (p : ℕ) (start : LoanStart) (flight next : LoanFlight) (old : ℕ) (book : Book)
       → after {T = T} book.places flight old ≡ GoOn next
       → ((step {T = T} words push p start flight old book).kept.receiver ≡ book.receiver)
@@ -159,6 +161,7 @@ module _ {T : Type 0} (code : Coding T) (slots queue : ℕ) where
           (step {T = T} t.world.words (beside_of {T = T} t.world.words (registries.Loan s.book) t.world.latest p) p start flight
           (old_of t.world.words (ask_of (want flight))) s.book).kept
 
+      -- a step of a loan call that goes on leaves who the receiver is, and whether it has died
       same_book : (start : LoanStart) (flight : LoanFlight) (next : Flight T) → (loan_step start flight).after ≡ GoOn next
           → (receiver_in (loan_step start flight).kept ≡ r) × (is_lost (loan_step start flight).kept ≡ dead)
       same_book start flight next e = go (after s.book.places flight (old_of t.world.words (ask_of (want flight)))) refl
@@ -198,6 +201,7 @@ module _ {T : Type 0} (code : Coding T) (slots queue : ℕ) where
             (any_costs T slots queue some few fits t.world.words flight
             (after s.book.places flight (old_of t.world.words (ask_of (want flight)))) stays is)
 
+        -- a step of a give-back that goes on leaves the receiver fewer steps to take
         gives : (by : ℕ) (run : Running (Part (Push ℕ)) ℕ (Unit {0})) (index : ℕ) → run.call.base ≡ completion_word slots queue
             → run.call.call.capacity ≡ slots → run.given ≡ index → KnowsPush one_word slots s.completion index run.call.call.stage
             → steps ≤ push_number 1 run.call.call.stage → TakesOne T slots queue t.world.words s.book.places steps (GiveBack by run)
@@ -224,6 +228,7 @@ module _ {T : Type 0} (code : Coding T) (slots queue : ℕ) where
             subst (λ flight. TakesOne T slots queue t.world.words s.book.places steps flight) (sym same)
             (receive_takes T slots queue t.world.words s.book.places by steps run.room run.call.call.stage)
 
+        -- a step of a living party's call, where the call stands there, says so, by the call
         call_says : (start : LoanStart) (flight : LoanFlight) → has_died (rows.party_of flight) s.book.dead ≡ false
             → Stands start flight → SaysOf start flight
         call_says calls.Loan (Loan run) alive there =
@@ -280,6 +285,7 @@ module _ {T : Type 0} (code : Coding T) (slots queue : ℕ) where
             record { same = same_book calls.Reclaim (Reclaim call); side = inl (at.0, inr (at.3.dead, refl)) }
         call_says start flight alive there = absurd there.at
 
+        -- so does the step of any call of the machine that no row refuses
         says : (start : Start T) (flight : Flight T) → first_row (going_rows t.world.coding t.world.kept (Some flight) None) ≡ None
             → StandsThere (channel code slots queue) t sound p x since start flight
             → Says flight (step_there (registries.Loan s.book) start flight)
@@ -373,6 +379,7 @@ module _ {T : Type 0} (code : Coding T) (slots queue : ℕ) where
         there : (q : ℕ) → q ≢ p → party_of q new.latest ≡ party_of q t.world.latest
         there q ne = party_put_other q p y t.world.latest ne
 
+        -- what the receiver has left then is of the same receiver, at the read position that the step left
         rest_then : (o : Option (Party T)) → party_of r new.latest ≡ o
             → receivers_left slots new.words new.kept new.latest ≡ cond dead 0 (new_rest o)
         rest_then o is =
@@ -443,6 +450,8 @@ module _ {T : Type 0} (code : Coding T) (slots queue : ℕ) where
               let few = within in
               omega arith
 
+          -- a step of the sender lowers the weight by the steps that it takes, where it costs the receiver
+          -- nothing, has paid, or the receiver has died
           sends_less : AllCosts T slots queue some few fits t.world.words flight ask st.after
               ⊎ ((dead ≡ true) × (allowance slots flight ≡ most_sending slots)) → Less
           sends_less h =
@@ -452,6 +461,7 @@ module _ {T : Type 0} (code : Coding T) (slots queue : ℕ) where
 
         -- ---- the receiver's
 
+        -- so does a step of the receiver
         receives_less : Receives p x.steps flight st → steps + weight slots new ≤ weight slots t.world
         receives_less h =
             let ne = h.0 in

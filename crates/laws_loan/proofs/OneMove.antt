@@ -55,6 +55,8 @@ module _ {T : Type 0} where
   calm_still r (e ∷ es) still = ap (λ n. fold receiver_after n es) (still.0.receiver r) ∙ calm_still r es still.1
 
 module _ {T : Type 0} (p index : ℕ) (events es : List (Event T)) (from to : Spot) where
+  -- these events are all of one party and of this index, and move it from here to there; nobody
+  -- becomes the receiver by them
   pub record OneMove : Type 0 where
     pub own : AreOwn p es
     pub of : AreOf index es

@@ -24,6 +24,7 @@ module _ {T : Type 0} where
   told_nothing = grind arith
 
   module _ (slots queue : ℕ) (some : 1 ≤ slots) (few : slots < locked) (room : 1 ≤ queue) (fits : queue < 2 ^ 32) where
+    -- what holds between two turns holds at the opening, for numbers that are admitted
     holds_now : HoldsNow {T = T} slots queue (channels.opened slots queue) [] [] 0
     holds_now =
         record {
@@ -41,6 +42,7 @@ module _ {T : Type 0} where
           passing = λ index p e. let never : Free ≡ Passing p = e in absurd (cc);
         }
 
+    -- the machine opens sound, in the frame's sense
     pub opening_sound : (code : Coding T) (parties : ℕ) → frame.Sound (family code slots queue) (opened code kinds.Loan slots queue parties)
     opening_sound code parties =
         record {

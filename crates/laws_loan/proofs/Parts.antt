@@ -67,6 +67,7 @@ module _ {T : Type 0} (slots queue : ℕ) (s : Channel T) (busy : ℕ) (h : Hold
   last : (ws : List ℕ) → s.set ++ (submission ++ ws) ≡ (s.set ++ submission) ++ (ws ++ [])
   last = grind (arith, append_assoc, append-nil)
 
+  -- an operation on a word of the completion queue finds in the whole what it finds in the queue
   pub completion_old : (want : Want (Unit {0})) → IsOn completion want
       → old_of (words_in s) (ask_of (shifted (completion_word slots queue) want)) ≡ old_of completion (ask_of want)
   completion_old want on =
@@ -74,6 +75,7 @@ module _ {T : Type 0} (slots queue : ℕ) (s : Channel T) (busy : ℕ) (h : Hold
       ∙ subst (λ base. old_of ((s.set ++ submission) ++ (completion ++ [])) (ask_of (shifted base want)) ≡ old_of completion (ask_of want)) both_long
       (shifted_old (s.set ++ submission) completion [] few_in_all want on)
 
+  -- and it leaves of the whole the other two parts, with the queue's words as it leaves them
   pub completion_words : (want : Want (Unit {0})) → IsOn completion want
       → words_after (words_in s) (ask_of (shifted (completion_word slots queue) want)) ≡ s.set ++ (submission ++ words_after completion (ask_of want))
   completion_words want on =

@@ -67,6 +67,7 @@ module _ {T : Type 0} (slots : ℕ) (events : List (Event T)) (e : Event T) (m :
     same_receiver : receiver_of later ≡ receiver_of events
     same_receiver = fold-append receiver_after 1 events (e ∷ []) ∙ s.calm.0
 
+    -- the book still says of each index what the events say, once the event is written
     keeps_more : KeepsBook book' later
     keeps_more =
         record {
@@ -87,6 +88,8 @@ module _ {T : Type 0} (slots : ℕ) (events : List (Event T)) (e : Event T) (m :
         (λ p by. subst (λ r. (p ≡ 0) ⊎ (p ≡ r)) (sym same_receiver) (s.party p (subst (IsBy p) (spot_moved events e m is) by)))
         (λ i ne p by. subst (λ r. (p ≡ 0) ⊎ (p ≡ r)) (sym same_receiver) (h.parties i p (subst (IsBy p) (spot_other events e m is i ne) by)))
 
+    -- each index is still where the claims, the queues and the book have it, once the event is
+    -- written
     pub placed_more : Placed slots claims' sent' back' book' later
     placed_more =
         record {
@@ -111,6 +114,8 @@ module _ {T : Type 0} (slots : ℕ) (events : List (Event T)) (e : Event T) (non
   stays : (i : ℕ) → spot_of i (events ++ e ∷ []) ≡ spot_of i events
   stays i = spot_stays events e i none
 
+  -- the event leaves the book's places and holders, and the receiver, the dead and who has what
+  -- are still as the book says
   pub record Leaves (book book' : Book) : Type 0 where
     pub places : book'.places ≡ book.places
     pub holders : book'.holders ≡ book.holders
@@ -119,6 +124,8 @@ module _ {T : Type 0} (slots : ℕ) (events : List (Event T)) (e : Event T) (non
     pub parties : (i p : ℕ) → IsBy p (spot_of i events) → (p ≡ 0) ⊎ (p ≡ receiver_of (events ++ e ∷ []))
 
   module _ (claims : List (Option ℕ)) (sent back : List ℕ) (book book' : Book) (h : Placed slots claims sent back book events) (s : Leaves book book') where
+    -- an event that moves no index, and leaves the book, keeps where each index is, if the two
+    -- queues' indices still wait there
     pub placed_on : Lists is_waiting sent (events ++ e ∷ []) → Lists is_returning back (events ++ e ∷ [])
         → Placed slots claims sent back book' (events ++ e ∷ [])
     placed_on waits returns =

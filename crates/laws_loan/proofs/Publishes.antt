@@ -114,6 +114,7 @@ module _ {T : Type 0} (scene : Scene T) (index : ℕ) (h : HoldsIn scene) (small
     whole : (s.events ++ publishes ∷ []) ++ tail ≡ s.events ++ es
     whole = append_assoc s.events (publishes ∷ []) tail
 
+    -- these events move the index alone, from the send's passing to the queue, where it waits
     one_move : OneMove 0 index s.events es (Passing 0) Waiting
     one_move =
         record {
@@ -137,6 +138,7 @@ module _ {T : Type 0} (scene : Scene T) (index : ℕ) (h : HoldsIn scene) (small
         (after : After LoanFlight (Answer T)) (busy : counted_for (flight_of (Some (party after).doing)) ≡ 0)
         (hangs : Hangs queue k (hung k.read (flight_of (Some (party after).doing))))
         (tells : Tells queue (is_reclaiming s.events) s.submission.waiting k.waiting s.completion.waiting s.completion.waiting es) where
+      -- the store shows what a turn has to, whatever comes behind the publishing
       shows : Shows slots queue s (s_then tail) 0 (party after) latest turns es
       shows =
           let good = submission.publish_good queue h.parts.some h.parts.few s.submission h.parts.submission low_write index below whole_cell in
@@ -153,6 +155,7 @@ module _ {T : Type 0} (scene : Scene T) (index : ℕ) (h : HoldsIn scene) (small
           (λ i ne. none_carried scene index h small straight i ne) (λ q e. absurd (waiting_passes q e)) in
           grind (arith, span_then, sends_now, same_receiver, one_move, placed_then)
 
+      -- and it is a step of the machine, where its call is right afterwards
       publishing : frame.Fits channel (s_then tail) 0 (Some (party after)) (fold own_after (Open call (publishes ∷ [])) tail)
           → frame.KnowsDoing channel (s_then tail) 0 (s.events ++ es) (changes + change_of (words_in s) asked_now) (party after).backs (party after).doing
           → Steps scene 0 (s_then tail) (Open call []) (calls.Send index) asked_now false after es
@@ -181,6 +184,8 @@ module _ {T : Type 0} (scene : Scene T) (index : ℕ) (h : HoldsIn scene) (small
       let list = push_room {T = T} queue s.submission.waiting index less in
       grind (arith, more, append-nil)
 
+  -- where there was room, the events tell of the queues that the index went in and that the send
+  -- acted and ended
   ends_tells : length s.submission.waiting < queue
       → Tells queue (is_reclaiming s.events) s.submission.waiting k.waiting s.completion.waiting s.completion.waiting
       (publishes ∷ acts ∷ ends ∷ [])
@@ -218,6 +223,7 @@ module _ {T : Type 0} (scene : Scene T) (index : ℕ) (h : HoldsIn scene) (small
   waits_here = grind arith
 
   module _ (cell : Holds 1 words_of_index (queue + 1) s.submission.cells s.submission.write index 1) (steps : x.steps ≤ 3) where
+    -- where there was room by what the send had loaded, the store ends it
     publishes_done : length s.submission.waiting < queue → To (s_then (acts ∷ ends ∷ [])) (Done answers.PoppedNone) (effects.PublishesAndActs index)
     publishes_done less =
         let longer = one_longer in (
@@ -227,6 +233,8 @@ module _ {T : Type 0} (scene : Scene T) (index : ℕ) (h : HoldsIn scene) (small
           refl,
         )
 
+    -- where a receive has made room since the send loaded the read position, the send acts, and
+    -- goes on to its move of that position
     publishes_late : length s.submission.waiting < queue → read < s.submission.read
         → s.submission.write ≡ read + queue → To (s_then (acts ∷ [])) (GoOn waits_at) (effects.PublishesAndActs index)
     publishes_late less moved far =
@@ -241,6 +249,7 @@ module _ {T : Type 0} (scene : Scene T) (index : ℕ) (h : HoldsIn scene) (small
           refl,
         )
 
+    -- where the queue is full, the send goes on to its move of the read position and has not acted
     publishes_over : length s.submission.waiting ≡ queue → read ≡ s.submission.read
         → s.submission.write ≡ read + queue → To (s_then []) (GoOn waits_at) (effects.Publishes index)
     publishes_over full same far =
@@ -256,6 +265,7 @@ module _ {T : Type 0} (scene : Scene T) (index : ℕ) (h : HoldsIn scene) (small
     read_now : (b : Bool) → (s.submission.read == read) ≡ b → (read_in (submission_word slots) (words_in s) == read) ≡ b
     read_now b e = ap (λ r. r == read) (read_is scene index h small straight) ∙ e
 
+    -- the store of the next write position does what a step should, in each of the three cases
     pub stores_write : read ≤ s.submission.read → s.submission.write ≤ read + queue
         → Does scene index stage
     stores_write low far = go (submission.finds queue h.parts.some h.parts.few s.submission h.parts.submission low_write read low far)

@@ -69,6 +69,8 @@ module _ {T : Type 0} (m : Underway T) where
     from : span_of p s.events ≡ Open (starts.Loan calls.Receive) []
     from = grind arith
 
+    -- the move of the read position where it was found ends the receive with the index in its
+    -- room, and a send that waited for it acts
     takes : With false (Done (answers.PoppedIndex room.0)) (effects.Receives room.0 (by_sender waits))
     takes =
         let h = holds_now m in
@@ -135,6 +137,8 @@ module _ {T : Type 0} (m : Underway T) where
     ComesAt stage room =
         Comes m p (starts.Loan calls.Receive) (flights.Loan (receive_at slots queue p stage room))
 
+    -- the move of the read position comes on as a step of the machine, whether a send has moved it
+    -- before or not
     moves_read : (read : ℕ) (room : OneWord) → StandsAt (pops.MovesRead read) room → ComesAt (pops.MovesRead read) room
     moves_read read room there = go (s.submission.read == read) refl
       where
@@ -145,6 +149,7 @@ module _ {T : Type 0} (m : Underway T) where
             (takes_out p room alive (subst (λ n. StandsAt (pops.MovesRead n) room) same there))
         go false e = receive_looks m p (pops.MovesRead read) room alive e there
 
+    -- so does the step of each stage of a receive
     at_stage : (stage : PopStage) (room : OneWord) → StandsAt stage room → ComesAt stage room
     at_stage (pops.MovesRead read) room there = moves_read read room there
     at_stage pops.FindsNone room there = receive_looks m p pops.FindsNone room alive tt there

@@ -106,12 +106,14 @@ module _ {T : Type 0} (scene : Scene T) (p value : ℕ) (rest : List ℕ) where
     takes : Takes slots queue s rest book_then (s.events ++ es) p
     takes = grind (arith, passing_on, elsewhere, was_waiting, waiting_passes)
 
+    -- an index that is in passing afterwards is carried by the span of its party's call
     passing_then : (i q : ℕ) → spot_of i (s.events ++ es) ≡ Passing q → Carries i (span_of q (s.events ++ es))
     passing_then i q e = ⊎_elim mine others (cases_eq value i)
       where
         mine : value ≡ i → Carries i (span_of q (s.events ++ es))
         mine same = absurd (with_passes p q (sym (has_it p value s.events waits) ∙ (ap (λ n. spot_of n (s.events ++ es)) same ∙ e)))
 
+        -- so it is of an index that is not the one taken out
         others : value ≢ i → Carries i (span_of q (s.events ++ es))
         others ne =
             let carried = h.passing i q (sym (elsewhere p value s.events waits i ne) ∙ e) in
@@ -145,6 +147,7 @@ module _ {T : Type 0} (scene : Scene T) (p value : ℕ) (rest : List ℕ) where
         let good = submission.take_good queue h.parts.some h.parts.few s.submission h.parts.submission low_write value rest first in
         grind (arith, sends_still, placed_then)
 
+    -- the step that takes an index out shows what a turn has to
     pub take_shows : Shows slots queue s s_then p y_then latest turns es
     take_shows =
         let sent = h.sent in
@@ -170,6 +173,8 @@ module _ {T : Type 0} (scene : Scene T) (p value : ℕ) (rest : List ℕ) where
         → channel.At s_then q start flight × (channel.written s_then q flight ≡ channel.written s q flight)
     still_at = grind (arith, others_then, theirs_stay, stays)
 
+    -- the calls of the other parties stand as their spans say, with the send that waited having
+    -- acted
     others_fit : (q : ℕ) → q ≢ p → frame.Fits channel s_then q (party_of q latest) (span_of q (s.events ++ es))
     others_fit q ne =
         ⊎_elim (λ (sender : q ≡ 0). subst (λ n. frame.Fits channel s_then n (party_of n latest) (span_of n (s.events ++ es))) (sym sender)
@@ -185,6 +190,7 @@ module _ {T : Type 0} (scene : Scene T) (p value : ℕ) (rest : List ℕ) where
         → channel.Knows s_then q (s.events ++ es) sooner (changes + change_of (words_in s) asks) backs flight
     know_still = grind (arith, knows_keeps, goes_up)
 
+    -- it owes the other calls nothing more, so it comes to what the frame asks
     pub take_owes : frame.Owes channel s_then p y_then latest s.events es (changes + change_of (words_in s) asks)
     take_owes =
         let change = one in

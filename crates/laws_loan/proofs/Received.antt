@@ -74,6 +74,7 @@ module _ {T : Type 0} (p value : ℕ) where
         ap (spot_of value) (sym (whole waits))
         ∙ spot_moved (run waits) ends (record { index = value; from = Passing p; to = With p }) refl
 
+    -- every index but the one handed out is where it was
     pub elsewhere : (waits : Option ℕ) (i : ℕ) → value ≢ i → spot_of i (events ++ told waits) ≡ spot_of i events
     elsewhere waits i ne =
         ap (spot_of i) (sym (whole waits))
@@ -81,6 +82,7 @@ module _ {T : Type 0} (p value : ℕ) where
         ∙ (spots_still i (events ++ hands ∷ []) (acts ∷ made waits) (still waits)
         ∙ spot_other events hands (record { index = value; from = Waiting; to = Passing p }) refl i ne))
 
+    -- the events move that index rightly, from the queue, where it waited
     pub moves_told : (slots : ℕ) (waits : Option ℕ) → value < slots → spot_of value events ≡ Waiting → AreRight (MovesRight slots) events (told waits)
     moves_told slots None below waited =
         let passing = spot_moved events hands (record { index = value; from = Waiting; to = Passing p }) refl in
@@ -100,6 +102,7 @@ module _ {T : Type 0} (p value : ℕ) where
     -- ---- the spans
 
     module _ (other : p ≢ 0) where
+      -- the receive's span is then ended, with the index as its answer
       pub mine_then : (waits : Option ℕ) → span_of p events ≡ Open call [] → span_of p (events ++ told waits) ≡ Ended call answer (hands ∷ acts ∷ [])
       mine_then waits from =
           ap (span_of p) (sym (parts waits))
@@ -108,6 +111,7 @@ module _ {T : Type 0} (p value : ℕ) where
           (span_of-other 0 p (events ++ hands ∷ acts ∷ []) (made waits) other (made_own T waits)
           ∙ (span_of-own p events (hands ∷ acts ∷ []) (refl, (refl, tt)) ∙ ap (λ span. fold own_after span (hands ∷ acts ∷ [])) from)))
 
+      -- the sender's span goes on by the act of the send that waits, if one does
       pub senders_then : (waits : Option ℕ) → span_of 0 (events ++ told waits) ≡ fold own_after (span_of 0 events) (made waits)
       senders_then waits =
           ap (span_of 0) (sym (parts waits))
@@ -115,6 +119,7 @@ module _ {T : Type 0} (p value : ℕ) where
           ∙ (span_of-own 0 (events ++ hands ∷ acts ∷ []) (made waits) (made_own T waits)
           ∙ ap (λ span. fold own_after span (made waits)) (span_of-other p 0 events (hands ∷ acts ∷ []) (λ e. other (sym e)) (refl, (refl, tt)))))
 
+      -- the spans of the parties that are neither the receiver nor the sender stay
       pub others_then : (waits : Option ℕ) (q : ℕ) → q ≢ p → q ≢ 0 → span_of q (events ++ told waits) ≡ span_of q events
       others_then waits q ne away =
           ap (span_of q) (sym (parts waits))
@@ -159,6 +164,8 @@ module _ {T : Type 0} (p value : ℕ) where
 
   -- ---- what they tell of the two queues
 
+  -- the events tell of the queues that the oldest index went out, and that a send that hung on it
+  -- has acted
   pub tells_told : (queue : ℕ) (sent rest back : List ℕ) (waits : Option ℕ) → 1 ≤ queue → sent ≡ value ∷ rest
       → (k : Core ℕ) → k.waiting ≡ sent → Hangs queue k waits → Tells queue false sent rest back back (told waits)
   tells_told queue sent rest back None some first k is few =

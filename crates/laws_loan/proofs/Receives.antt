@@ -106,6 +106,7 @@ module _ {T : Type 0} (scene : Scene T) (p : ℕ) (beside : Option (ℕ × ℕ))
     pub old_is : (stage : PopStage) → IsOn queued (pop_asks queue stage) → old stage ≡ old_of queued (ask_of (pop_asks queue stage))
     old_is stage on = submission_old slots queue s (counted_for (sends_at latest)) h.parts (pop_asks queue stage) on
 
+    -- an operation on the submission queue that changes no word of it changes none of the whole
     words_are : (stage : PopStage) → IsOn queued (pop_asks queue stage)
         → words_after queued (ask_of (pop_asks queue stage)) ≡ queued
         → words_after (words_in s) (asked stage) ≡ words_in s
@@ -120,6 +121,7 @@ module _ {T : Type 0} (scene : Scene T) (p : ℕ) (beside : Option (ℕ × ℕ))
         (known : KnowsOverflowPop queue s.submission room after_it) (one : step_count (asked now) ≡ 1)
         (steps : x.steps + 1 ≤ 2 * (x.backs + one_if back) + overflow_pop_number after_it)
         (paid : (n : ℕ) → KnowsBacks s.submission (since + n) (changes + n) (x.backs + one_if back) after_it) where
+      -- a look that goes on leaves the receive at the pop's next stage, and writes nothing
       goes_on : Looks now back (GoOn (receive_at slots queue p after_it room)) effects.Quiet
       goes_on = (
         gives_on scene p calls.Receive r (asked now) back s.completion refl refl h.parts.completion
@@ -155,6 +157,7 @@ module _ {T : Type 0} (scene : Scene T) (p : ℕ) (beside : Option (ℕ × ℕ))
           carried_on p s.events told (refl, (refl, tt)) spanned from i q (h.passing i q (sym (spots_still i s.events told told_still) ∙ e))
           (λ carried. absurd carried)
 
+      -- the end where nothing waits shows what a turn has to
       shows_none : Shows slots queue s (given_then slots queue s s.completion (s.events ++ told) p) p y_none latest turns told
       shows_none =
           let same = receiver_still s.events told told_still in
@@ -163,6 +166,7 @@ module _ {T : Type 0} (scene : Scene T) (p : ℕ) (beside : Option (ℕ × ℕ))
           let still = sends_still latest y_none p other in
           grind (arith, tells_none, passing_none)
 
+      -- the load of the write position ends the receive with no index, where nothing waits
       finds_none : IsOn queued (pop_asks queue (pops.LoadsWrite read)) → x.steps ≤ 2 * x.backs + 1
           → x.backs + since ≤ changes
           → Looks (pops.LoadsWrite read) false (Done answers.PoppedNone) effects.FindsNone
@@ -175,6 +179,7 @@ module _ {T : Type 0} (scene : Scene T) (p : ℕ) (beside : Option (ℕ × ℕ))
 
     -- ---- each stage that takes nothing out
 
+    -- the load of the read position does what a look should
     loads_read : (room : OneWord) → x.steps ≤ 2 * x.backs → x.backs + since ≤ changes → LooksOf pops.LoadsRead room
     loads_read room steps paid =
         let some = h.parts.some in
@@ -186,6 +191,7 @@ module _ {T : Type 0} (scene : Scene T) (p : ℕ) (beside : Option (ℕ × ℕ))
         (goes_on pops.LoadsRead (pops.LoadsWrite s.submission.read) room false on refl
         (omega arith, omega arith, λ less. absurd (omega arith)) refl (omega arith) (λ n. (omega arith, omega arith)))
 
+    -- the load of the write position does so: it goes on to the cell, or ends where nothing waits
     loads_write : (read : ℕ) (room : OneWord)
         → KnowsOverflowPop queue s.submission room (pops.LoadsWrite read) → x.steps ≤ 2 * x.backs + 1
         → x.backs + since + s.submission.read ≤ changes + read → LooksOf (pops.LoadsWrite read) room
@@ -217,6 +223,7 @@ module _ {T : Type 0} (scene : Scene T) (p : ℕ) (beside : Option (ℕ × ℕ))
             (goes_on (pops.LoadsWrite read) (pops.LoadsCell read) room false on refl
             (omega arith, low, ahead) refl (omega arith) (λ n. (low, omega arith)))
 
+    -- the load of the cell does so, and goes on to the move of the read position
     loads_cell : (read : ℕ) (room : OneWord)
         → KnowsOverflowPop queue s.submission room (pops.LoadsCell read) → x.steps ≤ 2 * x.backs + 2
         → x.backs + since + s.submission.read ≤ changes + read → LooksOf (pops.LoadsCell read) room
@@ -259,6 +266,7 @@ module _ {T : Type 0} (scene : Scene T) (p : ℕ) (beside : Option (ℕ × ℕ))
         (submission.stays_words queue h.parts.some h.parts.few s.submission h.parts.submission reached read moved)
         (omega arith, omega arith, ahead) refl (omega arith) (λ n. (omega arith, omega arith)))
 
+    -- each stage at which the next step takes nothing out does what a look should
     pub looks : (stage : PopStage) (room : OneWord) → IsLook s stage → KnowsOverflowPop queue s.submission room stage
         → x.steps ≤ 2 * x.backs + overflow_pop_number stage → KnowsBacks s.submission since changes x.backs stage
         → LooksOf stage room

@@ -43,6 +43,7 @@ module _ {T : Type 0} (scene : Scene T) (wrote : List (Event T)) (stage : Reclai
     ended_then : span_of 0 (s.events ++ end ∷ []) ≡ Ended (starts.Loan calls.Reclaim) answer wrote
     ended_then = grind (arith, span_of-own, fold)
 
+    -- the end of a reclaim shows what a turn has to
     shows : Shows slots queue s s_end 0 (party_then scene calls.Reclaim ask false (Done answer)) latest turns (end ∷ [])
     shows =
         let placed =
@@ -52,6 +53,7 @@ module _ {T : Type 0} (scene : Scene T) (wrote : List (Event T)) (stage : Reclai
         λ i q e. none_passing s.events answer home i q e in
         grind (arith, ended_then, receiver_then, sends_now, append-nil, items, home)
 
+    -- and it is a step of the machine
     pub reclaim_ends : Steps scene 0 s_end (Open (starts.Loan calls.Reclaim) wrote)
         calls.Reclaim ask false (Done answer) (end ∷ [])
     reclaim_ends =

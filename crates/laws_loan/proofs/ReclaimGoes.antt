@@ -114,6 +114,7 @@ module _ {T : Type 0} (scene : Scene T) (wrote : List (Event T)) where
         open_then : span_of 0 (s.events ++ es) ≡ Open start (wrote ++ es)
         open_then = grind (arith, span_of-own, fold)
 
+        -- an index that is in passing afterwards is carried by the span of its party's call
         passing_then : (i q : ℕ) → spot_of i (s.events ++ es) ≡ Passing q → Carries i (span_of q (s.events ++ es))
         passing_then i q e =
             ⊎_elim
@@ -141,6 +142,8 @@ module _ {T : Type 0} (scene : Scene T) (wrote : List (Event T)) where
         (counted : reclaim_counts after_it ≡ 0)
         (stands : StageAt slots s.submission s.completion s.book.places wrote after_it)
         (steps : x.steps + step_count (asked now) ≤ reclaim_number slots wrote after_it) where
+      -- such a step is one of the machine that goes on and writes nothing, where the reclaim is
+      -- right at the stage to which it goes
       pub goes_still : Steps scene 0 s_still (Open start wrote)
           calls.Reclaim (asked now) false (GoOn (reclaim_at slots queue after_it)) []
       goes_still =

@@ -75,6 +75,7 @@ module _ {T : Type 0} (m : Underway T) where
 
     -- ---- the clear of the flag
 
+    -- the clear of the flag comes on as a step of the machine
     clears : FreesThere releases.ClearsFlag → Goes (Releases number index releases.ClearsFlag)
     clears there =
         let few = there.steps in
@@ -147,6 +148,8 @@ module _ {T : Type 0} (m : Underway T) where
           )
           (omega arith)
 
+      -- where the release leads on so over the set, the reclaim goes on with it, comes to the next
+      -- index that is sent, or ends
       leads_on : (release : After (Release DefaultMode) ReleaseState)
           → ReleaseLeads slots stage words_then s.claims release
           → With (reclaimed_after T (call stage) s.book.places number index release)
@@ -176,6 +179,7 @@ module _ {T : Type 0} (m : Underway T) where
           (subst (λ i. With (as_call Reclaim Number (reclaim_comes_to (call stage) s.book.places (number + 1) i))) (sym next_one)
           (next l.0 l.1 (next_sent s.book.places slots (index + 1)) (comes_to s.book.places slots (index + 1))))
 
+      -- so every later step of the release comes on
       later : With (reclaimed_after T (call stage) s.book.places number index (back_takes slots stage (old_of (words_in s) ask)))
       later =
           let value : old_of (words_in s) ask ≡ old_of s.set ask =
@@ -201,6 +205,7 @@ module _ {T : Type 0} (m : Underway T) where
       subst (λ back. ComesBy m 0 calls.Reclaim ask back after effect) (sym does.stays)
       (from_step m calls.Reclaim ask after effect does.channel_then wrote (from stage there) does.step)
 
+  -- a reclaim comes on as a step of the machine, whatever its stage
   pub reclaim_steps : (stage : ReclaimStage) → There stage → Goes stage
   reclaim_steps (stages.Drains stage) there =
       let r = stands (stages.Drains stage) there in

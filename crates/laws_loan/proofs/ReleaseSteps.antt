@@ -72,6 +72,8 @@ module _ {T : Type 0} (m : Underway T) (index : ℕ) (r : Releasing T m.slots m.
       abbrev wrote_now : List (Event T)
       wrote_now = r.before ++ Freed 0 index ∷ []
 
+      -- where the release leads on so over the set, the call goes on with it, or ends with its
+      -- answer
       leads_on : (release : After (Release DefaultMode) ReleaseState)
           → ReleaseLeads slots stage words_then s.claims release
           → With stage effects.Quiet (embedded r.at r.answer release)
@@ -95,6 +97,7 @@ module _ {T : Type 0} (m : Underway T) (index : ℕ) (r : Releasing T m.slots m.
     goes : (stage : ReleaseStage) → There stage → Goes stage (old_of s.set (asked stage))
     goes = grind (arith, clears, later)
 
+  -- each stage of such a release comes on as a step of the machine
   pub releases_on : (stage : ReleaseStage) → There stage → Goes stage (old_of (words_in s) (asked stage))
   releases_on stage there =
       let below = gives_below slots queue s index stage there.gives in

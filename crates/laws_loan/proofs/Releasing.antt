@@ -130,6 +130,7 @@ module _ {T : Type 0} (scene : Scene T) (index : ℕ) (r : Releasing T scene.slo
       open_then : span_of 0 (s.events ++ freed_es) ≡ Open (starts.Loan r.start) (r.before ++ freed_es)
       open_then = span_after 0 index s.events freed_es (Passing 0) Free one_move (Open (starts.Loan r.start) r.before) is_from
 
+      -- the clear of the flag shows what a turn has to, with the event that the index is freed
       shows_freed : Shows slots queue s s_freed 0 y_freed latest turns freed_es
       shows_freed =
           let step = steps_set releases.ClearsFlag here gives in
@@ -144,6 +145,7 @@ module _ {T : Type 0} (scene : Scene T) (index : ℕ) (r : Releasing T scene.slo
           (λ i ne held. absurd (ne (sym (r.so.carries i held)))) (λ q e. absurd (free_passes q e)) in
           grind (arith, open_then, is_from, sends_now, append-nil, items, same_receiver, one_move)
 
+      -- it is a step of the machine, after which the call goes on with the load of the head
       pub clears_steps : Steps scene 0 s_freed (Open (starts.Loan r.start) r.before) r.start clears_ask false (GoOn (r.at releases.LoadsHead))
           freed_es
       clears_steps =
@@ -201,6 +203,7 @@ module _ {T : Type 0} (scene : Scene T) (index : ℕ) (r : Releasing T scene.slo
         abbrev s_on : Channel T
         s_on = record s { set = words_then; claims = s.claims; book = s.book; events = s.events ++ [] }
 
+        -- a later step of the release is a step of the machine that goes on and writes nothing
         pub goes_steps : Steps scene 0 s_on (Open (starts.Loan r.start) wrote_now) r.start ask false (GoOn (r.at stage')) []
         goes_steps =
             let at_then : At slots queue s_on 0 wrote_now r.start (r.at stage') =
@@ -223,6 +226,7 @@ module _ {T : Type 0} (scene : Scene T) (index : ℕ) (r : Releasing T scene.slo
         abbrev s_end : Channel T
         s_end = record s { set = words_then; claims = s.claims; book = s.book; events = s.events ++ Finished 0 (starts.Loan r.start) r.answer ∷ [] }
 
+        -- the last one ends the call with its answer
         pub ends_steps : Steps scene 0 s_end
             (Open (starts.Loan r.start) wrote_now) r.start ask false (Done r.answer) (Finished 0 (starts.Loan r.start) r.answer ∷ [])
         ends_steps =

@@ -61,6 +61,7 @@ module _ {T : Type 0} (scene : Scene T) (h : HoldsIn scene) (straight : scene.ca
         (moves : AreRight (MovesRight slots) s.events es) (begins : AreRight BeginsRight s.events es)
         (answers : AreRight (AnswersRight slots) s.events es)
         (carries : (i : ℕ) → Carries i spanned → Carries i (fold own_after spanned es)) where
+      -- such a step shows what a turn has to
       shows : Shows slots queue s (then_on es) 0 y latest turns es
       shows =
           let same = receiver_still s.events es still in
@@ -70,6 +71,7 @@ module _ {T : Type 0} (scene : Scene T) (h : HoldsIn scene) (straight : scene.ca
           λ i q e. carried_on 0 s.events es own spanned from i q (h.passing i q (sym (spots_still i s.events es still) ∙ e)) (carries i) in
           grind (arith, sends_now)
 
+      -- it is a step of the machine, where the call is right afterwards
       rests : AllFollow (Stands promise slots) spanned es → frame.Fits channel (then_on es) 0 (Some y) (fold own_after spanned es)
           → frame.KnowsDoing channel (then_on es) 0 (s.events ++ es) (changes + change_of (words_in s) ask) y.backs y.doing
           → Steps scene 0 (then_on es) spanned start ask false after es
@@ -82,6 +84,7 @@ module _ {T : Type 0} (scene : Scene T) (h : HoldsIn scene) (straight : scene.ca
 
   -- ---- it goes on
 
+  -- so it is where the call goes on, at a stage where it is right, within its number of steps
   pub goes_on : (flight : LoanFlight) → KeepsSet slots queue s latest ask set' (counts flight)
       → hung {T = T} s.submission.read (Some (flights.Loan flight)) ≡ None
       → x.steps + step_count ask ≤ number_of slots wrote flight (x.backs + 0)
@@ -97,6 +100,7 @@ module _ {T : Type 0} (scene : Scene T) (h : HoldsIn scene) (straight : scene.ca
 
   -- ---- it ends, with nothing in passing
 
+  -- and where it ends, with an answer that is right after what it wrote
   pub ends : (answer : Answer T) → KeepsSet slots queue s latest ask set' 0 → Still (Finished 0 (starts.Loan start) answer)
       → reclaims_after (reclaims_in spanned) (Finished 0 (starts.Loan start) answer) ≡ false
       → AnswersRight slots s.events (Finished 0 (starts.Loan start) answer) → ((i : ℕ) → Carries i spanned → ⊥)

@@ -21,6 +21,7 @@ module _ {T : Type 0} (slots : ℕ) (claims : List (Option ℕ)) (sent back : Li
   returns_room i p below from =
       lists_room is_returning back events slots i h.returns (λ j beyond. ap is_returning (h.past j beyond)) below (ap is_returning from)
 
+  -- the oldest index that is sent is below the slots
   pub sent_below : (i : ℕ) (rest : List ℕ) → sent ≡ i ∷ rest → i < slots
   sent_below i rest front = ⊎_elim (λ (less : i < slots). less) past (cases_lt i slots)
     where
@@ -30,6 +31,7 @@ module _ {T : Type 0} (slots : ℕ) (claims : List (Option ℕ)) (sent back : Li
           let both : Waiting ≡ Free = sym there ∙ h.past i beyond in
           absurd (cc)
 
+  -- and so is the first one that was given back
   pub back_below : (i : ℕ) (rest : List ℕ) → back ≡ i ∷ rest → i < slots
   back_below i rest front = ⊎_elim (λ (less : i < slots). less) past (cases_lt i slots)
     where

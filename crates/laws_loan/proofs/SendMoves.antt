@@ -165,6 +165,8 @@ module _ {T : Type 0} (scene : Scene T) (index : ℕ) (h : HoldsIn scene) (small
         subst (λ b. Tells queue b s.submission.waiting rest s.completion.waiting s.completion.waiting told) (sym quiet)
         (grind (arith, append-nil, items))
 
+    -- the move that takes the oldest index out shows what a turn has to: the send hands it out to
+    -- itself, and acts
     shows_out : Shows slots queue s s_out 0 y_out latest turns told
     shows_out =
         let write = h.parts.submission.write in
@@ -175,6 +177,7 @@ module _ {T : Type 0} (scene : Scene T) (index : ℕ) (h : HoldsIn scene) (small
         (λ i ne. none_carried i [] refl) (λ q e. (sym (passing_same 0 q e), inr (refl, refl))) in
         grind (arith, open_then, sends_now, same_receiver, one_move, placed_out, tells_out, quiet, below, was_waiting)
 
+    -- the send so goes on to the load of the cell
     takes_out : To s_out (publishes ∷ []) moves (GoOn (pushes_at slots queue loads index)) (effects.TakesOut index u)
     takes_out =
         let some = h.parts.some in
@@ -223,6 +226,8 @@ module _ {T : Type 0} (scene : Scene T) (index : ℕ) (h : HoldsIn scene) (small
     calm : hung s.submission.read (sends_at latest) ≡ None
     calm = ap (hung s.submission.read) here ∙ (rw apart refl)
 
+    -- a send that finds the read position moved by a receive, and so has acted before, ends with
+    -- no index
     finds_room : To s_end (publishes ∷ acted ∷ []) (late read) (Done answers.PoppedNone) effects.Quiet
     finds_room = (
       rests.ends scene h straight (calls.Send index) (publishes ∷ acted ∷ []) from (asks (late read)) s.set answers.PoppedNone
@@ -236,6 +241,7 @@ module _ {T : Type 0} (scene : Scene T) (index : ℕ) (h : HoldsIn scene) (small
       refl,
     )
 
+    -- the move does what a step should where a receive has moved the position before
     moves_late : Does_at (late read)
     moves_late =
         let found : value (late read) ≡ s.submission.read = old_is scene index h small straight (late read) on_late in
@@ -263,6 +269,7 @@ module _ {T : Type 0} (scene : Scene T) (index : ℕ) (h : HoldsIn scene) (small
     on_cell : cell_word queue read < length (queued scene index)
     on_cell = grind (arith, low_write)
 
+    -- the load of the cell finds the index that was taken out, which the send goes on to release
     has_it : To s_free (wrote_out read) stage (GoOn frees) effects.Quiet
     has_it = (
       rests.goes_on scene h straight (calls.Send index) (wrote_out read) from (asks stage) s.set frees
@@ -274,6 +281,7 @@ module _ {T : Type 0} (scene : Scene T) (index : ℕ) (h : HoldsIn scene) (small
       refl,
     )
 
+    -- the load of the cell does what a step should
     loads_cell : Does_at stage
     loads_cell =
         let few = h.parts.set.few in

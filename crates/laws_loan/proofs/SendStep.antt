@@ -33,6 +33,7 @@ module _ (T : Type 0) (slots queue index oldest : ℕ) where
 module _ {T : Type 0} (m : Underway T) (index : ℕ) where
   open m use {slots, queue, sound}
 
+  -- a send comes on as a step of the machine, whatever its stage
   pub send_steps : (stage : SendStage)
       → Stands m 0 (starts.Loan (calls.Send index)) (flights.Loan (send_at slots queue index stage))
       → Comes m 0 (starts.Loan (calls.Send index)) (flights.Loan (send_at slots queue index stage))

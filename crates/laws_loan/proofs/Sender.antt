@@ -48,6 +48,8 @@ module _ {T : Type 0} (code : Coding T) (slots queue : ℕ) (s s' : Channel T) (
       → any.Knows s' q (s.events ++ es) sooner changes' backs call
   others_know = grind (arith, knows_keeps)
 
+  -- so much of the call's own party is enough for what a turn owes: its events stand in its span,
+  -- and its call is right afterwards
   pub owes_by : AllFollow (Stands promise slots) from es → frame.Fits any s' p (Some y) (fold own_after from es)
       → frame.KnowsDoing any s' p (s.events ++ es) changes' y.backs y.doing
       → span_of p s.events ≡ from → frame.Inv any s latest s.events changes → frame.Owes any s' p y latest s.events es changes'

@@ -69,6 +69,7 @@ module _ {T : Type 0} (m : Underway T) where
   abbrev h : HoldsNow slots queue s t.world.latest s.events t.world.turns
   h = holds_now m
 
+  -- a send that stands in its push comes on as a step of the machine
   pub send_pushes : (index : ℕ) (stage : PushStage)
       → Stands 0 (starts.Loan (calls.Send index)) (flights.Loan (pushes_at slots queue stage index))
       → Comes 0 (starts.Loan (calls.Send index)) (flights.Loan (pushes_at slots queue stage index))
@@ -80,6 +81,7 @@ module _ {T : Type 0} (m : Underway T) where
       from_step (calls.Send index) (asked scene index stage) (goes scene index stage value) (effect_at scene index stage value)
       done.channel_then (push_wrote queue s.submission index stage) from done.step
 
+  -- and a take-back that stands in its pop
   pub take_back_pops : (stage : PopStage) (found : OneWord)
       → Stands 0 (starts.Loan calls.TakeBack) (flights.Loan (pops_at slots queue stage found))
       → Comes 0 (starts.Loan calls.TakeBack) (flights.Loan (pops_at slots queue stage found))
@@ -90,6 +92,7 @@ module _ {T : Type 0} (m : Underway T) where
       from_step calls.TakeBack (take_backs.asked scene stage) (take_backs.goes scene stage found (take_backs.old scene stage))
       (take_back_effect (take_back_stages.Pops stage found)) done.channel_then [] from done.step
 
+  -- and a give-back, of a party that has not died
   pub give_back_pushes : (p index : ℕ) (stage : ring_pushes.PushStage) → has_died p s.book.dead ≡ false
       → Stands p (starts.Loan (calls.GiveBack index)) (flights.Loan (give_at slots queue p index stage))
       → Comes p (starts.Loan (calls.GiveBack index)) (flights.Loan (give_at slots queue p index stage))

@@ -96,6 +96,8 @@ module _ {T : Type 0} (scene : Scene T) (index : ℕ) where
     pub old_is : (stage : PushStage) → IsOn queued (push_asks queue stage index) → old stage ≡ old_of queued (ask_of (push_asks queue stage index))
     old_is stage on = submission_old slots queue s (counted_for (sends_at latest)) h.parts (push_asks queue stage index) on
 
+    -- an operation on the submission queue changes that part of the words alone, to those of the
+    -- queue as it is then
     pub words_are : (stage : PushStage) (k : Core ℕ) → IsOn queued (push_asks queue stage index)
         → words_after queued (ask_of (push_asks queue stage index)) ≡ layout no_roles k
         → words_after (words_in s) (asked stage) ≡ s.set ++ (layout no_roles k ++ layout no_roles s.completion)
@@ -147,6 +149,8 @@ module _ {T : Type 0} (scene : Scene T) (index : ℕ) where
       shows_on : Shows slots queue s s_on 0 y_on latest turns []
       shows_on = grind (arith, append-nil, idle, silent_tells, few_wait, sends_now)
 
+      -- a step that goes on, where nothing has moved yet, leaves the send at the push's next
+      -- stage, and writes nothing
       pub goes_on : StepTo s_on [] now (GoOn (pushes_at slots queue after_it index)) effects.Quiet
       goes_on =
           let written = words_are now k on words in
@@ -163,6 +167,7 @@ module _ {T : Type 0} (scene : Scene T) (index : ℕ) where
       passes_on : Passes slots queue (record s { events = s.events ++ [] }) 0 index
       passes_on = (passes.0, ap (spot_of index) (append-nil s.events) ∙ passes.1)
 
+      -- the load of the write position does what a step should
       pub loads_write : Here pushes.LoadsWrite → x.steps ≤ 0 → Does pushes.LoadsWrite
       loads_write here steps =
           let some = h.parts.some in
@@ -174,6 +179,7 @@ module _ {T : Type 0} (scene : Scene T) (index : ℕ) where
           refl refl refl h.parts.submission on refl refl refl refl refl
           (omega arith, refl, (let low = reached in omega arith)) passes_on (omega arith) (λ room stage known. known))
 
+      -- so does the load of the read position
       pub loads_read : Here (pushes.LoadsRead s.submission.write) → x.steps ≤ 1 → Does (pushes.LoadsRead s.submission.write)
       loads_read here steps =
           let some = h.parts.some in
@@ -188,6 +194,8 @@ module _ {T : Type 0} (scene : Scene T) (index : ℕ) where
           h.parts.submission on refl refl refl refl refl
           (omega arith, refl, omega arith, omega arith, (let low = reached in omega arith)) passes_on (omega arith) (λ room stage known. known))
 
+      -- and the store into the cell, at a read position that is not past the queue's, from which
+      -- the queue is no more than full
       pub stores_cell : (read : ℕ) → read ≤ s.submission.read → s.submission.write ≤ read + queue
           → Here (pushes.StoresCell s.submission.write read) → x.steps ≤ 2
           → Does (pushes.StoresCell s.submission.write read)

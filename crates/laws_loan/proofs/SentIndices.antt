@@ -34,6 +34,8 @@ module _ (table : List Place) (slots : ℕ) where
     later : (o : Option ℕ) → ComesTo table slots (from + 1) o → ComesTo table slots from o
     later = grind arith
 
+  -- the search within so many indices from this one on comes to the first one that is sent, where
+  -- these are all that are left
   within : (left from : ℕ) → slots - from ≡ left → ComesTo table slots from (sent_within table from left)
   within zero from e = λ j low high. absurd (omega arith)
   within (suc left) from e =
@@ -74,6 +76,7 @@ module _ {T : Type 0} (slots : ℕ) (claims : List (Option ℕ)) (sent back : Li
     abbrev IsThere : Spot → Type 0
     IsThere spot = (spot ≡ Passing 0) ⊎ ((spot ≡ With (receiver_of events)) ⊎ (spot ≡ Passing (receiver_of events)))
 
+    -- an index that is sent by the table is there, by its spot
     there : (spot : Spot) → spot_of i events ≡ spot → IsThere spot
     there Free e = absurd ((stood i places.Sent is).0 e)
     there (Passing p) e =

@@ -40,15 +40,19 @@ ReleaseLeads c stage ws hs (GoOn release) =
     Good c ws hs 1 × (release_counts release.stage ≡ 1) × (release_number stage 0 + 1 ≤ release_number release.stage 0)
 ReleaseLeads c stage ws hs (Done state) = Good c ws hs 0 × (release_number stage 0 + 1 ≤ 5)
 
+-- of `c` indices, in the words `ws`, of which `hs` says who has claimed each
 module _ (c index : ℕ) (below : index < c) (ws : List ℕ) (hs : List (Option ℕ)) where
   abbrev pub released_by : ReleaseStage → Option Ask
   released_by stage = ask_of (back_asks c index stage)
 
+  -- a step of a release is on a word of the set, leads on, and leaves the set unlocked
   pub record ReleaseStep (stage : ReleaseStage) : Type 0 where
     pub on : IsOn ws (back_asks c index stage)
     pub leads : ReleaseLeads c stage (words_after ws (released_by stage)) (claims_then index stage hs) (back_takes c stage (old_of ws (released_by stage)))
     pub unlocked : counted_in (words_after ws (released_by stage)) ≢ locked
 
+  -- the clear of the flag of an index that the sender has makes it free, and the release is
+  -- counted from then on
   clears : holder hs index ≡ Some 0 → Good c ws hs 0 → ReleaseStep releases.ClearsFlag
   clears holds g =
       let wide = g.wide in
@@ -69,6 +73,7 @@ module _ (c index : ℕ) (below : index < c) (ws : List ℕ) (hs : List (Option 
     loads : ReleaseStep releases.LoadsHead
     loads = grind (arith, set-get_or, unlocked_for)
 
+    -- the store of the next index leads on
     stores : (head : ℕ) → ReleaseStep (releases.StoresNext head)
     stores head =
         let wide = g.wide in
@@ -76,6 +81,7 @@ module _ (c index : ℕ) (below : index < c) (ws : List ℕ) (hs : List (Option 
         let unlocked = unlocked_for c (words_after ws (released_by (releases.StoresNext head))) hs 1 good (omega arith) in
         grind arith
 
+    -- the exchange of the head leads on, whether it finds the head that was loaded or another one
     exchanges : (head : ℕ) → ReleaseStep (releases.ExchangesHead head)
     exchanges head = go (head_of ws == head) refl
       where
@@ -99,6 +105,7 @@ module _ (c index : ℕ) (below : index < c) (ws : List ℕ) (hs : List (Option 
             let unlocked = unlocked_for c (words_after ws (released_by (releases.ExchangesHead head))) hs 1 good (omega arith) in
             grind arith
 
+    -- the subtraction ends the release, which is counted no more
     subtracts_one : ReleaseStep releases.Subtracts
     subtracts_one =
         let wide = g.wide in
@@ -106,6 +113,7 @@ module _ (c index : ℕ) (below : index < c) (ws : List ℕ) (hs : List (Option 
         let unlocked = less_unlocked ((head_of ws + (2 ^ 64 - 1)) % 2 ^ 64) (less_number (head_of ws) counted.0) in
         grind arith
 
+  -- each stage of a release leads on so, where it stands as it should
   pub release_step : (stage : ReleaseStage) → ReleaseAt hs 0 index stage → Good c ws hs (release_counts stage) → ReleaseStep stage
   release_step releases.ClearsFlag at g = clears at g
   release_step releases.LoadsHead at g = loads g
@@ -144,6 +152,7 @@ all_held hs c i full below none =
     let less = sum_less (λ j. one_held (holder hs j)) c i (λ j. one_held_most (holder hs j)) below (ap one_held none) in
     absurd (omega arith)
 
+-- of `c` indices, in the words `ws`, of which `hs` says who has claimed each
 module _ (c : ℕ) (ws : List ℕ) (hs : List (Option ℕ)) (opened : counted_in ws ≢ locked) where
   abbrev pub acquired_by : AcquireStage → Option Ask
   acquired_by stage = ask_of (acquire_asks c stage)
@@ -154,6 +163,8 @@ module _ (c : ℕ) (ws : List ℕ) (hs : List (Option ℕ)) (opened : counted_in
   abbrev Leads : AcquireStage → After acquire_calls.Acquire Acquired → Type 0
   Leads stage a = AcquireLeads c stage ws (words_after ws (acquired_by stage)) hs a
 
+  -- a step of an acquire is on a word of the set, leads on without a turn back, and leaves the set
+  -- unlocked
   pub record AcquireStep (stage : AcquireStage) : Type 0 where
     pub on : IsOn ws (acquire_asks c stage)
     pub leads : Leads stage (acquire_takes (call_at stage) stage (old_of ws (acquired_by stage)))
@@ -185,6 +196,7 @@ module _ (c : ℕ) (ws : List ℕ) (hs : List (Option ℕ)) (opened : counted_in
 
     -- ---- the exchange of the head, which finds it as it was
 
+    -- the exchange of a head that is still the one loaded leads on
     exchanges_head : (head next : ℕ) → IsOpen c head → head_of ws ≡ head → AcquireStep (acquires.ExchangesHead head next)
     exchanges_head head next at is =
         let wide = g.wide in

@@ -7,6 +7,7 @@ use Rattle.laws_loan.proofs.Placed.{Placed, placed_on}
 use Rattle.laws_loan.proofs.Spots.{is_waiting, is_returning, spot_stays}
 
 module _ {T : Type 0} where
+  -- the event moves no index, makes nobody the receiver anew, and is no death
   pub record Still (e : Event T) : Type 0 where
     pub moves : ◌≡◌ {A = Option Move} (move_of e) None
     pub receiver : (r : ℕ) → receiver_after r e ≡ r
@@ -29,6 +30,7 @@ module _ {T : Type 0} where
       ∙ (receiver_still (events ++ e ∷ []) es still.1 ∙ (fold-append receiver_after 1 events (e ∷ []) ∙ still.0.receiver (receiver_of events)))
 
   module _ (slots : ℕ) (claims : List (Option ℕ)) (sent back : List ℕ) (book : Book) where
+    -- an event of these keeps where each index is
     one_still : (events : List (Event T)) (e : Event T) → Still e → Placed slots claims sent back book events
         → Placed slots claims sent back book (events ++ e ∷ [])
     one_still events e still placed =
@@ -44,6 +46,7 @@ module _ {T : Type 0} where
         (lists_stay is_waiting sent events e placed.waits still.moves)
         (lists_stay is_returning back events e placed.returns still.moves)
 
+    -- and so do any number of them
     pub placed_still : (events es : List (Event T)) → AreStill es → Placed slots claims sent back book events
         → Placed slots claims sent back book (events ++ es)
     placed_still events [] still placed = subst (Placed slots claims sent back book) (sym (append-nil events)) placed

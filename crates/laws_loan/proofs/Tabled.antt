@@ -53,6 +53,8 @@ module _ {T : Type 0} where
   long_after : (book : Book) (e : Event T) → length (book_after book e).places ≡ length book.places
   long_after = grind (arith, length-set)
 
+  -- the place of an index in the table, after events that move rightly, is the place before, moved
+  -- on by each of them
   each : (slots i : ℕ) (book : Book) (before es : List (Event T)) → length book.places ≡ slots
       → AreRight (MovesRight slots) before es
       → place_at (fold book_after book es).places i ≡ fold (place_after i) (place_at book.places i) es
@@ -75,6 +77,7 @@ module _ {T : Type 0} where
   ending_keeps = grind arith
 
 module _ {T : Type 0} (code : Coding T) (slots queue : ℕ) where
+  -- a step leaves in the table of each index the place moved on by the step's events
   step_tabled : (i : ℕ) (before : List (Event T)) (z : Coding T) (words : List ℕ) (push : Option (ℕ × ℕ))
       (s : Channel T) (p : ℕ) (start : Start T) (flight : Flight T) (old : ℕ) (kept : Registry T)
       → Represents kept words s → length s.book.places ≡ slots
@@ -117,6 +120,7 @@ module _ {T : Type 0} (code : Coding T) (slots queue : ℕ) where
         → (i : ℕ) → place_in (after_answer t.world p x ask answer doing).kept i ≡ place_of i (t.events ++ events_of_answer t.world p x answer doing)
     answered = grind (arith, place_of, append-nil, stands_there, step_tabled, fold, place_after, fold-append)
 
+    -- each turn keeps that the table says what the events say
     pub turn_tabled : (turn : Turn T) → Each (MovesRight slots) (after_turn t turn).events → IsTabled (after_turn t turn)
     turn_tabled (Begin p start) moves =
         λ i. begun p start (first_of t.world.kind t.world.capacity start t.world.kept) i ∙ sym (as_before i (Begun p start) (λ place. refl))

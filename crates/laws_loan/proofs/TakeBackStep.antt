@@ -33,6 +33,7 @@ module _ (T : Type 0) (slots queue index : ℕ) where
 module _ {T : Type 0} (m : Underway T) where
   open m use {slots, queue, sound}
 
+  -- a take-back comes on as a step of the machine, whatever its stage
   pub take_back_steps : (stage : TakeBackStage)
       → Stands m 0 (starts.Loan calls.TakeBack) (flights.Loan (take_back_at slots queue stage))
       → Comes m 0 (starts.Loan calls.TakeBack) (flights.Loan (take_back_at slots queue stage))

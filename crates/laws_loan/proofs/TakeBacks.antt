@@ -100,6 +100,8 @@ module _ {T : Type 0} (scene : Scene T) where
     old_is : (stage : PopStage) → IsOn queued (pop_asks stage) → old stage ≡ old_of queued (ask_of (pop_asks stage))
     old_is stage on = completion_old slots queue s (counted_for (sends_at latest)) h.parts (pop_asks stage) on
 
+    -- an operation on the completion queue changes that part of the words alone, to those of the
+    -- queue as it is then
     words_are : (stage : PopStage) (k : Core ℕ) → IsOn queued (pop_asks stage)
         → words_after queued (ask_of (pop_asks stage)) ≡ layout no_roles k
         → words_after (words_in s) (asked stage) ≡ s.set ++ (layout no_roles s.submission ++ layout no_roles k)
@@ -125,6 +127,8 @@ module _ {T : Type 0} (scene : Scene T) where
         → KeepsSet slots queue s latest (asked now) s.set 0
     keeps = grind (arith, keeps_all, words_are, idle)
 
+    -- a step that changes no word of the queue leaves the take-back at the pop's next stage, and
+    -- writes nothing
     goes_on : (now after_it : PopStage) (then_found : OneWord) → IsOn queued (pop_asks now)
         → words_after queued (ask_of (pop_asks now)) ≡ queued → KnowsPop one_word slots s.completion (in_one then_found) after_it
         → x.steps + 1 ≤ pop_number 1 after_it
@@ -148,6 +152,7 @@ module _ {T : Type 0} (scene : Scene T) where
     none_carried : {A : Type 0} (i : ℕ) → Carries i spanned → A
     none_carried i carried = let clash : [] ≡ i ∷ [] = carried.0 in absurd (cc)
 
+    -- the load of the write position ends the take-back with no index, where nothing waits
     finds_none : s.completion.waiting ≡ [] → IsOn queued (pop_asks load_of_write) → x.steps ≤ 1
         → StepTo s_none load_of_write (Done answers.PoppedNone) effects.Quiet
     finds_none empty on steps = (
@@ -191,6 +196,8 @@ module _ {T : Type 0} (scene : Scene T) where
       open_then : span_of 0 (s.events ++ takes ∷ []) ≡ Open start (takes ∷ [])
       open_then = span_after 0 index s.events (takes ∷ []) Returning (Passing 0) one_move spanned from
 
+      -- the store of the next read position shows what a turn has to: the first index is taken
+      -- back
       shows_taken : Shows slots queue s s_taken 0 y_taken latest turns (takes ∷ [])
       shows_taken =
           let good = completion.take_good slots some few s.completion h.parts.completion reached index rest first in
@@ -203,6 +210,7 @@ module _ {T : Type 0} (scene : Scene T) where
           (λ q e. (sym (passing_same 0 q e), (refl, refl))) in
           grind (arith, open_then, sends_now, same_receiver, one_move, idle, calm, below, was_returning)
 
+      -- the take-back so goes on to release it
       takes_it : IsOn queued (pop_asks store_of_read) → x.steps ≤ 3 → StepTo s_taken store_of_read (GoOn frees_at) (effects.TakesBack index)
       takes_it on steps =
           let words = words_are store_of_read without on (completion.take_words slots some few s.completion h.parts.completion reached index rest first) in
@@ -223,6 +231,7 @@ module _ {T : Type 0} (scene : Scene T) where
     abbrev load_of_cell : PopStage
     load_of_cell = pops.LoadsCell s.completion.read (cell_word slots 1 s.completion.read) 0
 
+    -- the load of the write position does what a step should, whether something waits or not
     loads_write : (room : OneWord) → x.steps ≤ 1 → Does load_of_write room
     loads_write room steps = go (s.completion.write == s.completion.read) refl
       where
@@ -261,6 +270,7 @@ module _ {T : Type 0} (scene : Scene T) where
         (ap (goes load_of_cell room) value) (goes_on load_of_cell (pops.StoresRead s.completion.read) (word_of v) on
         (set-get_or queued (word_at (cell_word slots 1 s.completion.read) 0) 0) (rest, refl, first) (omega arith))
 
+    -- the store of the next read position does so, where the room has the first index that waits
     stores_read : (room : OneWord) (rest : List ℕ) → s.completion.waiting ≡ room.0 ∷ rest → x.steps ≤ 3
         → Does (pops.StoresRead s.completion.read) room
     stores_read room rest first steps =

@@ -42,6 +42,8 @@ module _ (T : Type 0) (slots queue : ℕ) (words : List ℕ) (places : List Plac
   loads : (word : ℕ) → read_at slots (words_after words (Some (record { word = word; op = Load }))) ≡ read
   loads word = ap (read_at slots) (load_leaves words word)
 
+  -- a step of a receive that goes on leaves it so many steps fewer as it takes, whatever the stage
+  -- of its pop
   pub receive_takes : (p steps : ℕ) (room : OneWord) (stage : PopStage) → TakesOne steps (receive_at slots queue p stage room)
   receive_takes p steps room pops.FindsNone = tt
   receive_takes p steps room pops.LoadsRead =

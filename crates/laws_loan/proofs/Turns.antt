@@ -24,6 +24,7 @@ module _ {T : Type 0} (slots queue : ℕ) (s s' : Channel T) (p : ℕ) (y : Part
     pub answers : AreRight (AnswersRight slots) s.events es
     pub passing : (index q : ℕ) → spot_of index (s.events ++ es) ≡ Passing q → Carries index (span_of q (s.events ++ es))
 
+  -- what holds between two turns holds after a turn that shows this
   pub now_more : HoldsNow slots queue s latest s.events turns → Shows → HoldsNow slots queue s' (put p y latest) (s.events ++ es) (turns + 1)
   now_more h shows =
       let told =

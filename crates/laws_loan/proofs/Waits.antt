@@ -24,6 +24,8 @@ cell_place = grind arith
 module _ {T : Type 0} (code : Coding T) (kd : QueueKind)
     (reads : (words : List ℕ) (cell : ℕ) → item_at code kd words cell ≡ Index (get_or words cell 0))
     (one : words_of_cell code.size kd ≡ 1) where
+  -- where each cell from a position on has the index of a list, what is stored there is the
+  -- indices of that list
   stored_is : (c : ℕ) (words : List ℕ) (position : ℕ) (xs : List ℕ)
       → ((i v : ℕ) → slice_get xs i ≡ Some v → get_or words (cell_of code kd c (position + i)) 0 ≡ v)
       → stored code kd c words position (length xs) ≡ map Index xs
@@ -44,6 +46,7 @@ module _ {T : Type 0} (code : Coding T) (kd : QueueKind)
       n : ℕ
       n = cells_of kd c
 
+      -- the cell of the read position plus `i` has the index that is the `i`th to wait
       held : (i v : ℕ) → slice_get k.waiting i ≡ Some v → get_or (layout no_roles k ++ zs) (cell_of code kd c (k.read + i)) 0 ≡ v
       held i v e =
           let below = at_below 1 words_of_index n k.waiting i v e in
@@ -61,6 +64,7 @@ module _ {T : Type 0} (code : Coding T) (slots queue : ℕ) (s : Channel T) (bus
   pub sent_is : sent_in code slots queue (words_in s) ≡ map Index s.submission.waiting
   sent_is = grind (arith, drop_at, layout, set_long, waits_in)
 
+  -- what was given back by the words is what waits in the completion queue
   pub back_is : given_back_in code slots queue (words_in s) ≡ map Index s.completion.waiting
   back_is =
       let one : words_in s ≡ (s.set ++ layout no_roles s.submission) ++ layout no_roles s.completion =
@@ -82,6 +86,7 @@ stands_once i (x ∷ xs) zero below e =
     omega arith
 stands_once i (x ∷ xs) (suc k) below e = let rest = stands_once i xs k (omega arith) e in omega arith
 
+-- so an index that stands at two places of a list is in it twice at least
 stands_twice : (i : ℕ) (xs : List ℕ) (a b : ℕ) → a < b → b < length xs → get_or xs a 0 ≡ i → get_or xs b 0 ≡ i → 2 ≤ times i xs
 stands_twice i [] a b less below e f = absurd (omega arith)
 stands_twice i (x ∷ xs) a zero less below e f = absurd (omega arith)
@@ -109,6 +114,7 @@ module _ {T : Type 0} where
           let found = rest (omega arith) in
           (suc found.0, (let below = found.1 in omega arith), found.2)
 
+  -- an index that stands at a place of the items is in the list once at least
   stands : (i : ℕ) (xs : List ℕ) (k : ℕ) → k < length (items xs) → get_or (items xs) k (Index i) ≡ Index i → 1 ≤ times i xs
   stands i [] k below e = absurd (omega arith)
   stands i (x ∷ xs) zero below e =
@@ -130,6 +136,7 @@ module _ {T : Type 0} where
       to : (i : ℕ) → spot_of i events ≡ spot → Contains (items xs) (Index i)
       to = grind (arith, there)
 
+      -- no two of the items are the same
       once : AllPairs (λ x y. x ≢ y) (items xs)
       once a b d less below same =
           let long : length (items xs) ≡ length xs = length-map xs Index in

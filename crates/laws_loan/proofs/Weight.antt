@@ -114,6 +114,7 @@ module _ {T : Type 0} where
   pub receiver_moved : (read read' : ℕ) (o : Option (Party T)) → receiver_left read' o ≤ receiver_left read o + 2
   receiver_moved = grind (arith, call_moved)
 
+  -- the weight is at most 13 times the number of slots, and 11
   pub weight_most : (slots : ℕ) (w : World T) → weight slots w ≤ 13 * slots + 11
   weight_most slots w =
       let sender = sender_most slots (party_of 0 w.latest) in

@@ -27,6 +27,7 @@ module _ {T : Type 0} (code : Coding T) where
   abbrev due_by : After RobustFlight (Answer T) → Bool
   due_by a = is_due code (left_by (any_call a))
 
+  -- a find that is handed an answer to its question puts none next
   find_done : (c owner : ℕ) (stage : FindStage) (answer : ℕ) → is_question (want (find_at c owner stage)) ≡ true
       → due_by (after {T = T} (find_at c owner stage) answer) ≡ false
   find_done c owner (finds.LoadsCell i found) answer due = absurd (cc)
@@ -41,6 +42,7 @@ module _ {T : Type 0} (code : Coding T) where
       go false true = refl
       go false false = refl
 
+  -- nor does a recovery
   recover_done : (c : ℕ) (mode : ReleaseMode) (stage : RecoverStage) (answer : ℕ)
       → is_question (want (recover_at c mode stage)) ≡ true
       → due_by (after {T = T} (recover_at c mode stage) answer) ≡ false
@@ -83,6 +85,7 @@ module _ {T : Type 0} (t : Trace T) (is : t.world.kind ≡ kinds.Robust) (r : Is
       → is_due code (flight_in (after_turn t (Decide p said)).world p) ≡ false
   by_call = grind (arith, under_way, family, s, decision_left, after_turn, flight_done, number_of)
 
+  -- so after a turn that decides for a party, that party waits for no answer
   pub answered : (turn : Turn T) → refusal_of t.world turn ≡ None → IsAnswered turn (after_turn t turn)
   answered turn free p said name =
       let allowed = subst (λ u. refusal_of t.world u ≡ None) name free in

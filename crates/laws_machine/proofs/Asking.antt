@@ -48,6 +48,7 @@ module _ {T : Type 0} where
 -- ---- what the other steps write asks nothing
 
 module _ (T : Type 0) where
+  -- what an acquire writes asks nothing
   fills : (q : ℕ × Option (ℕ × ℕ)) (p owner : ℕ) (stage : AcquireStage) (old : ℕ) → Q {T = T} q (acquire_effects p owner stage old)
   fills q p owner acquires.LoadsCounter old = tt
   fills q p owner (acquires.FillsCell counter index) old = by_bool (old == empty) (λ e. rw e (tt, tt)) (λ e. rw e tt)
@@ -89,6 +90,7 @@ module _ {T : Type 0} where
     from : (start : Start T) (flight : Flight T) (old : ℕ) → Q (asked start flight old) (stepped start flight old).wrote → Asks start flight old
     from = grind (arith, joined, ends)
 
+    -- what a recovery writes that it asks is what it then asks
     recovers_ask : (a : RobustStart) (run : Running Recover ReleaseMode (Unit {0})) (stage : RecoverStage) (old : ℕ)
         → run.call.stage ≡ stage
         → Q {T = T} (asked (starts.Robust a) (flights.Robust (calls.Recover run)) old) (recover_effects p stage old)
@@ -135,6 +137,7 @@ module _ {T : Type 0} where
       (subst (λ n. owned_of new.coding (flight_in new n) ≡ Some (index, owner)) (sym h.0.0) (sym same ∙ h.0.1), it_asks new asked es same h.1)
   it_asks new asked (e ∷ es) same h = (tt, it_asks new asked es same h.1)
 
+  -- each event of a turn that says that its party asks is so in the machine that the turn leaves
   turn_asks : (w : World T) (dead : List ℕ) → w.kept ≡ registries.Owners dead → (turn : Turn T)
       → AllByRecursion (AsksIt (world_after w turn)) (events_of w turn)
   turn_asks w dead k (Begin p start) = (tt, tt)

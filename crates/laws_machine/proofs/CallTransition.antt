@@ -40,6 +40,7 @@ module _ {T : Type 0} (F : Family T) (t : Trace T) (s : Sound F t) (p : ℕ) whe
   some_flight : (a b : Flight T) → ◌≡◌ {A = Option (Flight T)} (Some a) (Some b) → a ≡ b
   some_flight a b e = cc
 
+  -- a call that is found at a party stands there, by the family, with what it is known to know
   pub under_way : (flight : Flight T) → flight_in t.world p ≡ Some flight → IsUnderWay flight
   under_way flight here = go (party_of p t.world.latest) refl here
     where

@@ -23,6 +23,7 @@ module _ {T : Type 0} where
   ends_count p start None = 0
   ends_count p start (Some answer) = change_in (Finished p (Container start) answer)
 
+-- `c` is the container's capacity, and `ws` are its words
 module _ (c : ℕ) (ws : List ℕ) where
   abbrev pub IsCalm : Option Ask → Type 0
   IsCalm ask = change_at c (words_after ws ask) ≡ change_at c ws
@@ -48,6 +49,7 @@ module _ (c : ℕ) (ws : List ℕ) where
   lock_calm (locks.Counts count) = count_calm count
   lock_calm (locks.ExchangesCounter counter) = calm_apart (exchanges 0 counter locked) (λ e. absurd (omega arith))
 
+  -- no operation of an acquire changes the number of changes
   pub acquire_calm : (all : List SetAct) (owner : ℕ) (stage : AcquireStage) → AcquireAt c owner all stage → IsCalm (ask_of (acquire_asks stage owner))
   acquire_calm all owner acquires.LoadsCounter at = calm_load 0
   acquire_calm all owner (acquires.FillsCell counter index) at = let below = at.0 in

@@ -76,6 +76,8 @@ module _ {T : Type 0} (code : Coding T) (c : ℕ) (ws : List ℕ) (state : Optio
     add_ends = grind (arith, acquired_ends, add_either)
 
     module _ (all : List SetAct) (done : List (Act T)) where
+      -- no operation of an add changes the number of changes, but that of the stage which adds 1
+      -- to it
       add_calm : (stage : AddStage) → AddAt c code.size all done owner stage
           → ((index : ℕ) → stage ≢ adds.AddsChange index)
           → IsCalm c ws (ask_of (want code (add_at c value owner stage)))
@@ -110,6 +112,7 @@ module _ {T : Type 0} (code : Coding T) (c : ℕ) (ws : List ℕ) (state : Optio
     abbrev remove_call : RemoveStage → remove_calls.Remove
     remove_call stage = record { capacity = c; stage = stage }
 
+    -- whether its release goes on or ends, the remove has no change to count yet
     released_ends : (stage : RemoveStage) (count : ℕ) (r : After Release Released) → removes_to (remove_released (remove_call stage) count r) ≡ 0
     released_ends stage count (GoOn release) = refl
     released_ends stage count (Done (Ok lock)) = go (is_even count)
@@ -121,6 +124,8 @@ module _ {T : Type 0} (code : Coding T) (c : ℕ) (ws : List ℕ) (state : Optio
         go false = refl
     released_ends stage count (Done (Err failure)) = refl
 
+    -- each step of a remove adds to the number of changes what the remove's end counts, and none
+    -- where it goes on
     remove_counts : (all : List SetAct) (done : List (Act T))
         (raised : change_at c (words_after ws (Some (adds_one (change_word c)))) ≡ change_at c ws + 1)
         (stage : RemoveStage)
@@ -176,6 +181,7 @@ module _ {T : Type 0} (code : Coding T) (c : ℕ) (ws : List ℕ) (state : Optio
     replace_refused true = refl
     replace_refused false = refl
 
+    -- so does each step of a replace, by its own end
     replace_counts : (raised : change_at c (words_after ws (Some (adds_one (change_word c)))) ≡ change_at c ws + 1)
         (stage : ReplaceStage) (old : ℕ)
         → Replaces stage old
@@ -236,6 +242,7 @@ module _ {T : Type 0} (code : Coding T) (c : ℕ) (ws : List ℕ) (state : Optio
         → Quiet (recover_takes code.size (recover_call stage) stage dead_owner old)
     recover_quiet = grind (arith, either_quiet, locked, raised_quiet, locked_quiet)
 
+    -- and each step of a recovery
     recover_counts : (all : List SetAct) (done : List (Act T))
         (raised : change_at c (words_after ws (Some (adds_one (change_word c)))) ≡ change_at c ws + 1)
         (stage : RecoverStage)
@@ -248,6 +255,7 @@ module _ {T : Type 0} (code : Coding T) (c : ℕ) (ws : List ℕ) (state : Optio
             → StepCounts (starts.Recover owner mode) (recovers_at stage) old
         calm_so = grind (arith, calmly, recover_quiet, recover_keeps, kept_at)
 
+        -- so it is by the stage at which the recovery stands
         go : (stage : RecoverStage) → RecoverAt c code.size all done owner mode stage
             → StepCounts (starts.Recover owner mode) (recovers_at stage) old
         go recovers.LoadsCounter at = calm_so recovers.LoadsCounter (calm_load c ws 0) (λ lock e. absurd (cc))
@@ -285,6 +293,8 @@ module _ {T : Type 0} (code : Coding T) (c : ℕ) (ws : List ℕ) (state : Optio
   -- ---- any call
 
   module _ (all : List SetAct) (done : List (Act T)) where
+    -- each step of any call adds to the number of changes what the call's end counts, where the
+    -- call stands as it should
     pub step_counts : (start : ContainerStart T) (flight : ContainerFlight T) → At c code.size all done start flight
         → change_at c (words_after ws (Some (adds_one (change_word c)))) ≡ change_at c ws + 1 → (old : ℕ)
         → StepCounts start flight old
@@ -335,6 +345,7 @@ module _ {T : Type 0} (code : Coding T) (c : ℕ) (ws : List ℕ) (state : Optio
 -- ---- a decision
 
 module _ {T : Type 0} (code : Coding T) (state : Option (ContainerState T)) (p answer : ℕ) where
+  -- a decision ends no call that has changed the container
   pub decision_counts : (start : ContainerStart T) (flight : ContainerFlight T) (c z : ℕ) (all : List SetAct) (done : List (Act T))
       → At c z all done start flight → is_question (want code flight) ≡ true
       → ends_count p start (answer_in (after code state flight answer)) ≡ 0
@@ -349,6 +360,7 @@ module _ {T : Type 0} (code : Coding T) (state : Option (ContainerState T)) (p a
       (replace_asks_none code run.call.capacity run.call.stage run.given) due
   decision_counts (starts.Recover owner mode) (calls.Recover run) c z all done at due = go run.call.stage due
     where
+      -- so it is of a recovery, by its stage
       go : (stage : RecoverStage)
           → is_question (recover_asks code.size run.call.capacity stage run.given.owner) ≡ true
           → ends_count p (starts.Recover owner mode)

@@ -43,6 +43,7 @@ module _ {T : Type 0} where
   effect_none turn (Finished p start answer) h = absurd h
   effect_none turn e h = refl
 
+  -- effects of a turn add nothing to the count of the changes
   effects_count : (turn : Turn T) (es ys : List (Event T)) (n : ℕ) → AllByRecursion (IsEffectOf turn) es → fold adds_in n (es ++ ys) ≡ fold adds_in n ys
   effects_count turn [] ys n h = refl
   effects_count turn (e ∷ es) ys n h =
@@ -54,6 +55,7 @@ module _ {T : Type 0} where
   end_count p start None n = omega arith
   end_count p start (Some answer) n = refl
 
+  -- what a turn writes of a call adds as many changes as the call's end counts
   pub wrote_counts : (turn : Turn T) (events es : List (Event T)) (p : ℕ) (start : ContainerStart T) (o : Option (Answer T))
       → AllByRecursion (IsEffectOf turn) es
       → changes_of (events ++ (es ++ ending_of p (Container start) o)) ≡ changes_of events + ends_count p start o
@@ -106,6 +108,8 @@ module _ {T : Type 0} (terms : Terms) (t : Trace T) (s : frame.Sound (family_by 
 
   module _ (p : ℕ) (turn : Turn T) (mine : IsParty turn p) (answer : ℕ)
       (ask : Option Ask) (asks : ask_in t.world turn ≡ ask) where
+    -- the count agrees with the number of changes after the turn, where the number goes up by as
+    -- many as the call's end counts
     counted : (start : ContainerStart T) (flight : ContainerFlight T) → Wrote p turn answer now_kept (Container start) (flights.Container flight)
         → change_at c (words_after s.state.words ask)
         ≡ change_at c s.state.words + ends_count p start (answer_in (after t.world.coding (state_of p s.state.states) flight answer))
@@ -122,6 +126,7 @@ module _ {T : Type 0} (terms : Terms) (t : Trace T) (s : frame.Sound (family_by 
   -- ---- a turn of a call under way
 
   module _ (p : ℕ) (free : IsAllowed t.world (Next p)) where
+    -- so it is after a step, of a call that stands there
     by_step : (x : Party T) (since : ℕ) → party_of p t.world.latest ≡ Some x → (start : Start T) (flight : Flight T)
         → StandsThere fam t s p x since start flight → ask_in t.world (Next p) ≡ ask_of (want_of t.world.coding flight)
         → Wrote p (Next p) (old_of s.state.words (ask_of (want_of t.world.coding flight))) now_kept start flight → CountsChanges (after_turn t (Next p))
@@ -132,6 +137,7 @@ module _ {T : Type 0} (terms : Terms) (t : Trace T) (s : frame.Sound (family_by 
         raised (old_of s.state.words (ask_of (want t.world.coding flight))))
     by_step x since found start flight stands asks wrote = absurd stands.at
 
+    -- and so after any step
     next_counts : CountsChanges (after_turn t (Next p))
     next_counts =
         let flies = may_next t.world p free in
@@ -147,6 +153,7 @@ module _ {T : Type 0} (terms : Terms) (t : Trace T) (s : frame.Sound (family_by 
         (subst (λ ws. Wrote p (Next p) (old_of ws (ask_of (want_of t.world.coding flies.flight))) t.world.kept x.start flies.flight) same_words wrote))
 
   module _ (p : ℕ) (said : Bool) (free : IsAllowed t.world (Decide p said)) where
+    -- so it is after a decision, of a call that stands there
     by_decision : (x : Party T) (since : ℕ) → party_of p t.world.latest ≡ Some x
         → (start : Start T) (flight : Flight T) → StandsThere fam t s p x since start flight
         → is_question (want_of t.world.coding flight) ≡ true
@@ -157,6 +164,7 @@ module _ {T : Type 0} (terms : Terms) (t : Trace T) (s : frame.Sound (family_by 
         counted p (Decide p said) refl (number_of said) None refl start flight wrote (omega arith)
     by_decision x since found start flight stands due wrote = absurd stands.at
 
+    -- and so after any decision
     decision_counts_on : CountsChanges (after_turn t (Decide p said))
     decision_counts_on =
         let flies = decides t.world p free in
@@ -177,6 +185,7 @@ module _ {T : Type 0} (terms : Terms) (t : Trace T) (s : frame.Sound (family_by 
 -- ---- every run
 
 module _ {T : Type 0} where
+  -- in the opening no change is counted, and the number of changes is 0
   pub counts_first : (code : Coding T) (c parties : ℕ) → IsCoding code → capacity_error kinds.Container c ≡ None
       → CountsChanges (opening code kinds.Container c parties)
   counts_first code c parties coded admitted =
@@ -196,6 +205,7 @@ module _ {T : Type 0} where
   abbrev HasCounted : Trace T → Type 0
   HasCounted t = IsReached t × (t.world.kind ≡ kinds.Container → CountsChanges t)
 
+  -- a turn of a reached machine keeps this
   turn_more : (u : Trace T) (turn : Turn T) → refusal_of u.world turn ≡ None → HasCounted u → HasCounted (after_turn u turn)
   turn_more u turn free h = (
     reached_more u turn free h.0,
@@ -206,6 +216,7 @@ module _ {T : Type 0} where
         turn_counts dying u s (few_changes u s (h.1 is) passed.turns) (h.1 is) turn (allowed_by u.world turn passed.on),
   )
 
+  -- in every reached machine the number of changes counts the changes
   pub counts_changes : (t : Trace T) → t.world.kind ≡ kinds.Container → IsReached t → CountsChanges t
   counts_changes t is r =
       (kept_by_runs HasCounted turn_more t

@@ -100,6 +100,7 @@ module _ {T : Type 0} (t : Trace T) (is : t.world.kind ≡ kinds.Robust) (r : Is
         → asked_of code (flight_in (after_turn t (Next p)).world p) ≡ index_if owner index (filled_of index t.events)
     by_flight = grind (arith, under_way, family, s, asked_of, next_left, after_turn, by_name)
 
+  -- after each turn a find asks about an index just where it has found the owner in its cell
   pub finds_asking : (turn : Turn T) → refusal_of t.world turn ≡ None → FindsAsking t turn (after_turn t turn)
   finds_asking turn free p owner index name under asks =
       subst (λ u. asked_of (after_turn t u).world.coding (flight_in (after_turn t u).world p) ≡ index_if owner index (filled_of index t.events)) (sym name)

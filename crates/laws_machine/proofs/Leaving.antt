@@ -37,6 +37,8 @@ module _ {T : Type 0} (terms : Terms) (t : Trace T) (s : frame.Sound (family_by 
         told terms w.coding w.coding w.capacity w.words (beside_of w.words w.kept w.latest p) s.state p
         call.party.start flight answer w.kept s.fit.kept call.there.at
 
+    -- after a step the party's call is what its table leaves of it, handed the old value of its
+    -- word
     pub next_leaves : flight_in (world_after w (Next p)) p
         ≡ left_by (goes_of w.coding p flight (old_of w.words (ask_of (want_of w.coding flight))) w.kept)
     next_leaves =
@@ -46,6 +48,7 @@ module _ {T : Type 0} (terms : Terms) (t : Trace T) (s : frame.Sound (family_by 
         ∙ (stepped_left w p x call.since (ask_of (want_of w.coding flight)) (step_in w p x flight (old_of w.words (ask_of (want_of w.coding flight))))
         ∙ ap left_by (goes_so (old_of w.words (ask_of (want_of w.coding flight))))))
 
+  -- after a decision it is what its table leaves of it, handed the answer
   pub decision_leaves : (said : Bool) (flight : Flight T)
       → IsUnderWay (family_by terms t.world.coding t.world.capacity) t s p flight
       → flight_in (world_after w (Decide p said)) p ≡ left_by (goes_of w.coding p flight (number_of said) w.kept)

@@ -75,6 +75,8 @@ module _ {T : Type 0} (c p : ℕ) (events : List (Event T)) where
 
   -- a call of which nothing is to be known
   module _ (call : RobustFlight) (answer : ℕ) where
+    -- what its call then knows is all that is to be shown, where its end is right whatever stands
+    -- before it
     freely : (start : RobustStart)
         → FlightKnows c p (left_by (any_call (after {T = T} call answer))) (events ++ wrote_by start call answer)
         → ((a : Answer T) → IsFree (Finished p (Robust start) a)) → Leaves start call answer
@@ -160,6 +162,7 @@ module _ {T : Type 0} (t : Trace T) (is : t.world.kind ≡ kinds.Robust) (r : Is
         → ((mode : ReleaseMode) → start ≢ starts.Recover mode) → Leaves c p t.events start call answer
     others_leave = grind (arith, freely, goes_known, as_it_is)
 
+    -- a step leaves of any call what is asked, where the call stands and knows what it should
     pub step_leaves : (start : RobustStart) (call : RobustFlight) → IsHere scene start → At c (all scene) start call → StepLeaves start call
     step_leaves (starts.Recover mode) (calls.Recover run) here at =
         subst (StepLeaves (starts.Recover mode))
@@ -182,6 +185,7 @@ module _ {T : Type 0} (t : Trace T) (is : t.world.kind ≡ kinds.Robust) (r : Is
     abbrev DecisionLeaves : ℕ → RobustStart → RobustFlight → Type 0
     DecisionLeaves answer start call = is_question (want call) ≡ true → KnowsNow call → Leaves c p t.events start call answer
 
+    -- a decision leaves of a recovery what is asked
     recover_decides : (answer : ℕ) (mode : ReleaseMode) → IsHere scene (starts.Recover mode)
         → (stage : RecoverStage) → DecisionLeaves answer (starts.Recover mode) (recover_at c mode stage)
     recover_decides answer mode here recovers.LoadsCounter due h = absurd (cc)
@@ -193,6 +197,7 @@ module _ {T : Type 0} (t : Trace T) (is : t.world.kind ≡ kinds.Robust) (r : Is
     recover_decides answer mode here (recovers.Locks index lock) due h = both_ways (is_question (lock_want lock)) (lock_asks_none lock) due
     recover_decides answer mode here recovers.LoadsCounterAgain due h = absurd (cc)
 
+    -- so it does of any call
     pub decision_leaves : (answer : ℕ) (start : RobustStart) (call : RobustFlight) → IsHere scene start
         → At c (all scene) start call → DecisionLeaves answer start call
     decision_leaves answer (starts.Recover mode) (calls.Recover run) here at =

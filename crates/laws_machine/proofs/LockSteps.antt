@@ -51,6 +51,8 @@ module _ {T : Type 0} (scene : Scene T) (inv : Inv scene) (mode : ReleaseMode) (
   abbrev Leads : List (Event T) → After calls.Recover ReleaseState → Type 0
   Leads did a = Tells c mode p (events ++ did) a
 
+  -- where what it has freed is settled, the recovery comes as it should to a cell, or to the
+  -- second look at the counter
   comes_to : (stage : RecoverStage) (did : List (Event T)) (index : ℕ) → Settled mode p (events ++ did) → Leads did (recover_comes_to (call_at stage) index)
   comes_to stage did index h = go (nat_lt index c)
     where
@@ -81,6 +83,8 @@ module _ {T : Type 0} (scene : Scene T) (inv : Inv scene) (mode : ReleaseMode) (
     abbrev locks_to : Option Ask → Bool → List (Event T) → After Lock ReleaseState → Type 0
     locks_to ask back did r = Leads did (recover_locked (call_at (recovers.Locks index lock)) index r)
 
+    -- what a lock says that it has found filled is so at its begin, and stays so at each cell,
+    -- empty or filled
     said : IsSaid scene inv (FoundFilled p events)
     said =
         record {
@@ -93,6 +97,7 @@ module _ {T : Type 0} (scene : Scene T) (inv : Inv scene) (mode : ReleaseMode) (
               };
         }
 
+    -- a step of the lock leads on: the recovery locks still, comes to its next cell, or ends
     locks_step : locks_to (Some (lock_ask lock)) (lock_goes_back lock (old_of ws (Some (lock_ask lock))))
         (locked_by p lock (old_of ws (Some (lock_ask lock)))) (lock_after c lock (old_of ws (Some (lock_ask lock))))
     locks_step =
@@ -115,6 +120,8 @@ module _ {T : Type 0} (scene : Scene T) (inv : Inv scene) (mode : ReleaseMode) (
 
   -- ---- the second look at the counter
 
+  -- whether the second look finds the counter locked or not, the recovery's end says what it
+  -- should
   again : Settled mode p events → (b : Bool) → (counter_of ws == locked) ≡ b → EndSays mode (if b then states.Locked else Unlocked) p (events ++ [])
   again h b e = subst (EndSays mode (if b then states.Locked else Unlocked) p) (sym (append-nil events)) (go mode refl b e)
     where
@@ -136,6 +143,7 @@ module _ {T : Type 0} (scene : Scene T) (inv : Inv scene) (mode : ReleaseMode) (
       → Leads (recover_effects p stage (old_of ws (ask_of (recover_asks stage))))
       (recover_takes (call_at stage) stage mode (old_of ws (ask_of (recover_asks stage))))
 
+  -- a decision leads on
   pub decided : (index owner answer : ℕ) → Settled mode p events
       → Leads (recover_effects p (recovers.Asks index owner) answer)
       (recover_takes (call_at (recovers.Asks index owner)) (recovers.Asks index owner) mode answer)
@@ -147,6 +155,7 @@ module _ {T : Type 0} (scene : Scene T) (inv : Inv scene) (mode : ReleaseMode) (
       go true = comes_to (recovers.Asks index owner) [] (index + 1) (calm h)
       go false = once (Told p index owner) _ (refl, tt) tt (λ start w. refl) refl (λ i o e. absurd (cc)) h
 
+  -- each step leads on
   pub steps : (stage : RecoverStage) → Steps stage
   steps recovers.LoadsCounter at k h = go (counter_of ws == locked)
     where

@@ -83,6 +83,7 @@ module _ {T : Type 0} (t : Trace T) (is : t.world.kind ≡ kinds.Robust) (r : Is
         × AreRight LocksRight t.events (events_of t.world turn)
     leaves_it = grind (arith, known_by, all_own, effects, after, effects_own)
 
+    -- these two are all that a turn has to show
     after_it : ((q : ℕ) → FlightKnows c q (flight_in (world_after t.world turn) q) (t.events ++ events_of t.world turn))
         × AreRight LocksRight t.events (events_of t.world turn)
         → Extra (after_turn t turn)
@@ -95,6 +96,7 @@ module _ {T : Type 0} (t : Trace T) (is : t.world.kind ≡ kinds.Robust) (r : Is
         }
 
   module _ (p : ℕ) (free : refusal_of t.world (Next p) ≡ None) where
+    -- a step keeps this, of a call that stands there
     by_step : (x : Party T) (since : ℕ) (found : party_of p t.world.latest ≡ Some x) (start : Start T) (flight : Flight T)
         → StandsThere fam t s p x since start flight → FlightKnows c p (Some flight) t.events
         → Comes (Next p) p (λ q its. its) (old_of s.state.words (ask_of (want_of t.world.coding flight)))
@@ -108,6 +110,7 @@ module _ {T : Type 0} (t : Trace T) (is : t.world.kind ≡ kinds.Robust) (r : Is
         (step_leaves t is r p x since small found start call there.here there.at there.knows knows) comes)
     by_step x since found start flight stands knows comes = absurd stands.at
 
+    -- and so any step does
     pub next_kept : Extra (after_turn t (Next p))
     next_kept =
         let allowed = passes t.world (Next p) free in
@@ -131,6 +134,7 @@ module _ {T : Type 0} (t : Trace T) (is : t.world.kind ≡ kinds.Robust) (r : Is
         same_kept by_words)
 
   module _ (p : ℕ) (said : Bool) (free : refusal_of t.world (Decide p said) ≡ None) where
+    -- a decision keeps it, of a call that stands there
     by_decision : (x : Party T) (since : ℕ) (found : party_of p t.world.latest ≡ Some x) (start : Start T) (flight : Flight T)
         → StandsThere fam t s p x since start flight → is_question (want_of t.world.coding flight) ≡ true
         → FlightKnows c p (Some flight) t.events
@@ -145,6 +149,7 @@ module _ {T : Type 0} (t : Trace T) (is : t.world.kind ≡ kinds.Robust) (r : Is
         comes)
     by_decision x since found start flight stands due knows comes = absurd stands.at
 
+    -- and so any decision does
     pub decision_kept : Extra (after_turn t (Decide p said))
     decision_kept =
         let allowed = passes t.world (Decide p said) free in
@@ -194,6 +199,7 @@ module _ {T : Type 0} (t : Trace T) (is : t.world.kind ≡ kinds.Robust) (r : Is
         let call = under_way (family new.world.coding new.world.capacity) new s_new p flight e in
         first_flight call.party call.since call.party.start flight call.there
 
+    -- a begin keeps it
     pub begin_kept : Extra (after_turn t (Begin p start))
     begin_kept =
         record {
@@ -202,6 +208,7 @@ module _ {T : Type 0} (t : Trace T) (is : t.world.kind ≡ kinds.Robust) (r : Is
           right = Each-append LocksRight t.events (Begun p start ∷ []) h.right (tt, tt);
         }
 
+  -- a death keeps it
   pub death_kept : (owner : ℕ) → Extra (after_turn t (Die owner))
   death_kept owner =
       record {
@@ -221,6 +228,8 @@ module _ {T : Type 0} where
   abbrev HasKept : Trace T → Type 0
   HasKept t = IsReached t × (t.world.kind ≡ kinds.Robust → Extra t)
 
+  -- in every reached machine a recovery that may lock and answers Unlocked has met an index filled
+  -- since each that it freed
   pub locks : (t : Trace T) → t.world.kind ≡ kinds.Robust → IsReached t → Each LocksRight t.events
   locks t is r =
       ((kept_by_runs HasKept

@@ -64,6 +64,7 @@ module _ {T : Type 0} where
 
   -- ---- and as long as the number that it was made with
 
+  -- in every reached machine the queue has the number that the machine was opened with
   pub queue_is : (t : Trace T) → t.world.kind ≡ kinds.Loan → (r : IsReached t) → queue_in t.world.kept ≡ Some r.queue
   queue_is t is r =
       subst (λ (u : Trace T). queue_in u.world.kept ≡ Some r.queue) (sym r.is)

@@ -41,6 +41,8 @@ module _ {T : Type 0} where
 
   -- ---- a call that is no look goes on as none
 
+  -- a call goes on with what it should know of the changes, where each call of its kind knows it;
+  -- its end knows what the state has seen
   goes_sees : {C G M E A : Type 0} (s : Seen) (state : Option (ContainerState T))
       (f : Running C G M → ContainerFlight T) (g : A → Answer T) (h : E → G → M → A) (given : G) (room : M)
       (a : After C E)
@@ -86,8 +88,9 @@ module _ {T : Type 0} (code : Coding T) (p : ℕ) (events : List (Event T)) (sta
 
     freely : ((s : Seen) → Within s (seen_number state) → FlightSees (left_by (any_call (after code state flight answer))) s state)
         → Leaves state start flight answer
-    freely x0 = grind (arith, seen_by, within_then, after, right_append, effects_right, all_effects, ends_right)
+    freely flight_sees = grind (arith, seen_by, within_then, after, right_append, effects_right, all_effects, ends_right)
 
+  -- a call that is no look leaves what is asked, and its party's state as it was
   pub others_leave : (c z : ℕ) (all : List SetAct) (done : List (Act T)) (start : ContainerStart T)
       (flight : ContainerFlight T) (answer : ℕ)
       → At c z all done start flight → IsNoLook start → Within (seen_by p events) (seen_number state)
@@ -184,6 +187,7 @@ module _ {T : Type 0} (code : Coding T) (p : ℕ) (events : List (Event T)) (st 
   abbrev So : LookOf → After (Look T) Bool → Type 0
   So which r = LooksSo code p events st turn mine which call old (looks_as which) r
 
+  -- a look whose step comes out as it should leaves what is asked
   looks_so : (which : LookOf) (r : After (Look T) Bool) → Out seen_now after_it which r → So which r
   looks_so which (GoOn next) out = goes_on code p events st turn mine which call old (looks_as which) next out
   looks_so kinds.GetState (Done changed) out =

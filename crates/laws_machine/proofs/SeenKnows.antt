@@ -62,6 +62,7 @@ module _ {T : Type 0} where
 
 -- ---- once there are more changes
 
+-- there are no fewer changes, and the rest is as it was
 pub record Grows (s s' : Seen) : Type 0 where
   pub begun : s'.begun ≡ s.begun
   pub least : s'.least ≡ s.least
@@ -124,6 +125,7 @@ module _ {T : Type 0} where
       go false = omega arith
   one_change p s e = refl
 
+  -- the changes that a party has seen are counted as the events count them
   pub changes_are : (p : ℕ) (events : List (Event T)) → (seen_by p events).changes ≡ changes_of events
   changes_are p events = go events (record { changes = 0; begun = 0; least = 0; most = 0 }) 0 refl
     where
@@ -136,6 +138,7 @@ module _ {T : Type 0} where
   other_grows : (p q : ℕ) (s : Seen) (e : Event T) → q ≢ p → whose e ≡ Some q → Grows s (seen_after p s e)
   other_grows = grind (arith, kept_by)
 
+  -- what a party has seen grows with events of another party
   pub others_grow : (p q : ℕ) (events es : List (Event T)) → q ≢ p → AreOwn q es → Grows (seen_by p events) (seen_by p (events ++ es))
   others_grow p q events es ne own =
       subst (Grows (seen_by p events))
@@ -150,6 +153,7 @@ module _ {T : Type 0} where
 
   -- ---- effects, and what begins or ends no look
 
+  -- an effect leaves what a party has seen
   effect_same : (turn : Turn T) (p : ℕ) (s : Seen) (e : Event T) → IsEffectOf turn e → seen_after p s e ≡ s
   effect_same turn p s (Begun q start) h = absurd h
   effect_same turn p s (Finished q start answer) h = absurd h
@@ -158,6 +162,7 @@ module _ {T : Type 0} where
       no_more_changes : (n : ℕ) → n + 0 ≡ n
       no_more_changes n = omega arith
 
+  -- and so do any number of effects
   pub effects_same : (turn : Turn T) (p : ℕ) (events es : List (Event T)) → AllByRecursion (IsEffectOf turn) es → seen_by p (events ++ es) ≡ seen_by p events
   effects_same turn p events es h = fold-append (seen_after p) (record { changes = 0; begun = 0; least = 0; most = 0 }) events es ∙ go es (seen_by p events) h
     where

@@ -25,6 +25,8 @@ module _ {T : Type 0} (value_of : List ℕ → T) (size : ℕ) (s : Seen) (call 
   done_out : (state : ContainerState T) (which : LookOf) → HasLoaded which s (Some state) → Out s state which (Done true)
   done_out = grind arith
 
+  -- a look that has loaded the number of changes comes out as it should at a next index, or at its
+  -- end
   comes_out : (state : ContainerState T) (which : LookOf) (index : ℕ) → HasLoaded which s (Some state) → Out s state which (look_comes_to call index)
   comes_out state which index h = go (nat_lt index call.capacity)
     where
@@ -32,6 +34,7 @@ module _ {T : Type 0} (value_of : List ℕ → T) (size : ℕ) (s : Seen) (call 
       go true = h
       go false = done_out state which h
 
+  -- so it does once it has loaded the number of an index
   finds_out : (state : ContainerState T) (which : LookOf) (index count : ℕ) → HasLoaded which s (Some state) → Out s state which (look_finds call index count)
   finds_out state which index count h = go (is_even count)
     where
@@ -68,6 +71,7 @@ module _ {T : Type 0} (value_of : List ℕ → T) (size : ℕ) (s : Seen) (call 
   abbrev Steps : LookStage → ContainerState T → LookOf → ℕ → Type 0
   Steps stage state which old = Out s (then_shows state (look_keeps value_of size stage state.shown old)) which (look_takes size call stage state.seen old)
 
+  -- each step of a look comes out as it should, where the number of changes is loaded as it stands
   pub step_out : (stage : LookStage) (state : ContainerState T) (which : LookOf) (old : ℕ)
       → LookSees which stage s (Some state) → (stage ≡ stages.LoadsChange → old ≡ s.changes)
       → Steps stage state which old

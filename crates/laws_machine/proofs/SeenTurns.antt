@@ -88,6 +88,7 @@ module _ {T : Type 0} (terms : Terms) (t : Trace T) (s : frame.Sound (family_by 
 
   -- ---- a turn of a call under way
 
+  -- the effects of a turn and the end of its call are events of its party alone
   all_own : (p : ℕ) (turn : Turn T) (es : List (Event T)) (start : Start T) (outcome : Option (Answer T))
       → ((q : ℕ) → IsParty turn q → q ≡ p) → AllByRecursion (IsEffectOf turn) es
       → AreOwn p (es ++ ending_of p start outcome)
@@ -99,6 +100,7 @@ module _ {T : Type 0} (terms : Terms) (t : Trace T) (s : frame.Sound (family_by 
       by_whose None its some = absurd (cc)
       by_whose (Some q) its some = ap Some (mine q its)
 
+      -- an effect of the turn is of its party
       effect_own : (e : Event T) → IsEffectOf turn e → whose e ≡ Some p
       effect_own (Begun q start) h = absurd h
       effect_own (Finished q start answer) h = absurd h
@@ -122,6 +124,8 @@ module _ {T : Type 0} (terms : Terms) (t : Trace T) (s : frame.Sound (family_by 
     abbrev state : Option (ContainerState T)
     state = state_of p s.state.states
 
+    -- where the call leaves this and the party's state is the one then kept, the turn keeps what
+    -- is known
     leaves_it : (start : ContainerStart T) (flight : ContainerFlight T) (new : Option (ContainerState T))
         → Leaves t.world.coding p t.events state turn its new start flight answer
         → state_in (world_after t.world turn).kept p ≡ new
@@ -144,6 +148,7 @@ module _ {T : Type 0} (terms : Terms) (t : Trace T) (s : frame.Sound (family_by 
     state_is : state_in t.world.kept p ≡ state
     state_is = ap (λ kept. state_in kept p) same_kept
 
+    -- a call that is no look leaves so much that the turn keeps what is known
     other_call : (start : ContainerStart T) (flight : ContainerFlight T) (all : List SetAct) (done : List (Act T))
         → At t.world.capacity t.world.coding.size all done start flight → IsNoLook start
         → is_look_of t.world p turn ≡ false → Within (seen_by p t.events) (seen_number state)
@@ -172,6 +177,7 @@ module _ {T : Type 0} (terms : Terms) (t : Trace T) (s : frame.Sound (family_by 
       writes_so None found = found
       writes_so (Some st) found = written_same p _ st s.state.states found
 
+      -- so does a look
       look_call : (start : ContainerStart T) → start ≡ looks_as which
           → LookSees which call.stage (seen_by p t.events) state
           → (call.stage ≡ stages.LoadsChange → answer ≡ (seen_by p t.events).changes)
@@ -211,6 +217,7 @@ module _ {T : Type 0} (terms : Terms) (t : Trace T) (s : frame.Sound (family_by 
         → old_of s.state.words (ask_of (want t.world.coding (calls.Look which call))) ≡ (seen_by p t.events).changes
     loads_changes = grind (arith, same_words, counts, changes_are)
 
+    -- so does a step of a call that is no look
     step_other : (start : ContainerStart T) (flight : ContainerFlight T) (all : List SetAct) (done : List (Act T))
         → At t.world.capacity t.world.coding.size all done start flight
         → flight_in t.world p ≡ Some (flights.Container flight)
@@ -221,6 +228,7 @@ module _ {T : Type 0} (terms : Terms) (t : Trace T) (s : frame.Sound (family_by 
         ∙ (ap (λ b. (p == p) && b) (not_looking start flight all done at other) ∙ ap (λ a. a && false) (eq-eqb p p refl)))
         (rests_within start flight all done (seen_by p t.events) (state_of p s.state.states) at other sees) comes
 
+    -- and a step of any call of the container
     step_by : (start : ContainerStart T) (flight : ContainerFlight T) (all : List SetAct) (done : List (Act T))
         → At t.world.capacity t.world.coding.size all done start flight
         → flight_in t.world p ≡ Some (flights.Container flight)
@@ -247,6 +255,7 @@ module _ {T : Type 0} (terms : Terms) (t : Trace T) (s : frame.Sound (family_by 
     step_by starts.IsEmpty flight all done at flies sees comes = step_other starts.IsEmpty flight all done at flies tt sees comes
     step_by starts.IsLocked flight all done at flies sees comes = step_other starts.IsLocked flight all done at flies tt sees comes
 
+    -- and a step of any call that stands there
     by_step : (x : Party T) (since : ℕ) → party_of p t.world.latest ≡ Some x → (start : Start T) (flight : Flight T)
         → StandsThere fam t s p x since start flight → flight_in t.world p ≡ Some flight
         → Comes (Next p) free p refl (λ q its. its) on_next
@@ -254,6 +263,7 @@ module _ {T : Type 0} (terms : Terms) (t : Trace T) (s : frame.Sound (family_by 
         → Extra (after_turn t (Next p))
     by_step = grind (arith, is_there, shown, step_by, seen_by, state_in, same_kept)
 
+    -- so what is known is kept by any step
     pub next_kept : Extra (after_turn t (Next p))
     next_kept =
         let flies = may_next t.world p free in
@@ -286,6 +296,7 @@ module _ {T : Type 0} (terms : Terms) (t : Trace T) (s : frame.Sound (family_by 
     abbrev DecisionComes : Registry T → Start T → Flight T → Type 0
     DecisionComes kept start flight = Comes (Decide p said) free p refl (λ q its. its) (λ q ne. refl) (number_of said) kept start flight
 
+    -- so does a decision of a call that is no look
     decided_other : (start : ContainerStart T) (flight : ContainerFlight T) (all : List SetAct) (done : List (Act T))
         → At t.world.capacity t.world.coding.size all done start flight → IsNoLook start
         → CallSees flight (seen_by p t.events) (state_of p s.state.states)
@@ -296,6 +307,7 @@ module _ {T : Type 0} (terms : Terms) (t : Trace T) (s : frame.Sound (family_by 
         at other refl
         (rests_within start flight all done (seen_by p t.events) (state_of p s.state.states) at other sees) comes
 
+    -- and one of any call of the container that waits for it
     decided_by : (start : ContainerStart T) (flight : ContainerFlight T) (all : List SetAct) (done : List (Act T))
         → At t.world.capacity t.world.coding.size all done start flight
         → is_question (want t.world.coding flight) ≡ true
@@ -310,6 +322,7 @@ module _ {T : Type 0} (terms : Terms) (t : Trace T) (s : frame.Sound (family_by 
         → DecisionComes now_kept start flight → Extra (after_turn t (Decide p said))
     by_decision = grind (arith, is_there, shown, decided_by, seen_by, state_in, same_kept)
 
+    -- so what is known is kept by any decision
     pub decision_kept : Extra (after_turn t (Decide p said))
     decision_kept =
         let flies = decides t.world p free in

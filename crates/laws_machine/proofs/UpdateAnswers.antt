@@ -70,6 +70,7 @@ module _ {T : Type 0} (terms : Terms) (t : Trace T) (s : frame.Sound (family_by 
     others_look : (a : Start T) (q : ℕ) → q ≢ p → is_look_of t.world q (Begin p a) ≡ false
     others_look = grind (arith, ne_eqb)
 
+    -- the begin of a call keeps what is known, whatever its first stage
     begin_by : (o : Option (Flight T)) → first_of t.world.kind t.world.capacity start t.world.kept ≡ o → Extra (after_turn t (Begin p start))
     begin_by None e = let call = subst (λ o. is_none o ≡ false) e free.call in absurd (cc)
     begin_by (Some flight) e =
@@ -91,6 +92,7 @@ module _ {T : Type 0} (terms : Terms) (t : Trace T) (s : frame.Sound (family_by 
 
   -- ---- any turn
 
+  -- every turn keeps what is known
   pub turn_kept : (turn : Turn T) → IsTaken t.world turn → Extra (after_turn t turn)
   turn_kept (Begin p start) free = begin_by p start free (first_of t.world.kind t.world.capacity start t.world.kept) refl
   turn_kept (Next p) free = next_kept terms t s may counts h p free
@@ -112,6 +114,7 @@ module _ {T : Type 0} where
   first_known code c parties =
       record { known = λ p. record { least = omega arith; most = omega arith; now = omega arith }; right = Each-nil MeetsChanges }
 
+  -- in every reached machine each update's end has met what it says
   pub meets_changes : (t : Trace T) → t.world.kind ≡ kinds.Container → IsReached t → Each MeetsChanges t.events
   meets_changes t is r =
       ((kept_by_runs HasMet

@@ -49,6 +49,7 @@ module _ {T : Type 0} (t : Trace T) (is : t.world.kind ≡ kinds.Container) (r :
 
 -- and after a decision it asks about none
 module _ {T : Type 0} (t : Trace T) (is : t.world.kind ≡ kinds.Container) (r : IsReached t) where
+  -- so after a turn that decides for a party, that party waits for no answer
   pub answered : (turn : Turn T) → refusal_of t.world turn ≡ None → IsAnswered turn (after_turn t turn)
   answered turn free p said name =
       let new = after_turn t turn in

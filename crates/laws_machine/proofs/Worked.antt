@@ -104,6 +104,7 @@ none_filled other filled = go (0 == other) filled
     go true e = cc
     go false e = cc
 
+-- and none is filled in a part of the events in which the index was freed
 none_since : (other : ℕ) (part rest : List (Event ℕ)) → last_freed ≡ part ++ rest → IsOneOf (Frees 0 1) (set_acts_of 1 part) → IsFilled other part → ⊥
 none_since other [] rest is frees filled = absurd (no_more frees.before (Frees 0 1) frees.after frees.is)
 none_since other (a ∷ []) rest is frees filled =

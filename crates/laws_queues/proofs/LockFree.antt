@@ -204,6 +204,7 @@ module _ {T : Type 0} (alone changes : ℕ) (code : Coding T) (words : List ℕ)
   abbrev measuring : LengthOf → Running Len (Unit {0}) (Unit {0}) → LenStage → QueueFlight T
   measuring which run stage = Length which (record run { call = record run.call { stage = stage } })
 
+  -- each step of a call that tells a length falls in the measure
   len_falls : (which : LengthOf) (run : Running Len (Unit {0}) (Unit {0})) (stage : LenStage) → Shown (measuring which run stage)
   len_falls which run lens.LoadsWrite = let self = same_is write in inl (load_leaves words 0, rw self (omega arith), omega arith)
   len_falls which run (lens.LoadsRead w) = go (write == w) refl
@@ -227,6 +228,7 @@ module _ {T : Type 0} (alone changes : ℕ) (code : Coding T) (words : List ℕ)
   abbrev over_popping : Running overflow_pop.Pop (Unit {0}) OneWord → PopStage → QueueFlight T
   over_popping run stage = Overflow (overflows.Pop (record run { call = record run.call { stage = stage } }))
 
+  -- each step of a pop of the overflowing queue falls
   over_pop_falls : (run : Running overflow_pop.Pop (Unit {0}) OneWord) (stage : PopStage) → Shown (over_popping run stage)
   over_pop_falls run overflow_pops.FindsNone = tt
   over_pop_falls run overflow_pops.LoadsRead = let self = same_is read in inl (load_leaves words 1, rw self (omega arith), omega arith)
@@ -250,6 +252,7 @@ module _ {T : Type 0} (alone changes : ℕ) (code : Coding T) (words : List ℕ)
   abbrev over_pushing : Running overflow_push.Push ℕ OneWord → PushStage → QueueFlight T
   over_pushing run stage = Overflow (overflows.Push (record run { call = record run.call { stage = stage } }))
 
+  -- each step of a push of the overflowing queue falls
   over_push_falls : (run : Running overflow_push.Push ℕ OneWord) (stage : PushStage) → Shown (over_pushing run stage)
   over_push_falls run overflow_pushes.HandsBack = tt
   over_push_falls run overflow_pushes.LoadsWrite = go (write == 2 ^ 64 - 1) refl
@@ -276,6 +279,7 @@ module _ {T : Type 0} (alone changes : ℕ) (code : Coding T) (words : List ℕ)
   abbrev pushing : Running (Push ℕ) ℕ (Unit {0}) → pushes.PushStage → QueueFlight T
   pushing run stage = Indices (rings.Push (record run { call = record run.call { stage = stage } }))
 
+  -- each step of a push of the index queue falls, where the push stands among its cells
   push_falls : (run : Running (Push ℕ) ℕ (Unit {0})) (c : ℕ) (stage : pushes.PushStage) → c < 2 ^ 32 → PushStands 1 c stage → Shown (pushing run stage)
   push_falls run c pushes.TheVariants.LoadsWrite fits at = go (write == 2 ^ 64 - 1) refl
     where
@@ -300,6 +304,7 @@ module _ {T : Type 0} (alone changes : ℕ) (code : Coding T) (words : List ℕ)
   abbrev popping : Running (Pop ℕ OneWord) (Unit {0}) OneWord → pops.PopStage → QueueFlight T
   popping run stage = Indices (rings.Pop (record run { call = record run.call { stage = stage } }))
 
+  -- each step of a pop of the index queue falls
   pop_falls : (run : Running (Pop ℕ OneWord) (Unit {0}) OneWord) (stage : pops.PopStage) → Shown (popping run stage)
   pop_falls run pops.TheVariants.LoadsRead = inl (load_leaves words 1, omega arith, omega arith)
   pop_falls run (pops.TheVariants.LoadsWrite r) = go (run.call.capacity == 0 || write == r) refl
@@ -317,6 +322,7 @@ module _ {T : Type 0} (alone changes : ℕ) (code : Coding T) (words : List ℕ)
   abbrev peeking : Running (Peek ℕ OneWord) (Unit {0}) OneWord → PeekStage → QueueFlight T
   peeking run stage = Indices (rings.Peek (record run { call = record run.call { stage = stage } }))
 
+  -- each step of a peek of the index queue falls
   peek_falls : (run : Running (Peek ℕ OneWord) (Unit {0}) OneWord) (stage : PeekStage) → Shown (peeking run stage)
   peek_falls run peeks.LoadsRead = inl (load_leaves words 1, omega arith, omega arith)
   peek_falls run (peeks.LoadsWrite r) = go (run.call.capacity == 0 || write == r) refl
@@ -334,6 +340,7 @@ module _ {T : Type 0} (alone changes : ℕ) (code : Coding T) (words : List ℕ)
   abbrev value_pushing : Running (Push T) T (Unit {0}) → pushes.PushStage → QueueFlight T
   value_pushing run stage = Values (rings.Push (record run { call = record run.call { stage = stage } }))
 
+  -- each step of a push of the queue of values falls, where the push stands among its cells
   value_push_falls : (run : Running (Push T) T (Unit {0})) (c : ℕ) (stage : pushes.PushStage) → code.size ≤ 128 → c < 2 ^ 32
       → PushStands code.size c stage → Shown (value_pushing run stage)
   value_push_falls run c pushes.TheVariants.LoadsWrite few fits at = go (write == 2 ^ 64 - 1) refl
@@ -361,6 +368,7 @@ module _ {T : Type 0} (alone changes : ℕ) (code : Coding T) (words : List ℕ)
   abbrev value_popping : Running (Pop T (buffers.Buffer 128)) (Unit {0}) (buffers.Buffer 128) → pops.PopStage → QueueFlight T
   value_popping run stage = Values (rings.Pop (record run { call = record run.call { stage = stage } }))
 
+  -- each step of a pop of the queue of values falls
   value_pop_falls : (run : Running (Pop T (buffers.Buffer 128)) (Unit {0}) (buffers.Buffer 128)) (stage : pops.PopStage) → Shown (value_popping run stage)
   value_pop_falls run pops.TheVariants.LoadsRead = inl (load_leaves words 1, omega arith, omega arith)
   value_pop_falls run (pops.TheVariants.LoadsWrite r) = go (run.call.capacity == 0 || write == r) refl
@@ -378,6 +386,7 @@ module _ {T : Type 0} (alone changes : ℕ) (code : Coding T) (words : List ℕ)
   abbrev value_peeking : Running (Peek T (buffers.Buffer 128)) (Unit {0}) (buffers.Buffer 128) → PeekStage → QueueFlight T
   value_peeking run stage = Values (rings.Peek (record run { call = record run.call { stage = stage } }))
 
+  -- each step of a peek of the queue of values falls
   value_peek_falls : (run : Running (Peek T (buffers.Buffer 128)) (Unit {0}) (buffers.Buffer 128)) (stage : PeekStage) → Shown (value_peeking run stage)
   value_peek_falls run peeks.LoadsRead = inl (load_leaves words 1, omega arith, omega arith)
   value_peek_falls run (peeks.LoadsWrite r) = go (run.call.capacity == 0 || write == r) refl
@@ -391,6 +400,7 @@ module _ {T : Type 0} (alone changes : ℕ) (code : Coding T) (words : List ℕ)
       go true t = let less : at + 1 < code.size = grind (arith, nat_tests) in rw t (inl (load_leaves words (word_at cell at), omega arith, omega arith))
       go false t = rw t tt
 
+  -- each step of a call that stands where its kind allows falls
   call_falls : (kd : QueueKind) (c : ℕ) → code.size ≤ 128 → c < 2 ^ 32 → (flight : QueueFlight T) → CallStands code.size kd c flight → Shown flight
   call_falls kd c few fits (Role (Acquire run)) at = tt
   call_falls kd c few fits (Role (Release run)) at = tt
@@ -413,6 +423,7 @@ module _ {T : Type 0} (alone changes : ℕ) (code : Coding T) (words : List ℕ)
 cell_low : (capacity size position : ℕ) → 4 ≤ cell_word capacity size position
 cell_low = grind arith
 
+-- the first word of a cell is at most word `4 + size * capacity`
 cell_high : (capacity size position : ℕ) → 1 ≤ size → cell_word capacity size position ≤ 4 + size * capacity
 cell_high capacity size position some = go (capacity == 0) refl
   where
@@ -465,6 +476,7 @@ module _ {T : Type 0} (kd : QueueKind) where
     opens : (kd : QueueKind) → Kept {T = T} ((opening_of (machine_kind kd)).kept c)
     opens = grind arith
 
+  -- the measure has the laws that the table asks of one, at each capacity that is admitted
   laws : (code : Coding T) (c : ℕ) → IsCoding code → capacity_error (machine_kind kd) c ≡ None → TableLaws (outline kd) code c
   laws code c coded admitted =
       record {

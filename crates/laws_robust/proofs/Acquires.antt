@@ -31,6 +31,7 @@ module _ {T : Type 0} (scene : Scene T) (inv : Inv scene) (owner : ℕ) (fits : 
   Lead ask back did a =
       Leads scene (Acquire owner) ask back did (as_call flights.Acquire acquire_answer (went_on as_it_is owner tt a))
 
+  -- an acquire that fails ends with that failure
   refuses : (failure : UniqueIndexSetAcquireFailure) (ask : Option Ask) (back : Bool)
       → words_after ws ask ≡ ws → WhyNot scene inv owner fits alive 0 failure → IsPaid (sees scene ask back)
       → FewEnd scene inv owner fits alive 0 ask back → Lead ask back [] (Done (Err failure))
@@ -42,6 +43,8 @@ module _ {T : Type 0} (scene : Scene T) (inv : Inv scene) (owner : ℕ) (fits : 
       (stays_same scene inv (words_after ws ask) same) (λ i o. refl) (λ i r. refl)
       (why.0, ⊎_elim (λ worn. inl (subst (IsWorn scene.by) (sym same) worn)) (λ all_filled. inr all_filled) why.1) why.2 (omega arith) paid
 
+  -- what the steps of an acquire lead to in a call that is nothing else: each step that goes
+  -- on, the fill, each failure, and the grant
   caller : Caller scene inv owner fits alive 0 Lead
   caller =
       record {

@@ -32,6 +32,7 @@ module _ {T : Type 0} (t : Trace T) where
       → AllByRecursion Leaves (events_of_step p x.start (step_in t.world p x flight answer))
 
   module _ (steps : StepsLeave) where
+    -- what a step writes leaves alive who lives
     next_leaves : (p : ℕ) (o : Option (Party T)) → party_of p t.world.latest ≡ o → AllByRecursion Leaves (events_of_next t.world p o)
     next_leaves p None found = tt
     next_leaves p (Some x) found = go x.doing refl
@@ -41,6 +42,7 @@ module _ {T : Type 0} (t : Trace T) where
         go (Over others) d = tt
         go (Going flight since) d = steps p x since flight (old_of t.world.words (ask_of_doing t.world.coding (Going flight since))) found d
 
+    -- what a decision writes leaves alive who lives
     decision_leaves : (p : ℕ) (said : Bool) (o : Option (Party T)) → party_of p t.world.latest ≡ o
         → AllByRecursion Leaves (events_of_decision t.world p said o)
     decision_leaves p said None found = tt

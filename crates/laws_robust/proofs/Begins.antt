@@ -50,6 +50,7 @@ module _ {T : Type 0} (scene : Scene T) (g : Good scene.by scene.capacity scene.
   settles : AreOwned events → (i o : ℕ) → settled_of i (events ++ es) ≡ Some o → (filled_of i (events ++ es) ≡ Some o) × (right_of i (events ++ es) ≡ Settled o)
   settles = grind (arith, still_settled, right_of, fold-append, same)
 
+  -- a begin does to the set what it may
   pub begins : Does scene scene.set.words (Begun p start ∷ [])
   begins =
       hands_on scene g scene.set.words es leaves keeps (refl, tt) (tt, tt) (tt, tt)

@@ -21,6 +21,7 @@ abbrev pub acquire_at : ℕ → ℕ → AcquireStage → RobustFlight
 acquire_at c owner stage =
     Acquire (record { call = record { capacity = c; stage = stage }; given = owner; room = tt })
 
+-- a release at a stage
 abbrev pub release_at : ℕ → ℕ → ℕ → ReleaseMode → ReleaseStage → RobustFlight
 release_at c index owner mode stage =
     Release
@@ -60,6 +61,7 @@ abbrev pub lock_number : ℕ → Lock → ℕ
 lock_number c (locks.Counts count) = count_number c count
 lock_number c (locks.ExchangesCounter counter) = 2 + c
 
+-- an acquire, after so many turns back
 abbrev pub acquire_number : ℕ → AcquireStage → ℕ → ℕ
 acquire_number c acquires.LoadsCounter backs = 0
 acquire_number c (acquires.FillsCell counter index) backs =
@@ -85,6 +87,7 @@ pub at_least_four : (c : ℕ) (mode : ReleaseMode) → 4 ≤ for_index c mode
 at_least_four c Default = omega arith
 at_least_four c LockIfLastIndex = omega arith
 
+-- a release, after so many turns back
 abbrev pub release_number : ℕ → ReleaseMode → ReleaseStage → ℕ → ℕ
 release_number c mode releases.EmptiesCell backs = 0
 release_number c mode (releases.Raises raise) backs =
@@ -92,6 +95,7 @@ release_number c mode (releases.Raises raise) backs =
 release_number c mode (releases.Locks lock) backs =
     3 + lock_number c lock + backs * for_back c mode
 
+-- a recovery, after so many turns back
 abbrev pub recover_number : ℕ → ReleaseMode → RecoverStage → ℕ → ℕ
 recover_number c mode recovers.LoadsCounter backs = 0
 recover_number c mode (recovers.LoadsCell index) backs =
@@ -111,6 +115,7 @@ abbrev pub find_number : FindStage → ℕ
 find_number (finds.LoadsCell index found) = index
 find_number (finds.Asks index found) = index + 1
 
+-- any call at its stage, after so many turns back
 abbrev pub number_of : ℕ → RobustFlight → ℕ → ℕ
 number_of c (Acquire run) backs = acquire_number c run.call.stage backs
 number_of c (Release run) backs = release_number c run.given.mode run.call.stage backs
@@ -121,6 +126,8 @@ number_of c (IsLocked run) backs = 0
 
 -- ---- where they stand, and what they have done
 
+-- an acquire at its stage: it has filled its index once it raises the counter, and nothing
+-- before
 abbrev pub AcquireAt : ℕ → ℕ → List SetAct → AcquireStage → Type 0
 AcquireAt c owner all acquires.LoadsCounter = all ≡ []
 AcquireAt c owner all (acquires.FillsCell counter index) = (index < c) × (all ≡ [])
@@ -137,6 +144,7 @@ abbrev pub LockAt : ℕ → Lock → Type 0
 LockAt c (locks.Counts count) = CountAt c count
 LockAt c (locks.ExchangesCounter counter) = Unit {0}
 
+-- a release at its stage: it has freed its index once it raises the counter, and nothing before
 abbrev pub ReleaseAt : ℕ → ℕ → ℕ → ReleaseMode → List SetAct → ReleaseStage → Type 0
 ReleaseAt c index owner mode all releases.EmptiesCell = all ≡ []
 ReleaseAt c index owner mode all (releases.Raises raise) = all ≡ Frees index owner ∷ []
@@ -153,6 +161,7 @@ pub record IsInCourse (c index bound : ℕ) (all : List SetAct) : Type 0 where
   pub asked : AllByRecursion (λ i. i < bound) (asked_in all)
   pub freed : (i owner : ℕ) → IsOneOf (Frees i owner) all → IsOneOf (Asks i owner) all
 
+-- a recovery at its stage: how far it has come, and what it has asked or freed last
 abbrev pub RecoverAt : ℕ → ReleaseMode → List SetAct → RecoverStage → Type 0
 RecoverAt c mode all recovers.LoadsCounter = all ≡ []
 RecoverAt c mode all (recovers.LoadsCell index) = IsInCourse c index index all

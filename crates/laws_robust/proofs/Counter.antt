@@ -87,6 +87,7 @@ recover_then (recovers.Raises index raise) n = raise_then raise n
 recover_then (recovers.Locks index lock) n = lock_then lock n
 recover_then stage n = n
 
+-- what a recovery is handed
 abbrev pub recover_old : RecoverStage → ℕ → ℕ → ℕ
 recover_old recovers.LoadsCounter n cell = n
 recover_old (recovers.LoadsCell index) n cell = cell
@@ -96,6 +97,7 @@ recover_old (recovers.Raises index raise) n cell = n
 recover_old (recovers.Locks index lock) n cell = lock_old lock n cell
 recover_old recovers.LoadsCounterAgain n cell = n
 
+-- the counter after a step of any call
 abbrev pub robust_then : RobustFlight → ℕ → ℕ
 robust_then (Acquire run) n = acquire_then run.call.stage n
 robust_then (Release run) n = release_then run.call.stage n
@@ -104,6 +106,7 @@ robust_then (Recover run) n = recover_then run.call.stage n
 robust_then (BorrowedIndices run) n = count_then run.call.count n
 robust_then (IsLocked run) n = n
 
+-- what a step of any call is handed
 abbrev pub robust_old : RobustFlight → ℕ → ℕ → ℕ
 robust_old (Acquire run) n cell = acquire_old run.call.stage n cell
 robust_old (Release run) n cell = release_old run.call.stage n cell
@@ -136,6 +139,7 @@ module _ (words : List ℕ) where
   lock_finds (locks.Counts count) = count_finds count
   lock_finds (locks.ExchangesCounter k) = refl
 
+  -- what an operation of an acquire finds is what is told of its stage
   pub acquire_finds : (stage : AcquireStage) (owner : ℕ)
       → old_of words (ask_of (acquire_asks stage owner)) ≡ acquire_old stage (counter_of words) (old_of words (ask_of (acquire_asks stage owner)))
   acquire_finds acquires.LoadsCounter owner = refl
@@ -171,6 +175,7 @@ module _ (words : List ℕ) where
     lock_leaves (locks.Counts count) = count_leaves count
     lock_leaves (locks.ExchangesCounter k) = first_then (Exchange k locked)
 
+    -- what an operation of an acquire leaves in the counter is what is told of its stage
     pub acquire_leaves : (stage : AcquireStage) (owner : ℕ)
         → counter_of (words_after words (ask_of (acquire_asks stage owner))) ≡ acquire_then stage (counter_of words)
     acquire_leaves acquires.LoadsCounter owner = first_then Load
@@ -187,6 +192,7 @@ module _ (words : List ℕ) where
 -- ---- any call
 
 module _ (words : List ℕ) where
+  -- what an operation of any call finds is what is told of its stage
   pub robust_finds : (flight : RobustFlight)
       → old_of words (ask_of (want flight)) ≡ robust_old flight (counter_of words) (old_of words (ask_of (want flight)))
   robust_finds (Acquire run) = acquire_finds words run.call.stage run.given
@@ -194,6 +200,7 @@ module _ (words : List ℕ) where
   robust_finds (Find run) = refl
   robust_finds (Recover run) = recover_finds run.call.stage
     where
+      -- a recovery finds what is told of its stage
       recover_finds : (stage : RecoverStage)
           → old_of words (ask_of (recover_asks stage)) ≡ recover_old stage (counter_of words) (old_of words (ask_of (recover_asks stage)))
       recover_finds recovers.LoadsCounter = refl
@@ -207,6 +214,7 @@ module _ (words : List ℕ) where
   robust_finds (IsLocked run) = refl
 
   module _ (some : 0 < length words) where
+    -- what an operation of a recovery leaves in the counter is what is told of its stage
     recover_leaves : (stage : RecoverStage) → counter_of (words_after words (ask_of (recover_asks stage))) ≡ recover_then stage (counter_of words)
     recover_leaves recovers.LoadsCounter = first_then words some Load
     recover_leaves (recovers.LoadsCell index) = other_then words some (cell_word index) Load (omega arith)
@@ -216,6 +224,7 @@ module _ (words : List ℕ) where
     recover_leaves (recovers.Locks index lock) = lock_leaves words some lock
     recover_leaves recovers.LoadsCounterAgain = first_then words some Load
 
+    -- what an operation of any call leaves in the counter is what is told of its stage
     pub robust_leaves : (flight : RobustFlight) → counter_of (words_after words (ask_of (want flight))) ≡ robust_then flight (counter_of words)
     robust_leaves (Acquire run) = acquire_leaves words some run.call.stage run.given
     robust_leaves (Release run) = release_leaves words some run.call.stage run.given

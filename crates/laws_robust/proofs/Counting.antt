@@ -27,6 +27,7 @@ count_same f g (suc n) same =
 abbrev pub chosen_with : (ℕ → Bool) → ℕ → Bool → ℕ → Bool
 chosen_with chosen k b i = if i == k then b else chosen i
 
+-- `k` is the index that the count has come to, counted if `b` says so
 module _ (chosen : ℕ → Bool) (k : ℕ) (b : Bool) where
   pub with_here : chosen_with chosen k b k ≡ b
   with_here = ap (λ z. if z then b else chosen k) (eq-eqb k k refl)
@@ -37,6 +38,7 @@ module _ (chosen : ℕ → Bool) (k : ℕ) (b : Bool) where
   pub count_with : count_below (chosen_with chosen k b) (suc k) ≡ (if b then 1 else 0) + count_below chosen k
   count_with = grind (arith, count_below, with_here, count_same, with_there)
 
+-- party `p` counts the indices that have `P`
 module _ {T : Type 0} (p : ℕ) (P : ℕ → List (Event T) → Type 0) where
   pub count_none : (events : List (Event T)) → IsCount p P 0 0 events
   count_none events =
@@ -46,6 +48,7 @@ module _ {T : Type 0} (p : ℕ) (P : ℕ → List (Event T) → Type 0) where
   pub count_within : (k number : ℕ) (events : List (Event T)) → IsCount p P k number events → number ≤ k
   count_within k number events h = let most = count_most h.chosen k in let is = h.is in omega arith
 
+  -- the count has come to `k` indices
   module _ (k number : ℕ) (events : List (Event T)) (h : IsCount p P k number events) where
     -- at a later moment of the call
     pub count_later : (es : List (Event T)) → BeginsNone p es → IsCount p P k number (events ++ es)
@@ -58,6 +61,7 @@ module _ {T : Type 0} (p : ℕ) (P : ℕ → List (Event T) → Type 0) where
         }
 
     module _ (b : Bool) (new : ℕ) (adds : new ≡ (if b then 1 else 0) + number) (once : b ≡ true → P k events) (not : b ≡ false → P k events → ⊥) where
+      -- each index that is counted had what is asked of it at some time of the call
       pub still_once : (i : ℕ) → i < k + 1 → chosen_with h.chosen k b i ≡ true → HeldSometime p (P i) events
       still_once i below e = ⊎_elim here there (cases_eq i k)
         where
@@ -76,6 +80,8 @@ module _ {T : Type 0} (p : ℕ) (P : ℕ → List (Event T) → Type 0) where
       pub still_through : (i : ℕ) → i < k + 1 → HeldThroughout p (P i) events → chosen_with h.chosen k b i ≡ true
       still_through i below t = let by_chosen_now = chosen_now in grind arith
 
+      -- a count with one index more, which has what is asked and is counted, or has not and is
+      -- not
       pub count_next : IsCount p P (k + 1) new events
       count_next =
           let next : suc k ≡ k + 1 = omega arith in

@@ -20,6 +20,7 @@ died_with q o dead = let now = died_now q dead in let before = died_before q o d
 
 -- ---- what a death does to the set and to all parties
 
+-- `c` is the capacity, and `o` the owner who dies
 module _ {T : Type 0} (by : GoneBy) (c : ℕ) (words dead : List ℕ) (events : List (Event T)) (turns o : ℕ)
     (g : Good by c words dead events turns) (alive : is_dead o events ≡ false) where
   abbrev es : List (Event T)
@@ -43,6 +44,7 @@ module _ {T : Type 0} (by : GoneBy) (c : ℕ) (words dead : List ℕ) (events : 
   dead_then : (q : ℕ) → is_dead q (events ++ es) ≡ ((o == q) || is_dead q events)
   dead_then q = fold-append (dead_after q) false events es
 
+  -- what is so of the words, of the dead and of the events is so after a death
   pub death_good : Good by c words (dead_with o dead) (events ++ es) (turns + 1)
   death_good =
       record {
@@ -74,6 +76,7 @@ module _ {T : Type 0} (by : GoneBy) (c : ℕ) (words dead : List ℕ) (events : 
   pub death_spares : (q : ℕ) → Spares by q events es
   death_spares = grind (arith, set_acts, span_of-death, same_right, same_filled, same_holder, same_settled)
 
+  -- what a party's call knows it knows after a death
   pub death_known : (q since changes backs : ℕ) (flight : Flight T)
       → Knowing c flight (view by words events q since changes backs)
       → Knowing c flight (view by words (events ++ es) q since changes backs)

@@ -33,6 +33,7 @@ module _ {T : Type 0} where
   joined P [] ys h r = r
   joined P (x ∷ xs) ys h r = (h.0, joined P xs ys h.1 r)
 
+-- `c` is the capacity, `t` the run so far, and `s` what is sound of it
 module _ {T : Type 0} (code : Coding T) (c : ℕ) (t : Trace T) (s : frame.Sound (family code c) t) where
   -- what the step of a call of this name writes that is handed this answer, where this is kept
   abbrev writes : ℕ → ℕ → Registry T → Start T → Flight T → List (Event T)
@@ -123,6 +124,7 @@ module _ {T : Type 0} (code : Coding T) (c : ℕ) (t : Trace T) (s : frame.Sound
         → x.doing ≡ Going flight since → ByYes flight → Right (writes q answer t.world.kept x.start flight)
     flight_right = grind (arith, stands_there, family, same_kept, step_right)
 
+  -- all that a step writes of what a call is told is right
   next_right : (q : ℕ) → is_due t.world.coding (flight_in t.world q) ≡ false → (o : Option (Party T))
       → party_of q t.world.latest ≡ o → AllByRecursion (ToldRight t (Next q)) (events_of_next t.world q o)
   next_right q free None found = tt
@@ -137,6 +139,7 @@ module _ {T : Type 0} (code : Coding T) (c : ℕ) (t : Trace T) (s : frame.Sound
           let asks : is_question (want_of t.world.coding flight) ≡ false = rw here at free in
           flight_right (Next q) q (old_of t.world.words (ask_of (want_of t.world.coding flight))) x since flight found d (λ due some. absurd (cc))
 
+  -- all that a decision writes of what a call is told is right
   decision_right : (q : ℕ) (said : Bool) (o : Option (Party T)) → party_of q t.world.latest ≡ o
       → AllByRecursion (ToldRight t (Decide q said)) (events_of_decision t.world q said o)
   decision_right q said None found = tt
@@ -155,7 +158,7 @@ module _ {T : Type 0} (code : Coding T) (c : ℕ) (t : Trace T) (s : frame.Sound
   not_due = grind (arith, row_passed, is_none)
 
   all_told : (turn : Turn T) → refusal_of t.world turn ≡ None → AllByRecursion (ToldRight t turn) (events_of t.world turn)
-  all_told x0 x1 = grind (arith, next_right, not_due, passes, decision_right)
+  all_told turn refusal_of_is = grind (arith, next_right, not_due, passes, decision_right)
 
   pub tells_once : (turn : Turn T) → refusal_of t.world turn ≡ None → TellsOnce t turn (after_turn t turn)
   tells_once turn r = record { wrote = events_of t.world turn; is = refl; told = all_told turn r }

@@ -126,6 +126,8 @@ module _ {T : Type 0} (scene : Scene T) where
     same_dead : (owner : ℕ) → is_dead owner (events ++ es) ≡ is_dead owner events
     same_dead owner = fold-append (dead_after owner) false events es ∙ keeps.dead owner (is_dead owner events)
 
+    -- a step that leaves the cells and the lock, and hands indices on as it may, does to the
+    -- set what it may
     pub hands_on : AreOwn p es → AreRight (SetDoes c) events es → AreRight (AnswersBy by (IsWorn by words') c) events es → Hands es
         → (counter_of words' ≡ counter_of ws → counter_of ws < greatest → (i : ℕ) → holder_of i events ≡ None → holder_of i (events ++ es) ≡ None)
         → Does scene words' es
@@ -228,6 +230,8 @@ module _ {T : Type 0} (scene : Scene T) where
       still_owned : AreOwned events → AreOwned (events ++ es)
       still_owned = grind (arith, filled_more, holder_more, settled_more, right_more)
 
+      -- a step that leaves the cells and the lock, and writes what changes nothing of the set,
+      -- does to the set what it may
       pub quietly : Does scene words' es
       quietly =
           hands_on g words' es stays keeps own right answers
@@ -288,6 +292,8 @@ module _ {T : Type 0} (scene : Scene T) where
       fill_by : (q j o : ℕ) → IsBy q j o events → IsBy q j o (events ++ fill)
       fill_by q j o h = let filled = filled_then j in let right = fill_right j in grind arith
 
+      -- a step that fills an empty cell with an owner who may fill it does to the set what it
+      -- may
       pub fills : Does scene words' fill
       fills =
           record {

@@ -46,11 +46,14 @@ pub record Handed (T : Type 0) : Type 0 where
 module _ {T : Type 0} where
   -- ---- a turn that writes an end alone
 
+  -- the step is of this party and this name, and ends the call so
   pub record IsEnd (q p : ℕ) (start start' : Start T) (outcome : Option (Answer T)) (answer : Answer T) : Type 0 where
     pub party : q ≡ p
     pub name : start ≡ start'
     pub done : outcome ≡ Some answer
 
+  -- where events that are no ends, and then the end of a call if it has one, are this end
+  -- alone, the call is this one and it ended so
   pub ends_alone : (turn : Turn T) (q p : ℕ) (es : List (Event T)) (start start' : Start T)
       (outcome : Option (Answer T)) (answer : Answer T)
       → AllByRecursion (IsEffectOf turn) es
@@ -110,6 +113,8 @@ module _ {T : Type 0} where
         (step_of t.world.coding t.world.words (beside_of t.world.words kept t.world.latest q) q start flight answer kept)
         ≡ Finished p (Robust (starts.Find owner)) (Number number) ∷ []
 
+    -- a step that wrote only that the find of this party is done was a step of that party, of a
+    -- call of that name, which ended with that number
     wrote_end : (start : RobustStart) (flight : RobustFlight)
         → Wrote (registries.Owners s.state.dead) (Robust start) (flights.Robust flight)
         → IsEnd q p (Robust start) (Robust (starts.Find owner)) (answer_in (any_call (after {T = T} flight answer))) (Number number)
@@ -121,6 +126,8 @@ module _ {T : Type 0} where
         → Wrote (registries.Owners s.state.dead) start flight → q ≡ p
     own_end = grind (arith, wrote_end)
 
+    -- a call that stands there, was handed what it has loaded, or a yes, and wrote that the
+    -- find is done, has counted over the whole set
     counted : (due : Bool) → (due ≡ true → answer ≢ 0) → (start : Start T) (flight : Flight T)
         → StandsThere (family code c) t s q x since start flight → is_question (want_of t.world.coding flight) ≡ due
         → (due ≡ false → answer ≡ old_of s.state.words (ask_of (want_of t.world.coding flight)))
@@ -146,6 +153,8 @@ module _ {T : Type 0} where
       pub own_party : q ≡ p
       own_party = own_end x.start flight there by_owners
 
+      -- a find that wrote its end when it was handed what it had loaded, or a yes, has counted
+      -- over the whole set
       pub all_counted : (due : Bool) → (due ≡ true → answer ≢ 0) → is_question (want_of t.world.coding flight) ≡ due
           → (due ≡ false → answer ≡ old_of t.world.words (ask_of (want_of t.world.coding flight)))
           → IsCount p (IsFilledWith owner) c number t.events
@@ -157,10 +166,13 @@ module _ {T : Type 0} where
 
   -- ---- any turn
 
+  -- `c` is the capacity, `t` the run so far, `s` what is sound of it; party `p` finds for the
+  -- owner
   module _ (code : Coding T) (c : ℕ) (t : Trace T) (s : frame.Sound (family code c) t) (p owner number : ℕ) where
     abbrev Ended : List (Event T) → Type 0
     Ended es = es ≡ Finished p (Robust (starts.Find owner)) (Number number) ∷ []
 
+    -- this step of the call of party `q`, as the record above has it
     abbrev handed : (q : ℕ) {x : Party T} → t.world.turns < 2 ^ 64 - 2 → party_of q t.world.latest ≡ Some x → ℕ → (turn : Turn T) → IsParty turn q → ℕ
         → Handed T
     handed q {x} small found since turn mine answer =
@@ -182,6 +194,7 @@ module _ {T : Type 0} where
           number = number;
         }
 
+    -- a step that wrote only that the find is done tells of the whole set
     next_tells : (q : ℕ) → t.world.turns < 2 ^ 64 - 2 → is_due t.world.coding (flight_in t.world q) ≡ false
         → (o : Option (Party T)) → party_of q t.world.latest ≡ o → Ended (events_of_next t.world q o)
         → IsCount p (IsFilledWith owner) c number t.events
@@ -197,6 +210,8 @@ module _ {T : Type 0} where
             all_counted (handed q small found since (Next q) refl (old_of t.world.words (ask_of (want_of t.world.coding flight)))) flight d e false
             (λ told. absurd (cc)) (rw here at free) (λ no. refl)
 
+    -- a decision that wrote only that the find is done, and that is no no to its party, tells
+    -- of the whole set
     decision_tells : (q : ℕ) (said : Bool) → t.world.turns < 2 ^ 64 - 2
         → is_due t.world.coding (flight_in t.world q) ≡ true → ◌≢◌ {A = Turn T} (Decide q said) (Decide p false)
         → (o : Option (Party T))
@@ -223,6 +238,8 @@ module _ {T : Type 0} where
   not_due : (w : World T) (q : ℕ) → call_refusal w (Next q) ≡ None → is_due w.coding (flight_in w q) ≡ false
   not_due w q e = grind arith
 
+  -- a turn that wrote only that the find is done, and that is no no to its party, tells of the
+  -- whole set
   tells : (code : Coding T) (c : ℕ) (t : Trace T) (turn : Turn T) → refusal_of t.world turn ≡ None → frame.Sound (family code c) t → (p owner number : ℕ)
       → events_of t.world turn ≡ Finished p (Robust (starts.Find owner)) (Number number) ∷ []
       → turn ≢ Decide p false → IsCount p (IsFilledWith owner) c number t.events
@@ -236,6 +253,7 @@ module _ {T : Type 0} where
       ne (party_of q t.world.latest) refl e
   tells code c t (Die o) r s p owner number e ne = absurd (cc)
 
+  -- each find that ends in a turn that is no no to it has counted over the whole set
   pub finds_all : (code : Coding T) (c : ℕ) (t : Trace T) (turn : Turn T) → refusal_of t.world turn ≡ None
       → frame.Sound (family code c) t → FindsAll t turn (after_turn t turn)
   finds_all code c t turn r s =

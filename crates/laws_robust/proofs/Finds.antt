@@ -36,6 +36,7 @@ module _ {T : Type 0} (scene : Scene T) (inv : Inv scene) (owner : ℕ) (fits : 
   -- ---- what a cell tells
 
   module _ (k found : ℕ) (below : k < c) (counted : Counted k found) where
+    -- a cell that has the owner adds one to those counted
     one_counts : cell ws k ≡ owner → Counted (k + 1) (one_more found)
     one_counts is =
         let few = g.few in
@@ -62,6 +63,7 @@ module _ {T : Type 0} (scene : Scene T) (inv : Inv scene) (owner : ℕ) (fits : 
           ends_quietly scene inv (Find owner) (Number found) ask false here (stays_same scene inv (words_after ws ask) same) (λ i o. refl) (λ i r. refl)
           (record { bound = k + 1; within = omega arith; count = counted }) none (omega arith) paid
 
+      -- a find whose step leaves the words comes to the next index, or ends behind the last
       comes_to_next : Lead ask (find_comes_to (call_at stage) (k + 1) found)
       comes_to_next =
           by_test (Lead ask) (nat_lt (k + 1) c) (GoOn (at_find (call_at stage) (finds.LoadsCell (k + 1) found))) (Done found)
@@ -72,6 +74,8 @@ module _ {T : Type 0} (scene : Scene T) (inv : Inv scene) (owner : ℕ) (fits : 
           (record { paid = paid; scanned = tt; owns = tt; says = counted; gone = tt }))
           (λ t. ends_there)
 
+    -- the step in which a find loads a cell leads on: it asks where the cell has the owner, and
+    -- else goes to the next index
     loads_step : (k found : ℕ) → k < c → Knows c (find_at c owner (finds.LoadsCell k found)) (now scene)
         → steps ≤ k → StepOf scene (Find owner) (find_at c owner (finds.LoadsCell k found))
     loads_step k found below h s =
@@ -94,6 +98,7 @@ module _ {T : Type 0} (scene : Scene T) (inv : Inv scene) (owner : ℕ) (fits : 
         (finds.LoadsCell k found) k found below (omega arith)
         (none_counts k found below h.says other))
 
+  -- any answer to a question of a find leads on: a no to its end, and else to the next index
   pub find_decided : IsHere scene (Find owner) → (k found : ℕ)
       → FindAt c (all scene) (finds.Asks k found)
       → Knows c (find_at c owner (finds.Asks k found)) (now scene)
@@ -116,6 +121,7 @@ module _ {T : Type 0} (scene : Scene T) (inv : Inv scene) (owner : ℕ) (fits : 
       → find_comes_to (call_at stage) (k + 1) found ≡ Done number → Counted c number
   comes_to_all k found number stage below counted e = grind arith
 
+  -- a find that ends when it has loaded a cell has counted over the whole set
   pub find_loads_all : (k found : ℕ) → FindAt c (all scene) (finds.LoadsCell k found)
       → Knows c (find_at c owner (finds.LoadsCell k found)) (now scene) → (number : ℕ)
       → find_after (record { capacity = c; stage = finds.LoadsCell k found }) owner (cell scene.set.words k) ≡ Done number → Counted c number
@@ -131,6 +137,7 @@ module _ {T : Type 0} (scene : Scene T) (inv : Inv scene) (owner : ℕ) (fits : 
           let other : cell ws k ≢ owner = grind (arith, nat_tests) in
           comes_to_all k found number (finds.LoadsCell k found) at.0 (none_counts k found at.0 h.says other) e
 
+  -- a find that ends at an answer other than no has counted over the whole set
   pub find_asks_all : (k found : ℕ) → FindAt c (all scene) (finds.Asks k found)
       → Knows c (find_at c owner (finds.Asks k found)) (now scene) → (answer number : ℕ) → answer ≢ 0
       → find_after (record { capacity = c; stage = finds.Asks k found }) owner answer ≡ Done number → Counted c number

@@ -18,6 +18,7 @@ use Rattle.laws_robust.proofs.Past.{since_begun}
 use Rattle.laws_robust.proofs.Rights.{AreOwned}
 use Rattle.laws_robust.proofs.CallProgress.{At}
 
+-- where a call stands and what it knows as it begins
 pub record IsFirst (T : Type 0) (by : GoneBy) (c : ℕ) (words : List ℕ) (events : List (Event T)) (p changes : ℕ)
     (start : RobustStart) (flight : RobustFlight) : Type 0 where
   pub at : At c [] start flight
@@ -29,8 +30,11 @@ none_of one done none h = absurd (no_more h.before one h.after (sym none ∙ h.i
 is_below : (owner : ℕ) → is_owner owner ≡ true → owner < empty
 is_below owner t = grind (arith, nat_tests)
 
+-- party `p` begins a call on a set of capacity `c`
 module _ {T : Type 0} (by : GoneBy) (c : ℕ) (words : List ℕ) (events : List (Event T)) (p changes : ℕ)
     (some : 1 ≤ c) (owned : IsCalm by events → AreOwned events) where
+  -- each call that is not refused stands at its first stage, and knows what that tells, as it
+  -- begins
   pub first_is : (start : RobustStart) → names_owner start ≡ true → (dead : List ℕ)
       → first_row (call_rows c dead start) ≡ None → set_acts_of p (events ++ Begun p (Robust start) ∷ []) ≡ []
       → IsFirst T by c words events p changes start (first c start)
@@ -89,6 +93,7 @@ abbrev pub IsOwn : (T : Type 0) → ℕ → Start T → Flight T → Type 0
 IsOwn T c (Robust start) (flights.Robust flight) = (first c start ≡ flight) × (names_owner start ≡ true)
 IsOwn T c start flight = ⊥
 
+-- `c` is the capacity
 module _ (T : Type 0) (c : ℕ) where
   named_own : (start : RobustStart) (flight : Flight T) (b : Bool) → names_owner start ≡ b
       → option_map flights.Robust (if b then Some (first c start) else None) ≡ Some flight

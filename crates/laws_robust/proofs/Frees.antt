@@ -73,6 +73,7 @@ module _ {T : Type 0} (scene : Scene T) (inv : Inv scene) where
     owned_then : IsCalm by (events ++ es) → (q : ℕ) → q ≢ p → (j o : ℕ) → is_gone by o events ≡ false → IsBy q j o events → IsBy q j o (events ++ es)
     owned_then = grind (arith, filled_then, right_then)
 
+    -- a step that empties the cell of an index that may be freed does to the set what it may
     pub frees : Does scene words' (free i owner)
     frees =
         record {

@@ -27,6 +27,7 @@ module _ {T : Type 0} where
   dead_stays owner (Died o ∷ es) = ap (λ b. fold (dead_after owner) b es) (or_true (o == owner)) ∙ dead_stays owner es
   dead_stays owner (e ∷ es) = dead_stays owner es
 
+  -- who is gone stays so
   gone_stays : (owner : ℕ) (es : List (Event T)) → fold (gone_after owner) true es ≡ true
   gone_stays owner [] = refl
   gone_stays owner (Died o ∷ es) = ap (λ b. fold (gone_after owner) b es) (or_true (o == owner)) ∙ gone_stays owner es
@@ -82,6 +83,8 @@ module _ {T : Type 0} where
     filled_before : (e : Event T) (old : Option ℕ) → ActsForRight events e → filled_after i old e ≡ Some owner → old ≡ Some owner
     filled_before e old lives h = grind arith
 
+  -- in an honest run an index that is filled with an owner who was gone earlier was filled with
+  -- him then
   lost_so_far : (i owner : ℕ) (events es : List (Event T)) → IsHonest (events ++ es)
       → is_gone Word owner events ≡ true → filled_of i (events ++ es) ≡ Some owner → filled_of i events ≡ Some owner
   lost_so_far i owner events [] honest gone h = subst (λ xs. filled_of i xs ≡ Some owner) (append-nil events) h
@@ -117,6 +120,8 @@ module _ {T : Type 0} where
     answers_on by c events answers before after e is = still_right by c before e (answers before after e is)
 
   module _ (worn : Type 0) (not_worn : worn → ⊥) where
+    -- in an honest run whose counter is not at its end an answer is right as on a machine whose
+    -- owners die
     answer_right : (by : GoneBy) (c : ℕ) (before : List (Event T)) (e : Event T) → IsHonestBy by before → AnswersBy by worn c before e → AnswersRight c before e
     answer_right by c before (Finished p (Robust (Acquire owner)) (NoIndex OutOfIndices)) honest h = (h.0, ⊎_elim (λ w. absurd (not_worn w)) (λ k. k) h.1)
     answer_right by c before (Finished p (Robust (Release index owner LockIfLastIndex)) (State Unlocked)) honest h =

@@ -58,6 +58,7 @@ module _ {T : Type 0} (scene : Scene T) (inv : Inv scene) where
       unsettled : (j o : ℕ) → settled_of j events ≡ Some o → j ≢ i
       unsettled = grind (arith, calm_less)
 
+    -- a step by which the index is granted, or its call is done, does to the set what it may
     pub gives : AreOwn p es → AreRight (SetDoes c) events es → AreRight (AnswersBy by (IsWorn by words') c) events es
         → (IsCalm by (events ++ es) → AreRight HoldsRight events es)
         → (counter_of words' ≡ counter_of ws → counter_of ws < greatest → (j : ℕ) → holder_of j events ≡ None → holder_of j (events ++ es) ≡ None)

@@ -55,6 +55,8 @@ module _ {T : Type 0} (scene : Scene T) (inv : Inv scene) (owner : ℕ) (fits : 
   WhyNot failures.IsLocked = (is_locked events ≡ true) × ((all scene ≡ []) ⊎ FilledLate owner (all scene))
   WhyNot failures.OutOfIndices = (is_locked events ≡ false) × (IsWorn by ws ⊎ AllOnce c (now scene)) × (all scene ≡ [])
 
+  -- what the caller of an acquire shows: of each step that goes on, of the fill, of each
+  -- failure, and of the grant
   pub record Caller (Lead : Option Ask → Bool → List (Event T) → After calls.Acquire Acquired → Type 0) : Type 0 where
     pub quiet : (next : AcquireStage) (ask : Option Ask) (back : Bool) → words_after ws ask ≡ ws
         → AcquireAt c owner (all scene) next → Knows c (acquire_at c owner next) (sees scene ask back)
@@ -86,6 +88,8 @@ module _ {T : Type 0} (scene : Scene T) (inv : Inv scene) (owner : ℕ) (fits : 
           → Lead ask back [] (GoOn (at_acquire (call_at stage) (acquires.FillsCell (counter_of ws) 0)))
       begins_cells = grind (arith, finds_counter, held_now, unlocked)
 
+      -- an acquire that sees the counter fails if that is locked or at its end, and else goes
+      -- to the first cell
       finds : Lead ask back [] (acquire_sees (call_at stage) (counter_of ws))
       finds =
           by_eq (Lead ask back []) (counter_of ws) locked (Done (Err failures.IsLocked)) _ finds_locked
@@ -99,6 +103,8 @@ module _ {T : Type 0} (scene : Scene T) (inv : Inv scene) (owner : ℕ) (fits : 
 
     -- ---- the exchange of a cell
 
+    -- the acquire has come to cell `i` with this counter; `s` bounds its steps, and `k` is what
+    -- it knows
     module _ (number i : ℕ) (below : i < c) (none : all scene ≡ []) (s : steps ≤ extra + (1 + i + backs * (c + 1)))
         (k : Knows c (acquire_at c owner (acquires.FillsCell number i)) (now scene)) where
       abbrev filling : AcquireStage
@@ -113,6 +119,7 @@ module _ {T : Type 0} (scene : Scene T) (inv : Inv scene) (owner : ℕ) (fits : 
       paid_now : IsPaid (now scene)
       paid_now = paid_of scene (counter_of ws ≡ number) k.paid.paid
 
+      -- an acquire that finds its cell empty fills it, and goes on to raise the counter
       fills_cell : cell ws i ≡ empty
           → Lead exchange false fill (GoOn (at_acquire (call_at filling) (acquires.Raises i raises.LoadsCounter)))
       fills_cell is =
@@ -140,6 +147,7 @@ module _ {T : Type 0} (scene : Scene T) (inv : Inv scene) (owner : ℕ) (fits : 
       passes : cell ws i ≢ empty → Lead exchange false [] (acquire_tries (call_at filling) number (i + 1))
       passes = grind (arith, fails_same, empty, holds_on, by_test, false, was_filled, nat_tests)
 
+      -- the step in which an acquire tries a cell leads to what the caller makes of it
       fills_step : Lead exchange false (acquire_effects p owner filling (cell ws i)) (acquire_takes (call_at filling) filling (cell ws i))
       fills_step =
           on_bool (λ b. Lead (Some (exchanges (cell_word i) empty owner)) false (if b then Filled p i owner ∷ [] else [])
@@ -151,6 +159,8 @@ module _ {T : Type 0} (scene : Scene T) (inv : Inv scene) (owner : ℕ) (fits : 
 
     -- ---- the exchange of the counter for itself
 
+    -- the step in which an acquire exchanges the counter for itself leads to what the caller
+    -- makes of it
     checks_step : (number : ℕ) → all scene ≡ [] → steps ≤ extra + (1 + c + backs * (c + 1))
         → Knows c (acquire_at c owner (acquires.ChecksCounter number)) (now scene)
         → Lead (Some (exchanges 0 number number))
@@ -185,6 +195,7 @@ module _ {T : Type 0} (scene : Scene T) (inv : Inv scene) (owner : ℕ) (fits : 
       abbrev raises_to : Option Ask → Bool → After Raise ReleaseState → Type 0
       raises_to ask back r = Lead ask back (granted p i owner r) (acquire_raised (call_at raising) i r)
 
+      -- the step in which an acquire raises the counter leads to what the caller makes of it
       raises_step : raises_to (Some (raise_ask raise)) (raise_goes_back raise (counter_of ws)) (raise_after raise (counter_of ws))
       raises_step =
           raise_step scene inv raises_to raise k.paid
@@ -214,6 +225,7 @@ module _ {T : Type 0} (scene : Scene T) (inv : Inv scene) (owner : ℕ) (fits : 
         (acquire_effects p owner stage (old_of ws (ask_of (acquire_asks stage owner))))
         (acquire_takes (call_at stage) stage (old_of ws (ask_of (acquire_asks stage owner))))
 
+    -- any step of an acquire that stands at its stage leads to what the caller makes of it
     pub held_step : (stage : AcquireStage) → AcquireAt c owner (all scene) stage
         → Knows c (acquire_at c owner stage) (now scene) → steps ≤ extra + acquire_number c stage backs → StepAt stage
     held_step acquires.LoadsCounter at k s =

@@ -63,6 +63,8 @@ module _ {T : Type 0} (scene : Scene T) (inv : Inv scene) (index owner : ℕ) (m
   Ends words' LockIfLastIndex states.Locked = is_locked events ≡ true
   Ends words' LockIfLastIndex states.Unlocked = (is_locked events ≡ false) × (IsWorn by words' ⊎ FilledSinceFreed p owner index events)
 
+  -- what the caller of a release shows: of each step that goes on, of the free, and of each of
+  -- its ends
   pub record Caller (Lead : Option Ask → Bool → List (Event T) → After calls.Release Released → Type 0) : Type 0 where
     pub quiet : (next : ReleaseStage) (ask : Option Ask) (back : Bool) → Stays scene (words_after ws ask)
         → ReleaseAt c index owner mode (all scene) next
@@ -101,6 +103,8 @@ module _ {T : Type 0} (scene : Scene T) (inv : Inv scene) (index owner : ℕ) (m
       unsettled : IsCalm by (events ++ FreedOf p index owner ∷ []) → (o : ℕ) → is_gone by o events ≡ false → settled_of index events ≡ Some o → ⊥
       unsettled = grind (arith, calm_less, owns_it, right_of)
 
+      -- a release that finds its owner in the cell frees the index, and goes on to raise the
+      -- counter
       empties : cell ws index ≡ owner
           → Lead exchange false (FreedOf p index owner ∷ []) (GoOn (call_at (releases.Raises raises.LoadsCounter)))
       empties is =
@@ -114,6 +118,7 @@ module _ {T : Type 0} (scene : Scene T) (inv : Inv scene) (index owner : ℕ) (m
       refuses : cell ws index ≢ owner → Lead exchange false [] (Done (Err IndexIsNotOwnedByProvidedOwner))
       refuses = grind (arith, fails_same, empty, first_few)
 
+      -- the step in which a release empties its cell leads to what the caller makes of it
       empties_step : Lead exchange false
           (release_effects p (record { index = index; owner = owner; mode = mode }) releases.EmptiesCell (cell ws index))
           (release_takes (call_at releases.EmptiesCell) releases.EmptiesCell
@@ -141,6 +146,8 @@ module _ {T : Type 0} (scene : Scene T) (inv : Inv scene) (index owner : ℕ) (m
           → Lead ask back [] (release_raised (call_at (releases.Raises raise)) m (Done state))
       closes = grind arith
 
+      -- the step in which a release raises the counter leads on: to the lock in its mode, or to
+      -- its end
       raises_step : raises_to (Some (raise_ask raise)) (raise_goes_back raise (counter_of ws)) (raise_after raise (counter_of ws))
       raises_step =
           raise_step scene inv raises_to raise k.paid
@@ -166,6 +173,7 @@ module _ {T : Type 0} (scene : Scene T) (inv : Inv scene) (index owner : ℕ) (m
       abbrev locks_to : Option Ask → Bool → List (Event T) → After Lock ReleaseState → Type 0
       locks_to ask back did r = Lead ask back did (release_locked (call_at (releases.Locks lock)) r)
 
+      -- a lock that finds an index filled finds it so after the release has freed
       said : IsSaid scene inv (FoundOne owner index (now scene))
       said =
           record {
@@ -183,6 +191,7 @@ module _ {T : Type 0} (scene : Scene T) (inv : Inv scene) (index owner : ℕ) (m
       few_end : (ask : Option Ask) (back : Bool) → steps + step_count ask ≤ extra + (c + 6 + backs_then scene back * (c + 3)) → FewEnd ask back
       few_end = grind arith
 
+      -- the step of a lock in a release leads to what the caller makes of it
       locks_step : locks_to (Some (lock_ask lock)) (lock_goes_back lock (old_of ws (Some (lock_ask lock))))
           (locked_by p lock (old_of ws (Some (lock_ask lock)))) (lock_after c lock (old_of ws (Some (lock_ask lock))))
       locks_step =
@@ -222,6 +231,7 @@ module _ {T : Type 0} (scene : Scene T) (inv : Inv scene) (index owner : ℕ) (m
         (release_takes (call_at stage) stage (record { index = index; owner = owner; mode = mode })
         (old_of ws (ask_of (release_asks stage (record { index = index; owner = owner; mode = mode })))))
 
+    -- any step of a release that stands at its stage leads to what the caller makes of it
     pub held_step : (stage : ReleaseStage) → ReleaseAt c index owner mode (all scene) stage
         → Knows c (release_at c index owner mode stage) (now scene) → steps ≤ extra + release_number c mode stage backs
         → StepAt stage
@@ -232,6 +242,7 @@ module _ {T : Type 0} (scene : Scene T) (inv : Inv scene) (index owner : ℕ) (m
     held_step (releases.Locks lock) at k s =
         go lock at.0 at.1 at.2 (subst (λ m. steps ≤ extra + release_number c m (releases.Locks lock) backs) at.0 s) k
       where
+        -- a lock under way does so
         go : (l : Lock) → mode ≡ LockIfLastIndex → LockAt c l → all scene ≡ Frees index owner ∷ []
             → steps ≤ extra + (3 + lock_number c l + backs * (c + 3))
             → Knows c (release_at c index owner mode (releases.Locks l)) (now scene)

@@ -83,6 +83,7 @@ module _ {T : Type 0} where
     pub owned : IsCalm by events → AreOwned events
     pub holds : IsCalm by events → Each HoldsRight events
 
+  -- what is so of the machine, of the latest calls and of the events, after so many turns
   pub record Holds (by : GoneBy) (c : ℕ) (s : RobustSet T) (latest : List (ℕ × Party T)) (events : List (Event T)) (turns : ℕ) : Type 0 where
     pub same : s.events ≡ events
     pub begun : (p : ℕ) (x : Party T) → party_of p latest ≡ Some x → 1 ≤ turns
@@ -111,6 +112,7 @@ module _ {T : Type 0} where
   view by words events p since changes backs =
       record { by = by; words = words; events = events; party = p; since = since; changes = changes; backs = backs }
 
+  -- what the frame asks to know of the family
   abbrev pub outline : GoneBy → Outline T
   outline by =
       record {
@@ -135,6 +137,7 @@ module _ {T : Type 0} where
   abbrev pub family : Coding T → ℕ → Family T
   family code c = family_by Death code c
 
+  -- what is so before a turn of a party, in a machine that has room for it
   pub record Inv (scene : Scene T) : Type 0 where
     pub good : Good scene.by scene.capacity scene.set.words scene.set.dead scene.events scene.turns
     pub begun : 1 ≤ scene.turns
@@ -189,6 +192,7 @@ module _ {T : Type 0} where
     still_wrote : (q : ℕ) → q ≢ p → wrote_of q (events ++ es) ≡ wrote_of q set.events
     still_wrote q ne = ap wrote_in (span_of-other p q events es ne s.does.own) ∙ ap (wrote_of q) (sym h.same)
 
+    -- what a turn shows is what it owes the frame
     pub owes : span_of p events ≡ from → frame.Owes (family_by by scene.coding c) (set_then scene words' es) p y latest events es changes'
     owes is =
         frame.owes (family_by by scene.coding c) set (set_then scene words' es) from p y latest events es scene.changes changes' is inv

@@ -60,6 +60,7 @@ module _ {T : Type 0} where
 
   -- ---- what is promised
 
+  -- what holds of the machine is what is promised of a set where owners die
   pub set_kept : (code : Coding T) (t : Trace T) → (s : frame.Sound (family code t.world.capacity) t) → IsRobustSet t
   set_kept code t s =
       let g = s.holds.good in

@@ -26,6 +26,7 @@ use Rattle.laws_robust.proofs.Rights.{IsBy}
 
 -- ---- what they see of the machine
 
+-- the set as a party sees it
 pub record View (T : Type 0) : Type 0 where
   pub by : GoneBy
   pub words : List ℕ
@@ -54,6 +55,7 @@ abbrev pub lock_holds : Lock → Option ℕ
 lock_holds (locks.Counts count) = count_holds count
 lock_holds (locks.ExchangesCounter counter) = Some counter
 
+-- the counter that an acquire holds
 abbrev pub acquire_holds : AcquireStage → Option ℕ
 acquire_holds acquires.LoadsCounter = None
 acquire_holds (acquires.FillsCell counter index) = Some counter
@@ -65,6 +67,7 @@ release_holds releases.EmptiesCell = None
 release_holds (releases.Raises raise) = raise_holds raise
 release_holds (releases.Locks lock) = lock_holds lock
 
+-- the counter that a recovery holds
 abbrev pub recover_holds : RecoverStage → Option ℕ
 recover_holds recovers.LoadsCounter = None
 recover_holds (recovers.LoadsCell index) = None
@@ -74,6 +77,7 @@ recover_holds (recovers.Raises index raise) = raise_holds raise
 recover_holds (recovers.Locks index lock) = lock_holds lock
 recover_holds recovers.LoadsCounterAgain = None
 
+-- the counter that any call holds
 abbrev pub flight_holds : RobustFlight → Option ℕ
 flight_holds (Acquire run) = acquire_holds run.call.stage
 flight_holds (Release run) = release_holds run.call.stage
@@ -84,11 +88,13 @@ flight_holds (IsLocked run) = None
 
 -- ---- the cells that they have found empty since
 
+-- at this counter, of the cells below this one so many were found filled
 pub record Scan : Type 0 where
   pub counter : ℕ
   pub below : ℕ
   pub filled : ℕ
 
+-- the cells that a count has found so, since it loaded its counter
 abbrev pub count_scan : ℕ → Count → Option Scan
 count_scan c counts.LoadsCounter = None
 count_scan c (counts.LoadsCell counter index filled) =
@@ -106,6 +112,7 @@ release_scan c releases.EmptiesCell = None
 release_scan c (releases.Raises raise) = None
 release_scan c (releases.Locks lock) = lock_scan c lock
 
+-- the cells that the lock of a recovery has found so
 abbrev pub recover_scan : ℕ → RecoverStage → Option Scan
 recover_scan c recovers.LoadsCounter = None
 recover_scan c (recovers.LoadsCell index) = None
@@ -115,6 +122,7 @@ recover_scan c (recovers.Raises index raise) = None
 recover_scan c (recovers.Locks index lock) = lock_scan c lock
 recover_scan c recovers.LoadsCounterAgain = None
 
+-- the cells that any call has found so
 abbrev pub flight_scan : ℕ → RobustFlight → Option Scan
 flight_scan c (Acquire run) = None
 flight_scan c (Release run) = release_scan c run.call.stage
@@ -174,6 +182,8 @@ module _ {T : Type 0} where
 
   -- ---- what they know of holders, in a well-formed run
 
+  -- the counter is not below that of the scan; and while it is that one, before its end, and no
+  -- cell was found filled, nobody holds these indices, in a well-formed run
   abbrev pub Scanned : Option Scan → View T → Type 0
   Scanned None v = Unit {0}
   Scanned (Some s) v =
@@ -210,6 +220,7 @@ module _ {T : Type 0} where
   abbrev pub AllOnce : ℕ → View T → Type 0
   AllOnce k v = (i : ℕ) → i < k → HeldSometime v.party (IsFilled i) v.events
 
+  -- an acquire was open, and each index below its own was filled, at some time since it began
   abbrev pub AcquireSays : ℕ → AcquireStage → View T → Type 0
   AcquireSays c acquires.LoadsCounter v = Unit {0}
   AcquireSays c (acquires.FillsCell counter index) v = WasOpen v × AllOnce index v
@@ -220,6 +231,7 @@ module _ {T : Type 0} where
   abbrev pub FoundOne : ℕ → ℕ → View T → ℕ → ℕ → Type 0
   FoundOne owner index v k filled = 0 < filled → FilledSinceFreed v.party owner index v.events
 
+  -- what the lock of a release has found of filled indices
   abbrev pub ReleaseSays : ℕ → ℕ → ℕ → ReleaseStage → View T → Type 0
   ReleaseSays c index owner (releases.Locks lock) v =
       LockSays c (FoundOne owner index v) lock
@@ -228,6 +240,7 @@ module _ {T : Type 0} where
   abbrev pub Borrowed : View T → ℕ → ℕ → Type 0
   Borrowed v k filled = IsCount v.party IsFilled k filled v.events
 
+  -- a find has counted the indices below its own
   abbrev pub FindSays : ℕ → FindStage → View T → Type 0
   FindSays owner (finds.LoadsCell index found) v =
       IsCount v.party (IsFilledWith owner) index found v.events
@@ -240,6 +253,7 @@ module _ {T : Type 0} where
       (i owner : ℕ) → i < k → HeldThroughout v.party (StillToFree v.party owner i) v.events
       → IsOneOf (Asks i owner) (set_acts_of v.party v.events)
 
+  -- a recovery was open, and has asked about the indices below its own
   abbrev pub RecoverSays : ℕ → RecoverStage → View T → Type 0
   RecoverSays c recovers.LoadsCounter v = Unit {0}
   RecoverSays c (recovers.LoadsCell index) v = WasOpen v × AskedBelow index v
@@ -250,6 +264,7 @@ module _ {T : Type 0} where
   RecoverSays c (recovers.Locks index lock) v = WasOpen v × AskedBelow (index + 1) v
   RecoverSays c recovers.LoadsCounterAgain v = AskedBelow c v
 
+  -- what any call knows of moments
   abbrev pub Says : ℕ → RobustFlight → View T → Type 0
   Says c (Acquire run) v = AcquireSays c run.call.stage v
   Says c (Release run) v = ReleaseSays c run.given.index run.given.owner run.call.stage v
@@ -273,6 +288,7 @@ module _ {T : Type 0} where
 
   -- ---- all of it
 
+  -- what a call knows of the counter, of the cells, of rights, of moments and of those it frees
   pub record Knows (c : ℕ) (flight : RobustFlight) (v : View T) : Type 0 where
     pub paid : Paid (flight_holds flight) v
     pub scanned : Scanned (flight_scan c flight) v
@@ -316,6 +332,7 @@ module _ {T : Type 0} where
     pub held_paid : (held : Option ℕ) → Paid held before → Paid held later
     held_paid held h = grind arith
 
+    -- what a scan knows of the cells that it found is so after another party's turn
     pub still_scanned : (s : Option Scan) → Scanned s before → Scanned s later
     still_scanned None h = tt
     still_scanned (Some s) h =
@@ -331,6 +348,7 @@ module _ {T : Type 0} where
     acquire_owns : (owner : ℕ) (stage : AcquireStage) → AcquireOwns owner stage before → AcquireOwns owner stage later
     acquire_owns = grind (arith, gone_less, calm_less)
 
+    -- a release that may give its index back may do so after another party's turn
     release_owns : (index owner : ℕ) (stage : ReleaseStage) → ReleaseOwns index owner stage before → ReleaseOwns index owner stage later
     release_owns index owner releases.EmptiesCell h =
         λ calm alive settled.
@@ -362,6 +380,7 @@ module _ {T : Type 0} where
     asked_later k h i owner below through =
         subst (IsOneOf (Asks i owner)) (sym spares.set_acts) (h i owner below (through_less q (StillToFree q owner i) events es spares.none through))
 
+    -- what a recovery knows of moments is so after another party's turn
     recover_says : (c : ℕ) (stage : RecoverStage) → RecoverSays c stage before → RecoverSays c stage later
     recover_says c recovers.LoadsCounter h = tt
     recover_says c (recovers.LoadsCell index) h = (once_later IsUnlocked h.0, asked_later index h.1)

@@ -14,6 +14,7 @@ use Rattle.laws_robust.proofs.Invariant.{family_by}
 use Rattle.laws_robust.proofs.Decisions.{joined}
 use Rattle.laws_robust.proofs.Written.{effects_hold}
 
+-- `c` is the capacity, `t` the run so far, and `s` what is sound of it
 module _ {T : Type 0} (code : Coding T) (c : ℕ) (t : Trace T) (s : frame.Sound (family_by Word code c) t) where
   -- ---- what a step writes
 

@@ -48,6 +48,7 @@ module _ (c : ℕ) (some : 1 ≤ c) where
   raise_most now raises.LoadsCounter = omega arith
   raise_most now (raises.ExchangesCounter counter) = one_of _ 0 1 1 (omega arith) (omega arith)
 
+  -- an acquire has no more steps left than four times the capacity and one
   acquire_most : (now : ℕ) (stage : AcquireStage) → acquire_left c now stage ≤ 4 * c + 1
   acquire_most now acquires.LoadsCounter = omega arith
   acquire_most now (acquires.FillsCell counter index) =
@@ -55,6 +56,7 @@ module _ (c : ℕ) (some : 1 ≤ c) where
   acquire_most now (acquires.ChecksCounter counter) = one_of _ 0 (c - 1 + 3) (4 * c + 1) (omega arith) (omega arith)
   acquire_most now (acquires.Raises index raise) = let most = raise_most now raise in omega arith
 
+  -- a recovery has no more steps left than four times the capacity and one
   recover_most : (now : ℕ) (stage : RecoverStage) → recover_left c now stage ≤ 4 * c + 1
   recover_most now recovers.LoadsCounter = omega arith
   recover_most now (recovers.LoadsCell index) = omega arith
@@ -82,6 +84,8 @@ module _ (c : ℕ) (some : 1 ≤ c) where
   pays_most : (stage : RecoverStage) → recover_pays c stage ≤ c
   pays_most = grind arith
 
+  -- no call has by this measure more steps left than four times the capacity and one, or more
+  -- changes to make than the capacity
   most : {T : Type 0} → (now : ℕ) (flight : Flight T) → (left_at c now flight ≤ 4 * c + 1) × (pays c flight ≤ c)
   most now (flights.Robust (calls.Acquire run)) = (acquire_most now run.call.stage, omega arith)
   most now (flights.Robust (calls.Release run)) = (release_most now run.call.stage, omega arith)
@@ -122,6 +126,8 @@ module _ {T : Type 0} (code : Coding T) (c : ℕ) where
   dies : (kept : Registry T) (owner : ℕ) → Kept kept → Kept (kept_after_death kept owner)
   dies = grind arith
 
+  -- all that is owed for the measure holds of the calls that do not lock, in a set of an
+  -- admitted capacity
   laws : capacity_error kinds.Robust c ≡ None → TableLaws outline code c
   laws admitted =
       record {

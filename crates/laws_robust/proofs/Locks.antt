@@ -53,6 +53,8 @@ module _ {T : Type 0} (scene : Scene T) (inv : Inv scene) where
     still_owned : IsCalm by (events ++ es) → AreOwned (events ++ es)
     still_owned = grind (arith, calm_less, same_filled, same_holder, same_settled, same_right)
 
+    -- a step that sets the counter to locked, while nobody holds an index, does to the set what
+    -- it may
     pub locks : Does scene words' (Locked p ∷ more)
     locks =
         record {

@@ -25,6 +25,8 @@ module _ {T : Type 0} (scene : Scene T) (inv : Inv scene) where
   abbrev ws : List ℕ
   ws = scene.set.words
 
+  -- so many were filled: none before the first index, as many past an empty cell, and one more
+  -- past a filled one
   said : IsSaid scene inv (Borrowed (now scene))
   said =
       record {
@@ -45,6 +47,7 @@ module _ {T : Type 0} (scene : Scene T) (inv : Inv scene) where
         (as_call flights.BorrowedIndices Number
         (went_on as_it_is tt tt (borrowed_counted (record { capacity = c; count = count }) r)))
 
+    -- the step of a count of borrowed indices shows what it has to
     count_moves : counts_to (Some (count_ask count)) (count_goes_back count (old_of ws (Some (count_ask count))))
         (count_after c count (old_of ws (Some (count_ask count))))
     count_moves =
@@ -67,6 +70,7 @@ module _ {T : Type 0} (scene : Scene T) (inv : Inv scene) where
         ends_quietly scene inv BorrowedIndices (Number filled) ask false here (stays_raised scene inv (words_after ws ask) less new) (λ i o. refl) (λ i r. refl)
         (λ t. both_ways _ (unlocked scene inv (not_shut scene inv less)) t, λ f. says) done (omega arith) paid)
 
+  -- a step of a call that counts borrowed indices shows what it has to
   pub borrowed_step : IsHere scene BorrowedIndices → (count : Count) → CountAt c count → all scene ≡ []
       → Knows c (borrowed_at c count) (now scene) → steps ≤ count_number c count + backs * (c + 2)
       → StepOf scene BorrowedIndices (borrowed_at c count)

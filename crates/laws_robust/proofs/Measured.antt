@@ -51,6 +51,7 @@ raise_left now raises.LoadsCounter = 1
 raise_left now (raises.ExchangesCounter counter) = cond (now == counter) 0 1
 
 module _ (c : ℕ) where
+  -- an acquire, where the counter is so
   abbrev pub acquire_left : ℕ → AcquireStage → ℕ
   acquire_left now acquires.LoadsCounter = c - 1 + 3
   acquire_left now (acquires.FillsCell counter index) = cond (now == counter) (c - (index + 1) + 2) (c - (index + 1) + (c - 1) + 4)
@@ -61,6 +62,7 @@ module _ (c : ℕ) where
   find_left (finds.LoadsCell index found) = c - (index + 1) + 1
   find_left (finds.Asks index found) = c - (index + 1)
 
+  -- a recovery that does not lock, where the counter is so
   abbrev pub recover_left : ℕ → RecoverStage → ℕ
   recover_left now recovers.LoadsCounter = 4 * (c - 1) + 5
   recover_left now (recovers.LoadsCell index) = 4 * (c - (index + 1)) + 4
@@ -92,6 +94,7 @@ module _ (c : ℕ) where
   release_left now (releases.Raises raise) = raise_left now raise
   release_left now (releases.Locks lock) = 0
 
+  -- any call of the set that does not lock
   abbrev pub call_left : ℕ → RobustFlight → ℕ
   call_left now (calls.Acquire run) = acquire_left now run.call.stage
   call_left now (calls.Release run) = release_left now run.call.stage
@@ -114,6 +117,7 @@ abbrev pub RecoverStands : RecoverStage → Type 0
 RecoverStands (recovers.Locks index lock) = ⊥
 RecoverStands stage = Unit {0}
 
+-- any call of the set that does not lock, of this capacity
 abbrev pub CallStands : ℕ → RobustFlight → Type 0
 CallStands c (calls.Acquire run) = run.call.capacity ≡ c
 CallStands c (calls.Release run) = (run.call.capacity ≡ c) × (run.given.mode ≡ Default) × ReleaseStands run.call.stage
@@ -166,6 +170,7 @@ module _ {T : Type 0} where
   Kept (registries.Owners dead) = Unit {0}
   Kept kept = ⊥
 
+  -- what the frame of lock-freedom asks to know of the calls that do not lock
   abbrev pub outline : Outline T
   outline =
       record {
@@ -202,6 +207,7 @@ module _ {T : Type 0} (code : Coding T) (c : ℕ) (words : List ℕ) where
       as_call flights.Robust (λ answer. answer)
       (as_call calls.Acquire acquire_answer (went_on as_it_is owner tt after))
 
+  -- an acquire that sees the counter falls by a step, at a stage with steps enough left
   acquire_sees_falls : (new : List ℕ) (owner : ℕ) (stage : AcquireStage) → new ≡ words
       → c - 1 + 3 ≤ acquire_left c now stage
       → FallsIn M words new 1 (flights.Robust (acquire_at c owner stage))
@@ -216,6 +222,7 @@ module _ {T : Type 0} (code : Coding T) (c : ℕ) (words : List ℕ) where
       go false t false u true v = let self = same_is now in rw (t, u, v) (inl (same, rw self (omega arith), omega arith))
       go false t false u false v = let self = same_is now in rw (t, u, v) (inl (same, rw self (omega arith), omega arith))
 
+  -- each step of an acquire falls
   acquire_falls : (owner : ℕ) (stage : AcquireStage) → Shown (acquire_at c owner stage)
   acquire_falls owner acquires.LoadsCounter =
       acquire_sees_falls _ owner acquires.LoadsCounter (load_leaves words 0) (omega arith)
@@ -261,6 +268,7 @@ module _ {T : Type 0} (code : Coding T) (c : ℕ) (words : List ℕ) where
 
   -- ---- a release
 
+  -- each step of a release that does not lock falls
   release_falls : (index owner : ℕ) (stage : ReleaseStage) → ReleaseStands stage → Shown (release_at c index owner stage)
   release_falls index owner releases.EmptiesCell stands =
       by_bool (get_or words (cell_word index) 0 == owner)
@@ -286,6 +294,7 @@ module _ {T : Type 0} (code : Coding T) (c : ℕ) (words : List ℕ) where
 
   -- ---- a find
 
+  -- each step of a find falls
   find_falls : (owner : ℕ) (stage : FindStage) → Shown (find_at c owner stage)
   find_falls owner (finds.LoadsCell index found) = go (get_or words (cell_word index) 0 == owner) refl (nat_lt (index + 1) c) refl
     where
@@ -300,6 +309,7 @@ module _ {T : Type 0} (code : Coding T) (c : ℕ) (words : List ℕ) where
 
   -- ---- a number of borrowed indices
 
+  -- each step of a count falls
   borrowed_falls : (count : Count) → Shown (borrowed_at c count)
   borrowed_falls counts.LoadsCounter = go (now == locked) refl (nat_lt 0 c) refl (now == greatest) refl
     where
@@ -343,6 +353,7 @@ module _ {T : Type 0} (code : Coding T) (c : ℕ) (words : List ℕ) where
       rw u (inl (same, omega arith, omega arith)))
       (λ u. rw u (inl (same, omega arith, omega arith)))
 
+  -- each step of a recovery that does not lock falls
   recover_falls : (stage : RecoverStage) → RecoverStands stage → Shown (recover_at c stage)
   recover_falls recovers.LoadsCounter stands = go (now == locked) refl (nat_lt 0 c) refl
     where
@@ -391,6 +402,7 @@ module _ {T : Type 0} (code : Coding T) (c : ℕ) (words : List ℕ) where
   recover_falls (recovers.Locks index lock) stands = absurd stands
   recover_falls recovers.LoadsCounterAgain stands = tt
 
+  -- each step of any call that does not lock falls
   pub call_falls : (flight : RobustFlight) → CallStands c flight → Shown flight
   call_falls (calls.Acquire run) at =
       subst (λ n. Shown (acquire_at n run.given run.call.stage)) (sym at) (acquire_falls run.given run.call.stage)
@@ -414,6 +426,7 @@ module _ {T : Type 0} (code : Coding T) (c : ℕ) (words : List ℕ) where
 
   -- ---- a decision
 
+  -- a find that is told a decision falls
   find_decides : (owner : ℕ) (stage : FindStage) (said : Bool) → is_question (want_of code (flights.Robust (find_at c owner stage))) ≡ true
       → FallsIn M words words 0 (flights.Robust (find_at c owner stage))
       (after_of code (flights.Robust (find_at c owner stage)) (number_of said))
@@ -426,6 +439,7 @@ module _ {T : Type 0} (code : Coding T) (c : ℕ) (words : List ℕ) where
       (λ u. rw u tt)
   find_decides owner (finds.Asks index found) false due = tt
 
+  -- a recovery that does not lock and is told a decision falls
   recover_decides : (stage : RecoverStage) (said : Bool) → RecoverStands stage
       → is_question (want_of code (flights.Robust (recover_at c stage))) ≡ true
       → FallsIn M words words 0 (flights.Robust (recover_at c stage))
@@ -450,6 +464,7 @@ module _ {T : Type 0} (code : Coding T) (c : ℕ) (words : List ℕ) where
       → (◌≡◌ {A = Bool} (is_looking flight) true)
   never_asks = grind arith
 
+  -- any call that does not lock and is told a decision falls
   pub call_decides : (flight : RobustFlight) → CallStands c flight → Decided flight
   call_decides (calls.Acquire run) at said due = let looks = never_asks (calls.Acquire run) at due in absurd (cc)
   call_decides (calls.Release run) at said due = let looks = never_asks (calls.Release run) at due in absurd (cc)

@@ -29,6 +29,7 @@ use Rattle.laws_robust.proofs.Sound.{May, laws_by, all_turns, decides, MayDecide
 -- ---- what a turn has that an open run takes
 
 module _ {T : Type 0} where
+  -- a begin that an open run does not refuse may start
   starts_open : (w : World T) (p : ℕ) (start : Start T) → open_refusal w (Begin p start) ≡ None → MayStart w p start
   starts_open w p (Container (Recover owner mode)) e =
       let start : Start T = Container (Recover owner mode) in
@@ -37,6 +38,7 @@ module _ {T : Type 0} where
       record { free = not_some (flight_in w p) free.0; call = call.0 }
   starts_open w p start e = possible_on w (Begin p start) e
 
+  -- a turn that an open run does not refuse is possible
   pub possible_open : (w : World T) (turn : Turn T) → open_refusal w turn ≡ None → IsPossible w turn
   possible_open w (Begin p start) e = starts_open w p start e
   possible_open w (Next p) e = possible_on w (Next p) e
@@ -72,6 +74,7 @@ module _ {T : Type 0} (code : Coding T) (c : ℕ) where
       → open_refusal t.world (Begin p (Container (Recover owner mode))) ≡ None → A
   no_container t s p owner mode e = grind arith
 
+  -- a turn that an open run does not refuse leaves the machine sound
   pub open_turn_sound : (t : Trace T) (turn : Turn T) → open_refusal t.world turn ≡ None → Sound t → Sound (after_turn t turn)
   open_turn_sound t (Begin p (Container (Recover owner mode))) e s = no_container t s p owner mode e
   open_turn_sound t (Begin p start) e s = goes_by_rows t (Begin p start) e s

@@ -14,6 +14,7 @@ all_the_same x (suc n) (suc i) below = all_the_same x n i (omega arith)
 pub opening_cell : (c i : ℕ) → i < c → cell (opening_words c) i ≡ empty
 opening_cell = grind (arith, suc, opening_words, all_the_same, empty)
 
+-- the opening is a set in which no index is filled and nobody has died
 pub opening_good : {T : Type 0} (by : GoneBy) (c : ℕ) → 1 ≤ c → c < 2 ^ 32 → Good {T = T} by c (opening_words c) [] [] 0
 opening_good by c some few =
     let long = length-replicate {A = ℕ} c empty in

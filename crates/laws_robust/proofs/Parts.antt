@@ -116,6 +116,7 @@ module _ {T : Type 0} (scene : Scene T) (inv : Inv scene) where
         → RaiseSteps raise 1 ask back → Lead ask back (raise_sees (counter_of ws))
     raise_finds raise goes meets rests ask back same paid few = let by_finds_counter = finds_counter in grind arith
 
+    -- each step of a raise leads to what the caller makes of it
     pub raise_step : (raise : Raise) → Paid (raise_holds raise) (now scene) → RaiseGoes raise → RaiseMeets raise → RaiseStays raise → RaiseEnds raise
         → Lead (Some (raise_ask raise)) (raise_goes_back raise (counter_of ws)) (raise_after raise (counter_of ws))
     raise_step raises.LoadsCounter paid goes meets rests closes =
@@ -139,6 +140,7 @@ module _ {T : Type 0} (scene : Scene T) (inv : Inv scene) where
   holds_one : (number : ℕ) → number ≢ greatest → Paid (unless_last number) (now scene) → Holding number (now scene)
   holds_one = grind (arith, now, ne_eqb, greatest)
 
+  -- a count that finds the counter open holds it, unless it is at its end
   found_held : (ask : Option Ask) → words_after ws ask ≡ ws → counter_of ws ≢ locked → IsPaid (sees scene ask false)
       → Paid (unless_last (counter_of ws)) (sees scene ask false)
   found_held ask same open_now paid =
@@ -148,6 +150,8 @@ module _ {T : Type 0} (scene : Scene T) (inv : Inv scene) where
 
   -- ---- a count, which says this where it has come to so many cells and found so many filled
 
+  -- it is so before the first cell, and goes on to be so past an empty cell and past a filled
+  -- one
   pub record IsSaid (Says : ℕ → ℕ → Type 0) : Type 0 where
     pub none : Says 0 0
     pub empty_next : (k filled : ℕ) → k < c → filled_of k events ≡ None → Says k filled → Says (k + 1) filled
@@ -206,6 +210,7 @@ module _ {T : Type 0} (scene : Scene T) (inv : Inv scene) where
         low : number ≤ counter_of (words_after ws ask)
         low = let is = same_counter in omega arith
 
+        -- a count that has come to one cell more goes to the next, or to its end
         count_comes : Lead ask false (count_comes_to c number (k + 1) new)
         count_comes =
             by_test (Lead ask false) (nat_lt (k + 1) c) (GoOn (counts.LoadsCell number (k + 1) new)) _
@@ -228,6 +233,7 @@ module _ {T : Type 0} (scene : Scene T) (inv : Inv scene) where
               λ before zero is calm i behind. none before zero (sym same_counter ∙ is) calm i (omega arith),
             ) (subst (λ m. Says m new) (sym last) says) (λ n w some bound. omega arith)))
 
+      -- each step of a count leads to what the caller makes of it
       pub count_step : (count : Count) → CountAt c count → Paid (count_holds count) (now scene)
           → Scanned (count_scan c count) (now scene) → CountSays c Says count → CountGoes count → CountMeets count
           → CountStays count → CountEnds count
@@ -327,6 +333,7 @@ module _ {T : Type 0} (scene : Scene T) (inv : Inv scene) where
       module _ (count : Count) (goes : LockGoes (locks.Counts count))
           (finds : LockFinds (locks.Counts count))
           (rests : LockStays (locks.Counts count)) where
+        -- a count that ends within a lock leads to what the caller makes of the lock
         counted : CountEnds (λ ask back r. Lead ask back [] (lock_counted r)) count
         counted filled ask less new most says none paid few =
             by_bool (counter_of ws + 1 == greatest)
@@ -360,6 +367,7 @@ module _ {T : Type 0} (scene : Scene T) (inv : Inv scene) where
             is : counter_of (words_after ws ask) ≡ counter_of ws + 1
             is = grind (arith, counter_set)
 
+      -- each step of a lock leads to what the caller makes of it
       pub lock_step : (lock : Lock) → LockAt c lock → Paid (lock_holds lock) (now scene)
           → Scanned (lock_scan c lock) (now scene) → LockSays c Says lock → LockGoes lock → LockMeets lock
           → LockFinds lock → LockStays lock → LockLocks lock

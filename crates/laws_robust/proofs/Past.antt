@@ -28,6 +28,7 @@ module _ {T : Type 0} (p : ℕ) where
   begins_none_less (Begun q s ∷ es) more h = (h.0, begins_none_less es more h.1)
   begins_none_less (e ∷ es) more h = begins_none_less es more h
 
+  -- the call began in these events, with this behind it, and the party has begun none since
   pub record BeganIn (events before : List (Event T)) (start : Start T) : Type 0 where
     pub since : List (Event T)
     pub is : events ≡ before ++ Begun p start ∷ since
@@ -36,6 +37,8 @@ module _ {T : Type 0} (p : ℕ) where
   one_behind : (x b : Event T) (xs bs : List (Event T)) (start : Start T) → x ≡ b → BeganIn xs bs start → BeganIn (x ∷ xs) (b ∷ bs) start
   one_behind = grind arith
 
+  -- a begin of the party in a run that has gone on, behind which the party begins none, is in
+  -- the shorter run if what came since begins none of the party
   pub began_earlier : (events es before : List (Event T)) (start : Start T) (since : List (Event T))
       → events ++ es ≡ before ++ Begun p start ∷ since → BeginsNone p es → BeginsNone p since
       → BeganIn events before start
@@ -56,6 +59,8 @@ module _ {T : Type 0} (p : ℕ) where
       let k = began_earlier events es h.before h.start h.since h.is none h.within in
       record { before = h.before; start = h.start; since = k.since; is = k.is; within = k.within; holds = h.holds }
 
+  -- where a run ends with a begin of the party, its last begin is that one, and what was before
+  -- is the run without it
   last_begin : (events before : List (Event T)) (start s : Start T) (since : List (Event T))
       → events ++ Begun p start ∷ [] ≡ before ++ Begun p s ∷ since → BeginsNone p since → events ≡ before
   last_begin [] [] start s since e within = refl

@@ -56,6 +56,7 @@ module _ {T : Type 0} (scene : Scene T) (inv : Inv scene) (mode : ReleaseMode) (
   module _ (index owner : ℕ) (at : RecoverAt c mode done (recovers.Asks index owner))
       (k : Knows c (recover_at c mode (recovers.Asks index owner)) (now scene))
       (s : steps ≤ 2 + index * for_index c mode + backs * for_back c mode) where
+    -- a recovery that is told no goes to the next index
     says_no : Lead None false [] (recover_comes_to (call_at (recovers.Asks index owner)) (index + 1))
     says_no =
         let four = at_least_four c mode in
@@ -76,6 +77,7 @@ module _ {T : Type 0} (scene : Scene T) (inv : Inv scene) (mode : ReleaseMode) (
       frees_this : (i o : ℕ) → Yes index owner ≡ Yes i o → (is_gone by o (events ++ telling) ≡ true) × ((i ≡ index) × (o ≡ owner))
       frees_this = grind (arith, gone_told)
 
+      -- a recovery that is told yes goes on to empty the cell
       says_yes : Lead None false telling (GoOn (at_recover (call_at (recovers.Asks index owner)) (recovers.EmptiesCell index owner)))
       says_yes =
           let paid = k.paid in
@@ -108,6 +110,7 @@ module _ {T : Type 0} (scene : Scene T) (inv : Inv scene) (mode : ReleaseMode) (
                 (λ i o. (i ≡ index) × (o ≡ owner)) k.gone (λ i o never. absurd never) frees_this;
           })
 
+    -- any answer to a question of a recovery, which it may be told, shows what it has to
     pub decided : (answer : ℕ) → (answer ≢ 0 → MayBeTold by owner events)
         → AnswerOf scene (Recover mode) (recover_at c mode (recovers.Asks index owner)) None answer
     decided answer may =
@@ -143,6 +146,7 @@ module _ {T : Type 0} (scene : Scene T) (inv : Inv scene) (mode : ReleaseMode) (
               (h.1 honest),
         )
 
+    -- a recovery that finds another owner in the cell, or none, goes to the next index
     misses : cell ws index ≢ owner → Lead exchange false [] (recover_comes_to (call_at (recovers.EmptiesCell index owner)) (index + 1))
     misses other =
         let four = at_least_four c mode in
@@ -155,6 +159,7 @@ module _ {T : Type 0} (scene : Scene T) (inv : Inv scene) (mode : ReleaseMode) (
       filled : filled_of index events ≡ Some owner
       filled = filled_by scene inv index at.0.within owner at.1 is
 
+      -- the exchange that finds the owner in the cell frees the index for the set
       frees_does : Does scene (words_after ws exchange) freeing
       frees_does =
           frees scene inv (words_after ws exchange) index owner at.0.within filled (subst (LivesToRelease owner events) (sym here) tt)
@@ -175,6 +180,7 @@ module _ {T : Type 0} (scene : Scene T) (inv : Inv scene) (mode : ReleaseMode) (
       asked_about : (i o : ℕ) → Frees index owner ≡ Frees i o → IsOneOf (Asks i o) done
       asked_about i o e = grind arith
 
+      -- a recovery that finds the owner frees the index, and goes on to raise the counter
       empties : Lead exchange false freeing
           (GoOn (at_recover (call_at (recovers.EmptiesCell index owner))
           (recovers.Raises index raises.LoadsCounter)))
@@ -209,6 +215,8 @@ module _ {T : Type 0} (scene : Scene T) (inv : Inv scene) (mode : ReleaseMode) (
                 (λ i o e. absurd (cc));
           })
 
+    -- the step in which a recovery empties the cell shows what it has to, whether it finds the
+    -- owner or not
     pub empties_cell : StepOf scene (Recover mode) (recover_at c mode (recovers.EmptiesCell index owner))
     empties_cell =
         on_bool (λ b. Lead (Some (exchanges (cell_word index) owner empty)) false
@@ -221,6 +229,7 @@ module _ {T : Type 0} (scene : Scene T) (inv : Inv scene) (mode : ReleaseMode) (
 
   -- ---- the second look at the counter
 
+  -- the step in which a recovery looks at the counter again ends it
   pub loads_again : FreedWereAsked done → steps ≤ 1 + c * for_index c mode + backs * for_back c mode
       → Knows c (recover_at c mode recovers.LoadsCounterAgain) (now scene)
       → StepOf scene (Recover mode) (recover_at c mode recovers.LoadsCounterAgain)
@@ -237,6 +246,8 @@ module _ {T : Type 0} (scene : Scene T) (inv : Inv scene) (mode : ReleaseMode) (
       (ends_so scene inv mode here) states.Unlocked (Some (loads 0)) false (stays_same scene inv _ (loads_same ws 0))
       (unlocked scene inv other, recovered) (omega arith) (omega arith))
     where
+      -- a recovery that has come past all indices has recovered what it was told to free, and
+      -- has asked about all that was to be freed throughout
       recovered : HasRecoveredBy by p events
       recovered =
           record {
@@ -269,6 +280,8 @@ module _ {T : Type 0} (scene : Scene T) (inv : Inv scene) (mode : ReleaseMode) (
         back here stays few (refl, refl, (course, just, e, tt))
         (record { paid = paid; scanned = tt; owns = tt; says = k.says; gone = k.gone })
 
+    -- the step in which a recovery raises the counter leads on: to the lock in its mode, or to
+    -- the next index
     pub raises_step : raises_to (Some (raise_ask raise)) (raise_goes_back raise (counter_of ws)) (raise_after raise (counter_of ws))
     raises_step =
         let one = at_least_one c mode in

@@ -62,6 +62,8 @@ module _ {T : Type 0} (scene : Scene T) (inv : Inv scene) (mode : ReleaseMode) (
 
   -- ---- the end
 
+  -- a recovery ends with a state that is right, in a step that leaves all words but the
+  -- counter, and within its steps
   pub ends_so : (state : ReleaseState) (ask : Option Ask) (back : Bool) → Stays scene (words_after ws ask)
       → AnswersBy by (IsWorn by (words_after ws ask)) c events (Finished p (Robust (Recover mode)) (State state))
       → steps + step_count ask ≤ 2 + c * for_index c mode + backs_then scene back * for_back c mode
@@ -80,6 +82,8 @@ module _ {T : Type 0} (scene : Scene T) (inv : Inv scene) (mode : ReleaseMode) (
         (asked : AllByRecursion (λ i. i < index + 1) (asked_in done)) (freed : FreedWereAsked done)
         (open_once : WasOpen (now scene))
         (says : AskedBelow (index + 1) (now scene)) (gone : GoneBut (λ i o. ⊥) (now scene)) where
+      -- a step that leaves all words but the counter, and writes nothing, brings a recovery to
+      -- the next index, or to the second look at the counter
       pub comes_quietly : Lead ask back [] (recover_comes_to (call_at stage) (index + 1))
       comes_quietly =
           by_test (λ s. Lead ask back [] (GoOn (at_recover (call_at stage) s))) (nat_lt (index + 1) c)
@@ -104,6 +108,8 @@ module _ {T : Type 0} (scene : Scene T) (inv : Inv scene) (mode : ReleaseMode) (
         (freed : FreedWereAsked (done ++ set_acts (did ++ [])))
         (open_once : WasOpen (then_sees scene ask back (did ++ [])))
         (says : AskedBelow (index + 1) (then_sees scene ask back (did ++ []))) (gone : GoneBut (λ i o. ⊥) (then_sees scene ask back (did ++ []))) where
+      -- a step that writes an event brings a recovery to the next index, or to the second look
+      -- at the counter
       pub comes_loudly : Lead ask back did (recover_comes_to (call_at stage) (index + 1))
       comes_loudly =
           by_test (λ s. Lead ask back did (GoOn (at_recover (call_at stage) s))) (nat_lt (index + 1) c)
@@ -140,6 +146,7 @@ module _ {T : Type 0} (scene : Scene T) (inv : Inv scene) (mode : ReleaseMode) (
         → HeldThroughout p (StillToFree p owner i) (events ++ es) → IsOneOf (Asks i owner) (set_acts_of p (events ++ es))
     asked_then k h i owner below through = still_one_then (Asks i owner) (h i owner below (through_less p (StillToFree p owner i) events es begins through))
 
+    -- what a recovery knows of those it was told to free, once it has done one thing more
     pub gone_then : (Was Now : ℕ → ℕ → Type 0) → GoneBut Was (now scene)
         → ((i owner : ℕ) → Was i owner → (filled_of i (events ++ es) ≢ Some owner) ⊎ Now i owner)
         → ((i owner : ℕ) → d ≡ Yes i owner → (is_gone by owner (events ++ es) ≡ true) × Now i owner)
@@ -159,6 +166,8 @@ module _ {T : Type 0} (scene : Scene T) (inv : Inv scene) (mode : ReleaseMode) (
 
   -- ---- the load of the counter
 
+  -- the step in which a recovery loads the counter leads on: it ends locked, or goes to the
+  -- first index
   pub loads_counter : done ≡ [] → steps ≤ 0
       → Knows c (recover_at c mode recovers.LoadsCounter) (now scene)
       → StepOf scene (Recover mode) (recover_at c mode recovers.LoadsCounter)
@@ -213,6 +222,7 @@ module _ {T : Type 0} (scene : Scene T) (inv : Inv scene) (mode : ReleaseMode) (
     passed_says : cell ws index ≡ empty → AskedBelow (index + 1) (now scene)
     passed_says = grind (arith, some_none, filled_none, through_now)
 
+    -- a recovery passes an empty cell
     passes_empty : cell ws index ≡ empty → Lead load false [] (recover_comes_to (call_at (recovers.LoadsCell index)) (index + 1))
     passes_empty is =
         let four = at_least_four c mode in
@@ -240,6 +250,7 @@ module _ {T : Type 0} (scene : Scene T) (inv : Inv scene) (mode : ReleaseMode) (
       asks_freed : FreedWereAsked (done ++ Asks index (cell ws index) ∷ [])
       asks_freed = freed_more (Asks index (cell ws index)) done course.freed (λ i owner e. absurd (cc))
 
+      -- a recovery that asks about the owner in the cell has come past the index
       asks_says : AskedBelow (index + 1) (then_sees scene load false asking)
       asks_says i owner below through =
           ⊎_elim (λ before. asked_then (Asks index (cell ws index)) asking (words_after ws load) tt asks_set_acts asks_does
@@ -257,6 +268,7 @@ module _ {T : Type 0} (scene : Scene T) (inv : Inv scene) (mode : ReleaseMode) (
               → IsOneOf (Asks i owner) (set_acts_of p (events ++ Asked p index (cell ws index) ∷ []))
           filled_here = grind (arith, fold-append, cell, one_owner, asks_set_acts, last_one)
 
+      -- a recovery that finds an owner in the cell asks about that owner
       asks_about : Lead load false asking (GoOn (at_recover (call_at (recovers.LoadsCell index)) (recovers.Asks index (cell ws index))))
       asks_about =
           let paid = k.paid in
@@ -285,6 +297,8 @@ module _ {T : Type 0} (scene : Scene T) (inv : Inv scene) (mode : ReleaseMode) (
                 (λ i o. ⊥) k.gone (λ i o never. absurd never) (λ i o e. absurd (cc));
           })
 
+    -- the step in which a recovery loads a cell shows what it has to, whether it is empty or
+    -- not
     pub loads_cell : StepOf scene (Recover mode) (recover_at c mode (recovers.LoadsCell index))
     loads_cell =
         on_bool (λ b. Lead (Some (loads (cell_word index))) false (if b then [] else Asked p index (cell ws index) ∷ [])

@@ -110,6 +110,7 @@ module _ (c : ℕ) where
   abbrev pub rest : ℕ → ℕ
   rest index = (c - (index + 1)) * (c - 1 + 7)
 
+  -- a recovery, in either mode
   abbrev pub recover_left : ℕ → RecoverStage → ℕ
   recover_left now recovers.LoadsCounter = (c - 1) * (c - 1 + 7) + (c - 1 + 8)
   recover_left now (recovers.LoadsCell index) = rest index + (c - 1 + 7)
@@ -159,6 +160,7 @@ find_steps (finds.Asks index found) = 0
 
 -- ---- each step, where the counter was n and is new
 
+-- `c` is the capacity
 module _ (c n new : ℕ) where
   -- the counter stays and so many steps are paid, or it has moved
   abbrev pub Less : ℕ → ℕ → ℕ → Type 0
@@ -180,6 +182,8 @@ module _ (c n new : ℕ) where
   RaiseTo raise (GoOn next) = (new ≡ n) × (raise_left n next + 1 ≤ raise_left n raise)
   RaiseTo raise (Done state) = StaysOrMoves
 
+  -- a raise that goes on leaves the counter and takes a step, and one that ends leaves the
+  -- counter, or leaves it less room
   pub raise_to : (raise : Raise) → RaiseAt raise → new ≡ raise_then raise n → RaiseTo raise (raise_after raise n)
   raise_to raises.LoadsCounter at is = go (n == locked) refl (n == greatest) refl
     where
@@ -205,6 +209,8 @@ module _ (c n new : ℕ) where
   CountTo count (Done ends.Locked) = StaysOrMoves
   CountTo count (Done (ends.Filled filled counter)) = ((new ≡ n) × ((counter == greatest) ≡ true)) ⊎ (room new + 1 ≤ room n)
 
+  -- a count that goes on leaves the counter and takes a step, and one that ends leaves it less
+  -- room, but where it was locked or is at its end
   count_to : (count : Count) (cell : ℕ) → CountAt count → new ≡ count_then count n → CountTo count (count_after c count (count_old count n cell))
   count_to counts.LoadsCounter cell at is = go (n == locked) refl (nat_lt 0 c) refl (n == greatest) refl
     where
@@ -236,6 +242,7 @@ module _ (c n new : ℕ) where
   LockTo lock (GoOn next) = Less 1 (lock_left c n lock) (lock_left c n next)
   LockTo lock (Done state) = StaysOrMoves
 
+  -- a lock whose count has a step less has one less itself, or the counter has less room
   counted_to : (count : Count) (a : After Count Counted) → CountTo count a → LockTo (locks.Counts count) (lock_counted a)
   counted_to count (GoOn next) h = inl h
   counted_to count (Done ends.Locked) h = h
@@ -251,6 +258,7 @@ module _ (c n new : ℕ) where
       go true z false g (inl h) = let both : false ≡ true = sym g ∙ h.1 in absurd (cc)
       go true z false g (inr h) = rw (z, g) (inr h)
 
+  -- a step of a lock takes one of its own or leaves less room
   pub lock_to : (lock : Lock) (cell : ℕ) → LockAt lock → new ≡ lock_then lock n → LockTo lock (lock_after c lock (lock_old lock n cell))
   lock_to (locks.Counts count) cell at is = counted_to count (count_after c count (count_old count n cell)) (count_to count cell at is)
   lock_to (locks.ExchangesCounter k) cell at is = go (n == k) refl (n == locked) refl
@@ -272,6 +280,7 @@ module _ (c n new : ℕ) where
   AcquireTo was (GoOn next) = Less 1 was (acquire_left c n next.stage)
   AcquireTo was (Done result) = Unit {0}
 
+  -- an acquire that sees the counter takes a step, at a stage with steps enough left
   acquire_sees_to : (call : acquiring.Acquire) → call.capacity ≡ c → new ≡ n → (was : ℕ) → c - 1 + 3 ≤ was → AcquireTo was (acquire_sees call n)
   acquire_sees_to call cap same was enough = go (n == locked) refl (n == greatest) refl (nat_lt 0 call.capacity) refl
     where
@@ -288,6 +297,7 @@ module _ (c n new : ℕ) where
   acquire_raises call index raise (Done states.Locked) h = tt
   acquire_raises call index raise (Done states.Unlocked) h = tt
 
+  -- a step of an acquire takes one of its own or leaves less room
   pub acquire_to : (call : acquiring.Acquire) (stage : AcquireStage) (cell : ℕ) → call.capacity ≡ c → AcquireAt stage → new ≡ acquire_then stage n
       → AcquireTo (acquire_left c n stage) (acquire_takes call stage (acquire_old stage n cell))
   acquire_to call acquires.LoadsCounter cell cap at is =
@@ -325,6 +335,7 @@ module _ (c n new : ℕ) where
   release_locks call lock (GoOn next) h = h
   release_locks call lock (Done state) h = tt
 
+  -- a step of a release takes one of its own or leaves less room
   pub release_to : (call : releasing.Release) (stage : ReleaseStage) (given : GiveBack) (cell : ℕ) → call.capacity ≡ c → ReleaseAt stage
       → new ≡ release_then stage n → ReleaseTo (release_left c n stage) (release_takes call stage given (release_old stage n cell))
   release_to call releases.EmptiesCell given cell cap at is =
@@ -343,6 +354,8 @@ module _ (c n new : ℕ) where
   RecoverTo steps was (GoOn next) = Less steps was (recover_left c n next.stage)
   RecoverTo steps was (Done state) = Unit {0}
 
+  -- a recovery with steps enough left comes to the next index, where the counter stays or has
+  -- less room
   recover_comes : (call : recovering.Recover) (index steps was : ℕ) → call.capacity ≡ c → rest c index + steps ≤ was → StaysOrMoves
       → RecoverTo steps was (recover_comes_to call (index + 1))
   recover_comes call index steps was cap enough h =
@@ -353,6 +366,7 @@ module _ (c n new : ℕ) where
       rw t (less_by steps was (rest c (index + 1) + (c - 1 + 7)) (omega (arith, paid, enough)) h))
       (λ t. rw t (less_by steps was 0 (omega (arith, enough)) h))
 
+  -- a recovery whose raise has a step less has one less itself, or the counter has less room
   recover_raises : (call : recovering.Recover) (index : ℕ) (mode : ReleaseMode) (raise : Raise) (a : After Raise ReleaseState) → call.capacity ≡ c
       → RaiseTo raise a → RecoverTo 1 (rest c index + (c - 1 + 4) + raise_left n raise) (recover_raised call index mode a)
   recover_raises call index mode raise (GoOn next) cap h = inl (h.0, (let le = h.1 in omega arith))
@@ -368,6 +382,7 @@ module _ (c n new : ℕ) where
   recover_locks call index lock (GoOn next) cap (inr h) = inr h
   recover_locks call index lock (Done state) cap h = recover_comes call index 1 (rest c index + 1 + lock_left c n lock) cap (omega arith) h
 
+  -- a step of a recovery takes one of its own, but for a question, or leaves less room
   pub recover_to : (call : recovering.Recover) (stage : RecoverStage) (mode : ReleaseMode) (cell : ℕ) → call.capacity ≡ c → RecoverAt stage
       → new ≡ recover_then stage n → RecoverTo (recover_steps stage) (recover_left c n stage) (recover_takes call stage mode (recover_old stage n cell))
   recover_to call recovers.LoadsCounter mode cell cap at is = go (n == locked) refl (nat_lt 0 call.capacity) refl
@@ -402,6 +417,7 @@ module _ (c n new : ℕ) where
   FindTo steps was (GoOn next) = Less steps was (find_left c next.stage)
   FindTo steps was (Done found) = Unit {0}
 
+  -- a find that comes to the next index takes its steps
   find_comes : (call : finding.Find) (index found steps was : ℕ) → call.capacity ≡ c → new ≡ n → steps ≤ 1 → c - (index + 1) + steps ≤ was
       → FindTo steps was (find_comes_to call (index + 1) found)
   find_comes call index found steps was cap same one enough =
@@ -409,6 +425,7 @@ module _ (c n new : ℕ) where
       (λ t. let less : index + 2 ≤ c = grind (arith, nat_tests) in rw t (inl (same, omega (arith, less, enough))))
       (λ t. rw t tt)
 
+  -- a step of a find takes one of its own, but for a question
   pub find_to : (call : finding.Find) (stage : FindStage) (owner cell : ℕ) → call.capacity ≡ c → new ≡ n
       → FindTo (find_steps stage) (find_left c stage) (find_takes call stage owner cell)
   find_to call (finds.LoadsCell index found) owner cell cap same =

@@ -95,6 +95,7 @@ module _ (c now : ℕ) where
   lock_most (locks.Counts count) = count_most count
   lock_most (locks.ExchangesCounter k) = one_of _ 0 (c - 1 + 3) (2 * (c - 1) + 4) (omega arith) (omega arith)
 
+  -- an acquire has no more steps left than twice the indices but one, and four
   acquire_most : (stage : AcquireStage) → acquire_left c now stage ≤ 2 * (c - 1) + 4
   acquire_most acquires.LoadsCounter = omega arith
   acquire_most (acquires.FillsCell k index) =
@@ -114,6 +115,7 @@ module _ (c now : ℕ) where
   rest_most : (index : ℕ) → rest c index ≤ (c - 1) * (c - 1 + 7)
   rest_most index = worth (c - (index + 1)) (c - 1) (c - 1 + 7) (omega arith)
 
+  -- a recovery has no more steps left than the most of a call
   recover_most : (stage : RecoverStage) → recover_left c now stage ≤ (c - 1) * (c - 1 + 7) + 2 * (c - 1) + 8
   recover_most recovers.LoadsCounter = omega arith
   recover_most (recovers.LoadsCell index) = let most = rest_most index in omega arith
@@ -123,6 +125,7 @@ module _ (c now : ℕ) where
   recover_most (recovers.Locks index lock) = let most = rest_most index in let one = lock_most lock in omega arith
   recover_most recovers.LoadsCounterAgain = omega arith
 
+  -- no call of the set has more steps left than the most of a call
   own_by : (flight : RobustFlight) → own c now flight ≤ (c - 1) * (c - 1 + 7) + 2 * (c - 1) + 8
   own_by (calls.Acquire run) = let most = acquire_most run.call.stage in omega arith
   own_by (calls.Release run) = let most = release_most run.call.stage in omega arith
@@ -133,6 +136,7 @@ module _ (c now : ℕ) where
 
 -- ---- a step of any call
 
+-- `c` is the capacity; the counter was `n`
 module _ (T : Type 0) (c n new : ℕ) where
   abbrev CallTo : ℕ → ℕ → After RobustFlight (Answer T) → Type 0
   CallTo steps was (GoOn next) = Less c n new steps was (own c n next)
@@ -163,6 +167,8 @@ module _ (T : Type 0) (c n new : ℕ) where
   borrows_so was (GoOn next) h = h
   borrows_so was (Done result) h = tt
 
+  -- a step of any call takes one of its own, but for a question, or leaves the counter less
+  -- room
   call_to : (flight : RobustFlight) (cell : ℕ) → CallAt c flight → new ≡ robust_then flight n
       → CallTo (robust_steps flight) (own c n flight) (after {T = T} flight (robust_old flight n cell))
   call_to (calls.Acquire run) cell at is =
@@ -234,6 +240,7 @@ module _ {T : Type 0} (code : Coding T) (c : ℕ) (some : 1 ≤ c) where
     moved_by : room n' + 1 ≤ room n → LeavesAll (measure {T = T} c) old new
     moved_by less other = let more = moves less other other in omega arith
 
+    -- a step that takes one of its own, or leaves the counter less room, falls by the measure
     to_falls : (steps s : ℕ) (flight : RobustFlight) (a : After RobustFlight (Answer T)) → s ≤ steps → steps ≤ 1
         → CallTo T c n n' steps (own c n flight) a
         → FallsIn (measure c) old new s (flights.Robust flight) (as_call flights.Robust (λ answer. answer) a)
@@ -244,6 +251,7 @@ module _ {T : Type 0} (code : Coding T) (c : ℕ) (some : 1 ≤ c) where
         inr (omega (arith, low, one), inl (moved_by h, omega arith))
     to_falls steps s flight (Done answer) low one h = tt
 
+  -- each step of any call that may stand there falls
   call_falls : (words : List ℕ) (flight : RobustFlight) → CallAt c flight → 0 < length words
       → StepFalls (measure {T = T} c) code words (flights.Robust flight)
   call_falls words flight at there =
@@ -259,6 +267,7 @@ module _ {T : Type 0} (code : Coding T) (c : ℕ) (some : 1 ≤ c) where
   falls words (starts.Robust start) (flights.Robust flight) at there = call_falls words flight at there
   falls words start flight at there = absurd at
 
+  -- a decision that any call is told falls
   call_decides : (words : List ℕ) (flight : RobustFlight) (answer : ℕ) → CallAt c flight → is_question (want flight) ≡ true
       → FallsIn (measure {T = T} c) words words 0 (flights.Robust flight)
       (as_call flights.Robust (λ answer. answer) (after {T = T} flight answer))
@@ -274,6 +283,7 @@ module _ {T : Type 0} (code : Coding T) (c : ℕ) (some : 1 ≤ c) where
   decides words (starts.Robust start) (flights.Robust flight) said at due = call_decides words flight (number_of said) at due
   decides words start flight said at due = absurd at
 
+  -- no call has more steps left than the measure says
   most : (words : List ℕ) (start : Start T) (flight : Flight T) → AtAny code c start flight
       → (left c words flight ≤ (2 ^ 64 + 1) * (c * (c + 7) + 1)) × (0 ≤ 0)
   most words start flight at =
@@ -286,6 +296,7 @@ module _ {T : Type 0} where
   Kept (registries.Owners dead) = Unit {0}
   Kept kept = ⊥
 
+  -- all calls of the set, with this measure, as the frame of lock-freedom asks it
   abbrev outline : Outline T
   outline =
       record {
@@ -327,6 +338,7 @@ module _ {T : Type 0} (code : Coding T) (c : ℕ) where
     borrow_goes (GoOn next) h = h
     borrow_goes (Done result) h = tt
 
+    -- a call that goes on stands where it may stand
     call_goes : (flight : RobustFlight) (old : ℕ) → CallAt c flight → Goes (after flight old)
     call_goes (calls.Acquire run) old at =
         acquire_goes run.given (acquire_takes run.call run.call.stage old) (acquire_then_at c run.call run.call.stage old at.0 at.1)
@@ -362,6 +374,7 @@ module _ {T : Type 0} (code : Coding T) (c : ℕ) where
   dies : (kept : Registry T) (owner : ℕ) → Kept kept → Kept (kept_after_death kept owner)
   dies = grind arith
 
+  -- all that is owed for the measure holds of the calls of a set of an admitted capacity
   laws : capacity_error kinds.Robust c ≡ None → TableLaws outline code c
   laws admitted =
       let may = admitted_is c admitted in

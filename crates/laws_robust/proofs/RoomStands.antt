@@ -45,6 +45,7 @@ use Rattle.laws_robust.proofs.Cases.{by_bool}
 
 -- ---- how many steps a call takes at most before its last one, while the counter stays
 
+-- the steps of any call
 abbrev pub own : ℕ → ℕ → RobustFlight → ℕ
 own c now (calls.Acquire run) = acquire_left c now run.call.stage
 own c now (calls.Release run) = release_left c now run.call.stage
@@ -58,6 +59,7 @@ robust_steps (calls.Find run) = find_steps run.call.stage
 robust_steps (calls.Recover run) = recover_steps run.call.stage
 robust_steps flight = 1
 
+-- any call of the set, of this capacity
 abbrev pub CallAt : ℕ → RobustFlight → Type 0
 CallAt c (calls.Acquire run) = (run.call.capacity ≡ c) × AcquireAt run.call.stage
 CallAt c (calls.Release run) = (run.call.capacity ≡ c) × ReleaseAt run.call.stage
@@ -74,7 +76,9 @@ steps_are = grind arith
 
 -- ---- the counter stays at a step, or has less room
 
+-- `c` is the capacity; the counter was `n` and is `new`
 module _ (c n new : ℕ) where
+  -- at a step of a raise the counter stays or has less room
   pub raise_moves : (raise : Raise) → RaiseAt raise → new ≡ raise_then raise n → StaysOrMoves c n new
   raise_moves raises.LoadsCounter at is = inl is
   raise_moves (raises.ExchangesCounter k) at is =
@@ -90,6 +94,7 @@ module _ (c n new : ℕ) where
   count_moves (counts.LoadsCell k index filled) at is = inl is
   count_moves (counts.ExchangesCounter k filled) at is = raise_moves (raises.ExchangesCounter k) at is
 
+  -- at a step of a lock the counter stays or has less room
   pub lock_moves : (lock : Lock) → LockAt lock → new ≡ lock_then lock n → StaysOrMoves c n new
   lock_moves (locks.Counts count) at is = count_moves count at is
   lock_moves (locks.ExchangesCounter k) at is = go (n == k) refl (n == locked) refl
@@ -103,6 +108,7 @@ module _ (c n new : ℕ) where
           inr (rw shut (shuts n t))
       go false s t e = let same : new ≡ n = rw s at is in inl same
 
+  -- at a step of an acquire the counter stays or has less room
   pub acquire_moves : (stage : AcquireStage) → AcquireAt stage → new ≡ acquire_then stage n → StaysOrMoves c n new
   acquire_moves acquires.LoadsCounter at is = inl is
   acquire_moves (acquires.FillsCell k index) at is = inl is
@@ -140,6 +146,7 @@ abbrev pub LockThen : After Lock ReleaseState → Type 0
 LockThen (GoOn next) = LockAt next
 LockThen (Done state) = Unit {0}
 
+-- a count that goes on, or ends, within a lock leaves the lock where it may stand
 counted_then : (a : After Count Counted) → CountThen a → LockThen (lock_counted a)
 counted_then (GoOn next) h = h
 counted_then (Done ends.Locked) h = tt
@@ -164,6 +171,7 @@ module _ (c : ℕ) where
       → AcquireThen (acquire_raised call index a)
   acquire_raised_at = grind arith
 
+  -- an acquire that goes on stands where it may stand
   pub acquire_then_at : (call : acquiring.Acquire) (stage : AcquireStage) (old : ℕ) → call.capacity ≡ c → AcquireAt stage
       → AcquireThen (acquire_takes call stage old)
   acquire_then_at call acquires.LoadsCounter old cap at = grind arith
@@ -183,6 +191,7 @@ module _ (c : ℕ) where
   release_locked_at : (call : releasing.Release) (a : After Lock ReleaseState) → call.capacity ≡ c → LockThen a → ReleaseThen (release_locked call a)
   release_locked_at = grind arith
 
+  -- a release that goes on stands where it may stand
   pub release_then_at : (call : releasing.Release) (stage : ReleaseStage) (given : GiveBack) (old : ℕ) → call.capacity ≡ c → ReleaseAt stage
       → ReleaseThen (release_takes call stage given old)
   release_then_at call releases.EmptiesCell given old cap at = grind arith
@@ -206,6 +215,7 @@ module _ (c : ℕ) where
       → RecoverThen (recover_locked call index a)
   recover_locked_at = grind (arith, recover_comes_at)
 
+  -- a recovery that goes on stands where it may stand
   pub recover_then_at : (call : recovering.Recover) (stage : RecoverStage) (mode : ReleaseMode) (old : ℕ) → call.capacity ≡ c → RecoverAt stage
       → RecoverThen (recover_takes call stage mode old)
   recover_then_at call recovers.LoadsCounter mode old cap at = grind (arith, recover_comes_at)

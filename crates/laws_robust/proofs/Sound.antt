@@ -71,11 +71,14 @@ module _ {T : Type 0} (scene : Scene T) (inv : Inv scene) where
   lives : (owner : ℕ) → has_died owner scene.set.dead ≡ false → is_dead owner events ≡ false
   lives owner alive = sym (inv.good.died owner) ∙ alive
 
+  -- the step of a call that stands there, and acts for nobody dead, shows what it has to
   abbrev Moves : RobustStart → RobustFlight → Type 0
   Moves start flight =
       acts_for_dead scene.set.dead flight ≡ false → scene.steps ≤ standing.number_of c flight scene.backs
       → Knows c flight (now scene) → StepOf scene start flight
 
+  -- each step of any call that stands at its place, and acts for nobody dead, shows what it has
+  -- to
   pub step_moves : (start : RobustStart) (flight : RobustFlight) → IsHere scene start → At c (all scene) start flight → Moves start flight
   step_moves (starts.Acquire owner) (calls.Acquire run) here at =
       subst (Moves (starts.Acquire owner))
@@ -102,6 +105,7 @@ module _ {T : Type 0} (scene : Scene T) (inv : Inv scene) where
   step_moves starts.IsLocked (calls.IsLocked run) here at = λ alive s k. looks_step scene inv here at k s
   step_moves start flight here at = absurd at
 
+  -- the answer so said to a call that may be told it shows what it has to
   abbrev Decides : Bool → RobustStart → RobustFlight → Type 0
   Decides said start flight =
       MayDecide by scene.set.dead flight said → is_question (want flight) ≡ true
@@ -119,6 +123,7 @@ module _ {T : Type 0} (scene : Scene T) (inv : Inv scene) where
       → Decides said (starts.Find owner) (find_at c owner stage)
   find_decides = grind (arith, find_decided, number_of)
 
+  -- each answer to a question of a recovery shows what it has to
   recover_decides : (said : Bool) (mode : ReleaseMode) → IsHere scene (starts.Recover mode)
       → (stage : RecoverStage) → RecoverAt c mode (all scene) stage
       → Decides said (starts.Recover mode) (recover_at c mode stage)
@@ -132,6 +137,7 @@ module _ {T : Type 0} (scene : Scene T) (inv : Inv scene) where
   recover_decides said mode here (recovers.Locks index lock) at frees asks s k = both_ways (is_question (lock_want lock)) (lock_asks_none lock) asks
   recover_decides said mode here recovers.LoadsCounterAgain at frees asks s k = absurd (cc)
 
+  -- each answer to a question of any call that stands at its place shows what it has to
   pub decision_moves : (said : Bool) (start : RobustStart) (flight : RobustFlight) → IsHere scene start
       → At c (all scene) start flight → Decides said start flight
   decision_moves said (starts.Acquire owner) (calls.Acquire run) here at =
@@ -153,7 +159,9 @@ module _ {T : Type 0} (scene : Scene T) (inv : Inv scene) where
 
 -- ---- the laws of the family
 
+-- `c` is the capacity, `t` the run so far, and `s` what is sound of it
 module _ {T : Type 0} (by : GoneBy) (code : Coding T) (c : ℕ) (t : Trace T) (s : frame.Sound (family_by by code c) t) where
+  -- the turn of a call of this party
   abbrev pub scene_of : ℕ → Party T → ℕ → Scene T
   scene_of p x since =
       record {
@@ -179,6 +187,7 @@ module _ {T : Type 0} (by : GoneBy) (code : Coding T) (c : ℕ) (t : Trace T) (s
   pub has_room : t.world.turns < 2 ^ 64 - 2 → HasRoom by t.world.words
   has_room small = subst (HasRoom by) (sym s.fit.words) (room_of_few by c s.state.words s.state.dead t.events t.world.turns s.holds.good small)
 
+  -- `x` is the call of party `p`
   module _ (p : ℕ) (x : Party T) (since : ℕ) (found : party_of p t.world.latest ≡ Some x) where
     pub inv_with : HasRoom by t.world.words → Inv (scene_of p x since)
     inv_with = grind (arith, room_there)
@@ -213,6 +222,8 @@ module _ {T : Type 0} (by : GoneBy) (code : Coding T) (c : ℕ) (t : Trace T) (s
 
     -- ---- a step
 
+    -- a step of a call that stands there and passes the rows comes from there to a sound
+    -- machine
     comes : HasRoom by t.world.words → (start : Start T) (flight : Flight T)
         → first_row (going_rows code (registries.Owners s.state.dead) (Some flight) None) ≡ None
         → StandsThere (family_by by code c) t s p x since start flight
@@ -235,6 +246,7 @@ module _ {T : Type 0} (by : GoneBy) (code : Coding T) (c : ℕ) (t : Trace T) (s
     MayDecideIn (flights.Robust flight) said = MayDecide by s.state.dead flight said
     MayDecideIn flight said = Unit {0}
 
+    -- a decision that a call that stands there is told comes from there to a sound machine
     pub decides : HasRoom by t.world.words → (said : Bool) (start : Start T) (flight : Flight T)
         → MayDecideIn flight said → is_question (want_of code flight) ≡ true
         → StandsThere (family_by by code c) t s p x since start flight
@@ -258,6 +270,7 @@ module _ {T : Type 0} (by : GoneBy) (code : Coding T) (c : ℕ) (t : Trace T) (s
   -- ---- a call begins
 
   module _ (p : ℕ) where
+    -- a call of the set that begins comes to a sound machine, with its begin as the one event
     begins_now : (start : RobustStart) (flight : RobustFlight)
         → IsFirst T by c s.state.words t.events p t.world.changes start flight
         → span_of p (t.events ++ Begun p (Robust start) ∷ []) ≡ Open (Robust start) []
@@ -296,6 +309,7 @@ module _ {T : Type 0} (by : GoneBy) (code : Coding T) (c : ℕ) (t : Trace T) (s
     span_begun : (start : RobustStart) → span_of p (t.events ++ Begun p (Robust start) ∷ []) ≡ Open (Robust start) []
     span_begun start = span_of-own p t.events (Begun p (Robust start) ∷ []) (refl, tt)
 
+    -- any call that the set begins, and whose begin passes the rows, comes to a sound machine
     begin_comes : (start : Start T) (flight : Flight T) → MayBegin t.world p start
         → first_of kinds.Robust c start (registries.Owners s.state.dead) ≡ Some flight
         → first_row ((begin_of kinds.Robust c start).rows (registries.Owners s.state.dead) p) ≡ None
@@ -313,6 +327,7 @@ module _ {T : Type 0} (by : GoneBy) (code : Coding T) (c : ℕ) (t : Trace T) (s
 
   -- ---- an owner dies
 
+  -- the death of an owner who may die comes to a sound machine
   death_comes : (o : ℕ) → MayDie t.world o → frame.ComesByDeath (family_by by code c) t s o
   death_comes o may =
       let g = s.holds.good in
@@ -341,6 +356,7 @@ module _ {T : Type 0} (by : GoneBy) where
   abbrev pub May : Trace T → Turn T → Type 0
   May t turn = HasRoom by t.world.words
 
+  -- each turn of a set may be taken, as the frame asks it of a family
   turns : (code : Coding T) (c : ℕ) → Turns (outline by) code c May
   turns code c =
       record {
@@ -354,6 +370,7 @@ module _ {T : Type 0} (by : GoneBy) where
   pub laws_by : (code : Coding T) (c : ℕ) → frame.LawsWhere (family_by by code c) May
   laws_by code c = laws.laws (outline by) code c May (turns code c)
 
+  -- the opening of a set of an admitted capacity is sound
   opens : (code : Coding T) (c : ℕ) → 1 ≤ c → c < 2 ^ 32 → Opens (outline by) code c
   opens code c some few =
       record {
@@ -367,6 +384,7 @@ module _ {T : Type 0} (by : GoneBy) where
       → frame.Sound (family_by by code c) (opening code kinds.Robust c parties)
   opening_sound code c parties some few = laws.opening_sound (outline by) code c (opens code c some few) parties
 
+  -- all turns of a set are sound, if the counter has room
   pub all_turns : AllTurns (outline by) May
   all_turns =
       record {

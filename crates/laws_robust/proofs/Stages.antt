@@ -160,6 +160,8 @@ module _ {T : Type 0} (scene : Scene T) where
 
   -- ---- the call goes on, or is done
 
+  -- a call goes on to its next stage, where it stands and knows what the stage tells, with the
+  -- steps that are left to it
   pub goes_on :
       (start : RobustStart) (flight : RobustFlight) (ask : Option Ask) (back : Bool) (did : List (Event T)) → IsHere start → Lengthens (did ++ [])
       → Does scene (words_after ws ask) (did ++ [])
@@ -184,6 +186,7 @@ module _ {T : Type 0} (scene : Scene T) where
         seen = is_seen ws ask changes;
       }
 
+  -- a call ends, within its steps, and writes its end last
   pub ends :
       (start : RobustStart) (answer : Answer T) (ask : Option Ask) (back : Bool) (did : List (Event T)) → IsHere start → Lengthens did
       → Does scene (words_after ws ask) (did ++ Finished p (Robust start) answer ∷ [])
@@ -213,6 +216,7 @@ module _ {T : Type 0} (scene : Scene T) where
   -- ---- the same of a step that writes nothing but an end, and leaves the cells
 
   module _ (inv : Inv scene) where
+    -- a call goes on so
     pub goes_quietly :
         (start : RobustStart) (flight : RobustFlight) (ask : Option Ask) (back : Bool) → IsHere start → Stays scene (words_after ws ask)
         → steps + step_count ask ≤ standing.number_of c flight (backs_then back)
@@ -224,6 +228,7 @@ module _ {T : Type 0} (scene : Scene T) where
         (subst (λ d. At c d start flight) (sym (append-nil (set_acts_of p events))) at)
         (subst (λ es. Knows c flight (view by (words_after ws ask) es p (since_then ask) (changes_then ask) (backs_then back))) (sym (append-nil events)) known)
 
+    -- a call ends so
     pub ends_quietly :
         (start : RobustStart) (answer : Answer T) (ask : Option Ask) (back : Bool) → IsHere start → Stays scene (words_after ws ask)
         → ((i : ℕ) (o : Option ℕ) → settled_after i o (Finished p (Robust start) answer) ≡ o)

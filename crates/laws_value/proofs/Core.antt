@@ -37,6 +37,7 @@ module _ (a b : ℕ) (cells : List ℕ) where
   pub set_at : (n i v : ℕ) → n ≡ 2 + i → set (a ∷ b ∷ cells) n v ≡ a ∷ b ∷ set cells i v
   set_at n i v e = let two : n ≡ suc (suc i) = omega arith in rw two refl
 
+-- the version, the value that stands, and the words of both cells
 pub record Core : Type 0 where
   pub version : ℕ
   pub now : List ℕ  -- the words of the value that stands

@@ -97,6 +97,7 @@ module _ {T : Type 0} where
   abbrev pub Shows : Scene T Value → Value → Span T → Party T → List (Event T) → ℕ → Type 0
   Shows scene s' from y es changes' = families.Shows outline scene (Preserves scene s' es changes') s' from y es changes'
 
+  -- what holds of the value holds after a turn that shows this of it
   pub holds_more : (scene : Scene T Value) (s' : Value) (es : List (Event T)) (changes' : ℕ) → Preserves scene s' es changes'
       → Holds scene.coding scene.state.holder scene.state.core scene.events scene.turns
       → Holds scene.coding s'.holder s'.core (scene.events ++ es) (scene.turns + 1)

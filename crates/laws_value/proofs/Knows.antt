@@ -107,6 +107,7 @@ pub load_passed : (size : ℕ) (k k' : Core) (room : buffers.Buffer 128) (stage 
 load_passed = grind arith
 
 module _ {T : Type 0} (code : Coding T) (ho ho' : Option ℕ) (k k' : Core) (q : ℕ) where
+  -- where the value goes from `k` to `k'`, the calls of the party `q` know what they knew
   pub record Keeps : Type 0 where
     pub holder : ho ≡ Some q → ho' ≡ Some q
     pub store : ho ≡ Some q → (words : List ℕ) (stage : StoreStage) → KnowsStore code.size k words stage → KnowsStore code.size k' words stage

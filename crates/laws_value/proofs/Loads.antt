@@ -77,6 +77,7 @@ module _ {T : Type 0} (scene : Scene T Value) (inv : Inv outline scene) (small :
     abbrev next_cell : LoadStage
     next_cell = loading.LoadsCell version (cell_word code.size (before_version version)) (at + 1)
 
+    -- the load of a word of the cell does what a step should, whether it is the last or not
     loads_cell : version ≤ k.version → backs + since + k.version ≤ changes + version
         → steps ≤ 1 + at + backs * (1 + code.size)
         → DoesOf room (loading.LoadsCell version (cell_word code.size (before_version version)) at)
@@ -85,6 +86,7 @@ module _ {T : Type 0} (scene : Scene T Value) (inv : Inv outline scene) (small :
         long_then : length room_then.words ≡ 128
         long_then = length-set room.words at found ∙ long
 
+        -- so it is by whether a further word of the cell is to be loaded
         go : (t : Bool) → nat_lt (at + 1) code.size ≡ t → DoesOf room (loading.LoadsCell version (cell_word code.size (before_version version)) at)
         go true t =
             let next : at + 1 < code.size = grind (arith, nat_tests) in
@@ -122,6 +124,7 @@ module _ {T : Type 0} (scene : Scene T Value) (inv : Inv outline scene) (small :
   abbrev checking : ℕ → LoadStage
   checking version = loading.ChecksVersion version
 
+  -- the second load of the version does so: it ends where it finds the same, and else turns back
   checks_version : (room : buffers.Buffer 128) (version : ℕ) → length room.words ≡ 128 → version ≤ k.version
       → (version ≡ k.version → IsCopied k room code.size) → backs + since + k.version ≤ changes + version
       → steps ≤ 1 + code.size + backs * (1 + code.size)
@@ -139,6 +142,7 @@ module _ {T : Type 0} (scene : Scene T Value) (inv : Inv outline scene) (small :
           (sym (value_is room long (copied same))) (ends version (omega arith) s)))
       go false t = grind arith
 
+  -- each step of a load does what a step should
   pub load_step : (room : buffers.Buffer 128) (stage : LoadStage) → KnowsLoad code.size k room stage
       → KnowsBacks k since changes backs stage → steps ≤ load_number code.size stage backs → DoesOf room stage
   load_step room loading.LoadsVersion knows paid s = loads room knows s paid

@@ -117,6 +117,8 @@ module _ {T : Type 0} where
         get_or-set_other words (word_at cell at) 0 new 0 (λ e. absurd (omega arith)) in
         rw same (omega arith)
 
+    -- each step of a store falls in the measure, where the store stands among the words of its
+    -- cell
     store_falls : (run : Running (Store T) T (Unit {0})) (stage : StoreStage) → StoreStands code.size stage → Shown (storing run stage)
     store_falls run stores.LoadsVersion at = go (now == 2 ^ 64 - 1) refl
       where
@@ -138,6 +140,7 @@ module _ {T : Type 0} where
     abbrev loading : Running (Load T (buffers.Buffer 128)) (Unit {0}) (buffers.Buffer 128) → LoadStage → AtomicFlight T
     loading run stage = calls.Load (record run { call = record run.call { stage = stage } })
 
+    -- each step of a load falls in the measure
     load_falls : (run : Running (Load T (buffers.Buffer 128)) (Unit {0}) (buffers.Buffer 128)) (stage : LoadStage) → Shown (loading run stage)
     load_falls run loads.LoadsVersion = let self = same_is now in inl (load_leaves words 0, rw self (omega arith), omega arith)
     load_falls run (loads.LoadsCell version cell at) = go (nat_lt (at + 1) code.size) refl (now == version) refl
@@ -157,6 +160,7 @@ module _ {T : Type 0} where
         go true u = rw u tt
         go false u = let self = same_is now in rw u (inl (load_leaves words 0, rw (self, u) (omega arith), omega arith))
 
+    -- each step of a call that stands so falls in the measure
     call_falls : (flight : AtomicFlight T) → CallStands code.size flight → Shown flight
     call_falls (calls.Acquire run) at = tt
     call_falls (calls.Release run) at = tt
@@ -175,6 +179,7 @@ module _ {T : Type 0} where
   abbrev GoesOn : Coding T → ℕ → Start T → AtomicFlight T → ℕ → Type 0
   GoesOn code c start flight old = OwnAfter outline code c start (after_of code (flights.Atomic flight) old)
 
+  -- a store that stands so stands so after any step that goes on
   store_goes : (code : Coding T) (c : ℕ) → IsCoding code → (start : AtomicStart T) (run : Running (Store T) T (Unit {0})) (stage : StoreStage)
       (old : ℕ) → StoreStands code.size stage → GoesOn code c (starts.Atomic start) (storing run stage) old
   store_goes code c coded start run stores.LoadsVersion old at = go (old == 2 ^ 64 - 1) refl
@@ -196,6 +201,7 @@ module _ {T : Type 0} where
       → GoesOn code c (starts.Atomic start) (calls.Load run) old
   load_goes = grind arith
 
+  -- a call that stands so stands so after any step that goes on
   call_goes : (code : Coding T) (c : ℕ) → IsCoding code → (start : AtomicStart T) (flight : AtomicFlight T) (old : ℕ) → CallStands code.size flight
       → GoesOn code c (starts.Atomic start) flight old
   call_goes code c coded start (calls.Acquire run) old at = tt
@@ -234,6 +240,7 @@ module _ {T : Type 0} where
   most : (size : ℕ) → 1 ≤ size → (words : List ℕ) (flight : Flight T) → (measure size).left words flight ≤ 2 * size + 1
   most = grind arith
 
+  -- the measure has the laws that the table asks of one
   laws : (code : Coding T) (c : ℕ) → IsCoding code → TableLaws outline code c
   laws code c coded =
       record {

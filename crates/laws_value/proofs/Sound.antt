@@ -73,6 +73,7 @@ module _ {T : Type 0} (t : Trace T) (turn : Turn T) (p : ℕ) (mine : IsParty tu
 -- ---- what is promised, and what a turn writes down
 
 module _ {T : Type 0} (code : Coding T) (c : ℕ) (t : Trace T) (s : frame.Sound (family code c) t) where
+  -- between two turns the words and the events agree as those of a value should
   value_kept : t.world.coding ≡ code → IsValue t
   value_kept same =
       let w = t.world in
@@ -86,6 +87,7 @@ module _ {T : Type 0} (code : Coding T) (c : ℕ) (t : Trace T) (s : frame.Sound
         holder = subst (λ kept. KeepsHolder kept t.events) (sym s.fit.kept) (sym s.holds.holders);
       }
 
+  -- what a step writes of a call that stands there is in order
   writes : (p : ℕ) (x : Party T) (since : ℕ) → t.world.turns < 2 ^ 64 - 2 → (start : Start T) (flight : Flight T)
       → StandsThere (family code c) t s p x since start flight
       → laws.Writes outline t (Next p)
@@ -117,6 +119,7 @@ module _ {T : Type 0} (code : Coding T) (c : ℕ) (t : Trace T) (s : frame.Sound
 -- ---- the laws of the family
 
 module _ {T : Type 0} where
+  -- the value opens with what holds of it
   opens : (code : Coding T) (c : ℕ) → IsCoding code → Opens outline code c
   opens code c coded =
       record {
@@ -148,6 +151,7 @@ module _ {T : Type 0} where
       → is_question (want_of code flight) ≡ false
   no_question = grind arith
 
+  -- each begin, step, decision and death keeps what holds of the value
   turns : (code : Coding T) (c : ℕ) → Turns outline code c IsFreshTurn
   turns code c =
       laws.turns_alone outline code c IsFreshTurn
@@ -161,6 +165,8 @@ module _ {T : Type 0} where
         no_owners = λ s. refl;
       })
 
+  -- the family has what is owed beside the turns: its promise, its bounds, and that what a step
+  -- writes is in order, among others
   owed : (code : Coding T) (c : ℕ) → Owed outline code c
   owed code c =
       record {
@@ -200,6 +206,7 @@ module _ {T : Type 0} where
       (run_sound F IsFreshTurn (fresh_laws w.coding w.capacity) r.turns (opening w.coding w.kind w.capacity w.parties) r.fresh
       (subst (λ kind. frame.Sound F (opening w.coding kind w.capacity w.parties)) (sym is) (opening_sound w.coding w.capacity w.parties coded)))
 
+  -- a value's machine whose run is fresh keeps what is promised
   pub kept_on : (t : Trace T) → t.world.kind ≡ kinds.Atomic → IsCoding t.world.coding → IsFreshRun t → IsKept t
   kept_on t is coded r =
       let s = sound_on t is coded r in

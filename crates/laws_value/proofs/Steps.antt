@@ -29,6 +29,8 @@ module _ {T : Type 0} (scene : Scene T Value) (inv : Inv outline scene) where
   open scene use {coding as code, party as p}
   open scene.state use {holder as ho, core as k}
 
+  -- a step of a call of the value shows what a step should, where the call stands and knows what
+  -- it should
   pub step_moves : (start : AtomicStart T) (flight : AtomicFlight T) → At code ho k p start flight
       → scene.steps ≤ number_of code.size flight scene.backs
       → KnowsFlight k scene.since scene.changes scene.backs flight
@@ -64,6 +66,7 @@ module _ {T : Type 0} (code : Coding T) (c : ℕ) (t : Trace T) (s : frame.Sound
 -- ---- what a step and a begin show
 
 module _ {T : Type 0} (code : Coding T) (c : ℕ) (t : Trace T) (s : frame.Sound (family code c) t) (p : ℕ) where
+  -- a step that the turns admit shows what a step should, of a call that stands there
   pub step_shows : (x : Party T) (since : ℕ) → IsFreshTurn t (Next p) → (start : Start T) (flight : Flight T)
       → StandsThere (family code c) t s p x since start flight → families.StepOf outline (scene_of outline code c t s p x.steps x.backs since) start flight
   step_shows x since fresh (Atomic start) (flights.Atomic flight) here =
@@ -76,6 +79,7 @@ module _ {T : Type 0} (code : Coding T) (c : ℕ) (t : Trace T) (s : frame.Sound
       record { state = record { holder = _; core = moves.0 }; kept = refl; words = moves.1; shows = moves.2 }
   step_shows x since fresh start flight here = absurd here.at
 
+  -- a begin that no row refuses, and for which there is a first stage, shows what a begin should
   pub begin_shows : (start : Start T) (flight : Flight T)
       → first_of kinds.Atomic c start (registries.Atomic s.state.holder) ≡ Some flight
       → first_row ((begin_of kinds.Atomic c start).rows (registries.Atomic s.state.holder) p) ≡ None

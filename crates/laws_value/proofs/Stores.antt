@@ -72,6 +72,7 @@ module _ {T : Type 0} (scene : Scene T Value) (inv : Inv outline scene) (value :
         load = λ room stage other. load_stays code.size k (then_core at) room stage refl refl other;
       }))
 
+  -- the store of a word into the cell does what a step should, whether it is the last or not
   stores_cell : (at : ℕ) → at < code.size → IsFilled code.size k (code.words_of value) at → k.version < 2 ^ 64 - 1 → steps ≤ 1 + at → DoesOf (cell at)
   stores_cell at below so_far fresh s = go (nat_lt (at + 1) code.size) refl
     where
@@ -95,6 +96,7 @@ module _ {T : Type 0} (scene : Scene T Value) (inv : Inv outline scene) (value :
           (subst (λ n. IsFilled code.size (then_core at) (code.words_of value) n) last filled_more, fresh)
           (omega arith))
 
+  -- the step that adds 1 to the version ends the store, with its value as the one that stands
   adds : IsFilled code.size k (code.words_of value) code.size → k.version < 2 ^ 64 - 1 → steps ≤ 1 + code.size → DoesOf storing.AddsVersion
   adds whole fresh s =
       let low = inv.holds.reached in
@@ -138,6 +140,7 @@ module _ {T : Type 0} (scene : Scene T Value) (inv : Inv outline scene) (value :
         },
       )
 
+  -- each step of a store does what a step should
   pub store_step : (stage : StoreStage) → IsFreshStore k.version stage
       → KnowsStore code.size k (code.words_of value) stage → steps ≤ store_number code.size stage → DoesOf stage
   store_step storing.LoadsVersion fresh knows s = loads fresh s

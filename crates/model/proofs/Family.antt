@@ -46,6 +46,8 @@ pub record Outline (T : Type 0) : Type 1 where
   pub Preserves : Scene T State → State → Option (Flight T) → Party T → List (Event T) → ℕ → Type 0
 
 module _ {T : Type 0} (K : Outline T) where
+  -- the family of a kind, as the frame takes it: its promise, and what it holds and knows of each
+  -- call
   abbrev pub family : Coding T → ℕ → Family T
   family code c =
       record {
@@ -128,6 +130,7 @@ module _ {T : Type 0} (K : Outline T) where
   -- ---- the scene of a party in a machine
 
   module _ (code : Coding T) (c : ℕ) (t : Trace T) (s : frame.Sound (family code c) t) (p steps backs since : ℕ) where
+    -- what a party's turn finds in a machine that keeps the invariant
     abbrev pub scene_of : Scene T K.State
     scene_of =
         record {

@@ -42,6 +42,7 @@ module _ {T : Type 0} (K : Outline T) where
         → K.At scene.coding scene.capacity scene.state q start flight
         → K.At scene.coding scene.capacity s' q start flight × (K.written scene.capacity s' q flight ≡ K.written scene.capacity scene.state q flight)
 
+    -- and it knows what it knew
     abbrev Knowing : Type 0
     Knowing =
         K.Preserves scene s' was y es changes' → AreOwn scene.party es → (q : ℕ) → q ≢ scene.party → (since backs : ℕ) (flight : Flight T)
@@ -68,6 +69,7 @@ module _ {T : Type 0} (K : Outline T) where
     pub words : (opening_of K.kind).words code.size c ≡ K.words state
     pub holds : K.Holds code c state [] [] 0
 
+  -- a machine that has just been opened keeps the invariant
   pub opening_sound : (code : Coding T) (c : ℕ) → Opens code c → (parties : ℕ) → Sound (family K code c) (opening code K.kind c parties)
   opening_sound code c opens parties =
       record {
@@ -145,6 +147,8 @@ module _ {T : Type 0} (K : Outline T) where
                 });
           }
 
+      -- a begin that writes events of its own party alone comes to a machine that keeps the
+      -- invariant
       begins_alone : (start : Start T) (flight : Flight T) → flight_in t.world p ≡ None
           → Begins K (scene_of K code c t s p 0 0 t.world.changes) start flight
           → Comes (family K code c) t p (kept_after_begin code c start p (K.kept s.state)) (K.words s.state)
@@ -161,6 +165,7 @@ module _ {T : Type 0} (K : Outline T) where
             knows = is.knows;
           }))
 
+      -- so does a step that does
       step_alone : (x : Party T) (since : ℕ) (start : Start T) (flight : Flight T) → StandsThere (family K code c) t s p x since start flight
           → StepOf K (scene_of K code c t s p x.steps x.backs since) start flight
           → ComesFrom (family K code c) t s p x since code (K.words s.state) (K.kept s.state) start flight
@@ -168,6 +173,7 @@ module _ {T : Type 0} (K : Outline T) where
           comes_at (family K code c) t p _ _ _ _ _ _ _ moves.kept moves.words
           (shown x.steps x.backs since moves.state (Some flight) _ _ _ _ here.found here.span moves.shows)
 
+    -- so a family all of whose turns write such events keeps the invariant by each of them
     pub turns_alone : Turns code c May
     turns_alone =
         record {
@@ -212,6 +218,7 @@ module _ {T : Type 0} (K : Outline T) where
       kept_here : (start : Start T) → kept_after_begin t.world.coding t.world.capacity start p t.world.kept ≡ kept_after_begin code c start p (K.kept s.state)
       kept_here start = rw (s.coding, s.capacity, s.fit.kept) refl
 
+      -- a begin that is not refused comes to a machine that keeps the invariant
       begin_comes : {May : Trace T → Turn T → Type 0} → Turns code c May → (start : Start T) (flight : Flight T)
           → MayBegin t.world p start → first_of t.world.kind t.world.capacity start t.world.kept ≡ Some flight
           → Comes F t p (kept_after_begin t.world.coding t.world.capacity start p t.world.kept) t.world.words
@@ -221,6 +228,7 @@ module _ {T : Type 0} (K : Outline T) where
           let rows : first_row ((begin_of K.kind c start).rows (K.kept s.state) p) ≡ None = rw (s.kind, s.capacity, s.fit.kept) at may.rows in
           comes_at F t p _ _ _ _ _ _ _ (kept_here start) s.fit.words (turns.begin t s p start flight may named rows)
 
+    -- what a family owes of its begins and steps is what the frame asks of it
     pub laws : (May : Trace T → Turn T → Type 0) → Turns code c May → frame.LawsWhere F May
     laws May turns =
         record {
@@ -235,6 +243,7 @@ module _ {T : Type 0} (K : Outline T) where
           death = turns.death;
         }
 
+    -- a turn that writes what the family says writes its events in order
     in_order : (t : Trace T) (turn : Turn T) (p : ℕ) → IsParty turn p → (start : Start T) (step : Step (Flight T) (Registry T) T) → Writes t turn step
         → WritesInOrder K.promise t turn (t.events ++ events_of_step p start step)
     in_order t turn p mine start step w =
@@ -249,6 +258,7 @@ module _ {T : Type 0} (K : Outline T) where
           right = w.right;
         }
 
+    -- every turn of a machine that keeps the invariant writes its events in order
     pub orders : Owed code c → Orders F
     orders L =
         record {
@@ -266,6 +276,7 @@ module _ {T : Type 0} (K : Outline T) where
           tells = L.tells;
         }
 
+    -- each call under way has taken no more steps than its promise grants
     pub progress : Owed code c → (t : Trace T) → Sound F t → (p : ℕ) → Progresses K.promise c code.size (span_of p t.events) (progress_in t.world p)
     progress L t s p =
         frame.progresses F L.bounds s.state p t.events t.world.changes (party_of p t.world.latest) (span_of p t.events) (s.inv.calls p) (s.inv.knows p)
@@ -291,6 +302,7 @@ module _ {T : Type 0} (K : Outline T) where
           subst (λ kind. Sound (family K t.world.coding t.world.capacity) (opening t.world.coding kind t.world.capacity t.world.parties)) (sym is)
           (opening_sound t.world.coding t.world.capacity (all.opens t.world.coding t.world.capacity coded admits) t.world.parties)
 
+    -- every machine of the kind that turns have reached keeps the invariant
     pub reached_sound : (t : Trace T) → t.world.kind ≡ K.kind → IsReached t → Sound (family K t.world.coding t.world.capacity) t
     reached_sound t is r =
         let F = family K t.world.coding t.world.capacity in
@@ -319,6 +331,7 @@ module _ {T : Type 0} (K : Outline T) where
           subst (λ P. IsKeptBy P t) (sym (ap (promise_of {T = T}) is ∙ owed_there.promise))
           (record { spans = s.inv.spans; progress = progress t.world.coding t.world.capacity owed_there t s; promised = promised })
 
+    -- the kind keeps what it promises in every run
     pub keeps : Keeps T K.kind
     keeps =
         record {

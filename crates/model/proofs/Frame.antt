@@ -58,6 +58,7 @@ module _ {T : Type 0} (F : Family T) where
   KnowsDoing s p events changes backs (Going flight since) = F.Knows s p events since changes backs flight
   KnowsDoing s p events changes backs (Over others) = backs ≤ others
 
+  -- what is known of a party by its latest call: of a call under way what the family knows of it
   abbrev pub KnowsParty : F.State → ℕ → List (Event T) → ℕ → Option (Party T) → Type 0
   KnowsParty s p events changes None = Unit {0}
   KnowsParty s p events changes (Some x) = KnowsDoing s p events changes x.backs x.doing
@@ -77,6 +78,7 @@ module _ {T : Type 0} (F : Family T) where
     pub others : (q : ℕ) → q ≢ p → Fits s q (party_of q latest) (span_of q (events ++ es))
     pub others_know : (q : ℕ) → q ≢ p → KnowsParty s q (events ++ es) changes (party_of q latest)
 
+  -- the invariant stands after a turn that owes what the frame asks of it
   pub advance : (s s' : F.State) (p : ℕ) (y : Party T) (latest : List (ℕ × Party T)) (events es : List (Event T)) (changes changes' : ℕ)
       → Inv s latest events changes → Owes s' p y latest events es changes'
       → Inv s' (put p y latest) (events ++ es) changes'
@@ -100,6 +102,7 @@ module _ {T : Type 0} (F : Family T) where
           subst (λ n. KnowsParty s' n (events ++ es) changes' (party_of n (put p y latest))) (sym e)
           (subst (KnowsParty s' p (events ++ es) changes') (sym (party_put_same p y latest)) owes.knows)
 
+      -- what is known of the other parties stands
       theirs_know : (q : ℕ) → q ≢ p → KnowsParty s' q (events ++ es) changes' (party_of q (put p y latest))
       theirs_know q ne = subst (KnowsParty s' q (events ++ es) changes') (sym (party_put_other q p y latest ne)) (owes.others_know q ne)
 
@@ -120,6 +123,7 @@ module _ {T : Type 0} (F : Family T) where
   module _ (s s' : F.State) (q : ℕ)
       (others : (start : Start T) (flight : Flight T) → F.At s q start flight
       → F.At s' q start flight × (F.written s' q flight ≡ F.written s q flight)) where
+    -- what another party is doing fits its span as before
     doing_fits : (x : Party T) (doing : Doing T) (span : Span T) → FitsDoing s q x doing span → FitsDoing s' q x doing span
     doing_fits x (Going flight since) span h =
         let both = others x.start flight h.at in
@@ -145,6 +149,7 @@ module _ {T : Type 0} (F : Family T) where
     still_knows None h = tt
     still_knows (Some x) h = doing_knows x.backs x.doing h
 
+  -- a turn that writes events of its own party alone owes nothing else to the others
   pub owes : (s s' : F.State) (from : Span T) (p : ℕ) (y : Party T) (latest : List (ℕ × Party T))
       (events es : List (Event T)) (changes changes' : ℕ)
       → span_of p events ≡ from → Inv s latest events changes
@@ -174,6 +179,7 @@ module _ {T : Type 0} (F : Family T) where
       → doing ≡ Going flight since → FitsDoing s p x doing seen → IsUnderWay s p x flight seen
   under_way s p x doing flight since seen e h = subst (λ d. FitsDoing s p x d seen) e h
 
+  -- what is known of a call under way, from what is known of its party
   pub knows_now : (s : F.State) (p : ℕ) (events : List (Event T)) (changes : ℕ) (o : Option (Party T)) (x : Party T)
       (flight : Flight T) (since : ℕ)
       → o ≡ Some x → x.doing ≡ Going flight since → KnowsParty s p events changes o
@@ -228,6 +234,7 @@ module _ {T : Type 0} (F : Family T) where
 
   -- ---- a turn that comes to this
 
+  -- a turn that comes to what the family says leaves a machine that keeps the invariant
   pub comes_sound : (t : Trace T) (p : ℕ) (kept : Registry T) (words : List ℕ) (y : Party T) (es : List (Event T)) (changes : ℕ)
       → Sound t → Comes t p kept words y es changes
       → Sound record {
@@ -278,6 +285,7 @@ module _ {T : Type 0} (F : Family T) where
       answered t p x (ask x.doing) (old_of t.world.words (ask x.doing)) x.doing s (λ flight since d.
       subst (λ a. ComesByStep t p x flight since a (old_of t.world.words a)) (sym (ap ask d)) (comes x flight since (under t p x flight since e d)))
 
+  -- so does an answer to a question of a call
   pub decision_sound : (t : Trace T) (p : ℕ) (said : Bool) → Sound t
       → ((x : Party T) (flight : Flight T) (since : ℕ) → IsUnder t p x flight since → ComesByStep t p x flight since None (number_of said))
       → (o : Option (Party T)) → party_of p t.world.latest ≡ o
@@ -286,6 +294,7 @@ module _ {T : Type 0} (F : Family T) where
   decision_sound t p said s comes (Some x) e =
       answered t p x None (number_of said) x.doing s (λ flight since d. comes x flight since (under t p x flight since e d))
 
+  -- so does a begin
   pub begin_sound : (t : Trace T) (p : ℕ) (start : Start T) → is_none (first_of t.world.kind t.world.capacity start t.world.kept) ≡ false → Sound t
       → ((flight : Flight T) → first_of t.world.kind t.world.capacity start t.world.kept ≡ Some flight
       → Comes t p (kept_after_begin t.world.coding t.world.capacity start p t.world.kept) t.world.words
@@ -315,6 +324,7 @@ module _ {T : Type 0} (F : Family T) where
     pub death : (t : Trace T) (owner : ℕ) (s : Sound t) → MayDie t.world owner → ComesByDeath t s owner
 
   module _ (May : Trace T → Turn T → Type 0) (laws : LawsWhere May) where
+    -- so does the death of an owner
     death_sound : (t : Trace T) (owner : ℕ) → MayDie t.world owner → Sound t → Sound (after_turn t (Die owner))
     death_sound t owner may s =
         let w = t.world in
@@ -339,6 +349,7 @@ module _ {T : Type 0} (F : Family T) where
               };
         }
 
+    -- so does every turn that is not refused
     pub turn_sound : (t : Trace T) (turn : Turn T) → call_refusal t.world turn ≡ None → May t turn → Sound t → Sound (after_turn t turn)
     turn_sound t (Begin p start) e may s =
         let begins = may_begin t.world p start e in
@@ -405,6 +416,8 @@ module _ {T : Type 0} (F : Family T) where
     pub paid : (s : F.State) (p : ℕ) (events : List (Event T)) (since changes backs : ℕ) (flight : Flight T)
         → F.Knows s p events since changes backs flight → backs ≤ changes - since
 
+  -- a party's latest call has taken no more steps, and has been turned back no more often, than
+  -- its promise grants
   pub progresses : Bounds → (s : F.State) (p : ℕ) (events : List (Event T)) (changes : ℕ) (o : Option (Party T)) (seen : Span T)
       → Fits s p o seen → KnowsParty s p events changes o
       → Progresses F.promise F.capacity F.coding.size seen (progress_after changes o)

@@ -51,6 +51,7 @@ module _ {T : Type 0} (F : Family T) where
         go (Over others) d = nothing t (Next p)
         go (Going flight since) d = orders.step t p x flight since s small e d
 
+    -- an answer to a question of a call writes its events in order
     decision_in_order : (said : Bool) → is_due t.world.coding (flight_in t.world p) ≡ true → (o : Option (Party T))
         → party_of p t.world.latest ≡ o
         → WritesInOrder F.promise t (Decide p said) (t.events ++ events_of_decision t.world p said o)
@@ -63,6 +64,7 @@ module _ {T : Type 0} (F : Family T) where
             let here : flight_in t.world p ≡ Some flight = ap (λ o. flight_of (doing_of o)) e ∙ ap (λ d. flight_of (Some d)) d in
             orders.decision t p x flight since said s small e d (rw here at due)
 
+  -- a turn writes down what it did, in order
   writes_down : Orders → (t : Trace T) (turn : Turn T) → refusal_of t.world turn ≡ None → Sound F t → WritesDown F.promise t turn (after_turn t turn)
   writes_down orders t (Begin p start) e s = refl
   writes_down orders t (Next p) e s = next_in_order orders t s (passes t.world (Next p) e).turns p (party_of p t.world.latest) refl
@@ -72,6 +74,7 @@ module _ {T : Type 0} (F : Family T) where
       (party_of p t.world.latest) refl
   writes_down orders t (Die owner) e s = refl
 
+  -- every turn of a reached machine does what the turn says, and writes that down
   pub turn_is : Orders → (t : Trace T) (turn : Turn T) → refusal_of t.world turn ≡ None → IsReached t → Sound F t
       → IsTurnBy F.promise t turn (after_turn t turn)
   turn_is orders t turn e r s =

@@ -68,6 +68,7 @@ module _ {X : Type 0} where
 
   -- ---- a party written in its place
 
+  -- a number below all keys of a list has no entry in it
   none_below : (p k : ℕ) (es : List (ℕ × X)) → p < k → AllByRecursion (λ q. nat_cmp k q ≡ Less) (keys_of es) → find p es ≡ None
   none_below p k [] below all = refl
   none_below p k (e ∷ es) below all =

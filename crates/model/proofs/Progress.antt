@@ -102,6 +102,7 @@ module _ {T : Type 0} where
   loan_guaranteed : (capacity size : ℕ) (start : Start T) → IsGuaranteed loan_promises.promise capacity size start (in_loan capacity start)
   loan_guaranteed = grind (arith, at_most)
 
+-- the table of guarantees agrees with the bounds of each kind's promise
 pub guaranteed : {T : Type 0} (kind : Kind) (capacity size : ℕ) (start : Start T)
     → IsGuaranteed (promise_of kind) capacity size start (guarantee_of kind capacity size start)
 guaranteed =

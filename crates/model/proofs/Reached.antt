@@ -56,6 +56,7 @@ module _ {T : Type 0} where
     leads_on turns turn t first e is =
         sym (allowed_is t turn e) ∙ (ap (λ u. attempt_by refuses u turn) is ∙ sym (run_by_more turns turn first))
 
+    -- a machine that turns have reached, and one turn more that is not refused
     pub reached_by_more : (t : Trace T) (turn : Turn T) → refuses t.world turn ≡ None → IsReachedBy refuses t → IsReachedBy refuses (after_turn t turn)
     reached_by_more t turn e r =
         let making = turn_making t.world turn in
@@ -68,6 +69,7 @@ module _ {T : Type 0} where
           is = rw (making.coding, making.kind, making.capacity, making.parties) more;
         }
 
+  -- the same of the machine's own refusals
   pub reached_more : (t : Trace T) (turn : Turn T) → refusal_of t.world turn ≡ None → IsReached t → IsReached (after_turn t turn)
   reached_more t turn e r =
       let making = turn_making t.world turn in
@@ -85,6 +87,7 @@ module _ {T : Type 0} where
   pub reached_on_more : (t : Trace T) (turn : Turn T) → call_refusal t.world turn ≡ None → IsReachedOn t → IsReachedOn (after_turn t turn)
   reached_on_more t turn e r = reached_by_more call_refusal t turn e r
 
+  -- a machine that has just been opened is reached, by no turn
   pub reached_opening : (code : Coding T) (kind : Kind) (capacity parties : ℕ) → IsCoding code
       → capacity_error kind capacity ≡ None → IsReached (opening code kind capacity parties)
   reached_opening code kind capacity parties coded e =
@@ -97,6 +100,7 @@ module _ {T : Type 0} where
         is = sym (opened_at_one code kind capacity parties);
       }
 
+  -- the same of a machine with its own shape, as that of a loan channel
   pub reached_as : (code : Coding T) (shape : Shape) (parties : ℕ) → IsCoding code → shape_error shape ≡ None
       → IsReached (opening_as code shape parties)
   reached_as code shape parties coded e =
@@ -155,6 +159,8 @@ module _ {T : Type 0} where
     kept_by t first r = subst P (sym r.is) (run_keeps r.turns (opening t.world.coding t.world.kind t.world.capacity t.world.parties) first)
 
   module _ (P : Trace T → Type 0) (keeps : (t : Trace T) (turn : Turn T) → refusal_of t.world turn ≡ None → P t → P (after_turn t turn)) where
+    -- what holds when a machine is opened, and is kept by each turn that is taken, holds of every
+    -- reached machine
     pub kept_by_runs : (t : Trace T)
         → ((queue : ℕ) → queue_error t.world.kind queue ≡ None
         → P (opened t.world.coding t.world.kind t.world.capacity queue t.world.parties))

@@ -13,6 +13,7 @@ module _ {A : Type 0} where
   no_more [] y after e = cc
   no_more (b ∷ bs) y after e = cc
 
+  -- a place in a list with one element more is the last one, or lies in the list before
   pub split_last : (xs : List A) (x : A) (before : List A) (y : A) (after : List A) → xs ++ x ∷ [] ≡ before ++ y ∷ after → SplitAt xs x before y after
   split_last [] x [] y after e = let h : x ≡ y = cc in Last refl h
   split_last [] x (b ∷ bs) y after e = let h : [] ≡ bs ++ y ∷ after = cc in absurd (no_more bs y after h)
@@ -94,6 +95,8 @@ module _ {T : Type 0} where
   AllFollow R span [] = Unit {0}
   AllFollow R span (e ∷ es) = R e span × AllFollow R (own_after span e) es
 
+  -- events of one party that are right one after another in its span are right in the whole
+  -- history
   pub spans_right : (R : Event T → Span T → Type 0) (p : ℕ) (events es : List (Event T)) (span : Span T)
       → span_of p events ≡ span → AreOwn p es → AllFollow R span es
       → AreRight (λ before e. IfSome (whose e) (λ q. R e (span_of q before))) events es

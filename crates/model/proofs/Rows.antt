@@ -26,6 +26,7 @@ not_some None e = refl
 not_some (Some x) e = absurd (cc)
 
 module _ {T : Type 0} where
+  -- a party with a call under way has an entry
   pub some_party : (o : Option (Party T)) (f : Flight T) → flight_of (doing_of o) ≡ Some f → (x : Party T) × (o ≡ Some x)
   some_party None f e = absurd (cc)
   some_party (Some x) f e = (x, refl)
@@ -61,6 +62,7 @@ module _ {T : Type 0} where
   pub may_decide : (w : World T) (p : ℕ) (said : Bool) → call_refusal w (Decide p said) ≡ None → MayGoOn w p
   may_decide = grind (arith, row_passed, not_none)
 
+  -- an answer that is not refused has a question
   pub must_be_due : (w : World T) (p : ℕ) (said : Bool) → call_refusal w (Decide p said) ≡ None → not (is_due w.coding (flight_in w p)) ≡ false
   must_be_due = grind (arith, row_passed, is_none)
 

@@ -21,6 +21,7 @@ begins p start count = Begin p start ∷ nexts p count
 abbrev pub roles : List (Turn ℕ)
 roles = begins 0 (Queues AcquireProducer) 1 ++ begins 1 (Queues AcquireConsumer) 1
 
+-- the events of two parties that take the two roles of a queue
 abbrev pub roles_told : List (Event ℕ)
 roles_told =
     Begun 0 (Queues AcquireProducer)

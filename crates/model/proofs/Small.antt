@@ -38,6 +38,7 @@ module _ {T : Type 0} where
       theirs : q ≢ p → HasSmallCounts (turns + 1) (changes + more) x
       theirs ne = later turns changes more x (all q x (sym (party_put_other q p y latest ne) ∙ found))
 
+  -- after a begin the counts are still no more than the number of turns
   begin_small : (w : World T) (p : ℕ) (start : Start T) (flight : Option (Flight T)) → w.turns < 2 ^ 64 - 2 → IsSmall w → IsSmall (after_begin w p start flight)
   begin_small w p start None below h = h
   begin_small w p start (Some flight) below h =
@@ -55,6 +56,7 @@ module _ {T : Type 0} where
       → HasSmallCount (changes + change) (doing_after (changes + change) (since + change) after)
   doing_small = grind arith
 
+  -- and so they are after a step
   step_small : (w : World T) (p : ℕ) (x : Party T) (since : ℕ) (ask : Option Ask) (s : Step (Flight T) (Registry T) T)
       → w.turns < 2 ^ 64 - 2 → x.steps ≤ w.turns → x.backs ≤ w.turns → since ≤ w.changes → IsSmall w
       → IsSmall (after_step w p x since ask s)

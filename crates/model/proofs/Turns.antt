@@ -88,6 +88,8 @@ module _ {T : Type 0} where
       → flight_of (doing_of o) ≡ Some flight → (after_decision w p said o).turns ≡ w.turns + 1
   decision_turns = grind (arith, answer_turns, number_of)
 
+  -- after a turn the number of turns has risen by one, and what the machine was made with is the
+  -- same
   pub one_turn_later : (w : World T) (turn : Turn T) → call_refusal w turn ≡ None → IsOneTurnLater w (world_after w turn)
   one_turn_later w (Begin p start) e =
       same_but_turns w (Begin p start) (begin_turns w p start (first_of w.kind w.capacity start w.kept) (may_begin w p start e).call)
@@ -139,6 +141,7 @@ module _ {T : Type 0} where
       → StandsAt (after_step w p x since ask (step_in w p x flight answer)) p (goes_of w.coding p flight answer w.kept)
   goes = grind (arith, step_in, after_step, stands, step_here)
 
+  -- after a step its call goes on as the table of its steps says
   next_goes : (w : World T) (p : ℕ) → GoesAsTold w → (o : Option (Party T)) → party_of p w.latest ≡ o
       → IfSome (flight_of (doing_of o))
       (λ flight. StandsAt (after_next w p o) p (goes_of w.coding p flight (old_of w.words (ask_of (want_of w.coding flight))) w.kept))
@@ -154,6 +157,7 @@ module _ {T : Type 0} where
           let old = old_of w.words (ask_of (want_of w.coding flight)) in
           goes w p x flight since (ask_of (want_of w.coding flight)) old (tells p x flight since old found e)
 
+  -- after an answer its call goes on as the table says
   decision_goes : (w : World T) (p : ℕ) (said : Bool) → GoesAsTold w → (o : Option (Party T))
       → party_of p w.latest ≡ o
       → IfSome (flight_of (doing_of o))
@@ -178,6 +182,8 @@ module _ {T : Type 0} where
 
   -- ---- its counts
 
+  -- what a party that goes on counts in a step: one step more where it asked for one, and a turn
+  -- back where it was turned back
   going_on : (changes since steps change : ℕ) (asks : Bool) (s : Step (Flight T) (Registry T) T) (x : Party T) (flight : Flight T)
       → x.doing ≡ Going flight since → x.steps + steps ≡ cond asks (x.steps + 1) x.steps
       → BothGoOn asks (is_none (flight_of (doing_of (Some (party_after x since changes steps change s)))))
@@ -200,6 +206,7 @@ module _ {T : Type 0} where
           let same = later changes since change in
           rw e (record { steps = count; backs = one_or_more x.backs s.back; others = same; finished = refl })
 
+  -- the same of the party in the machine
   counted : (w : World T) (p : ℕ) (x : Party T) (flight : Flight T) (since : ℕ) (ask : Option Ask) (answer : ℕ)
       → party_of p w.latest ≡ Some x → x.doing ≡ Going flight since
       → BothGoOn (is_some ask) (is_none (flight_in (after_step w p x since ask (step_in w p x flight answer)) p))
@@ -211,6 +218,7 @@ module _ {T : Type 0} where
       let goal = going_on w.changes since (step_count ask) (change_of w.words ask) (is_some ask) s x flight e (one_more_if ask x.steps) in
       rw (here, found) goal
 
+  -- a step counts itself, and the changes of others that its call has seen
   next_counts : (w : World T) (p : ℕ) (o : Option (Party T)) → party_of p w.latest ≡ o
       → IfSome (flight_of (doing_of o))
       (λ flight. BothGoOn (is_some (ask_of_flight w.coding (flight_of (doing_of o))))
@@ -228,6 +236,7 @@ module _ {T : Type 0} where
       go (Over others) e = tt
       go (Going flight since) e = counted w p x flight since (ask_of (want_of w.coding flight)) (old_of w.words (ask_of (want_of w.coding flight))) found e
 
+  -- an answer counts no step
   decision_counts : (w : World T) (p : ℕ) (said : Bool) (o : Option (Party T)) → party_of p w.latest ≡ o
       → IfSome (flight_of (doing_of o))
       (λ flight. BothGoOn false (is_none (flight_in (after_decision w p said o) p)) (progress_in w p)
@@ -246,6 +255,7 @@ module _ {T : Type 0} where
       → progress_in (after_begin w p start o) p ≡ Some record { steps = 0; backs = 0; others = 0; finished = false }
   begin_counts = grind (arith, party_put_same)
 
+  -- so each turn counts what it did
   pub counts_turn : (w : World T) (turn : Turn T) → call_refusal w turn ≡ None → CountsTurn w turn (world_after w turn)
   counts_turn w (Begin p start) e = begin_counts w p start (first_of w.kind w.capacity start w.kept) (may_begin w p start e).call
   counts_turn w (Next p) e = next_counts w p (party_of p w.latest) refl

@@ -111,6 +111,7 @@ module _ (c b : ℕ) (below : b < c) where
       → (place ≡ b → v ≡ page.bit (page.stands old b)) → GoesThen stage (page.set_tests place old) v v
   set_tests_shows place old v stage lt is none sees = go (page.stands old place) refl
     where
+      -- a set that finds its bit standing has found 1 and left 1, if the bit is the place's
       found : page.stands old place ≡ true → (t : Bool) → (place == b) ≡ t
           → Moves at (page.Set place) None (cond t (Some (act 1 1)) None) v v
       found stood true t =
@@ -135,6 +136,7 @@ module _ (c b : ℕ) (below : b < c) where
       → Good (words_then (page.bit_set c) at words stage) × GoesThen stage a (value words) (value (words_then (page.bit_set c) at words stage))
   leaves words stage a same good goes = (subst Good (sym same) good, subst (λ ws. GoesThen stage a (value words) (value ws)) (sym same) goes)
 
+  -- a set that loads its element has done nothing, or has found its bit standing
   set_loads : (words : List ℕ) (place : ℕ) → Good words → place < c → Step words (page.SetLoadsElement place)
   set_loads words place good lt =
       let old = slice_index words (1 + place / 64) in
@@ -152,12 +154,14 @@ module _ (c b : ℕ) (below : b < c) where
   same_length : (words : List ℕ) (word new : ℕ) → Good words → Good (slice_set words word new)
   same_length words word new good = length-set words word new ∙ good
 
+  -- a set that puts its bit in has found 0 and left 1, if the bit is the place's, and has done nothing at another place
   set_done : (words : List ℕ) (place element : ℕ) → Good words → place < c → page.stands element place ≡ false
       → slice_index words (1 + place / 64) ≡ element
       → Moves at (page.Set place) None (cond (place == b) (Some (act 0 1)) None) (value words)
       (value (slice_set words (1 + place / 64) (with_flag element place)))
   set_done words place element good lt clear is = go (place == b) refl
     where
+      -- so it has whether the bit is the place's or not
       go : (t : Bool) → (place == b) ≡ t
           → Moves at (page.Set place) None (cond t (Some (act 0 1)) None) (value words) (value (slice_set words (1 + place / 64) (with_flag element place)))
       go true t =
@@ -175,10 +179,12 @@ module _ (c b : ℕ) (below : b < c) where
           (ap page.bit (subst (λ e. stands (slice_set words (1 + place / 64) (with_flag e place)) b ≡ stands words b) is
           (set_leaves words place b (near words place good lt) other)))
 
+  -- a set that exchanges its element has put its bit in, has found it standing, or tries again
   set_exchanges : (words : List ℕ) (place element : ℕ) → Good words → place < c → page.stands element place ≡ false
       → Step words (page.SetExchangesElement place element)
   set_exchanges words place element good lt clear = go (slice_index words (1 + place / 64) == element) refl
     where
+      -- so it has whether the element was as it had been loaded or not
       go : (t : Bool) → (slice_index words (1 + place / 64) == element) ≡ t
           → Good (exchanged words (1 + place / 64) (with_flag element place) t)
           × GoesThen (page.SetExchangesElement place element)
@@ -203,6 +209,7 @@ module _ (c b : ℕ) (below : b < c) where
       → Moves at page.ResetNext (passed_by start passed) (passed_by start (passed + 1)) v v
   passes start passed v le lt clear = ⊎_elim here elsewhere (cases_eq (offset start) passed)
     where
+      -- a search that passes the place where it is clear has found 0 there, and left 0
       here : offset start ≡ passed → Moves at page.ResetNext (passed_by start passed) (passed_by start (passed + 1)) v v
       here is =
           let no : nat_lt (offset start) passed ≡ false = grind (arith, nat_tests) in
@@ -215,6 +222,7 @@ module _ (c b : ℕ) (below : b < c) where
           let same : nat_lt (offset start) (passed + 1) ≡ nat_lt (offset start) passed = grind (arith, nat_tests) in
           rw same (Stays refl refl)
 
+  -- a search that looks at a place has passed it, or goes to exchange its element
   next_tests_shows : (start passed old v : ℕ) (stage : page.Stage) → start ≤ c → passed < c
       → call_at stage ≡ page.ResetNext → did stage ≡ passed_by start passed → (page.place_after c start passed ≡ b → v ≡ page.bit (page.stands old b))
       → GoesThen stage (page.next_tests c start passed old) v v
@@ -231,6 +239,7 @@ module _ (c b : ℕ) (below : b < c) where
           passes start passed v le lt
           (λ same. sees same ∙ ap page.bit (subst (λ n. page.stands old n ≡ false) same clear))
 
+      -- where it has passed the place it looks at the next one, or has found none
       then : page.stands old (page.place_after c start passed) ≡ false → (t : Bool) → nat_lt (passed + 1) c ≡ t
           → GoesThen stage (cond t (GoOn (page.NextLoadsElement start (passed + 1))) (Done (page.WasReset None))) v v
       then clear true t =
@@ -245,6 +254,7 @@ module _ (c b : ℕ) (below : b < c) where
       go true stood = record { call = sym is; fits = (lt, (le, stood)); moves = Stays (sym had) refl }
       go false clear = then clear (nat_lt (passed + 1) c) refl
 
+  -- a search that begins has passed no place
   next_starts : (words : List ℕ) → Good words → Step words page.NextLoadsPosition
   next_starts words good =
       let old = slice_index words 0 in
@@ -263,6 +273,7 @@ module _ (c b : ℕ) (below : b < c) where
   sees_there : (words : List ℕ) (place : ℕ) → place ≡ b → value words ≡ page.bit (page.stands (slice_index words (1 + place / 64)) b)
   sees_there words place same = ap (λ n. page.bit (page.stands (slice_index words (1 + n / 64)) b)) (sym same)
 
+  -- a search that loads an element has passed the place, or goes to exchange it
   next_loads : (words : List ℕ) (start passed : ℕ) → Good words → start ≤ c → passed < c → Step words (page.NextLoadsElement start passed)
   next_loads words start passed good le lt =
       let place = page.place_after c start passed in
@@ -270,6 +281,7 @@ module _ (c b : ℕ) (below : b < c) where
       leaves words (page.NextLoadsElement start passed) (page.next_tests c start passed old) (load_leaves words (1 + place / 64)) good
       (next_tests_shows start passed old (value words) (page.NextLoadsElement start passed) le lt refl refl (sees_there words place))
 
+  -- a search that takes a bit out has found 1 and left 0, if the bit is the place's; else that it has passed the place does not count
   next_done : (words : List ℕ) (start passed element : ℕ) → Good words → start ≤ c → passed < c
       → page.stands element (page.place_after c start passed) ≡ true → slice_index words (1 + page.place_after c start passed / 64) ≡ element
       → Moves at page.ResetNext (passed_by start passed) (taken (page.place_after c start passed)) (value words)
@@ -283,6 +295,7 @@ module _ (c b : ℕ) (below : b < c) where
       then =
           slice_set words (1 + page.place_after c start passed / 64) (without_flag element (page.place_after c start passed))
 
+      -- so it has where the bit is the place's
       here : offset start ≡ passed
           → Moves at page.ResetNext (passed_by start passed) (taken (page.place_after c start passed)) (value words)
           (value (slice_set words (1 + page.place_after c start passed / 64) (without_flag element (page.place_after c start passed))))
@@ -302,6 +315,7 @@ module _ (c b : ℕ) (below : b < c) where
           let possible : page.at b page.ResetNext (page.WasReset (Some place)) ≡ Some (act 1 0) = rw yes refl in
           Acts none (act 1 0) some (sym was) (sym will) (page.WasReset (Some place), possible)
 
+      -- where the bit is another's, that it has passed the place does not count
       elsewhere : offset start ≢ passed
           → Moves at page.ResetNext (passed_by start passed) (taken (page.place_after c start passed)) (value words)
           (value (slice_set words (1 + page.place_after c start passed / 64) (without_flag element (page.place_after c start passed))))
@@ -319,11 +333,13 @@ module _ (c b : ℕ) (below : b < c) where
           go true t none stays = Forgets (act 0 0) (rw t refl) refl none stays
           go false t none stays = Stays (none ∙ sym (rw t refl)) stays
 
+  -- a search that exchanges an element has taken its bit out, has passed the place, or tries again
   next_exchanges : (words : List ℕ) (start passed element : ℕ) → Good words → start ≤ c → passed < c
       → page.stands element (page.place_after c start passed) ≡ true → Step words (page.NextExchangesElement start passed element)
   next_exchanges words start passed element good le lt stood =
       go (slice_index words (1 + page.place_after c start passed / 64) == element) refl
     where
+      -- so it has whether the element was as it had been loaded or not
       go : (t : Bool) → (slice_index words (1 + page.place_after c start passed / 64) == element) ≡ t
           → Good (exchanged words (1 + page.place_after c start passed / 64) (without_flag element (page.place_after c start passed)) t)
           × GoesThen (page.NextExchangesElement start passed element)
@@ -354,6 +370,7 @@ module _ (c b : ℕ) (below : b < c) where
 
   -- ---- a reset of all
 
+  -- a reset of all that swaps an element has taken out what stood at the place, if it is in that element
   all_swaps : (words : List ℕ) (word : ℕ) (places : List ℕ) → Good words → 1 ≤ word → word < 1 + (c + 63) / 64
       → (word ≤ 1 + b / 64 → count places ≡ 0) → Step words (page.AllSwapsElement word places)
   all_swaps words word places good some within none =
@@ -365,11 +382,13 @@ module _ (c b : ℕ) (below : b < c) where
       abbrev_more : count (places ++ places_in word (slice_index words word)) ≡ count places + count (places_in word (slice_index words word))
       abbrev_more = sum_by-append (λ place. cond (place == b) 1 0) places (places_in word (slice_index words word))
 
+      -- what it has handed out of the place then is what it found there
       moves : Moves at page.ResetAll (cond (nat_lt (1 + b / 64) word) (Some (act (count places) 0)) None)
           (cond (nat_lt (1 + b / 64) (word + 1)) (Some (act (count (places ++ places_in word (slice_index words word))) 0)) None)
           (value words) (value (slice_set words word 0))
       moves = ⊎_elim here elsewhere (cases_eq (1 + b / 64) word)
         where
+          -- so it is where it swaps the element of the place
           here : 1 + b / 64 ≡ word → Moves at page.ResetAll (cond (nat_lt (1 + b / 64) word) (Some (act (count places) 0)) None)
               (cond (nat_lt (1 + b / 64) (word + 1)) (Some (act (count (places ++ places_in word (slice_index words word))) 0)) None)
               (value words) (value (slice_set words word 0))
@@ -384,6 +403,7 @@ module _ (c b : ℕ) (below : b < c) where
               rw (no, yes) (Acts refl (act (count (places ++ places_in word (slice_index words word))) 0) refl (omega arith) (sym cleared)
               (page.WereReset (places ++ places_in word (slice_index words word)), refl))
 
+          -- it has done nothing more where it swaps another
           elsewhere : 1 + b / 64 ≢ word → Moves at page.ResetAll (cond (nat_lt (1 + b / 64) word) (Some (act (count places) 0)) None)
               (cond (nat_lt (1 + b / 64) (word + 1)) (Some (act (count (places ++ places_in word (slice_index words word))) 0)) None)
               (value words) (value (slice_set words word 0))
@@ -394,6 +414,7 @@ module _ (c b : ℕ) (below : b < c) where
               let counts : count (places ++ places_in word (slice_index words word)) ≡ count places = omega arith in
               rw (same, counts) (Stays refl (other_word words word 0 (λ e. ne (sym e))))
 
+      -- before the element of the place it has handed out nothing of the place
       none_then : word + 1 ≤ 1 + b / 64 → count (places ++ places_in word (slice_index words word)) ≡ 0
       none_then le =
           let no_more = place_not_named word (slice_index words word) some b (λ e. absurd (omega arith)) in
@@ -401,6 +422,7 @@ module _ (c b : ℕ) (below : b < c) where
           let before = none (omega arith) in
           omega arith
 
+      -- it goes on to the next element, or it has swapped them all
       goes : (t : Bool) → nat_lt (word + 1) (1 + (c + 63) / 64) ≡ t
           → GoesThen (page.AllSwapsElement word places)
           (cond t (GoOn (page.AllSwapsElement (word + 1) (places ++ places_in word (slice_index words word))))
@@ -420,6 +442,7 @@ module _ (c b : ℕ) (below : b < c) where
 
   -- ---- the law
 
+  -- what the bit set's page owes at a place
   law : Law (page.bit_set c) at
   law =
       record {
@@ -438,6 +461,7 @@ module _ (c b : ℕ) (below : b < c) where
       nothing_stands : value (replicate (1 + (c + 63) / 64) 0) ≡ 0
       nothing_stands = ap (λ e. page.bit (page.stands e b)) (zeros (1 + (c + 63) / 64) (1 + b / 64)) ∙ ap page.bit (none_stands b)
 
+      -- each call that may begin begins with a stage at which it has done nothing
       begins : (p : ℕ) (call : page.Call) → page.may c p call ≡ true → Begins (page.bit_set c) at call_at did Fits call
       begins p (page.Set place) may = record { is = refl; nothing = refl; fits = grind (arith, nat_tests) }
       begins p page.ResetNext may = record { is = refl; nothing = refl; fits = tt }
@@ -445,6 +469,7 @@ module _ (c b : ℕ) (below : b < c) where
           let no : nat_lt (1 + b / 64) 1 ≡ false = grind (arith, nat_tests) in
           record { is = refl; nothing = rw no refl; fits = ((omega arith), ((omega arith), λ le. refl)) }
 
+      -- each stage does one thing at the place
       steps : (words : List ℕ) (stage : page.Stage) → Good words → Fits stage → Step words stage
       steps words (page.SetLoadsElement place) good fits = set_loads words place good fits
       steps words (page.SetExchangesElement place element) good fits = set_exchanges words place element good fits.0 fits.1

@@ -71,6 +71,7 @@ module _ (c : ℕ) (some : 0 < c) where
   writes_none : (p : ℕ) → WritesBits p [] []
   writes_none p = record { quiet = λ before. refl; own = λ acc. sym (append-nil acc); others = λ q acc ne. refl }
 
+  -- the events of these bits hand out these bits
   writes_all : (p : ℕ) (bs : List ℕ) → WritesBits p (map (λ b. events.Cleared p b) bs) bs
   writes_all p bs = record { quiet = quiet bs; own = own bs; others = others bs }
     where
@@ -78,6 +79,7 @@ module _ (c : ℕ) (some : 0 < c) where
       quiet [] before = refl
       quiet (b ∷ bs) before = quiet bs (before ++ events.Cleared p b ∷ [])
 
+      -- they hand them out to their own party
       own : (bs acc : List ℕ) → fold (handed_after bits_bridge.reading p) acc (map (λ b. events.Cleared p b) bs) ≡ acc ++ bs
       own [] acc = sym (append-nil acc)
       own (b ∷ bs) acc =
@@ -85,6 +87,7 @@ module _ (c : ℕ) (some : 0 < c) where
           ap (λ t. fold (handed_after bits_bridge.reading p) (cond t (acc ++ b ∷ []) acc) (map (λ b. events.Cleared p b) bs)) t
           ∙ (own bs (acc ++ b ∷ []) ∙ append_assoc acc (b ∷ []) bs)
 
+      -- they hand nothing out to another
       others : (bs : List ℕ) (q : ℕ) (acc : List ℕ) → q ≢ p
           → fold (handed_after bits_bridge.reading q) acc (map (λ b. events.Cleared p b) bs) ≡ acc
       others [] q acc ne = refl
@@ -93,6 +96,7 @@ module _ (c : ℕ) (some : 0 < c) where
           ap (λ t. fold (handed_after bits_bridge.reading q) (cond t (acc ++ b ∷ []) acc) (map (λ b. events.Cleared p b) bs)) t
           ∙ others bs q acc ne
 
+  -- the effects of a step hand out what the stage takes out
   writes : (p found : ℕ) (stage : bits.Stage) (old : ℕ) → WritesBits p (effects_of p (bits_bridge.flight c found stage) old) (items_of stage old)
   writes p found (bits.SetLoadsElement place) old = writes_none p
   writes p found (bits.SetExchangesElement place element) old = go (old == element)
@@ -114,6 +118,7 @@ module _ (c : ℕ) (some : 0 < c) where
   abbrev ReadsBits : List ℕ → machine.After bits.Stage bits.Answer → Type 0
   ReadsBits items a = Reads (bits.bit_set c) bits_bridge.reading HandsAt bits_bridge.answered items a
 
+  -- a set that looks for its bit hands nothing out
   reads_set : (place old : ℕ) (items : List ℕ) → ReadsBits items (bits.set_tests place old)
   reads_set place old items = go (bits.stands old place)
     where
@@ -121,9 +126,11 @@ module _ (c : ℕ) (some : 0 < c) where
       go true = refl
       go false = tt
 
+  -- a search that looks at a place hands nothing out
   reads_next : (start passed old : ℕ) (items : List ℕ) → ReadsBits items (bits.next_tests c start passed old)
   reads_next start passed old items = go (bits.stands old (bits.place_after c start passed)) (nat_lt (passed + 1) c)
     where
+      -- so it does whether the bit stands or not, and whether a place is left or not
       go : (a b : Bool)
           → ReadsBits items (cond a (machine.GoOn (bits.NextExchangesElement start passed old))
           (cond b (machine.GoOn (bits.NextLoadsElement start (passed + 1))) (machine.Done (bits.WasReset None))))
@@ -131,6 +138,7 @@ module _ (c : ℕ) (some : 0 < c) where
       go false true = tt
       go false false = refl
 
+  -- what a reset of all hands out goes along with its stages into its answer
   reads : (stage : bits.Stage) (old : ℕ) (items : List ℕ) → HandsAt stage items → ReadsBits (items ++ items_of stage old) ((bits.does c stage).2 old)
   reads (bits.SetLoadsElement place) old items hands = reads_set place old (items ++ [])
   reads (bits.SetExchangesElement place element) old items hands = go (old == element) (reads_set place old (items ++ []))
@@ -156,6 +164,7 @@ module _ (c : ℕ) (some : 0 < c) where
   reads (bits.NextStoresPosition place) old items hands = refl
   reads (bits.AllSwapsElement word places) old items hands = go (nat_lt (word + 1) (1 + elements c))
     where
+      -- so it does whether an element is left or not
       go : (b : Bool)
           → ReadsBits (items ++ places_in word old)
           (cond b (machine.GoOn (bits.AllSwapsElement (word + 1) (places ++ places_in word old)))
@@ -167,6 +176,7 @@ module _ (c : ℕ) (some : 0 < c) where
   BitsGoRight stage (machine.GoOn next) = (bits_law.call_at next ≡ bits_law.call_at stage) × bits_bridge.Fits c next
   BitsGoRight stage (machine.Done answer) = Unit {0}
 
+  -- where a call goes on it is the same call, and a reset of all has an element left
   bits_right : (stage : bits.Stage) (old : ℕ) → bits_bridge.Fits c stage → BitsGoRight stage ((bits.does c stage).2 old)
   bits_right (bits.SetLoadsElement place) old fits = go (bits.stands old place)
     where
@@ -176,6 +186,7 @@ module _ (c : ℕ) (some : 0 < c) where
       go false = (refl, tt)
   bits_right (bits.SetExchangesElement place element) old fits = go (old == element) (bits.stands old place)
     where
+      -- so it is of a set that exchanges
       go : (a b : Bool)
           → BitsGoRight (bits.SetExchangesElement place element)
           (cond a (machine.Done (bits.WasSet true)) (cond b (machine.Done (bits.WasSet false)) (machine.GoOn (bits.SetExchangesElement place old))))
@@ -191,6 +202,7 @@ module _ (c : ℕ) (some : 0 < c) where
       go false = tt
   bits_right (bits.NextLoadsElement start passed) old fits = go (bits.stands old (bits.place_after c start passed)) (nat_lt (passed + 1) c)
     where
+      -- so it is of a search that loads
       go : (a b : Bool)
           → BitsGoRight (bits.NextLoadsElement start passed)
           (cond a (machine.GoOn (bits.NextExchangesElement start passed old))
@@ -201,6 +213,7 @@ module _ (c : ℕ) (some : 0 < c) where
   bits_right (bits.NextExchangesElement start passed element) old fits =
       go (old == element) (bits.stands old (bits.place_after c start passed)) (nat_lt (passed + 1) c)
     where
+      -- so it is of a search that exchanges
       go : (e a b : Bool)
           → BitsGoRight (bits.NextExchangesElement start passed element)
           (cond e (machine.GoOn (bits.NextStoresPosition (bits.place_after c start passed)))
@@ -213,6 +226,7 @@ module _ (c : ℕ) (some : 0 < c) where
   bits_right (bits.NextStoresPosition place) old fits = tt
   bits_right (bits.AllSwapsElement word places) old fits = go (nat_lt (word + 1) (1 + elements c)) refl
     where
+      -- so it is of a reset of all
       go : (b : Bool) → nat_lt (word + 1) (1 + elements c) ≡ b
           → BitsGoRight (bits.AllSwapsElement word places)
           (cond b (machine.GoOn (bits.AllSwapsElement (word + 1) (places ++ places_in word old)))
@@ -226,6 +240,7 @@ module _ (c : ℕ) (some : 0 < c) where
   bits_went found (machine.GoOn stage) = refl
   bits_went found (machine.Done answer) = refl
 
+  -- the page of the bit set goes along with the model's machine by what its resets have handed out
   bits_relation : Relation ℕ (bits.bit_set c) kinds.Bits c
   bits_relation =
       record {
@@ -304,6 +319,7 @@ module _ (c : ℕ) (some : 0 < c) where
       none_yet bits.ResetNext = tt
       none_yet bits.ResetAll = refl
 
+      -- a step of the model's call leads to where the page's call goes
       steps : (events : List (Event ℕ)) (w : BitsPage) (beside : Option (ℕ × ℕ)) (p r : ℕ) (stage : bits.Stage)
           → IsRead (bits.bit_set c) bits_bridge.reading HandsAt events w → w.pending p ≡ Some stage → bits_bridge.Fits c stage
           → StepsRight ℕ (bits.bit_set c) kinds.Bits c bits_law.call_at (λ call. Bits (bits_bridge.bits_start call)) bits_flight
@@ -328,6 +344,7 @@ module _ (c : ℕ) (some : 0 < c) where
             );
           }
 
+  -- the turns of the relation are those of the page's specification
   bits_same_turns : (parties : ℕ) (turns : List (machine.Turn bits.Call))
       → map (relates.as_turn ℕ (bits.bit_set c) kinds.Bits c bits_relation parties) turns ≡ map bits_bridge.as_turn turns
   unfolding bits_relation
@@ -347,6 +364,7 @@ module _ (c : ℕ) (some : 0 < c) where
   bits_rules parties [] w = tt
   bits_rules parties (turn ∷ turns) w = (tt, bits_rules parties turns (machine.turned (bits.bit_set c) w turn))
 
+  -- the model's opening meets the page's
   bits_opens : (parties : ℕ) → c < 2 ^ 32
       → Meets ℕ (bits.bit_set c) kinds.Bits c bits_relation parties (machine.opening (bits.bit_set c)) 0
       (opening one_word kinds.Bits c parties)
@@ -365,6 +383,7 @@ module _ (c : ℕ) (some : 0 < c) where
         matches = λ p. refl;
       }
 
+  -- after a list of turns the two machines meet
   bits_meets : (parties : ℕ) (turns : List (machine.Turn bits.Call)) → c < 2 ^ 32 → bits_bridge.AreWithin parties turns → length turns < 2 ^ 63
       → Meets ℕ (bits.bit_set c) kinds.Bits c bits_relation parties
       (fold (machine.turned (bits.bit_set c)) (machine.opening (bits.bit_set c)) turns) (0 + length turns)
@@ -377,6 +396,7 @@ module _ (c : ℕ) (some : 0 < c) where
       (machine.opening (bits.bit_set c)) 0 (opening one_word kinds.Bits c parties)
       (bits_rules parties turns (machine.opening (bits.bit_set c))) (omega arith) (bits_opens parties few))
 
+-- what the page runs is what the model's machine runs, with what the events hand out
 pub bits_runs : bits_bridge.BitSetRunsAsTheMachine
 unfolding bits_relation
 bits_runs c parties turns some few within small =

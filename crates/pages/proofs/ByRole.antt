@@ -47,6 +47,7 @@ module _ {T Call Stage Answer Room : Type 0} {of : machine.Structure Call Stage 
           abbrev begun_by : ℕ → Start T → Option (Flight T) → Trace T
           begun_by p start o = record { world = after_begin world p start o; events = events ++ Begun p start ∷ [] }
 
+          -- what the model's machine is once a call has begun
           begin_is : (p : ℕ) (start : Start T) (flight : Flight T) → first_of kind capacity start (hands.registry k) ≡ Some flight
               → after_turn t (Begin p start)
               ≡ trace by tie hands (hands.registry k) words (put p (party_at_begin start flight changes) latest)
@@ -63,6 +64,7 @@ module _ {T Call Stage Answer Room : Type 0} {of : machine.Structure Call Stage 
               ap (λ i. flight_of (doing_of (party_of i latest))) (sym e) ∙ ap (λ o. flight_of (doing_of o)) h.found in
               absurd (cc)
 
+          -- a role whose holder has no call under way has no call on the page
           free_place : (p n : ℕ) → hands.who k n ≡ Some p → flight_of (doing_of (party_of p latest)) ≡ None → w.pending n ≡ None
           free_place p n here free = go (w.pending n) refl
             where
@@ -72,6 +74,7 @@ module _ {T Call Stage Answer Room : Type 0} {of : machine.Structure Call Stage 
                   let h = inv.held n stage e in
                   not_two here h.who_is (is_idle p n stage h free)
 
+          -- a call of the page that begins on the model begins on the page, as the party of its role
           begin_own : (p : ℕ) (start : Start T) (flight : Flight T) → by.is_call start ≡ true → first_of kind capacity start (hands.registry k) ≡ Some flight
               → flight_of (doing_of (party_of p latest)) ≡ None → OwnBegin by tie (hands.who k) p start flight
               → Sim by tie hands (fold (machine.turned of) w (turn_taken by world (Begin p start))) (after_turn t (Begin p start))
@@ -125,10 +128,12 @@ module _ {T Call Stage Answer Room : Type 0} {of : machine.Structure Call Stage 
                     };
               })
             where
+              -- each stage that the page then has is that of a call under way on the model
               held : (m : ℕ) (stage : Stage) → machine.put (by.number p b.call) (Some (of.first b.call)) w.pending m ≡ Some stage
                   → Held by tie hands k m stage (put p (party_at_begin start flight changes) latest)
               held m stage e = ⊎_elim same other (cases_eq m (by.number p b.call))
                 where
+                  -- so it is of the role for which the call begins
                   same : m ≡ by.number p b.call → Held by tie hands k m stage (put p (party_at_begin start flight changes) latest)
                   same is =
                       let first : of.first b.call ≡ stage = the_same (sym (put_same by tie hands (by.number p b.call) (Some (of.first b.call)) w.pending)
@@ -157,6 +162,7 @@ module _ {T Call Stage Answer Room : Type 0} {of : machine.Structure Call Stage 
                       let h = inv.held m stage old in
                       still_held by tie hands k k m stage p (party_at_begin start flight changes) latest h (is_idle p m stage h free) h.who_is
 
+          -- a call that is none of the page's begins on the model, and the page takes no turn
           begin_other : (p : ℕ) (start : Start T) (flight : Flight T) → by.is_call start ≡ false → first_of kind capacity start (hands.registry k) ≡ Some flight
               → flight_of (doing_of (party_of p latest)) ≡ None → hands.Other k p start flight
               → Sim by tie hands (fold (machine.turned of) w (turn_taken by world (Begin p start))) (after_turn t (Begin p start))
@@ -188,6 +194,7 @@ module _ {T Call Stage Answer Room : Type 0} {of : machine.Structure Call Stage 
                     };
               })
 
+          -- a call that is not refused begins, and the two machines stay the same
           begins : (p : ℕ) (start : Start T) → call_refusal world (Begin p start) ≡ None
               → Sim by tie hands (fold (machine.turned of) w (turn_taken by world (Begin p start))) (after_turn t (Begin p start))
           begins p start e =
@@ -195,6 +202,7 @@ module _ {T Call Stage Answer Room : Type 0} {of : machine.Structure Call Stage 
               let flight = not_none (first_of kind capacity start (hands.registry k)) may.call in
               go (by.is_call start) refl flight.0 flight.1 may.rows may.free
             where
+              -- so they do whether it is a call of the page or not
               go : (c : Bool) → by.is_call start ≡ c → (flight : Flight T) → first_of kind capacity start (hands.registry k) ≡ Some flight
                   → first_row ((begin_of kind capacity start).rows (hands.registry k) p) ≡ None → flight_of (doing_of (party_of p latest)) ≡ None
                   → Sim by tie hands (fold (machine.turned of) w (turn_taken by world (Begin p start))) (after_turn t (Begin p start))
@@ -216,13 +224,16 @@ module _ {T Call Stage Answer Room : Type 0} {of : machine.Structure Call Stage 
               → OwnAt by tie hands k w.pending p start flight ⊎ hands.Other k p start flight
           stands_here p flight start steps backs since is = subst (Stands by tie hands k w.pending p) is (inv.stands p)
 
+          -- a party with a call under way makes one of the page, or another that the machine has
           goes_by : (p : ℕ) (flight : Flight T) → flight_of (doing_of (party_of p latest)) ≡ Some flight → GoesBy p flight
           goes_by p flight e = go (party_of p latest) refl e
             where
+              -- so it is, whatever the party's latest call is
               go : (o : Option (Party T)) → party_of p latest ≡ o → flight_of (doing_of o) ≡ Some flight → GoesBy p flight
               go None found e = absurd (cc)
               go (Some x) found e = inside x.doing refl e
                 where
+                  -- so it is, whatever that call is doing
                   inside : (d : Doing T) → x.doing ≡ d → flight_of (Some d) ≡ Some flight → GoesBy p flight
                   inside (Going it since) d e =
                       let same : it ≡ flight = the_same e in
@@ -241,6 +252,7 @@ module _ {T Call Stage Answer Room : Type 0} {of : machine.Structure Call Stage 
                       the_same e = cc
                   inside (Over others) d e = absurd (cc)
 
+          -- a turn that is not refused is one of the page, or none, and the two machines stay the same
           one_turn : (turn : Turn T) → call_refusal world turn ≡ None
               → Sim by tie hands (fold (machine.turned of) w (turn_taken by world turn)) (after_turn t turn)
           one_turn (Begin p start) e = begins p start e
@@ -265,6 +277,7 @@ module _ {T Call Stage Answer Room : Type 0} {of : machine.Structure Call Stage 
           one_turn (Die owner) e =
               both_ways (not (has_owners (hands.registry k))) (ap not (hands.no_owners k)) (may_die world owner e).owners
 
+      -- from any two machines that are the same, a turn that is not refused leaves them the same
       any_turn : (w : machine.World Call Stage Answer) (t : Trace T) (turn : Turn T) → Sim by tie hands w t → call_refusal t.world turn ≡ None
           → Sim by tie hands (fold (machine.turned of) w (turn_taken by t.world turn)) (after_turn t turn)
       any_turn w t turn s e =
@@ -273,6 +286,7 @@ module _ {T Call Stage Answer Room : Type 0} {of : machine.Structure Call Stage 
           (sym s.is)
           (λ e. one_turn w s.k s.words s.latest s.changes s.turns s.events s.inv turn e) e
 
+      -- from any two machines that are the same, turns of which none is refused leave them the same
       all_turns : (turns : List (Turn T)) (w : machine.World Call Stage Answer) (t : Trace T) → Sim by tie hands w t → AreAllowedOn t turns
           → Sim by tie hands (fold (machine.turned of) w (turns_taken by t turns)) (after_turns t turns)
       all_turns [] w t s allowed = s

@@ -58,12 +58,14 @@ module _ (c b : ℕ) (below : b < c) where
   elsewhere : (words : List ℕ) (place new : ℕ) → place ≢ b → value (slice_set words place new) ≡ value words
   elsewhere words place new ne = get_or-set_other words place b new 0 (λ e. ne (sym e))
 
+  -- a set adds one to what it found at its place, and does nothing at another
   set_adds : (n : ℕ) (words : List ℕ) (place : ℕ) → n < 2 ^ 63 → Good n words → place < c → Step n words (page.SetAdds place)
   set_adds n words place few good lt = go (place == b) refl
     where
       new : ℕ
       new = (slice_index words place + 1) % 2 ^ 64
 
+      -- so it does whether its place is this one or not
       go : (t : Bool) → (place == b) ≡ t
           → Good (n + 1) (slice_set words place ((slice_index words place + 1) % 2 ^ 64))
           × Moves at (page.Set place) None (cond t (Some (act (slice_index words place) (slice_index words place + 1))) None)
@@ -87,9 +89,11 @@ module _ (c b : ℕ) (below : b < c) where
             Stays refl stays,
           )
 
+  -- what is handed out of this place is what was, and what the place counted, if it is this one
   handed_more : (place old : ℕ) (counts : List (ℕ × ℕ)) → page.handed b (handed_then place old counts) ≡ page.handed b counts + cond (place == b) old 0
   handed_more place old counts = go (old == 0) refl
     where
+      -- so it is whether the place counted something or not
       go : (t : Bool) → (old == 0) ≡ t → page.handed b (cond t counts (counts ++ (place, old) ∷ [])) ≡ page.handed b counts + cond (place == b) old 0
       go true t =
           let none : old ≡ 0 = grind (arith, nat_tests) in
@@ -100,10 +104,12 @@ module _ (c b : ℕ) (below : b < c) where
           let sums = sum_by-append (λ (x : ℕ × ℕ). cond (x.0 == b) x.1 0) counts (x ∷ []) in
           omega arith
 
+  -- a reset of all that swaps a count has taken out what this place counted, if it is this one
   all_swaps : (n : ℕ) (words : List ℕ) (place : ℕ) (counts : List (ℕ × ℕ)) → Good n words → place < c → (place ≤ b → page.handed b counts ≡ 0)
       → Step n words (page.AllSwaps place counts)
   all_swaps n words place counts good lt none = (good_then, goes (nat_lt (place + 1) c) refl)
     where
+      -- the words are as many then, and the place counts no more than the turns
       good_then : Good (n + 1) (slice_set words place 0)
       good_then = record { sized = length-set words place 0 ∙ good.sized; low = ⊎_elim at_it away (cases_eq place b) }
         where
@@ -113,11 +119,13 @@ module _ (c b : ℕ) (below : b < c) where
           away : place ≢ b → value (slice_set words place 0) ≤ n + 1
           away ne = let low = good.low in let stays = elsewhere words place 0 ne in omega arith
 
+      -- what it has handed out of the place then is what it found there
       moves : Moves at page.ResetAll (cond (nat_lt b place) (Some (act (page.handed b counts) 0)) None)
           (cond (nat_lt b (place + 1)) (Some (act (page.handed b (handed_then place (slice_index words place) counts)) 0)) None)
           (value words) (value (slice_set words place 0))
       moves = ⊎_elim at_it away (cases_eq place b)
         where
+          -- so it is where it swaps the count of this place
           at_it : place ≡ b → Moves at page.ResetAll (cond (nat_lt b place) (Some (act (page.handed b counts) 0)) None)
               (cond (nat_lt b (place + 1)) (Some (act (page.handed b (handed_then place (slice_index words place) counts)) 0)) None)
               (value words) (value (slice_set words place 0))
@@ -134,6 +142,7 @@ module _ (c b : ℕ) (below : b < c) where
               rw (no, yes) (Acts refl (act (page.handed b (handed_then place (slice_index words place) counts)) 0) refl (omega arith) (sym will)
               (page.WereReset (handed_then place (slice_index words place) counts), refl))
 
+          -- it has done nothing more where it swaps another
           away : place ≢ b → Moves at page.ResetAll (cond (nat_lt b place) (Some (act (page.handed b counts) 0)) None)
               (cond (nat_lt b (place + 1)) (Some (act (page.handed b (handed_then place (slice_index words place) counts)) 0)) None)
               (value words) (value (slice_set words place 0))
@@ -145,6 +154,7 @@ module _ (c b : ℕ) (below : b < c) where
               let still : page.handed b (handed_then place (slice_index words place) counts) ≡ page.handed b counts = omega arith in
               rw (same, still) (Stays refl (elsewhere words place 0 ne))
 
+      -- before this place it has handed out nothing of it
       none_then : place + 1 ≤ b → page.handed b (handed_then place (slice_index words place) counts) ≡ 0
       none_then le =
           let miss : (place == b) ≡ false = grind (arith, nat_tests) in
@@ -153,6 +163,7 @@ module _ (c b : ℕ) (below : b < c) where
           let before = none (omega arith) in
           omega arith
 
+      -- it goes on to the next place, or it has swapped them all
       goes : (t : Bool) → nat_lt (place + 1) c ≡ t
           → GoesThen (page.AllSwaps place counts)
           (cond t (GoOn (page.AllSwaps (place + 1) (handed_then place (slice_index words place) counts)))
@@ -165,6 +176,7 @@ module _ (c b : ℕ) (below : b < c) where
           (value words) (value (slice_set words place 0)))
           (ap (λ t. cond t (Some (act (page.handed b (handed_then place (slice_index words place) counts)) 0)) None) yes) moves
 
+  -- what the counting bit set's page owes at a place
   law : Law (page.counting_bit_set c) at
   law =
       record {

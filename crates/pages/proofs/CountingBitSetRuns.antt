@@ -56,11 +56,13 @@ module _ (c : ℕ) (some : 0 < c) where
   items_of (counts.AllSwaps place taken) old = cond (old == 0) [] (one place old)
   items_of stage old = []
 
+  -- the effects of a step hand out what the stage takes out
   writes : (p found : ℕ) (stage : counts.Stage) (old : ℕ) → WritesCounts p (effects_of p (counts_bridge.flight c found stage) old) (items_of stage old)
   writes p found (counts.SetAdds place) old =
       record { quiet = λ before. refl; own = λ acc. sym (append-nil acc); others = λ q acc ne. refl }
   writes p found (counts.AllSwaps place taken) old = go (old == 0)
     where
+      -- so they do whether the place counted something or not
       go : (b : Bool) → WritesCounts p (cond b [] (events.TakenOut p place old ∷ [])) (cond b [] (one place old))
       go true = record { quiet = λ before. refl; own = λ acc. sym (append-nil acc); others = λ q acc ne. refl }
       go false = record { quiet = λ before. refl; own = own; others = others }
@@ -74,6 +76,7 @@ module _ (c : ℕ) (some : 0 < c) where
   abbrev ReadsCounts : List (ℕ × ℕ) → machine.After counts.Stage counts.Answer → Type 0
   ReadsCounts items a = Reads (counts.counting_bit_set c) counts_bridge.reading HandsAt counts_bridge.answered items a
 
+  -- what a swap adds to what was handed out is its place with what that counted, unless that is 0
   then_same : (place old : ℕ) (items taken : List (ℕ × ℕ)) → items ≡ taken
       → items ++ cond (old == 0) [] (one place old) ≡ counts_law.handed_then place old taken
   then_same place old items taken is = ap (λ xs. xs ++ cond (old == 0) [] (one place old)) is ∙ go (old == 0)
@@ -82,11 +85,13 @@ module _ (c : ℕ) (some : 0 < c) where
       go true = append-nil taken
       go false = refl
 
+  -- what a reset of all hands out goes along with its stages into its answer
   reads : (stage : counts.Stage) (old : ℕ) (items : List (ℕ × ℕ)) → HandsAt stage items
       → ReadsCounts (items ++ items_of stage old) ((counts.does c stage).2 old)
   reads (counts.SetAdds place) old items hands = refl
   reads (counts.AllSwaps place taken) old items hands = go (nat_lt (place + 1) c)
     where
+      -- so it does whether a place is left or not
       go : (b : Bool)
           → ReadsCounts (items ++ cond (old == 0) [] (one place old))
           (cond b (machine.GoOn (counts.AllSwaps (place + 1) (counts_law.handed_then place old taken)))
@@ -98,10 +103,12 @@ module _ (c : ℕ) (some : 0 < c) where
   CountsGoRight stage (machine.GoOn next) = (counts_law.call_at next ≡ counts_law.call_at stage) × counts_bridge.Fits c next
   CountsGoRight stage (machine.Done answer) = Unit {0}
 
+  -- where a call goes on it is the same call, and a reset of all has a place left
   counts_right : (stage : counts.Stage) (old : ℕ) → counts_bridge.Fits c stage → CountsGoRight stage ((counts.does c stage).2 old)
   counts_right (counts.SetAdds place) old fits = tt
   counts_right (counts.AllSwaps place taken) old fits = go (nat_lt (place + 1) c) refl
     where
+      -- so it is whether a place is left or not
       go : (b : Bool) → nat_lt (place + 1) c ≡ b
           → CountsGoRight (counts.AllSwaps place taken)
           (cond b (machine.GoOn (counts.AllSwaps (place + 1) (counts_law.handed_then place old taken)))
@@ -115,6 +122,7 @@ module _ (c : ℕ) (some : 0 < c) where
   counts_went found (machine.GoOn stage) = refl
   counts_went found (machine.Done answer) = refl
 
+  -- the page of the counting bit set goes along with the model's machine by what its resets have handed out
   counts_relation : Relation ℕ (counts.counting_bit_set c) kinds.Counts c
   counts_relation =
       record {
@@ -187,6 +195,7 @@ module _ (c : ℕ) (some : 0 < c) where
       none_yet (counts.Set place) = tt
       none_yet counts.ResetAll = refl
 
+      -- a step of the model's call leads to where the page's call goes
       steps : (events : List (Event ℕ)) (w : CountsPage) (beside : Option (ℕ × ℕ)) (p r : ℕ) (stage : counts.Stage)
           → IsRead (counts.counting_bit_set c) counts_bridge.reading HandsAt events w → w.pending p ≡ Some stage → counts_bridge.Fits c stage
           → StepsRight ℕ (counts.counting_bit_set c) kinds.Counts c counts_law.call_at
@@ -215,6 +224,7 @@ module _ (c : ℕ) (some : 0 < c) where
             );
           }
 
+  -- the turns of the relation are those of the page's specification
   counts_same_turns : (parties : ℕ) (turns : List (machine.Turn counts.Call))
       → map (relates.as_turn ℕ (counts.counting_bit_set c) kinds.Counts c counts_relation parties) turns
       ≡ map counts_bridge.as_turn turns
@@ -235,6 +245,7 @@ module _ (c : ℕ) (some : 0 < c) where
   counts_rules parties [] w = tt
   counts_rules parties (turn ∷ turns) w = (tt, counts_rules parties turns (machine.turned (counts.counting_bit_set c) w turn))
 
+  -- the model's opening meets the page's
   counts_opens : (parties : ℕ) → c < 2 ^ 32
       → Meets ℕ (counts.counting_bit_set c) kinds.Counts c counts_relation parties (machine.opening (counts.counting_bit_set c)) 0
       (opening one_word kinds.Counts c parties)
@@ -253,6 +264,7 @@ module _ (c : ℕ) (some : 0 < c) where
         matches = λ p. refl;
       }
 
+  -- after a list of turns the two machines meet
   counts_meets : (parties : ℕ) (turns : List (machine.Turn counts.Call)) → c < 2 ^ 32 → bits_bridge.AreWithin parties turns → length turns < 2 ^ 63
       → Meets ℕ (counts.counting_bit_set c) kinds.Counts c counts_relation parties
       (fold (machine.turned (counts.counting_bit_set c)) (machine.opening (counts.counting_bit_set c)) turns) (0 + length turns)
@@ -265,6 +277,7 @@ module _ (c : ℕ) (some : 0 < c) where
       (machine.opening (counts.counting_bit_set c)) 0 (opening one_word kinds.Counts c parties)
       (counts_rules parties turns (machine.opening (counts.counting_bit_set c))) (omega arith) (counts_opens parties few))
 
+-- what the page runs is what the model's machine runs, with what the events hand out
 pub counts_runs : counts_bridge.CountingRunsAsTheMachine
 unfolding counts_relation
 counts_runs c parties turns some few within small =

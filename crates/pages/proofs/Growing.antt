@@ -20,6 +20,7 @@ module _ {X : Type 0} where
       ⊎_elim (λ old. inl old) (λ new. ⊎_elim (λ e. inr e) (λ more. absurd (none_there z more)) (split y z [] new))
       (Contains-append_cases xs (y ∷ []) z h)
 
+  -- what a filtered list contains the list contains, and it passes the test
   pub filtered : (test : X → Bool) (xs : List X) (z : X) → Contains (filter test xs) z → Contains xs z × (test z ≡ true)
   filtered test [] z h = absurd (none_there z h)
   filtered test (x ∷ xs) z h = go (test x) refl h (λ more. let had = filtered test xs z more in (there x z xs had.0, had.1))
@@ -29,6 +30,7 @@ module _ {X : Type 0} where
       go true t h rest = ⊎_elim (λ e. (here x z xs e, subst (λ y. test y ≡ true) e t)) rest (split x z (filter test xs) h)
       go false t h rest = rest h
 
+  -- what a list contains and passes the test the filtered list contains
   pub passes : (test : X → Bool) (xs : List X) (z : X) → Contains xs z → test z ≡ true → Contains (filter test xs) z
   passes test [] z h t = absurd (none_there z h)
   passes test (x ∷ xs) z h t =
@@ -42,6 +44,7 @@ module _ {X : Type 0} where
       later true more = there x z (filter test xs) more
       later false more = more
 
+  -- where all that stand in a list are related to one more, all pairs of the longer list are related
   pub later_push : (R : X → X → Type 0) (xs : List X) (y : X) → AllLater R xs → ((x : X) → Contains xs x → R x y) → AllLater R (xs ++ y ∷ [])
   later_push R [] y all new = (λ z h. absurd (none_there z h), tt)
   later_push R (x ∷ xs) y all new = (
@@ -49,6 +52,7 @@ module _ {X : Type 0} where
     later_push R xs y all.1 (λ z h. new z (there x z xs h)),
   )
 
+  -- the pairs of a filtered list are pairs of the list
   pub later_filter : (R : X → X → Type 0) (test : X → Bool) (xs : List X) → AllLater R xs → AllLater R (filter test xs)
   later_filter R test [] all = tt
   later_filter R test (x ∷ xs) all = go (test x) (later_filter R test xs all.1)
@@ -68,6 +72,7 @@ module _ {X Y : Type 0} (g : X → Y) where
       ⊎_elim (λ e. (x, (here x x xs refl, e))) (λ more. let had = mapped_from xs z more in (had.0, (there x had.0 xs had.1.0, had.1.1)))
       (split (g x) z (map g xs) h)
 
+  -- pairs that are related are mapped to pairs that are
   pub later_map : (R : X → X → Type 0) (S : Y → Y → Type 0) (xs : List X) → ((x y : X) → Contains xs x → Contains xs y → R x y → S (g x) (g y))
       → AllLater R xs → AllLater S (map g xs)
   later_map R S [] f all = tt
@@ -98,6 +103,7 @@ module _ {Call Answer : Type 0} where
   response_begun q (Invoked r c ∷ h) n p call = response_begun q h (n + 1) p call
   response_begun q (Responded r a ∷ h) n p call = ap (cond (r == q) (Some (n, a))) (response_begun q h (n + 1) p call)
 
+  -- once a party has responded, this is its first response, if it had none before
   response_done : (q : ℕ) (h : List (Event Call Answer)) (n m p : ℕ) (answer : Answer) → m ≡ n + length h
       → response_in q (h ++ Responded p answer ∷ []) n ≡ responded p m answer q (response_in q h n)
   response_done q [] n m p answer e = let same : n ≡ m = omega arith in ap (λ (k : ℕ). cond (p == q) (Some (k, answer)) None) same
@@ -110,6 +116,7 @@ module _ {Call Answer : Type 0} where
       go true more = refl
       go false more = more
 
+  -- an invocation adds an open call at the end of the calls
   pub calls_begun : (h : List (Event Call Answer)) (n m p : ℕ) (call : Call) → m ≡ n + length h
       → calls_from (h ++ Invoked p call ∷ []) n ≡ calls_from h n ++ open_call m p call ∷ []
   calls_begun [] n m p call e = let same : n ≡ m = omega arith in ap (λ k. open_call k p call ∷ []) same
@@ -118,6 +125,7 @@ module _ {Call Answer : Type 0} where
       (calls_begun h (n + 1) m p call (omega arith)))
   calls_begun (Responded q a ∷ h) n m p call e = calls_begun h (n + 1) m p call (omega arith)
 
+  -- a response answers the open calls of its party, and leaves all other calls
   pub calls_done : (h : List (Event Call Answer)) (n m p : ℕ) (answer : Answer) → m ≡ n + length h
       → calls_from (h ++ Responded p answer ∷ []) n ≡ map (respond p m answer) (calls_from h n)
   calls_done [] n m p answer e = refl

@@ -173,6 +173,7 @@ module _ {T Call Stage Answer Room : Type 0} {of : machine.Structure Call Stage 
 
       -- ---- what stays
 
+      -- where one party's call stands as it may, and all others' do, each party's does once that call is put in
       pub put_stands : (k : Kept) (pending : ℕ → Option Stage) (p : ℕ) (x : Party T) (latest : List (ℕ × Party T)) → Stands k pending p (Some x)
           → ((q : ℕ) → q ≢ p → Stands k pending q (party_of q latest))
           → (q : ℕ) → Stands k pending q (party_of q (put p x latest))
@@ -193,6 +194,7 @@ module _ {T Call Stage Answer Room : Type 0} {of : machine.Structure Call Stage 
       still k next pending now q own other None s = tt
       still k next pending now q own other (Some x) s = go x.doing s
         where
+          -- so it does whether the call is under way or over
           go : (d : Doing T) → StandsAt k pending q x.start d → StandsAt next now q x.start d
           go (Going flight since) s =
               ⊎_elim
@@ -211,6 +213,7 @@ module _ {T Call Stage Answer Room : Type 0} {of : machine.Structure Call Stage 
               (λ h. inr (other x.start flight h)) s
           go (Over others) s = tt
 
+      -- a call of the page that is another party's stays that party's as this one's call is put in
       pub still_held : (k next : Kept) (n : ℕ) (stage : Stage) (p : ℕ) (x : Party T) (latest : List (ℕ × Party T)) → (h : Held k n stage latest) → h.party ≢ p
           → hands.who next n ≡ Some h.party → Held next n stage (put p x latest)
       still_held k next n stage p x latest h ne who_is =

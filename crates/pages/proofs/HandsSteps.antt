@@ -61,6 +61,7 @@ module _ {T Call Stage Answer Room : Type 0} {of : machine.Structure Call Stage 
           abbrev after_party : ℕ → Option (Party T) → Trace T
           after_party p o = record { world = after_next world p o; events = events ++ events_of_next world p o }
 
+          -- what the model's machine is once a party has taken a step of its call
           next_is : (p : ℕ) (start : Start T) (steps backs : ℕ) (flight : Flight T) (since : ℕ)
               → party_of p latest ≡ Some (going start steps backs flight since)
               → after_turn t (Next p)
@@ -103,6 +104,7 @@ module _ {T Call Stage Answer Room : Type 0} {of : machine.Structure Call Stage 
               sym (tie.reads_start (tie.call_at other)) ∙ (ap by.reading.call (started both) ∙ tie.reads_start (tie.call_at stage)) in
               ne (sym h.number_is ∙ (ap (λ i. by.number i (tie.call_at other)) e ∙ ap (by.number p) calls))
 
+          -- the two machines stay the same after a step of the page's call that comes to this
           finish : (p : ℕ) (steps backs since : ℕ) (r next_room : Room) (stage : Stage) (ask : Option Ask) (back : Bool) (wrote : List (Event T)) (ws : List ℕ)
               → party_of p latest ≡ Some (going (tie.start (tie.call_at stage)) steps backs (tie.flight r stage) since)
               → w.pending (by.number p (tie.call_at stage)) ≡ Some stage
@@ -153,12 +155,14 @@ module _ {T Call Stage Answer Room : Type 0} {of : machine.Structure Call Stage 
                     };
               }
             where
+              -- where the call goes on, each stage that the page has then is that of a call under way on the model
               held : (m : ℕ) (other : Stage) → machine.put (by.number p (tie.call_at stage)) (Some next) w.pending m ≡ Some other
                   → Held by tie hands k m other
                   (put p (going (tie.start (tie.call_at stage)) (steps + step_count ask) (backs + one_if back) (tie.flight next_room next)
                   (since + change_of words ask)) latest)
               held m other e = ⊎_elim same apart (cases_eq m (by.number p (tie.call_at stage)))
                 where
+                  -- so it is of the role whose call goes on
                   same : m ≡ by.number p (tie.call_at stage)
                       → Held by tie hands k m other
                       (put p (going (tie.start (tie.call_at stage)) (steps + step_count ask) (backs + one_if back) (tie.flight next_room next)
@@ -187,6 +191,7 @@ module _ {T Call Stage Answer Room : Type 0} {of : machine.Structure Call Stage 
                       the_same : {x y : Stage} → Some x ≡ Some y → x ≡ y
                       the_same e = cc
 
+                  -- so it is of every other role
                   apart : m ≢ by.number p (tie.call_at stage)
                       → Held by tie hands k m other
                       (put p (going (tie.start (tie.call_at stage)) (steps + step_count ask) (backs + one_if back) (tie.flight next_room next)
@@ -237,6 +242,7 @@ module _ {T Call Stage Answer Room : Type 0} {of : machine.Structure Call Stage 
                     };
               }
             where
+              -- where the call ends, each stage that the page still has is that of a call under way on the model
               held : (m : ℕ) (other : Stage) → machine.put (by.number p (tie.call_at stage)) None w.pending m ≡ Some other
                   → Held by tie hands k m other
                   (put p
@@ -260,6 +266,7 @@ module _ {T Call Stage Answer Room : Type 0} {of : machine.Structure Call Stage 
                   none_some : {A : Type 0} {x : Stage} → None ≡ Some x → A
                   none_some e = absurd (cc)
 
+          -- as a call of the page takes a step the two machines stay the same
           pub goes_on : (p : ℕ) (steps backs since : ℕ) (start : Start T) (flight : Flight T) → party_of p latest ≡ Some (going start steps backs flight since)
               → OwnAt by tie hands k w.pending p start flight
               → Sim by tie hands (fold (machine.turned of) w (turn_taken by world (Next p))) (after_turn t (Next p))
@@ -307,6 +314,8 @@ module _ {T Call Stage Answer Room : Type 0} {of : machine.Structure Call Stage 
 
           -- ---- a call that the page has not goes on
 
+          -- as a call takes a step that is none of the page's, the page takes no turn, and the two machines stay the
+          -- same
           pub goes_on_other : (p : ℕ) (steps backs since : ℕ) (start : Start T) (flight : Flight T)
               → party_of p latest ≡ Some (going start steps backs flight since)
               → hands.Other k p start flight → Sim by tie hands (fold (machine.turned of) w (turn_taken by world (Next p))) (after_turn t (Next p))
@@ -330,6 +339,7 @@ module _ {T Call Stage Answer Room : Type 0} {of : machine.Structure Call Stage 
               (other_made s.next step.after step.back step.wrote (λ then e. s.stays then e) s.who_is s.others
               s.blank_is s.tells (ap (all_seen by.reading) s.silent) mine))
             where
+              -- so they do whatever such a step comes to
               other_made : (next : Kept) (after : After (Flight T) (answers.Answer T)) (back : Bool) (wrote : List (Event T))
                   → ((then : Flight T) → after ≡ afters.GoOn then → hands.Other next p start then)
                   → ((n : ℕ) → (hands.who next n ≡ hands.who k n) ⊎ ((hands.who k n ≡ None) ⊎ (hands.who k n ≡ Some p)))
@@ -383,6 +393,7 @@ module _ {T Call Stage Answer Room : Type 0} {of : machine.Structure Call Stage 
                   no_ending (afters.Done answer) =
                       ap (λ c. cond c (machine.Responded (by.number p (by.reading.call start)) (by.reading.answer answer) ∷ []) [] ++ []) mine
 
+                  -- where such a call goes on it stands as it may, and one that is over has nothing to show
                   stands_then : (after : After (Flight T) (answers.Answer T))
                       → ((then : Flight T) → after ≡ afters.GoOn then → hands.Other next p start then)
                       → StandsAt by tie hands next w.pending p start
@@ -390,6 +401,7 @@ module _ {T Call Stage Answer Room : Type 0} {of : machine.Structure Call Stage 
                   stands_then (afters.GoOn then) stays = inr (stays then refl)
                   stands_then (afters.Done answer) stays = tt
 
+                  -- each role that another party holds stays that party's
                   who_then : (m : ℕ) {q : ℕ} → hands.who k m ≡ Some q → q ≢ p → hands.who next m ≡ Some q
                   who_then m is ne =
                       ⊎_elim (λ same. same ∙ is) (λ others. ⊎_elim (λ none. absurd (no_one (sym none ∙ is))) (λ mine. not_two mine is ne) others) (who_is m)
@@ -397,6 +409,7 @@ module _ {T Call Stage Answer Room : Type 0} {of : machine.Structure Call Stage 
                       no_one : {q : ℕ} → None ≡ Some q → ⊥
                       no_one e = absurd (cc)
 
+                  -- a call of the page that is under way is another party's
                   not_mine : (m : ℕ) (stage : Stage) (h : Held by tie hands k m stage latest) → h.party ≢ p
                   not_mine m stage h e =
                       let both : Some (going (tie.start (tie.call_at stage)) h.steps h.backs (tie.flight h.room stage) h.since)

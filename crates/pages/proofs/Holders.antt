@@ -32,6 +32,7 @@ pub no_end : {X : Type 0} (x : X) (xs ys : List X) → [] ≡ xs ++ x ∷ ys →
 no_end x [] ys e = absurd (cc)
 no_end x (y ∷ xs) ys e = absurd (cc)
 
+-- what holds of each event of a history, and of one more, holds of each event of the longer history
 each_push : (P : History → machine.Event page.Call page.Answer → Type 0) (h : History) (e : machine.Event page.Call page.Answer)
     → page.Each P h → P h e → page.Each P (h ++ e ∷ [])
 each_push P [] e all new [] after x is = let parts = cons_parts e x [] after is in subst (P []) parts.0 new
@@ -97,6 +98,8 @@ module _ (c : ℕ) where
 
   -- ---- whose call is about to free
 
+  -- where the stage that one party comes to frees no index, a party that is about to free one is another, and was so
+  -- before
   other_stays : (p : ℕ) (o : Option page.Stage) (pending : ℕ → Option page.Stage) → ((j : ℕ) (l : Bool) → o ≢ Some (page.ReleaseClearsFlag j l))
       → (q j : ℕ) (l : Bool) → machine.put p o pending q ≡ Some (page.ReleaseClearsFlag j l)
       → (q ≢ p) × (pending q ≡ Some (page.ReleaseClearsFlag j l))
@@ -113,6 +116,7 @@ module _ (c : ℕ) where
       → page.holder i (h ++ e ∷ []) ≡ page.holder i h
   none_changed i h e same = holder_push i h e ∙ same
 
+  -- as an acquire begins no holder changes
   pub begins_acquire : (events : List (Event ℕ)) (h : History) (pending : ℕ → Option page.Stage) (p : ℕ) → Rel events h pending
       → Rel (events ++ Begun p (Indices (bridge.index_start page.Acquire)) ∷ []) (h ++ machine.Invoked p page.Acquire ∷ [])
       (machine.put p (Some page.AcquireLoadsHead) pending)
@@ -135,6 +139,7 @@ module _ (c : ℕ) where
   seen_release p i true = refl
   seen_release p i false = refl
 
+  -- as a release begins its index has no holder on the page any more, and has the same one by the events
   pub begins_release : (events : List (Event ℕ)) (h : History) (pending : ℕ → Option page.Stage) (p i : ℕ) (l : Bool) → Rel events h pending
       → page.holder i h ≡ Some p
       → Rel (events ++ Begun p (Indices (bridge.index_start (page.Release i l))) ∷ []) (h ++ machine.Invoked p (page.Release i l) ∷ [])
@@ -157,6 +162,7 @@ module _ (c : ℕ) where
       held_then : (j : ℕ) → page.holder j (h ++ machine.Invoked p (page.Release i l) ∷ []) ≡ cond (i == j) None (page.holder j h)
       held_then j = holder_push j h (machine.Invoked p (page.Release i l))
 
+      -- who holds an index on the page then holds it by the events too
       held : (j q : ℕ) → page.holder j (h ++ machine.Invoked p (page.Release i l) ∷ []) ≡ Some q
           → (holder_of j (events ++ Begun p (Indices (bridge.index_start (page.Release i l))) ∷ []) ≡ Some q) × (j < c)
       held j q e = go (i == j) (sym (held_then j) ∙ e)
@@ -166,6 +172,7 @@ module _ (c : ℕ) where
           go true e = absurd (cc)
           go false e = let had = r.held j q e in (holders j ∙ had.0, had.1)
 
+      -- an index without a holder on the page has none then either
       none_then : (j : ℕ) → page.holder j h ≡ None → page.holder j (h ++ machine.Invoked p (page.Release i l) ∷ []) ≡ None
       none_then j none = held_then j ∙ go (i == j)
         where
@@ -176,6 +183,7 @@ module _ (c : ℕ) where
       own_none : (j : ℕ) → i ≡ j → page.holder j (h ++ machine.Invoked p (page.Release i l) ∷ []) ≡ None
       own_none j same = held_then j ∙ (let t : (i == j) ≡ true = grind (arith, nat_tests) in rw t refl)
 
+      -- who is about to free an index then has it by the events, and not on the page
       releasing : (q j : ℕ) (m : Bool) → machine.put p (Some (page.ReleaseClearsFlag i l)) pending q ≡ Some (page.ReleaseClearsFlag j m)
           → (page.holder j (h ++ machine.Invoked p (page.Release i l) ∷ []) ≡ None)
           × (holder_of j (events ++ Begun p (Indices (bridge.index_start (page.Release i l))) ∷ []) ≡ Some q)
@@ -189,6 +197,7 @@ module _ (c : ℕ) where
           the_index (Some stage) = index_of stage
           the_index None = 0
 
+          -- so it is of the party that begins the release, and of every other
           go : (b : Bool) → (q == p) ≡ b → cond b (Some (page.ReleaseClearsFlag i l)) (pending q) ≡ Some (page.ReleaseClearsFlag j m)
               → (page.holder j (h ++ machine.Invoked p (page.Release i l) ∷ []) ≡ None)
               × (holder_of j (events ++ Begun p (Indices (bridge.index_start (page.Release i l))) ∷ []) ≡ Some q)
@@ -202,6 +211,7 @@ module _ (c : ℕ) where
 
   -- ---- an index is freed
 
+  -- as a release frees its index nobody has it, on the page or by the events
   pub frees_it : (events : List (Event ℕ)) (h : History) (pending : ℕ → Option page.Stage) (p i : ℕ) (l : Bool) → Rel events h pending
       → pending p ≡ Some (page.ReleaseClearsFlag i l)
       → Rel (events ++ Freed p i ∷ []) h (machine.put p (Some (page.ReleaseLoadsHead i l)) pending)
@@ -226,6 +236,7 @@ module _ (c : ℕ) where
       others : (q j : ℕ) → i ≢ j → holder_of j (events ++ Freed p i ∷ []) ≡ holder_of j events
       others q j ne = holders_then j events (Freed p i ∷ []) ∙ (let t : (i == j) ≡ false = grind (arith, nat_tests) in rw t refl)
 
+      -- who holds an index on the page holds it by the events too once another is freed
       held : (j q : ℕ) → page.holder j h ≡ Some q → (holder_of j (events ++ Freed p i ∷ []) ≡ Some q) × (j < c)
       held j q e =
           let had = r.held j q e in
@@ -239,6 +250,7 @@ module _ (c : ℕ) where
   abbrev pub ends : Start ℕ → ℕ → page.Answer → List (Event ℕ)
   ends start p answer = Finished p start (bridge.answered answer) ∷ []
 
+  -- an index that nobody holds by the events nobody holds on the page
   no_holder : (events : List (Event ℕ)) (h : History) (pending : ℕ → Option page.Stage) → Rel events h pending → (i : ℕ) → holder_of i events ≡ None
       → page.holder i h ≡ None
   no_holder events h pending r i none = go (page.holder i h) refl
@@ -247,6 +259,7 @@ module _ (c : ℕ) where
       go None e = refl
       go (Some q) e = absurd (let clash : None ≡ Some q = sym none ∙ (r.held i q e).0 in cc)
 
+  -- a set that is not locked by the events is not locked on the page
   not_locked : (events : List (Event ℕ)) (h : History) (pending : ℕ → Option page.Stage) → Rel events h pending → reads.is_locked events ≡ false
       → page.is_locked h ≡ false
   not_locked events h pending r unlocked = go (page.is_locked h) refl
@@ -283,6 +296,7 @@ module _ (c : ℕ) where
   told_of p (page.Released true) = Locked p ∷ []
   told_of p answer = []
 
+  -- as an acquire responds with an index its party holds it, on the page and by the events
   acquires_it : (events : List (Event ℕ)) (h : History) (pending : ℕ → Option page.Stage) (start : Start ℕ) (p i : ℕ) → Rel events h pending
       → readings.Each (HoldsRight c) (events ++ Claimed p i ∷ ends start p (page.Acquired i))
       → Rel (events ++ Claimed p i ∷ ends start p (page.Acquired i)) (h ++ machine.Responded p (page.Acquired i) ∷ []) (machine.put p None pending)
@@ -313,6 +327,7 @@ module _ (c : ℕ) where
       held_then : (j : ℕ) → page.holder j (h ++ machine.Responded p (page.Acquired i) ∷ []) ≡ cond (i == j) (Some p) (page.holder j h)
       held_then j = holder_push j h (machine.Responded p (page.Acquired i))
 
+      -- who holds an index on the page then holds it by the events too
       held : (j q : ℕ) → page.holder j (h ++ machine.Responded p (page.Acquired i) ∷ []) ≡ Some q
           → (holder_of j (events ++ Claimed p i ∷ ends start p (page.Acquired i)) ≡ Some q) × (j < c)
       held j q e = go (i == j) refl (sym (held_then j) ∙ e)
@@ -322,6 +337,7 @@ module _ (c : ℕ) where
           go true t e = let same : i ≡ j = grind (arith, nat_tests) in (holders j ∙ rw t e, subst (λ n. n < c) same new.0)
           go false t e = let had = r.held j q e in (holders j ∙ rw t had.0, had.1)
 
+  -- as a release responds that has locked the set, it is locked on the page and by the events
   locks_it : (events : List (Event ℕ)) (h : History) (pending : ℕ → Option page.Stage) (start : Start ℕ) (p : ℕ) → Rel events h pending
       → readings.Each (HoldsRight c) (events ++ Locked p ∷ ends start p (page.Released true))
       → Rel (events ++ Locked p ∷ ends start p (page.Released true)) (h ++ machine.Responded p (page.Released true) ∷ []) (machine.put p None pending)
@@ -337,6 +353,7 @@ module _ (c : ℕ) where
       })
       (λ q j l e. (other_stays p None pending (λ j l e. absurd (cc)) q j l e).1)
 
+  -- as any call responds, the page and the events say the same of holders
   pub responds : (events : List (Event ℕ)) (h : History) (pending : ℕ → Option page.Stage) (start : Start ℕ) (p : ℕ)
       (answer : page.Answer)
       → Rel events h pending

@@ -18,6 +18,7 @@ module _ {Call Answer : Type 0} where
   abbrev pub Before : Called Call Answer → Called Call Answer → Type 0
   Before c d = (c.place < d.place) × IfSome c.response (λ r. r.0 < d.place)
 
+  -- what holds of all pairs by number holds of each entry and all later ones
   later_of : (R : Entry Call Answer → Entry Call Answer → Type 0) (xs : List (Entry Call Answer)) → AllPairs R xs → AllLater R xs
   later_of R [] pairs = tt
   later_of R (x ∷ xs) pairs = (
@@ -25,6 +26,7 @@ module _ {Call Answer : Type 0} where
     later_of R xs (λ i j d lt within. pairs (suc i) (suc j) d (omega arith) (omega arith)),
   )
 
+  -- two of the calls that run one after another are one, or one of them is before the other
   ordered : (cs : List (Called Call Answer)) → AllLater Before cs → (c d : Called Call Answer) → Contains cs c → Contains cs d
       → (c ≡ d) ⊎ (Before c d ⊎ Before d c)
   ordered [] all c d a b = absurd (none_there c a)
@@ -37,6 +39,7 @@ module _ {Call Answer : Type 0} where
   abbrev Sorted : Entry Call Answer → Entry Call Answer → Type 0
   Sorted x y = x.0.place < y.0.place
 
+  -- two lists in the order of invocations that contain the same entries are equal
   same_members : (xs ys : List (Entry Call Answer)) → AllLater Sorted xs → AllLater Sorted ys → ((z : Entry Call Answer) → Contains xs z → Contains ys z)
       → ((z : Entry Call Answer) → Contains ys z → Contains xs z) → xs ≡ ys
   same_members [] [] a b to from = refl
@@ -54,6 +57,7 @@ module _ {Call Answer : Type 0} where
       place_is : x.0.place ≡ y.0.place
       place_is = ap (λ (z : Entry Call Answer). z.0.place) first
 
+      -- what the one list contains behind its first entry the other contains behind its own
       to_rest : (z : Entry Call Answer) → Contains xs z → Contains ys z
       to_rest z h =
           ⊎_elim (λ e. let lt = a.0 z h in
@@ -62,6 +66,7 @@ module _ {Call Answer : Type 0} where
           absurd (omega arith))
           (λ more. more) (split y z ys (to z (there x z xs h)))
 
+      -- what the other contains behind its first entry the one contains behind its own
       from_rest : (z : Entry Call Answer) → Contains ys z → Contains xs z
       from_rest z h =
           ⊎_elim (λ e. let lt = b.0 z h in
@@ -93,12 +98,14 @@ module _ {Call Answer : Type 0} where
     acted_from [] z h = absurd (none_there z h)
     acted_from (c ∷ cs) z h = by c.response refl h (λ more. let had = acted_from cs z more in (there c z.0 cs had.0, had.1))
       where
+        -- so it is whether the first call has responded or not
         by : (o : Option (ℕ × Answer)) → c.response ≡ o → Contains (did_with c o ++ acted cs) z
             → (Contains (acted cs) z → Contains (c ∷ cs) z.0 × ((r : ℕ × Answer) × ((z.0.response ≡ Some r) × (at z.0.call r.1 ≡ Some z.1))))
             → Contains (c ∷ cs) z.0 × ((r : ℕ × Answer) × ((z.0.response ≡ Some r) × (at z.0.call r.1 ≡ Some z.1)))
         by None e h rest = rest h
         by (Some r) e h rest = go (at c.call r.1) refl h
           where
+            -- so it is whether its answer acts at the place or not
             go : (d : Option Act) → at c.call r.1 ≡ d → Contains (did c d ++ acted cs) z
                 → Contains (c ∷ cs) z.0 × ((r : ℕ × Answer) × ((z.0.response ≡ Some r) × (at z.0.call r.1 ≡ Some z.1)))
             go None f h = rest h
@@ -111,6 +118,7 @@ module _ {Call Answer : Type 0} where
                 (here c c cs refl, (r, (e, f))))
                 rest (split this z (acted cs) h)
 
+    -- a completed call whose answer acts at the place is among those that did so
     acted_to : (cs : List (Called Call Answer)) (c : Called Call Answer) (r : ℕ × Answer) (act : Act) → Contains cs c → c.response ≡ Some r
         → at c.call r.1 ≡ Some act → Contains (acted cs) (c, act)
     acted_to [] c r act h e f = absurd (none_there c h)
@@ -129,6 +137,7 @@ module _ {Call Answer : Type 0} where
         past : (xs : List (Entry Call Answer)) → Contains (acted cs) (c, act) → Contains (xs ++ acted cs) (c, act)
         past xs h = Contains-append_right xs (acted cs) (c, act) h
 
+    -- the acts of calls that run one after another stand in the order of the invocations
     sorted_acts : (cs : List (Called Call Answer)) → AllLater Before cs → AllLater Sorted (acted cs)
     sorted_acts [] all = tt
     sorted_acts (c ∷ cs) all = by c.response (sorted_acts cs all.1)
@@ -136,6 +145,7 @@ module _ {Call Answer : Type 0} where
         later : (act : Act) (z : Entry Call Answer) → Contains (acted cs) z → c.place < z.0.place
         later act z h = (all.0 z.0 (acted_from cs z h).0).0
 
+        -- so they do whether the first call has responded or not
         by : (o : Option (ℕ × Answer)) → AllLater Sorted (acted cs) → AllLater Sorted (did_with c o ++ acted cs)
         by None rest = rest
         by (Some r) rest = go (at c.call r.1)
@@ -144,6 +154,7 @@ module _ {Call Answer : Type 0} where
             go None = rest
             go (Some act) = (later act, rest)
 
+    -- where the calls run one after another and all have responded, their acts in that order are a chain
     by_order : (history : List (Event Call Answer)) (now : ℕ) → AllLater Before (calls_from history 0)
         → ((c : Called Call Answer) → Contains (calls_from history 0) c → Responds c)
         → ActsAt at history now → IsChain 0 (map (λ (x : Entry Call Answer). x.1) (acted (calls_from history 0))) now
@@ -155,6 +166,7 @@ module _ {Call Answer : Type 0} where
         invoked : (x : Entry Call Answer) → Contains h.sequence x → Contains (calls_from history 0) x.0
         invoked x is = let lt = is.1 in subst (λ (x : Entry Call Answer). Contains (calls_from history 0) x.0) is.2 (h.invoked is.0 x lt)
 
+        -- each entry of the sequence is the act of a completed call
         to : (z : Entry Call Answer) → Contains h.sequence z → Contains (acted (calls_from history 0)) z
         to z is =
             let done = all_done z.0 (invoked z is) in
@@ -164,6 +176,7 @@ module _ {Call Answer : Type 0} where
             let own : done.0.1 ≡ says.0 = subst (λ o. IfSome o (λ r. r.1 ≡ says.0)) done.1 says.2 in
             acted_to (calls_from history 0) z.0 done.0 z.1 (invoked z is) done.1 (ap (at z.0.call) own ∙ says.1)
 
+        -- each act of a completed call is an entry of the sequence
         from : (z : Entry Call Answer) → Contains (acted (calls_from history 0)) z → Contains h.sequence z
         from z is =
             let had = acted_from (calls_from history 0) z is in
@@ -173,11 +186,14 @@ module _ {Call Answer : Type 0} where
             let this = subst (λ o. IfSome o (λ r. IfSome (at z.0.call r.1) (λ act. Contains h.sequence (z.0, act)))) had.1.1.0 logged in
             subst (λ o. IfSome o (λ act. Contains h.sequence (z.0, act))) had.1.1.1 this
 
+        -- a sequence that keeps the order in time, of calls that run one after another, is in the order of the
+        -- invocations
         sorted : (xs : List (Entry Call Answer)) → ((x : Entry Call Answer) → Contains xs x → Contains h.sequence x) → AllLater (λ x y. x.0 ≢ y.0) xs
             → AllLater (λ x y. IfSome y.0.response (λ r. x.0.place ≤ r.0)) xs → AllLater Sorted xs
         sorted [] is once time = tt
         sorted (x ∷ xs) is once time = (λ y h. pair y h (is y (there x y xs h)), sorted xs (λ y h. is y (there x y xs h)) once.1 time.1)
           where
+            -- an entry that stands earlier was invoked earlier
             pair : (y : Entry Call Answer) → Contains xs y → Contains h.sequence y → x.0.place < y.0.place
             pair y h seq =
                 ⊎_elim (λ e. absurd (once.0 y h e))
@@ -189,6 +205,7 @@ module _ {Call Answer : Type 0} where
                 absurd (omega arith)) apart)
                 (ordered (calls_from history 0) one_by_one x.0 y.0 (invoked x (is x (here x x xs refl))) (invoked y seq))
 
+        -- so the sequence is what the completed calls did, in order
         same : h.sequence ≡ acted (calls_from history 0)
         same =
             same_members h.sequence (acted (calls_from history 0))

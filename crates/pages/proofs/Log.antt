@@ -14,6 +14,7 @@ use Rattle.pages.specs.Places.{Act, IsChain}
 
 -- ---- what is conserved
 
+-- what a chain begins with and what its acts put there is what they took from there and what the chain ends with
 pub conserved : (first : ℕ) (acts : List Act) (last : ℕ) → IsChain first acts last
     → first + sum_by (λ (act : Act). act.left - act.found) acts ≡ sum_by (λ (act : Act). act.found - act.left) acts + last
 conserved first [] last chain = omega arith
@@ -100,6 +101,7 @@ module _ {Call Answer : Type 0} (at : Call → Answer → Option Act) where
     longer : length h_begun ≡ length h + 1
     longer = length_push h (Invoked p call)
 
+    -- as a call is invoked the log is that of the longer history
     pub begun_core : Core h_begun log v
     begun_core =
         record {
@@ -124,6 +126,7 @@ module _ {Call Answer : Type 0} (at : Call → Answer → Option Act) where
               (λ f. sym e ∙ f) (either d b)) (either c a);
         }
 
+    -- a party that has no open call has one as it is invoked, which has done nothing
     pub begun_own : Party h log p None → Party h_begun log p (Some (call, None))
     begun_own free =
         record {
@@ -134,6 +137,7 @@ module _ {Call Answer : Type 0} (at : Call → Answer → Option Act) where
           linked = λ x is same. (let lt = core.earlier x.0 (core.invoked x is) in absurd (omega arith));
         }
 
+    -- an invocation by one party leaves what the log says of every other
     pub begun_other : (q : ℕ) → q ≢ p → (o : Option (Call × Option Act)) → Party h log q o → Party h_begun log q o
     begun_other q ne None free =
         λ c is own none. ⊎_elim (λ old. free c old own none) (λ e. ne (sym (ap (λ (c : Called Call Answer). c.party) e ∙ own))) (either c is)
@@ -164,6 +168,7 @@ module _ {Call Answer : Type 0} (at : Call → Answer → Option Act) where
       (λ more. one_entry log once.1 x y rest more same) (split z y log b))
       (split z x log a)
 
+  -- an answered call that is logged is logged in every log that keeps the entries of answered calls
   logged_so : (log more : List Entry) (c : Called Call Answer) (o : Option (ℕ × Answer))
       → ((act : Act) → is_some o ≡ true → Contains log (c, act) → Contains more (c, act))
       → IfSome o (λ r. IfSome (at c.call r.1) (λ act. Contains log (c, act))) → IfSome o (λ r. IfSome (at c.call r.1) (λ act. Contains more (c, act)))
@@ -190,6 +195,7 @@ module _ {Call Answer : Type 0} (at : Call → Answer → Option Act) where
     abbrev pub log_acted : List Entry
     log_acted = log ++ acted ∷ []
 
+    -- an open call that does what some answer says, and finds what is at the place, comes last in the log
     pub acted_core : Possible call act → act.found ≡ v → Core h log_acted act.left
     acted_core possible finds =
         record {
@@ -207,10 +213,12 @@ module _ {Call Answer : Type 0} (at : Call → Answer → Option Act) where
     pub acted_own : IsOpen h log_acted p call (Some act)
     acted_own = record { place = own.place; called = own.called; only = own.only; linked = push_new log acted }
 
+    -- an act of one party leaves what the log says of every other
     pub acted_other : (q : ℕ) → q ≢ p → (o : Option (Call × Option Act)) → Party h log q o → Party h log_acted q o
     acted_other q ne None free = free
     acted_other q ne (Some x) s = record { place = s.place; called = s.called; only = s.only; linked = go x.1 s.linked }
       where
+        -- so does it whether the other's call has acted or not
         go : (d : Option Act) → Linked s.place q x.0 d log → Linked s.place q x.0 d log_acted
         go None linked =
             λ z is same.
@@ -229,6 +237,7 @@ module _ {Call Answer : Type 0} (at : Call → Answer → Option Act) where
     abbrev pub log_forgotten : List Entry
     log_forgotten = filter stays log
 
+    -- a chain without the entries of this call is a chain: they left what they found
     chain_forgets : (first : ℕ) (log : List Entry) → ((x : Entry) → Contains log x → stays x ≡ false → x.1.found ≡ x.1.left)
         → IsChain first (acts log) v → IsChain first (acts (filter stays log)) v
     chain_forgets first [] all chain = chain
@@ -247,6 +256,7 @@ module _ {Call Answer : Type 0} (at : Call → Answer → Option Act) where
     stays_other : (x : Entry) → stays x ≡ true → x.0.place ≢ own.place
     stays_other x t = grind (arith, nat_tests)
 
+    -- without the entry of a call that left what it found the log is that of the same history
     pub forgotten_core : Core h log_forgotten v
     forgotten_core =
         record {
@@ -266,6 +276,7 @@ module _ {Call Answer : Type 0} (at : Call → Answer → Option Act) where
             let e = one_entry log core.once (open_call own.place p call, act) x own.linked is (sym same) in
             subst (λ (x : Entry). x.1.found ≡ x.1.left) e idle
 
+        -- the entries of answered calls stay
         kept : (c : Called Call Answer) → Contains (calls_from h 0) c → (a : Act) → is_some c.response ≡ true
             → Contains log (c, a) → Contains log_forgotten (c, a)
         kept c is a some had =
@@ -275,6 +286,7 @@ module _ {Call Answer : Type 0} (at : Call → Answer → Option Act) where
             let none : false ≡ is_some c.response = ap (λ (c : Called Call Answer). is_some c.response) e in
             absurd (cc)))
 
+    -- the call whose entry was taken out has done nothing
     pub forgotten_own : IsOpen h log_forgotten p call None
     forgotten_own =
         record {
@@ -284,6 +296,7 @@ module _ {Call Answer : Type 0} (at : Call → Answer → Option Act) where
           linked = λ x is. stays_other x (filtered stays log x is).1;
         }
 
+    -- what the log says of every other party stays
     pub forgotten_other : (q : ℕ) → q ≢ p → (o : Option (Call × Option Act)) → Party h log q o → Party h log_forgotten q o
     forgotten_other q ne None free = free
     forgotten_other q ne (Some x) s = record { place = s.place; called = s.called; only = s.only; linked = go x.1 s.linked }
@@ -342,9 +355,11 @@ module _ {Call Answer : Type 0} (at : Call → Answer → Option Act) where
             let same = one_entry log core.once (open_call own.place p call, act) x linked is (ap (λ (c : Called Call Answer). c.place) e) in
             subst (λ (x : Entry). at x.0.call answer ≡ Some x.1) same did
 
+    -- each entry says what some answer says, and what its response says, once the party has responded
     answered_then : (x : Entry) → Contains log x → IsAnswered (on_entry x)
     answered_then x is = go x.0.response refl (core.answered x is)
       where
+        -- so it does whether its call had responded before or not
         go : (o : Option (ℕ × Answer)) → x.0.response ≡ o
             → (a : Answer) × ((at x.0.call a ≡ Some x.1) × IfSome o (λ r. r.1 ≡ a))
             → (a : Answer) × ((at x.0.call a ≡ Some x.1) × IfSome (responded p (length h) answer x.0.party o) (λ r. r.1 ≡ a))
@@ -356,12 +371,14 @@ module _ {Call Answer : Type 0} (at : Call → Answer → Option Act) where
             by_party true t = (answer, (own_entry x is (its_own x.0 (core.invoked x is) (party_is x.0.party t) e), refl))
             by_party false t = (had.0, (had.1.0, tt))
 
+    -- each call that has responded by then is logged with what its answer says
     logged_then : (c : Called Call Answer) → Contains (calls_from h 0) c → IsLogged log_done (on c)
     logged_then c is = go c.response refl (core.completed c is)
       where
         more : (a : Act) → Contains log (c, a) → Contains log_done (on c, a)
         more a had = mapped on_entry log (c, a) had
 
+        -- so it is whether the call had responded before or not
         go : (o : Option (ℕ × Answer)) → c.response ≡ o → IfSome o (λ r. IfSome (at c.call r.1) (λ act. Contains log (c, act)))
             → IfSome (responded p (length h) answer c.party o) (λ r. IfSome (at c.call r.1) (λ act. Contains log_done (on c, act)))
         go (Some r) e had = old (at c.call r.1) had
@@ -371,6 +388,7 @@ module _ {Call Answer : Type 0} (at : Call → Answer → Option Act) where
             old (Some act) had = more act had
         go None e had = by_party (p == c.party) refl
           where
+            -- the call that responds now is logged with what this answer says
             linked : open_call own.place p call ≡ c → (d : Option Act) → at call answer ≡ d → Linked own.place p call d log
                 → IfSome (at c.call answer) (λ act. Contains log_done (on c, act))
             linked same None did had = rw (sym (ap (λ (c : Called Call Answer). at c.call answer) same) ∙ did) tt
@@ -383,9 +401,11 @@ module _ {Call Answer : Type 0} (at : Call → Answer → Option Act) where
             by_party true t = linked (its_own c is (party_is c.party t) e) (at call answer) refl own.linked
             by_party false t = tt
 
+    -- the order in time of two entries stays as the party responds
     in_time : (x y : Entry) → Contains log x → Contains log y → InTime x y → InTime (on_entry x) (on_entry y)
     in_time x y a b had = go y.0.response had
       where
+        -- so it does whether the second of them had responded before or not
         go : (o : Option (ℕ × Answer)) → IfSome o (λ r. x.0.place ≤ r.0) → IfSome (responded p (length h) answer y.0.party o) (λ r. x.0.place ≤ r.0)
         go (Some r) had = had
         go None had = by_party (p == y.0.party)
@@ -397,6 +417,7 @@ module _ {Call Answer : Type 0} (at : Call → Answer → Option Act) where
     longer_then : length h_done ≡ length h + 1
     longer_then = length_push h (Responded p answer)
 
+    -- as a call responds with the answer that says what it has done, the log is that of the longer history
     pub done_core : Core h_done log_done v
     done_core =
         record {
@@ -426,6 +447,7 @@ module _ {Call Answer : Type 0} (at : Call → Answer → Option Act) where
     still_none q None e = refl
     still_none q (Some r) e = e
 
+    -- a call that is open once the party has responded is another party's
     not_own : (q : ℕ) → responded p (length h) answer q None ≡ None → q ≢ p
     not_own q none same = go (p == q) refl none
       where
@@ -433,6 +455,7 @@ module _ {Call Answer : Type 0} (at : Call → Answer → Option Act) where
         go true t e = absurd (cc)
         go false t e = absurd (grind (arith, nat_tests))
 
+    -- the party that has responded has no open call
     pub done_own : Party h_done log_done p None
     done_own z is party none =
         let had = was_called z is in
@@ -444,6 +467,7 @@ module _ {Call Answer : Type 0} (at : Call → Answer → Option Act) where
     other_same : (q : ℕ) → q ≢ p → responded p (length h) answer q None ≡ None
     other_same q ne = let t : (p == q) ≡ false = grind (arith, nat_tests) in rw t refl
 
+    -- a response of one party leaves what the log says of every other
     pub done_other : (q : ℕ) → q ≢ p → (o : Option (Call × Option Act)) → Party h log q o → Party h_done log_done q o
     done_other q ne None free =
         λ z is party none.
@@ -465,6 +489,7 @@ module _ {Call Answer : Type 0} (at : Call → Answer → Option Act) where
         open_same : (k : ℕ) (c : Call) → on (open_call k q c) ≡ open_call k q c
         open_same k c = ap (λ o. record { place = k; party = q; call = c; response = o }) (other_same q ne)
 
+        -- so does it whether the other's call has acted or not
         go : (d : Option Act) → Linked s.place q x.0 d log → Linked s.place q x.0 d log_done
         go None linked =
             λ z is same.

@@ -61,6 +61,7 @@ call_at (page.PopMovesRead read value) = page.Pop
 abbrev comes : ℕ → page.Stage → ℕ → (machine.After page.Stage (Option ℕ))
 comes c stage old = (page.does c stage).2 old
 
+-- a stage of the page asks for the operation that the code asks for
 pub asks_same : (c before : ℕ) (stage : page.Stage) → ask_of (want one_word (flight c before stage)) ≡ Some (asked (page.does c stage).0 (page.does c stage).1)
 asks_same c before (page.PushLoadsWrite value) = refl
 asks_same c before (page.PushLoadsRead value write) = refl
@@ -73,6 +74,7 @@ asks_same c before (page.PopLoadsWrite read) = refl
 asks_same c before (page.PopLoadsCell read) = refl
 asks_same c before (page.PopMovesRead read value) = refl
 
+-- a stage of the page goes on from each old word as the code does
 after_same : (c before : ℕ) (stage : page.Stage) (old : ℕ) → after one_word (flight c before stage) old ≡ went c (read_then before stage) (comes c stage old)
 after_same c before (page.PushLoadsWrite value) old = grind arith
 after_same c before (page.PushLoadsRead value write) old = refl
@@ -98,6 +100,7 @@ on_or : (b : Bool) (call : page.Call) (answer : Option ℕ) (stage : page.Stage)
 on_or true call answer stage e = (e, refl)
 on_or false call answer stage e = tt
 
+-- where a call goes on it is the same call
 pub right : (c : ℕ) (stage : page.Stage) (old : ℕ) → GoesRight call_at fits (call_at stage) (comes c stage old)
 right c (page.PushLoadsWrite value) old = done_or (old == 2 ^ 64 - 1) (page.Push value) (Some value) (page.PushLoadsRead value old) refl
 right c (page.PushLoadsRead value write) old = (refl, refl)
@@ -123,6 +126,7 @@ went_same : (c before : ℕ) (a : (machine.After page.Stage (Option ℕ)))
 went_same c before (machine.GoOn stage) = refl
 went_same c before (machine.Done answer) = refl
 
+-- a step of the model's call comes to what the page's comes to, and leaves the roles
 pub goes : (c : ℕ) (roles : Roles) (words : List ℕ) (beside : Option (ℕ × ℕ)) (p before : ℕ) (stage : page.Stage) (old : ℕ)
     → StepIs ℕ (page.overflowing_queue c) reading is_push_or_pop kinds.Overflow c (registries.Queues roles)
     (λ r stage. flights.Queues (flight c r stage)) answered
@@ -147,6 +151,7 @@ goes c roles words beside p before stage old =
 abbrev tied : ℕ → Type 0
 tied c = Tie ℕ (page.overflowing_queue c) reading is_push_or_pop kinds.Overflow c kept
 
+-- each stage of the page's push or pop is a stage of the code's call: the same word, the same answer, the same way on
 unfoldable pub tie : (c : ℕ) → (c == 0) ≡ false → tied c
 tie c some =
     record {
@@ -217,6 +222,7 @@ numbers_of items item = map-append number items (item ∷ [])
 abbrev pushed : ℕ → List ℕ → Option ℕ × List ℕ
 pushed capacity all = cond (nat_lt capacity (length all)) (slice_get all 0, drop 1 all) (None, all)
 
+-- the list that is cut at the capacity is the page's after a push
 cut_after : (capacity : ℕ) (all : List (Item ℕ)) → map number (cut capacity all) ≡ (pushed capacity (map number all)).1
 cut_after capacity all = rw (length-map all number) (go (nat_lt capacity (length all)))
   where
@@ -225,6 +231,7 @@ cut_after capacity all = rw (length-map all number) (go (nat_lt capacity (length
     go true = number_rest all
     go false = refl
 
+-- the number that is cut off is the page's answer to a push
 cut_answer : (capacity : ℕ) (all : List (Item ℕ)) → answer_seen (answer_of_item (cut_off capacity all)) ≡ (pushed capacity (map number all)).0
 cut_answer capacity all = rw (length-map all number) (go (nat_lt capacity (length all)))
   where
@@ -233,6 +240,7 @@ cut_answer capacity all = rw (length-map all number) (go (nat_lt capacity (lengt
     go true = front all
     go false = refl
 
+-- what a call leaves of the model's list is what it leaves of the page's
 one_after : (capacity : ℕ) (items : List (Item ℕ)) (start : Start ℕ) → is_push_or_pop start ≡ true
     → map number (overflow_after capacity items start) ≡ (page.listed capacity (map number items) (call_seen start)).1
 one_after capacity items (Queues (PushIndex value)) own =
@@ -242,6 +250,7 @@ one_after capacity items (Queues (Push value)) own =
 one_after capacity items (Queues Pop) own = number_rest items
 one_after capacity items other own = absurd (cc)
 
+-- what the model's list answers is what the page's answers
 one_answer : (capacity : ℕ) (items : List (Item ℕ)) (start : Start ℕ) → is_push_or_pop start ≡ true
     → answer_seen (overflow_answer capacity items start) ≡ (page.listed capacity (map number items) (call_seen start)).0
 one_answer capacity items (Queues (PushIndex value)) own =
@@ -262,6 +271,7 @@ admitted c few = grind (arith, nat_tests)
 pub some_is : (c : ℕ) → 0 < c → (c == 0) ≡ false
 some_is c lt = grind (arith, nat_tests)
 
+-- behind the two acquires the two machines are the same
 opens : (c : ℕ) (some : (c == 0) ≡ false) → Sim (tie c some) 2 roles_told (machine.opening (page.overflowing_queue c)) 0 (acquired c)
 opens c some =
     let last = acquired c in
@@ -287,6 +297,7 @@ all_within c some [] = tt
 all_within c some (machine.Begin p call ∷ turns) = (may_below p call, all_within c some turns)
 all_within c some (machine.Next p ∷ turns) = (tt, all_within c some turns)
 
+-- the turns are those of the page's specification
 same_turns : (c : ℕ) (some : (c == 0) ≡ false) (turns : List (machine.Turn page.Call))
     → map (simulates.as_turn (tie c some) 2 roles_told) turns ≡ map as_turn turns
 unfolding tie
@@ -303,6 +314,7 @@ reached c turns few =
 abbrev world_of : ℕ → List (machine.Turn page.Call) → (machine.World page.Call page.Stage (Option ℕ))
 world_of c turns = fold (machine.turned (page.overflowing_queue c)) (machine.opening (page.overflowing_queue c)) turns
 
+-- after a list of turns the two machines are the same
 simulated : (c : ℕ) (turns : List (machine.Turn page.Call)) (some : (c == 0) ≡ false) → length turns < 2 ^ 63
     → Sim (tie c some) 2 roles_told (world_of c turns) (0 + length turns) (run (map as_turn turns) (acquired c))
 simulated c turns some small =
@@ -310,6 +322,7 @@ simulated c turns some small =
     (all_turns (tie c some) 2 roles_told turns (all_within c some turns)
     (machine.opening (page.overflowing_queue c)) 0 (acquired c) (omega arith) (opens c some))
 
+-- what the page runs is linearizable as the overflowing list
 pub linearizable : (c : ℕ) (turns : List (machine.Turn page.Call)) → 0 < c → c < 2 ^ 32 → length turns < 2 ^ 63
     → machine.IsLinearizable (page.overflowing_list c) (world_of c turns).history
 linearizable c turns more few small =

@@ -23,6 +23,7 @@ use Rattle.pages.proofs.QueueHands.{Other, Tells, asks_nothing, at_cell, at_read
 use Rattle.pages.proofs.QueueHands.{holder_is, not_own, other_begins, the_flight, who}
 
 module _ (c : ℕ) (more : 0 < c) where
+  -- a push or pop that the model lets begin is a call of the page, by the party of its role
   own : (k : Roles) (p : ℕ) (start : Start ℕ) (flight : Flight ℕ) → is_push_or_pop start ≡ true
       → first_of kinds.Overflow c start (registries.Queues k) ≡ Some flight
       → first_row ((begin_of kinds.Overflow c start).rows (registries.Queues k) p) ≡ None
@@ -41,6 +42,7 @@ module _ (c : ℕ) (more : 0 < c) where
       record { call = page.Pop; start_is = refl; flight_is = the_flight (rw (some_is c more) at named); who_is = holder_is k.consumer p rows; may = refl }
   own k p other flight mine named rows = absurd (cc)
 
+  -- any other call that it lets begin is one that the page has not
   other : (k : Roles) (p : ℕ) (start : Start ℕ) (flight : Flight ℕ) → is_push_or_pop start ≡ false
       → first_of kinds.Overflow c start (registries.Queues k) ≡ Some flight
       → first_row ((begin_of kinds.Overflow c start).rows (registries.Queues k) p) ≡ None
@@ -48,6 +50,7 @@ module _ (c : ℕ) (more : 0 < c) where
   other k p (Queues start) flight mine named rows = other_begins queue_kinds.Overflow c k p start flight mine named rows
   other k p start flight mine named rows = absurd (cc)
 
+  -- as a call begins the roles stay
   keeps : (k : Roles) (p : ℕ) (start : Start ℕ) (flight : Flight ℕ)
       → first_of kinds.Overflow c start (registries.Queues k) ≡ Some flight
       → kept_after_begin one_word c start p (registries.Queues k) ≡ registries.Queues k
@@ -55,6 +58,7 @@ module _ (c : ℕ) (more : 0 < c) where
   keeps k p (Loan start) flight named = absurd (cc)
   keeps k p start flight named = refl
 
+  -- a step of a call of the page leaves the words of the roles
   leaves : (k : Roles) (words : List ℕ) (stage : page.Stage) → Tells k words → Leaves blank (Tells k) words (page.does c stage).0
   leaves k words (page.PushLoadsWrite value) t = at_write k words t
   leaves k words (page.PushLoadsRead value write) t = at_read k words t
@@ -67,6 +71,7 @@ module _ (c : ℕ) (more : 0 < c) where
   leaves k words (page.PopLoadsCell read) t = at_cell k words t _
   leaves k words (page.PopMovesRead read value) t = at_read k words t
 
+  -- what is to be shown of the overflowing queue where its roles change hands
   handed : Hands by_role (tie c (some_is c more)) Roles
   unfolding tie
   handed =
@@ -87,6 +92,7 @@ module _ (c : ℕ) (more : 0 < c) where
         no_owners = λ k. refl;
       }
 
+  -- at the opening the two machines are the same
   opens : Sim by_role (tie c (some_is c more)) handed (machine.opening (page.overflowing_queue c)) (opening one_word kinds.Overflow c 0)
   unfolding handed
   opens =

@@ -71,6 +71,7 @@ module _ {Call Stage Answer : Type 0} (of : Structure Call Stage Answer) (at : C
     abbrev Putting : ℕ → Option Stage → (ℕ → Option Stage) → (ℕ → Option Stage → Type 0) → Type 0
     Putting p o pending P = (q : ℕ) → P q (machine.put p o pending q)
 
+    -- what holds of one party's new stage and of all others' old ones holds of each party once the new one is put in
     put_all : (p : ℕ) (o : Option Stage) (pending : ℕ → Option Stage) (P : ℕ → Option Stage → Type 0)
         → P p o → ((q : ℕ) → q ≢ p → P q (pending q)) → Putting p o pending P
     put_all p o pending P own others q = go (q == p) refl
@@ -79,6 +80,7 @@ module _ {Call Stage Answer : Type 0} (of : Structure Call Stage Answer) (at : C
         go true t = let same : p ≡ q = grind (arith, nat_tests) in subst (λ q. P q o) same own
         go false t = let other : q ≢ p = grind (arith, nat_tests) in others q other
 
+    -- at the opening there is a log that says what has been done at the place
     opening_holds : Holds (machine.opening of) 0
     opening_holds =
         record {
@@ -100,6 +102,7 @@ module _ {Call Stage Answer : Type 0} (of : Structure Call Stage Answer) (at : C
 
     -- ---- a call begins
 
+    -- as a call begins it has done nothing at the place yet
     begins : (w : World Call Stage Answer) (n p : ℕ) (call : Call) → Holds w n → of.may p call ≡ true → w.pending p ≡ None
         → Holds (machine.begun of w p call true None) (n + 1)
     begins w n p call s may free =
@@ -128,6 +131,7 @@ module _ {Call Stage Answer : Type 0} (of : Structure Call Stage Answer) (at : C
       pub own : IsOpen at h log p call then
       pub others : (q : ℕ) → q ≢ p → (o : Option (Call × Option Act)) → Party at h old q o → Party at h log q o
 
+    -- the log goes along with what a step does at the place
     logged : (h : List (machine.Event Call Answer)) (log : List (Entry at)) (v w p : ℕ) (call : Call) (did then : Option Act)
         → Core at h log v → IsOpen at h log p call did → Moves at call did then v w → Logged h log w p call then
     logged h log v w p call did then core own (Stays same stays) =
@@ -154,6 +158,7 @@ module _ {Call Stage Answer : Type 0} (of : Structure Call Stage Answer) (at : C
           others = logs.forgotten_other at h log v core p call act had_done idle;
         }
 
+    -- as a call takes a step there is a log again, of the words that the step leaves
     goes_on : (w : World Call Stage Answer) (n p : ℕ) (stage : Stage) → law.Few n → Holds w n → w.pending p ≡ Some stage
         → Holds (machine.stepped of w p (Some stage)) (n + 1)
     goes_on w n p stage few s pending =
@@ -163,6 +168,7 @@ module _ {Call Stage Answer : Type 0} (of : Structure Call Stage Answer) (at : C
         let own = subst (λ o. Party at w.history s.log p (Pending o)) pending (s.parties p) in
         by ((of.does stage).2 old) words step.0 own step.1
       where
+        -- so there is whether the call goes on or is done
         by : (a : After Stage Answer) (words : List ℕ) → law.Good (n + 1) words → IsOpen at w.history s.log p (law.call_at stage) (law.did stage)
             → Goes law.call_at law.did law.Fits stage a (law.value w.words) (law.value words)
             → Holds (machine.gone of w p words a) (n + 1)
@@ -198,6 +204,7 @@ module _ {Call Stage Answer : Type 0} (of : Structure Call Stage Answer) (at : C
     waits : (w : World Call Stage Answer) (n : ℕ) → Holds w n → Holds w (n + 1)
     waits w n s = record { log = s.log; good = law.waits n w.words s.good; core = s.core; fits = s.fits; parties = s.parties }
 
+    -- after each turn there is a log that says what has been done at the place
     one_turn : (w : World Call Stage Answer) (n : ℕ) (turn : Turn Call) → law.Few n → Holds w n → Holds (machine.turned of w turn) (n + 1)
     one_turn w n (Begin p call) few s = go (of.may p call) refl (w.pending p) refl
       where
@@ -211,6 +218,7 @@ module _ {Call Stage Answer : Type 0} (of : Structure Call Stage Answer) (at : C
         go None e = waits w n s
         go (Some stage) e = goes_on w n p stage few s e
 
+    -- after a list of turns, each taken when few enough have been, there is such a log
     all_turns : (turns : List (Turn Call)) (w : World Call Stage Answer) (n : ℕ) → ((k : ℕ) → n ≤ k → k < n + length turns → law.Few k) → Holds w n
         → Holds (fold (machine.turned of) w turns) (n + length turns)
     all_turns [] w n few s = let same : n ≡ n + 0 = omega arith in subst (Holds w) same s
@@ -220,6 +228,7 @@ module _ {Call Stage Answer : Type 0} (of : Structure Call Stage Answer) (at : C
         (all_turns turns (machine.turned of w turn) (n + 1) (λ k le lt. few k (omega arith) (omega arith))
         (one_turn w n turn (few n (omega arith) (omega arith)) s))
 
+    -- where there is a log, each call acts at the place at one moment
     acts_at : (w : World Call Stage Answer) (n : ℕ) → Holds w n → ActsAt at w.history (law.value w.words)
     acts_at w n s =
         record {

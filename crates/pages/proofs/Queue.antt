@@ -62,6 +62,7 @@ fits c (page.PushStoresCell value write) = not (c == 0)
 fits c (page.PopLoadsCell read) = not (c == 0)
 fits c stage = true
 
+-- a stage that passes the test fits
 pub fits_so : (c : ℕ) (stage : page.Stage) → fits c stage ≡ true → Fits c stage
 fits_so c (page.PushLoadsWrite value) e = tt
 fits_so c (page.PushLoadsRead value write) e = tt
@@ -78,6 +79,7 @@ comes c stage old = (page.does c stage).2 old
 small_word : (r : ℕ) → r < 2 ^ 32 → (4 + 1 * r + 0) % 2 ^ 64 ≡ 4 + r
 small_word r lt = omega arith
 
+-- the word of a position's cell is the one that the page says
 cell_is : (c position : ℕ) → c < 2 ^ 32 → (c == 0) ≡ false → word_at (cell_word c 1 position) 0 ≡ 4 + position % c
 cell_is c position few some =
     let more : 0 < c = grind (arith, nat_tests) in
@@ -85,6 +87,7 @@ cell_is c position few some =
     let lt : position % c < 2 ^ 32 = omega arith in
     rw some (small_word (position % c) lt)
 
+-- a stage of the page asks for the operation that the code asks for
 pub asks_same : (c : ℕ) (stage : page.Stage) → c < 2 ^ 32 → Fits c stage
     → ask_of (want one_word (flight c stage)) ≡ Some (asked (page.does c stage).0 (page.does c stage).1)
 asks_same c (page.PushLoadsWrite value) few fits = refl
@@ -96,6 +99,7 @@ asks_same c (page.PopLoadsWrite read) few fits = refl
 asks_same c (page.PopLoadsCell read) few fits = ap (λ k. Some (record { word = k; op = Load })) (cell_is c read few fits)
 asks_same c (page.PopStoresRead read value) few fits = refl
 
+-- a stage of the page goes on from each old word as the code does
 after_same : (c : ℕ) (stage : page.Stage) (old : ℕ) → after one_word (flight c stage) old ≡ went c (comes c stage old)
 after_same c (page.PushLoadsWrite value) old = grind arith
 after_same c (page.PushLoadsRead value write) old = grind arith
@@ -106,6 +110,7 @@ after_same c (page.PopLoadsWrite read) old = grind arith
 after_same c (page.PopLoadsCell read) old = refl
 after_same c (page.PopStoresRead read value) old = refl
 
+-- where a call goes on it is the same call, and it goes to a cell only where there is one
 pub right : (c : ℕ) (stage : page.Stage) (old : ℕ) → GoesRight call_at (fits c) (call_at stage) (comes c stage old)
 right c (page.PushLoadsWrite value) old = go (old == 2 ^ 64 - 1)
   where
@@ -114,6 +119,7 @@ right c (page.PushLoadsWrite value) old = go (old == 2 ^ 64 - 1)
     go false = (refl, refl)
 right c (page.PushLoadsRead value write) old = go (c == 0) refl ((write + 2 ^ 64 - old) % 2 ^ 64 == c)
   where
+    -- so it is of a push that has loaded the read position
     go : (a : Bool) → (c == 0) ≡ a → (d : Bool)
         → GoesRight call_at (fits c) (page.Push value)
         (cond (a || d) (machine.Done (page.Pushed false)) (machine.GoOn (page.PushStoresCell value write)))
@@ -145,6 +151,7 @@ went_same : (c : ℕ) (a : (machine.After page.Stage page.Answer))
 went_same c (machine.GoOn stage) = refl
 went_same c (machine.Done answer) = refl
 
+-- a step of the model's call comes to what the page's comes to, and leaves the roles
 pub goes : (c : ℕ) (roles : Roles) (words : List ℕ) (beside : Option (ℕ × ℕ)) (p : ℕ) (stage : page.Stage) (old : ℕ)
     → StepIs (Unit {0}) (page.index_queue c) reading is_push_or_pop kinds.IndexQueue c (registries.Queues roles)
     (λ r stage. flights.Queues (flight c stage)) answered
@@ -167,6 +174,7 @@ goes c roles words beside p stage old =
 abbrev tied : ℕ → Type 0
 tied c = Tie (Unit {0}) (page.index_queue c) reading is_push_or_pop kinds.IndexQueue c kept
 
+-- each stage of the page's push or pop is a stage of the code's call: the same word, the same answer, the same way on
 unfoldable pub tie : (c : ℕ) → c < 2 ^ 32 → tied c
 tie c few =
     record {
@@ -230,6 +238,7 @@ tie c few =
 
 -- ---- the list
 
+-- what a push leaves of the model's list is what it leaves of the page's
 pushed_after : (capacity : ℕ) (items : List (Item ℕ)) (item : Item ℕ)
     → map number (appended capacity items item) ≡ (page.listed capacity (map number items) (page.Push (number item))).1
 pushed_after capacity items item = rw (length-map items number) (go (nat_lt (length items) capacity))
@@ -239,6 +248,7 @@ pushed_after capacity items item = rw (length-map items number) (go (nat_lt (len
     go true = map-append number items (item ∷ [])
     go false = refl
 
+-- what a push answers on the page is whether the model's list had room
 pushed_answer : (capacity : ℕ) (items : List (Item ℕ)) (value : ℕ)
     → page.Pushed (nat_lt (length items) capacity) ≡ (page.listed capacity (map number items) (page.Push value)).0
 pushed_answer capacity items value = rw (length-map items number) (go (nat_lt (length items) capacity))
@@ -261,6 +271,7 @@ one_after capacity items (Queues (Push value)) own = pushed_after capacity items
 one_after capacity items (Queues Pop) own = number_rest items
 one_after capacity items other own = absurd (cc)
 
+-- what the model's list answers is what the page's answers
 one_answer : (capacity : ℕ) (items : List (Item ℕ)) (start : Start ℕ) → is_push_or_pop start ≡ true
     → answer_seen (list_answer capacity items start) ≡ (page.listed capacity (map number items) (call_seen start)).0
 one_answer capacity items (Queues (PushIndex value)) own = pushed_answer capacity items value
@@ -276,6 +287,7 @@ is_list c = record { state = map number; opens = refl; after = one_after c; answ
 admitted : (c : ℕ) → c < 2 ^ 32 → capacity_error kinds.IndexQueue c ≡ None
 admitted c few = grind (arith, nat_tests)
 
+-- behind the two acquires the two machines are the same
 opens : (c : ℕ) (few : c < 2 ^ 32) → Sim (tie c few) 2 roles_told (machine.opening (page.index_queue c)) 0 (acquired c)
 opens c few =
     let last = acquired c in
@@ -322,6 +334,7 @@ simulated c turns few small =
     subst (λ ts. Sim (tie c few) 2 roles_told (world_of c turns) (0 + length turns) (run ts (acquired c))) (same_turns c few turns)
     (all_turns (tie c few) 2 roles_told turns (all_within c few turns) (machine.opening (page.index_queue c)) 0 (acquired c) (omega arith) (opens c few))
 
+-- what the page runs is linearizable as the bounded list
 pub linearizable : (c : ℕ) (turns : List (machine.Turn page.Call)) → c < 2 ^ 32 → length turns < 2 ^ 63
     → machine.IsLinearizable (page.bounded_list c) (world_of c turns).history
 linearizable c turns few small =

@@ -66,6 +66,7 @@ who roles zero = roles.producer
 who roles (suc zero) = roles.consumer
 who roles (suc (suc n)) = None
 
+-- who passes the row of a role holds it
 pub holder_is : (o : Option ℕ) (p : ℕ) → first_row ((not (holds o p), NoRole) ∷ []) ≡ None → o ≡ Some p
 holder_is None p e = absurd (cc)
 holder_is (Some q) p e = go (q == p) refl e
@@ -79,6 +80,7 @@ module _ (roles : Roles) (words : List ℕ) (t : Tells roles words) where
   abbrev LeavesAt : ℕ → Type 0
   LeavesAt word = Leaves blank (Tells roles) words word
 
+  -- a step at the word of the write position leaves the words of the roles
   pub at_write : LeavesAt 0
   at_write =
       subst (λ ws. Leaves blank (Tells roles) ws 0) (sym t.is)
@@ -88,6 +90,7 @@ module _ (roles : Roles) (words : List ℕ) (t : Tells roles words) where
         tells = λ value u. record { write = value; read = t.read; cells = t.cells; is = refl };
       })
 
+  -- a step at the word of the read position leaves the words of the roles
   pub at_read : LeavesAt 1
   at_read =
       subst (λ ws. Leaves blank (Tells roles) ws 1) (sym t.is)
@@ -97,6 +100,7 @@ module _ (roles : Roles) (words : List ℕ) (t : Tells roles words) where
         tells = λ value u. record { write = t.write; read = value; cells = t.cells; is = refl };
       })
 
+  -- a step at a word of a cell leaves the words of the roles
   pub at_cell : (n : ℕ) → LeavesAt (4 + n)
   at_cell n =
       let far : suc (suc (suc (suc n))) ≡ 4 + n = omega arith in
@@ -147,6 +151,7 @@ module _ {T : Type 0} where
   peek_begins kinds.Overflow capacity flight named = absurd (cc)
   peek_begins kinds.Queue capacity flight named = subst IsPeek (sym (the_flight named)) tt
 
+  -- a call that may begin, and is no push or pop, stands at its first stage
   pub other_begins : (kind : QueueKind) (capacity : ℕ) (roles : Roles) (p : ℕ) (start : QueueStart T) (flight : Flight T)
       → is_push_or_pop (Queues start) ≡ false → option_map flights.Queues (first kind capacity start) ≡ Some flight
       → first_row (call_rows roles p start) ≡ None → Other roles p (Queues start) flight
@@ -162,6 +167,7 @@ module _ {T : Type 0} where
   other_begins kind capacity roles p IsFull flight other named rows = record { which = _; run = _; is = the_flight named }
   other_begins kind capacity roles p start flight other named rows = absurd (cc)
 
+  -- a call that the page has not is no push or pop
   pub not_own : (roles : Roles) (p : ℕ) (start : Start T) (flight : Flight T) → Other roles p start flight → is_push_or_pop start ≡ false
   not_own roles p (Queues AcquireProducer) flight h = refl
   not_own roles p (Queues ReleaseProducer) flight h = refl
@@ -179,6 +185,7 @@ module _ {T : Type 0} where
   not_own roles p other flight h = absurd h
 
   module _ (code : Coding T) where
+    -- a length asks for a load, and puts no question
     length_asks : (stage : LenStage) (which : LengthOf) (run : Running lengths.Len (Unit {0}) (Unit {0})) → run.call.stage ≡ stage
         → is_question (want_of code (flights.Queues (Length which run))) ≡ false
     length_asks stage which run e = go run.call.stage
@@ -202,6 +209,7 @@ module _ {T : Type 0} where
     peek_asks_nothing (flights.Queues (Values (rings.Peek run))) h = peek_loads run.call.stage
     peek_asks_nothing flight h = absurd h
 
+    -- a call that the page has not puts no question
     pub asks_nothing : (roles : Roles) (p : ℕ) (start : Start T) (flight : Flight T) → Other roles p start flight → is_question (want_of code flight) ≡ false
     asks_nothing roles p (Queues AcquireProducer) flight h = subst (λ f. is_question (want_of code f) ≡ false) (sym h) refl
     asks_nothing roles p (Queues ReleaseProducer) flight h = subst (λ f. is_question (want_of code f) ≡ false) (sym h.0) refl
@@ -225,6 +233,7 @@ module _ {T : Type 0} where
         OtherStep code registries.Queues who blank Tells Other roles p start flight words
         (step_of code words beside p start flight (old_of words (ask_of (want_of code flight))) (registries.Queues roles))
 
+    -- a call that the page has not stays where it stands as long as its party keeps its roles
     others_stay : (k next : Roles) (q : ℕ) → (k.producer ≡ Some q → next.producer ≡ Some q) → (k.consumer ≡ Some q → next.consumer ≡ Some q)
         → (start : Start T) (flight : Flight T) → Other k q start flight → Other next q start flight
     others_stay k next q produces consumes (Queues AcquireProducer) flight h = h
@@ -261,6 +270,7 @@ module _ {T : Type 0} where
       abbrev both : Option ℕ → Option ℕ → Roles
       both producer consumer = record { producer = producer; consumer = consumer }
 
+      -- a step of an acquire of the producer's role takes it where it is free, and tells the page nothing
       acquires_producer : (pr co : Option ℕ)
           → StepOf (both pr co) p (Queues AcquireProducer) (flights.Queues (acquire_of producer_word)) (words_of pr co) beside
       acquires_producer None co =
@@ -291,6 +301,7 @@ module _ {T : Type 0} where
             others = λ q start flight ne h. h;
           }
 
+      -- a step of an acquire of the consumer's role takes it where it is free, and tells the page nothing
       acquires_consumer : (pr co : Option ℕ)
           → StepOf (both pr co) p (Queues AcquireConsumer) (flights.Queues (acquire_of consumer_word)) (words_of pr co) beside
       acquires_consumer pr None =
@@ -321,6 +332,7 @@ module _ {T : Type 0} where
             others = λ q start flight ne h. h;
           }
 
+      -- a step of a release of the producer's role frees it, and tells the page nothing
       releases_producer : (pr co : Option ℕ) → pr ≡ Some p
           → StepOf (both pr co) p (Queues ReleaseProducer) (flights.Queues (release_of producer_word)) (words_of pr co) beside
       releases_producer pr co holder =
@@ -340,6 +352,7 @@ module _ {T : Type 0} where
           who_is (suc zero) = inl refl
           who_is (suc (suc n)) = inl refl
 
+      -- a step of a release of the consumer's role frees it, and tells the page nothing
       releases_consumer : (pr co : Option ℕ) → co ≡ Some p
           → StepOf (both pr co) p (Queues ReleaseConsumer) (flights.Queues (release_of consumer_word)) (words_of pr co) beside
       releases_consumer pr co holder =
@@ -389,6 +402,7 @@ module _ {T : Type 0} where
         loading =
             step_of code (words_of pr co) beside p start flight (old_of (words_of pr co) (ask_of (want_of code flight))) (registries.Queues (both pr co))
 
+        -- a step that leaves the words and the roles, writes nothing, and goes on as such a call, comes to what it may
         loads : words_after (words_of pr co) (ask_of (want_of code flight)) ≡ words_of pr co
             → loading.kept ≡ registries.Queues (both pr co) → loading.wrote ≡ []
             → ((then : Flight T) → loading.after ≡ afters.GoOn then → Other (both pr co) p start then)
@@ -413,6 +427,7 @@ module _ {T : Type 0} where
           → IsLength then
       length_on which answer comes then e = goes_on_so IsLength (λ r. Length which r) (of_length which) answer as_it_is tt tt comes then e
 
+      -- a step of a peek comes to what it may
       by_peek : (pr co : Option ℕ) (flight : Flight T) → IsPeek flight → StepOf (both pr co) p (Queues Peek) flight (words_of pr co) beside
       by_peek pr co (flights.Queues (Indices (rings.Peek run))) h =
           loads (Queues Peek) (flights.Queues (Indices (rings.Peek run))) pr co (peeks_alone pr co run.call.stage) refl refl
@@ -422,6 +437,7 @@ module _ {T : Type 0} where
           (λ then e. goes_on_so IsPeek (λ r. Values (rings.Peek r)) (λ r. tt) popped_value (λ end given room. pop_answer (read_in code room) end) _ _ _ then e)
       by_peek pr co flight h = absurd h
 
+      -- each call that the page has not comes to what it may, from words that tell the roles
       by_start : (pr co : Option ℕ) (start : QueueStart T) (flight : Flight T) → Other (both pr co) p (Queues start) flight
           → StepOf (both pr co) p (Queues start) flight (words_of pr co) beside
       by_start pr co AcquireProducer flight h =
@@ -455,6 +471,7 @@ module _ {T : Type 0} where
       by_start pr co (Push value) flight h = absurd h
       by_start pr co Pop flight h = absurd h
 
+    -- a step of a call that the page has not comes to what it may
     pub goes_other : (roles : Roles) (words : List ℕ) (beside : Option (ℕ × ℕ)) (p : ℕ) (start : Start T) (flight : Flight T)
         → Other roles p start flight → Tells roles words → StepOf roles p start flight words beside
     goes_other roles words beside p (Queues start) flight h t =

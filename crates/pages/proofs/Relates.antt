@@ -139,6 +139,7 @@ module _ (Room : Type 0) {Call Stage Answer : Type 0} (of : machine.Structure Ca
     known_of w n t s =
         law.known (trace s.kept w.words s.latest s.changes s.turns s.events) (subst IsReached s.is s.reached) refl refl
 
+    -- each party's call matches its stage once a call that matches its own is put in with it
     put_matches : (p : ℕ) (o : Option Stage) (x : Party ℕ) (pending : ℕ → Option Stage) (latest : List (ℕ × Party ℕ))
         → Matches p o (Some x) → ((q : ℕ) → Matches q (pending q) (party_of q latest))
         → (q : ℕ) → Matches q (machine.put p o pending q) (party_of q (put p x latest))
@@ -180,6 +181,7 @@ module _ (Room : Type 0) {Call Stage Answer : Type 0} (of : machine.Structure Ca
     begun_by k words latest changes turns events p call o =
         record { world = after_begin (world k words latest changes turns) p (law.start call) o; events = events ++ Begun p (law.start call) ∷ [] }
 
+    -- what the model's machine is once a call has begun
     begin_is : (k : Registry ℕ) (words : List ℕ) (latest : List (ℕ × Party ℕ)) (changes turns : ℕ) (events : List (Event ℕ)) (p : ℕ) (call : Call)
         → after_turn (trace k words latest changes turns events) (Begin p (law.start call))
         ≡ trace k words (put p (begun_party call changes) latest) changes (turns + 1) (events ++ Begun p (law.start call) ∷ [])
@@ -188,6 +190,7 @@ module _ (Room : Type 0) {Call Stage Answer : Type 0} (of : machine.Structure Ca
         ∙ ap (λ k. trace k words (put p (begun_party call changes) latest) changes (turns + 1) (events ++ Begun p (law.start call) ∷ []))
         (law.keeps k p call)
 
+    -- as a call begins that the rule lets begin, the two machines meet again
     begins : (w : Page) (n p : ℕ) (call : Call) (t : Trace ℕ) → n < 2 ^ 63 → Meets w n t → law.Rule w (machine.Begin p call)
         → of.may p call ≡ true → p < parties → w.pending p ≡ None
         → Meets (machine.begun of w p call true None) (n + 1) (attempt t (Begin p (law.start call)))
@@ -251,6 +254,7 @@ module _ (Room : Type 0) {Call Stage Answer : Type 0} (of : machine.Structure Ca
     abbrev after_party : World ℕ → List (Event ℕ) → ℕ → Option (Party ℕ) → Trace ℕ
     after_party w events p o = record { world = after_next w p o; events = events ++ events_of_next w p o }
 
+    -- what the model's machine is once a call has taken a step, by the operation that the call asks for
     next_is : (k : Registry ℕ) (words : List ℕ) (latest : List (ℕ × Party ℕ)) (changes turns : ℕ) (events : List (Event ℕ)) (p : ℕ) (r : Room) (stage : Stage)
         (steps backs since : ℕ) → party_of p latest ≡ Some (going r stage steps backs since)
         → after_turn (trace k words latest changes turns events) (Next p)
@@ -371,6 +375,7 @@ module _ (Room : Type 0) {Call Stage Answer : Type 0} (of : machine.Structure Ca
           matches = put_matches p None x w.pending s.latest refl s.matches;
         }
 
+    -- as a call takes a step the two machines meet again
     goes_on : (w : Page) (n p : ℕ) (t : Trace ℕ) → n < 2 ^ 63 → (s : Meets w n t) → (stage : Stage) → w.pending p ≡ Some stage
         → Goes p stage (party_of p s.latest) → Meets (machine.stepped of w p (Some stage)) (n + 1) (attempt t (Next p))
     goes_on w n p t small s stage pending g =
@@ -440,6 +445,7 @@ module _ (Room : Type 0) {Call Stage Answer : Type 0} (of : machine.Structure Ca
         free
         ∙ refused_later ((nat_le (2 ^ 64 - 2) turns, AtEnd) ∷ (nat_le parties p, NoParty) ∷ []) ((true, Idle) ∷ (false, Undecided) ∷ []) refl
 
+    -- a call that the page does not let a party begin is refused by the model
     lacks : (w : Page) (n : ℕ) (t : Trace ℕ) (s : Meets w n t) (p : ℕ) (call : Call) → of.may p call ≡ false
         → is_some (refusal_of (world s.kept w.words s.latest s.changes s.turns) (Begin p (law.start call))) ≡ true
     lacks w n t s p call may =
@@ -455,6 +461,7 @@ module _ (Room : Type 0) {Call Stage Answer : Type 0} (of : machine.Structure Ca
 
     -- ---- every turn
 
+    -- each turn of the page is one of the model, and the two machines meet again
     one_turn : (w : Page) (n : ℕ) (t : Trace ℕ) (turn : machine.Turn Call) → IsWithin turn → law.Rule w turn → n < 2 ^ 63 → Meets w n t
         → Meets (machine.turned of w turn) (n + 1) (attempt t (as_turn turn))
     one_turn w n t (machine.Begin p call) within rule small s = go (of.may p call) refl (w.pending p) refl
@@ -480,6 +487,7 @@ module _ (Room : Type 0) {Call Stage Answer : Type 0} (of : machine.Structure Ca
     AllRules w [] = Unit {0}
     AllRules w (turn ∷ turns) = law.Rule w turn × AllRules (machine.turned of w turn) turns
 
+    -- after fewer than 2^63 turns, in which the callers keep to the rule, the two machines meet
     pub all_turns : (turns : List (machine.Turn Call)) → AllByRecursion IsWithin turns
         → (w : Page) (n : ℕ) (t : Trace ℕ) → AllRules w turns → n + length turns < 2 ^ 63 → Meets w n t
         → Meets (fold (machine.turned of) w turns) (n + length turns) (run (map as_turn turns) t)

@@ -45,6 +45,7 @@ lacks_row holder p e = let is : (holder == p) ≡ false = grind (arith, nat_test
 
 -- ---- the effects of a step
 
+-- the effects of a step of a queue's call are no invocations and no responses
 pub effects_unseen : {T Call Answered : Type 0} (read : ReadingOf T Call Answered) (p : ℕ) (start : QueueStart T)
     (eff : Effect T) (outcome : Option (Answer T))
     → all_seen read (effects_of p start eff outcome) ≡ []
@@ -60,6 +61,7 @@ effects_unseen read p start (TakesOut index) outcome = refl
 effects_unseen read p start (MakesRoom item q pushed) None = refl
 effects_unseen read p start (MakesRoom item q pushed) (Some answer) = refl
 
+-- no call begins by the effects of a step
 pub effects_own : {T : Type 0} → (p : ℕ) (start : QueueStart T) (eff : Effect T) (outcome : Option (Answer T))
     → AllByRecursion (IsOwn is_push_or_pop) (effects_of p start eff outcome)
 effects_own p start Quiet outcome = tt
@@ -92,6 +94,7 @@ producer = record { place = 0; party = 0; start = Queues AcquireProducer; respon
 abbrev pub consumer : {T : Type 0} → model.Call T
 consumer = record { place = 2; party = 1; start = Queues AcquireConsumer; response = Some (record { place = 3; answer = Truth true }) }
 
+-- each push and pop of such a history was begun behind the two acquires
 pub among : {T : Type 0} → (es : List (Event T)) (c : model.Call T) → is_push_or_pop c.start ≡ true
     → Contains (calls_of (roles_told ++ es)) c → Contains (calls_from es 4) c
 among {T} es c mine is =

@@ -16,6 +16,7 @@ use Rattle.pages.specs.Reading.{asked}
 
 -- ---- the bit set
 
+-- a stage of the bit set's page asks for the operation that the code asks for
 pub bits_asks : (c found : ℕ) (stage : bits.Stage) → bits_bridge.Fits c stage
     → ask_of (want (bits_bridge.flight c found stage)) ≡ Some (asked (bits.does c stage).0 (bits.does c stage).1)
 bits_asks c found (bits.SetLoadsElement place) fits = refl
@@ -27,6 +28,7 @@ bits_asks c found (bits.NextStoresPosition place) fits = refl
 bits_asks c found (bits.AllSwapsElement word places) fits =
     let yes : nat_lt word (1 + elements c) ≡ true = grind (arith, nat_tests) in rw yes refl
 
+-- a stage of the bit set's page goes on from each old word as the code does
 pub bits_after : (c found : ℕ) (stage : bits.Stage) (old : ℕ)
     → after (bits_bridge.flight c found stage) old ≡ bits_bridge.went c old ((bits.does c stage).2 old)
 bits_after c found (bits.SetLoadsElement place) old = grind arith
@@ -70,9 +72,11 @@ counts_code c found stage fits = (counts_asks c found stage fits, counts_after c
 abbrev one : ℕ → ℕ → List (ℕ × ℕ)
 one place old = (place, old) ∷ []
 
+-- a reset of all of the counting bit set hands out what the machine's events say
 pub counts_hands_out : counts_bridge.HandsOutAsTheMachine
 counts_hands_out p c found place old taken = go (old == 0)
   where
+    -- so it does whether the place counted something or not
     go : (b : Bool)
         → (counts.all_goes_on c place (cond b taken (taken ++ one place old))
         ≡ counts.all_goes_on c place (taken ++ cond b [] (one place old)))

@@ -19,6 +19,7 @@ module _ {Call Stage Answer Item : Type 0} (of : machine.Structure Call Stage An
     abbrev History : Type 0
     History = List (machine.Event Call Answer)
 
+    -- what is told of two runs of events, one behind the other, is what is told of the one and then of the other
     told_more : (before es more : List (Event ℕ)) → told read before (es ++ more) ≡ told read before es ++ told read (before ++ es) more
     told_more before [] more = ap (λ b. told read b more) (sym (append-nil before))
     told_more before (e ∷ es) more =
@@ -44,6 +45,8 @@ module _ {Call Stage Answer Item : Type 0} (of : machine.Structure Call Stage An
       pub history : told read [] events ≡ w.history
       pub hands : (p : ℕ) → Hands (w.pending p) (handed read p events)
 
+    -- where one party comes to a stage that has this handed out, and nothing is handed out by the others, each party's
+    -- stage has its items
     hands_put : (p : ℕ) (o : Option Stage) (pending : ℕ → Option Stage) (events es : List (Event ℕ))
         → Hands o (handed read p (events ++ es)) → ((q : ℕ) → q ≢ p → handed read q (events ++ es) ≡ handed read q events)
         → ((q : ℕ) → Hands (pending q) (handed read q events)) → (q : ℕ) → Hands (machine.put p o pending q) (handed read q (events ++ es))
@@ -55,6 +58,7 @@ module _ {Call Stage Answer Item : Type 0} (of : machine.Structure Call Stage An
             let other : q ≢ p = grind (arith, nat_tests) in
             subst (Hands (pending q)) (sym (others q other)) (all q)
 
+    -- as a call is invoked the page reads one invocation more, and nothing is handed out by it
     pub begins : (events : List (Event ℕ)) (w : machine.World Call Stage Answer) (p : ℕ) (call : Call) (start : Start ℕ) → IsRead events w
         → read.call start ≡ call → HandsAt (of.first call) [] → IsRead (events ++ Begun p start ∷ []) (machine.begun of w p call true None)
     begins events w p call start r is first =
@@ -81,6 +85,8 @@ module _ {Call Stage Answer Item : Type 0} (of : machine.Structure Call Stage An
     abbrev pub EndsQuiet : Type 0
     EndsQuiet = (p : ℕ) (start : Start ℕ) (answer : answers.Answer ℕ) → read.item (Finished p start answer) ≡ None
 
+    -- a step that writes these events leads the page to where the call goes: to a stage, with the items handed out, or
+    -- to its response
     pub steps_on : EndsQuiet → (flight : Stage → Flight ℕ) (answered : Answer → answers.Answer ℕ)
         (events wrote : List (Event ℕ)) (items : List Item) (w : machine.World Call Stage Answer) (p : ℕ) (start : Start ℕ) (words : List ℕ)
         → IsRead events w → Writes p wrote items → (a : machine.After Stage Answer) → Reads answered (handed read p events ++ items) a
@@ -95,6 +101,7 @@ module _ {Call Stage Answer Item : Type 0} (of : machine.Structure Call Stage An
         others : (q : ℕ) → q ≢ p → handed read q (events ++ wrote) ≡ handed read q events
         others q ne = handed_more q events wrote ∙ writes.others q (handed read q events) ne
 
+        -- so it does whether the call goes on or is done
         by : (a : machine.After Stage Answer) → Reads answered (handed read p events ++ items) a
             → IsRead (events ++ (wrote ++ ending_of p start (answer_in (went flight answered a)))) (machine.gone of w p words a)
         by (machine.GoOn next) hands =

@@ -58,6 +58,7 @@ asks_no_question (wants.Ask a) ask e = refl
 asks_no_question (wants.Question question) ask e = absurd (cc)
 asks_no_question wants.Nothing ask e = refl
 
+-- an operation makes of the model's words what it makes of the page's
 pub words_same : (words : List ℕ) (word : ℕ) (op : machine.Operation)
     → words_after words (Some (asked word op)) ≡ slice_set words word (machine.written op (slice_index words word))
 words_same words word machine.Load = refl
@@ -79,6 +80,7 @@ own_more is_call (e ∷ es) more a b = (a.0, own_more is_call es more a.1 b)
 pub taken : {T : Type 0} → (t : Trace T) (turn : Turn T) → refusal_of t.world turn ≡ None → attempt t turn ≡ after_turn t turn
 taken t turn e = ap (unless_refused t (after_turn t turn)) e
 
+-- a turn that is refused changes nothing
 pub refused : {T : Type 0} → (t : Trace T) (turn : Turn T) → is_some (refusal_of t.world turn) ≡ true → attempt t turn ≡ t
 refused t turn e = go (refusal_of t.world turn) e
   where

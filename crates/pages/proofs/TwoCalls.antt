@@ -27,6 +27,7 @@ module _ {Call Answer State : Type 0} (o : Object Call Answer State) (history : 
     both : {A : Type 0} (x : Entry) → x ≡ one → x ≡ two → A
     both x e f = absurd (apart (ap (λ (x : Entry). x.0) (sym e ∙ f)))
 
+    -- a legal sequence that contains both calls, and no other, has them in one of the two orders
     ordered : (xs : List Entry) → IsLegal o o.opening xs → All (λ x. Contains (calls_from history 0) x.0) xs
         → Contains xs one → Contains xs two → AllPairs (λ x y. x.0 ≢ y.0) xs
         → AllPairs (λ x y. IfSome y.0.response (λ r. x.0.place ≤ r.0)) xs → InOneOrder
@@ -42,6 +43,7 @@ module _ {Call Answer State : Type 0} (o : Object Call Answer State) (history : 
         in_turn : x ≡ one → y ≡ two → IsLegal o o.opening (one ∷ two ∷ [])
         in_turn e f = subst (λ x. IsLegal o o.opening (x ∷ two ∷ [])) e (subst (λ y. IsLegal o o.opening (x ∷ y ∷ [])) f legal)
 
+        -- where the second comes first it was invoked before the first responded
         swapped : x ≡ two → y ≡ one → IsLegal o o.opening (two ∷ one ∷ []) × (d.place ≤ place)
         swapped e f =
             let after = real_time 0 1 x (omega arith) (omega arith) in
@@ -57,6 +59,7 @@ module _ {Call Answer State : Type 0} (o : Object Call Answer State) (history : 
         (called x (invoked 0 x (omega arith))) (called y (invoked 1 x (omega arith))) (called z (invoked 2 x (omega arith)))
         (once 0 1 x (omega arith) (omega arith)) (once 0 2 x (omega arith) (omega arith)) (once 1 2 x (omega arith) (omega arith)))
 
+    -- a linearizable history has its two calls in one of the two orders
     pub in_one_order : IsLinearizable o history → InOneOrder
     in_one_order h =
         let ended : All (λ (call : Called Call Answer). IfSome call.response (λ r. Contains h.sequence (call, r.1))) (c ∷ d ∷ []) =

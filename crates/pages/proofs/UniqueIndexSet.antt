@@ -9,6 +9,7 @@ use Rattle.pages.specs.UniqueIndexSetBridge as bridge
 
 -- ---- the tables are the same
 
+-- a stage of the page asks for the operation that the code asks for
 pub asks_same : (c : ℕ) (stage : page.Stage) → ask_of (want (bridge.flight c stage)) ≡ Some (asked (page.does c stage).0 (page.does c stage).1)
 asks_same c page.AcquireLoadsHead = refl
 asks_same c (page.AcquireLoadsNext head) = refl
@@ -25,6 +26,7 @@ asks_same c (page.ReleaseExchangesHead index true head) = grind arith
 asks_same c (page.ReleaseExchangesHead index false head) = refl
 asks_same c (page.ReleaseSubtracts index) = refl
 
+-- a stage of the page goes on from each old word as the code does
 pub after_same : (c : ℕ) (stage : page.Stage) (old : ℕ) → after (bridge.flight c stage) old ≡ bridge.went c ((page.does c stage).2 old)
 after_same c page.AcquireLoadsHead old = grind arith
 after_same c (page.AcquireLoadsNext head) old = refl

@@ -66,9 +66,11 @@ module _ (c : ℕ) where
   GoesRight stage (machine.GoOn next) = (call_at next ≡ call_at stage) × (is_clearing next ≡ false)
   GoesRight stage (machine.Done answer) = Unit {0}
 
+  -- an acquire that has seen the head goes on as an acquire
   sees_right : (stage : page.Stage) (old : ℕ) → call_at stage ≡ page.Acquire → GoesRight stage (page.sees c old)
   sees_right stage old is = go (old % 2 ^ 24 == 2 ^ 24 - 1) (old % 2 ^ 24 == c) (nat_lt (old / 2 ^ 40) c)
     where
+      -- so it does whatever the three tests answer
       go : (x y z : Bool)
           → GoesRight stage
           (cond x (machine.Done page.IsLocked) (cond y (machine.Done page.OutOfIndices)
@@ -78,11 +80,13 @@ module _ (c : ℕ) where
       go false false true = (sym is, refl)
       go false false false = (sym is, refl)
 
+  -- where a call goes on it is the same call, and clears no flag next
   right : (stage : page.Stage) (old : ℕ) → GoesRight stage ((page.does c stage).2 old)
   right page.AcquireLoadsHead old = sees_right page.AcquireLoadsHead old refl
   right (page.AcquireLoadsNext head) old = (refl, refl)
   right (page.AcquireExchangesHead head next) old = go (old == head) (nat_lt (head / 2 ^ 40) c) (sees_right (page.AcquireExchangesHead head next) old refl)
     where
+      -- so it is of an acquire that exchanges the head
       go : (x y : Bool) → GoesRight (page.AcquireExchangesHead head next) (page.sees c old)
           → GoesRight (page.AcquireExchangesHead head next)
           (cond x (machine.GoOn (cond y (page.AcquireClaims (head / 2 ^ 40)) (page.AcquireScans 0))) (page.sees c old))
@@ -106,6 +110,7 @@ module _ (c : ℕ) where
   right (page.ReleaseStoresNext index l head) old = (refl, refl)
   right (page.ReleaseExchangesHead index l head) old = go (old == head) l
     where
+      -- so it is of a release that exchanges the head
       go : (x l : Bool)
           → GoesRight (page.ReleaseExchangesHead index l head)
           (cond x (machine.Done (page.Released (page.locks l head)))
@@ -125,6 +130,7 @@ module _ (c : ℕ) where
   wrote_of p None (machine.Done answer) = told_of c p answer
   wrote_of p None (machine.GoOn next) = []
 
+  -- the events of a step are those that the page's stage and answer say
   effects_same : (p : ℕ) (o : Option ℕ) (a : machine.After page.Stage page.Answer) → effects p o (answer_in (bridge.went c a)) ≡ wrote_of p o a
   effects_same p (Some index) a = refl
   effects_same p None (machine.GoOn next) = refl
@@ -134,6 +140,7 @@ module _ (c : ℕ) where
   effects_same p None (machine.Done (page.Released true)) = refl
   effects_same p None (machine.Done (page.Released false)) = refl
 
+  -- a stage frees an index by the model where it clears its flag
   frees_same : (stage : page.Stage) → frees (bridge.flight c stage) ≡ freed_by stage
   frees_same page.AcquireLoadsHead = refl
   frees_same (page.AcquireLoadsNext head) = refl
@@ -172,6 +179,7 @@ module _ (c : ℕ) where
       Rel c (events_then events p stage a) (machine.gone (page.unique_index_set c) w p words a).history
       (machine.gone (page.unique_index_set c) w p words a).pending
 
+  -- a step that frees no index leaves the page and the events saying the same of holders
   frees_none : (events : List (Event ℕ)) (w : Page c) (p : ℕ) (start : Start ℕ) (words : List ℕ) (a : machine.After page.Stage page.Answer)
       → Rel c events w.history w.pending → ((next : page.Stage) → a ≡ machine.GoOn next → is_clearing next ≡ false)
       → readings.Each (HoldsRight c) (events ++ (wrote_of p None a ++ ending_of p start (answer_in (went (the_flight tt) bridge.answered a))))
@@ -182,6 +190,7 @@ module _ (c : ℕ) where
       let clash : false ≡ true = sym (goes next refl) ∙ t in absurd (cc)))
   frees_none events w p start words (machine.Done answer) r goes knows = responds c events w.history w.pending start p answer r knows
 
+  -- each step of a call under way leaves the page and the events saying the same of holders
   related_then : (events : List (Event ℕ)) (w : Page c) (p : ℕ) (stage : page.Stage) (words : List ℕ) (old : ℕ)
       → Rel c events w.history w.pending → w.pending p ≡ Some stage
       → readings.Each (HoldsRight c) (events_then events p stage ((page.does c stage).2 old))
@@ -244,6 +253,7 @@ module _ (c : ℕ) where
   is_holder : (o : Option ℕ) (p : ℕ) → o ≡ Some p → holds o p ≡ true
   is_holder o p e = rw e (grind (arith, nat_tests))
 
+  -- a step of the model's call leads to where the page's call goes
   step_by : (events : List (Event ℕ)) (w : Page c) (p : ℕ) (stage : page.Stage) (beside : Option (ℕ × ℕ)) (holders : List (Option ℕ))
       → Rel c events w.history w.pending → w.pending p ≡ Some stage → StepIs events w p stage beside (registries.Indices holders)
   step_by events w p stage beside holders r here =
@@ -264,6 +274,7 @@ module _ (c : ℕ) where
             (related_then events w p stage words old r here (subst (λ xs. readings.Each (HoldsRight c) (events ++ xs)) es known.holds));
       }
 
+  -- the page of the unique index set goes along with the model's machine by who holds which index
   relation : Relation (Unit {0}) (page.unique_index_set c) kinds.Indices c
   relation =
       record {
@@ -299,6 +310,7 @@ module _ (c : ℕ) where
       begins k (page.Release index true) = refl
       begins k (page.Release index false) = refl
 
+      -- a call that the page lets begin is not refused by the model, if a release is of an index that its party holds
       admits : (events : List (Event ℕ)) (k : Registry ℕ) (w : Page c) (p : ℕ) (call : page.Call) → Related c events k w → Knows c events k
           → true ≡ true → w.pending p ≡ None → Rule w (machine.Begin p call)
           → first_row (begin_rows kinds.Indices c k p (Indices (bridge.index_start call))) ≡ None
@@ -326,6 +338,7 @@ module _ (c : ℕ) where
 
   -- ---- the rule of the callers, from the history at the end
 
+  -- a turn adds to the history
   turn_extends : (w : Page c) (turn : machine.Turn page.Call)
       → (more : History) × ((machine.turned (page.unique_index_set c) w turn).history ≡ w.history ++ more)
   turn_extends w (machine.Begin p call) = go (w.pending p)
@@ -346,6 +359,7 @@ module _ (c : ℕ) where
           gone (slice_set w.words (page.does c stage).0 (machine.written (page.does c stage).1 (slice_index w.words (page.does c stage).0)))
           ((page.does c stage).2 (slice_index w.words (page.does c stage).0))
 
+  -- a list of turns adds to the history
   extends : (turns : List (machine.Turn page.Call)) (w : Page c)
       → (more : History) × ((fold (machine.turned (page.unique_index_set c)) w turns).history ≡ w.history ++ more)
   extends [] w = ([], sym (append-nil w.history))
@@ -354,6 +368,7 @@ module _ (c : ℕ) where
       let rest = extends turns (machine.turned (page.unique_index_set c) w turn) in
       (one.0 ++ rest.0, rest.1 ∙ (ap (λ h. h ++ rest.0) one.1 ∙ append_assoc w.history one.0 rest.0))
 
+  -- where each release of the history is of an index that its party holds, the callers keep to the rule in each turn
   rules_of : (parties : ℕ) (turns : List (machine.Turn page.Call)) (w : Page c)
       → page.Each page.ReleasesOwn (fold (machine.turned (page.unique_index_set c)) w turns).history
       → AllRules (Unit {0}) (page.unique_index_set c) kinds.Indices c relation parties w turns
@@ -361,6 +376,7 @@ module _ (c : ℕ) where
   rules_of parties [] w own = tt
   rules_of parties (turn ∷ turns) w own = (rule turn own, rules_of parties turns (machine.turned (page.unique_index_set c) w turn) own)
     where
+      -- so they do in the first of the turns
       rule : (turn : machine.Turn page.Call)
           → page.Each page.ReleasesOwn (fold (machine.turned (page.unique_index_set c)) (machine.turned (page.unique_index_set c) w turn) turns).history
           → Rule w turn
@@ -378,6 +394,7 @@ module _ (c : ℕ) where
   abbrev world_of : List (machine.Turn page.Call) → Page c
   world_of turns = fold (machine.turned (page.unique_index_set c)) (machine.opening (page.unique_index_set c)) turns
 
+  -- the turns of the relation are those of the page's specification
   same_turns : (parties : ℕ) (turns : List (machine.Turn page.Call))
       → map (relates.as_turn (Unit {0}) (page.unique_index_set c) kinds.Indices c relation parties) turns ≡ map bridge.as_turn turns
   unfolding relation
@@ -394,6 +411,7 @@ module _ (c : ℕ) where
   coded : IsCoding one_word
   coded = grind arith
 
+  -- the model's opening meets the page's
   opens : (parties : ℕ) → 0 < c → c < 2 ^ 24 - 1
       → Meets (Unit {0}) (page.unique_index_set c) kinds.Indices c relation parties (machine.opening (page.unique_index_set c)) 0
       (opening one_word kinds.Indices c parties)
@@ -418,6 +436,7 @@ module _ (c : ℕ) where
         matches = λ p. refl;
       }
 
+  -- after a list of turns the two machines meet
   meets : (parties : ℕ) (turns : List (machine.Turn page.Call)) → 0 < c → c < 2 ^ 24 - 1 → AreWithin parties turns → length turns < 2 ^ 63
       → page.Each page.ReleasesOwn (world_of turns).history
       → Meets (Unit {0}) (page.unique_index_set c) kinds.Indices c relation parties (world_of turns) (0 + length turns)
@@ -429,6 +448,7 @@ module _ (c : ℕ) where
       (machine.opening (page.unique_index_set c)) 0 (opening one_word kinds.Indices c parties)
       (rules_of parties turns (machine.opening (page.unique_index_set c)) own) (omega arith) (opens parties some few))
 
+-- what the page runs is what the model's machine runs
 pub runs : bridge.UniqueRunsAsTheMachine
 unfolding relation
 runs c parties turns some few within small own =
@@ -456,6 +476,7 @@ all_within n [] le = tt
 all_within n (machine.Begin p call ∷ turns) le = ((omega arith), all_within n turns (omega arith))
 all_within n (machine.Next p ∷ turns) le = (tt, all_within n turns le)
 
+-- no index has two holders, and none is acquired once the set is locked, where each party releases what it holds
 pub holds_alone : (c : ℕ) (turns : List (machine.Turn page.Call)) → 0 < c → c < 2 ^ 24 - 1 → length turns < 2 ^ 63
     → page.Each page.ReleasesOwn (fold (machine.turned (page.unique_index_set c)) (machine.opening (page.unique_index_set c)) turns).history
     → page.Each (page.HoldsAlone c) (fold (machine.turned (page.unique_index_set c)) (machine.opening (page.unique_index_set c)) turns).history

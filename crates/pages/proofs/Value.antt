@@ -68,6 +68,7 @@ cell_is k =
     let lt = mod-lt k some in
     omega arith
 
+-- a stage of the page asks for the operation that the code asks for
 pub asks_same : (before : ℕ) (stage : page.Stage) → ask_of (want one_word (flight before stage)) ≡ Some (asked (page.does stage).0 (page.does stage).1)
 asks_same before (page.StoreLoadsVersion value) = refl
 asks_same before (page.StoreStoresCell value version) = ap (λ k. Some (record { word = k; op = Store value })) (cell_is version)
@@ -76,6 +77,7 @@ asks_same before page.LoadLoadsVersion = refl
 asks_same before (page.LoadLoadsCell version) = ap (λ k. Some (record { word = k; op = Load })) (cell_is ((version + 2 ^ 64 - 1) % 2 ^ 64))
 asks_same before (page.LoadChecksVersion version value) = refl
 
+-- a stage of the page goes on from each old word as the code does
 after_same : (before : ℕ) (stage : page.Stage) (old : ℕ) → after one_word (flight before stage) old ≡ went (read_then before stage) (comes stage old)
 after_same before (page.StoreLoadsVersion value) old = grind arith
 after_same before (page.StoreStoresCell value version) old = refl
@@ -84,6 +86,7 @@ after_same before page.LoadLoadsVersion old = refl
 after_same before (page.LoadLoadsCell version) old = refl
 after_same before (page.LoadChecksVersion version value) old = grind arith
 
+-- where a call goes on it is the same call
 pub right : (stage : page.Stage) (old : ℕ) → GoesRight call_at (λ stage. true) (call_at stage) (comes stage old)
 right (page.StoreLoadsVersion value) old = go (old == 2 ^ 64 - 1)
   where
@@ -126,6 +129,7 @@ went_same : (before : ℕ) (a : (machine.After page.Stage page.Answer))
 went_same before (machine.GoOn stage) = refl
 went_same before (machine.Done answer) = refl
 
+-- a step of the model's call comes to what the page's comes to, and leaves the role
 pub goes : (role : Option ℕ) (words : List ℕ) (beside : Option (ℕ × ℕ)) (p before : ℕ) (stage : page.Stage) (old : ℕ)
     → StepIs ℕ page.value reading is_store_or_load kinds.Atomic 1 (registries.Atomic role)
     (λ r stage. flights.Atomic (flight r stage)) answered
@@ -146,6 +150,7 @@ goes role words beside p before stage old =
 
 -- ---- who may begin
 
+-- each stage of the page's store or load is a stage of the code's call: the same word, the same answer, the same way on
 unfoldable pub tie : Tie ℕ page.value reading is_store_or_load kinds.Atomic 1 kept
 tie =
     record {
@@ -244,6 +249,7 @@ opened n = opening one_word kinds.Atomic 1 n
 abbrev begun : ℕ → Trace ℕ
 begun n = after_turn (opened n) (Begin 0 (Atomic starts.AcquireProducer))
 
+-- the acquire of the role is not refused as it begins
 begins_acquire : (n : ℕ) → 0 < n → attempt (opened n) (Begin 0 (Atomic starts.AcquireProducer)) ≡ begun n
 begins_acquire n lt =
     taken (opened n) (Begin 0 (Atomic starts.AcquireProducer))
@@ -259,6 +265,7 @@ acquires_then n lt =
 acquired_is : (n : ℕ) → 0 < n → acquired n ≡ after_turn (begun n) (Next 0)
 acquired_is n lt = ap (λ t. attempt t (Next 0)) (begins_acquire n lt) ∙ acquires_then n lt
 
+-- behind the acquire the two machines are the same
 opens : (n : ℕ) → 0 < n → Sim tie n role_told (machine.opening page.value) 0 (acquired n)
 opens n lt =
     let last = after_turn (begun n) (Next 0) in
@@ -303,6 +310,7 @@ reached n turns =
 abbrev world_of : List (machine.Turn page.Call) → (machine.World page.Call page.Stage page.Answer)
 world_of turns = fold (machine.turned page.value) (machine.opening page.value) turns
 
+-- after a list of turns the two machines are the same
 simulated : (n : ℕ) (turns : List (machine.Turn page.Call)) → parties_of turns ≤ n → length turns < 2 ^ 63
     → Sim tie n role_told (world_of turns) (0 + length turns) (run (map as_turn turns) (acquired n))
 simulated n turns le small =
@@ -310,6 +318,7 @@ simulated n turns le small =
     subst (λ ts. Sim tie n role_told (world_of turns) (0 + length turns) (run ts (acquired n))) (same_turns n turns)
     (all_turns tie n role_told turns (all_within n turns le) (machine.opening page.value) 0 (acquired n) (omega arith) (opens n (omega arith)))
 
+-- what the page runs is linearizable as the register
 pub linearizable : (turns : List (machine.Turn page.Call)) → length turns < 2 ^ 63
     → machine.IsLinearizable page.register (world_of turns).history
 linearizable turns small =

@@ -67,6 +67,7 @@ StepOf role p start flight words beside =
     OtherStep one_word registries.Atomic who blank Tells Other role p start flight words
     (step_of one_word words beside p start flight (old_of words (ask_of (want_of one_word flight))) (registries.Atomic role))
 
+-- a call that the page has not stays where it stands as long as its party keeps the role
 others_stay : (k next : Option ℕ) (q : ℕ) → (k ≡ Some q → next ≡ Some q)
     → (start : Start ℕ) (flight : Flight ℕ) → Other k q start flight → Other next q start flight
 others_stay k next q holds (Atomic AcquireProducer) flight h = h
@@ -84,6 +85,7 @@ ended : {A : Type 0} {answer : Answer ℕ} {then : Flight ℕ} → afters.Done a
 ended e = absurd (cc)
 
 module _ (p version : ℕ) (cells : List ℕ) (beside : Option (ℕ × ℕ)) where
+  -- a step of an acquire takes the role where it is free, and tells the page nothing
   acquire : (role : Option ℕ) → StepOf role p (Atomic AcquireProducer) acquires (version ∷ free role ∷ cells) beside
   acquire None =
       record {
@@ -112,6 +114,7 @@ module _ (p version : ℕ) (cells : List ℕ) (beside : Option (ℕ × ℕ)) whe
         others = λ q start flight ne h. h;
       }
 
+  -- a step of a release frees the role, and tells the page nothing
   release : (role : Option ℕ) → role ≡ Some p → StepOf role p (Atomic ReleaseProducer) releases (version ∷ free role ∷ cells) beside
   release role holder =
       record {
@@ -143,6 +146,7 @@ module _ (p version : ℕ) (cells : List ℕ) (beside : Option (ℕ × ℕ)) whe
         others = λ q start flight ne h. h;
       }
 
+  -- a step that loads the version changes nothing, and tells the page nothing
   count : (role : Option ℕ) → StepOf role p (Atomic Version) counts (version ∷ free role ∷ cells) beside
   count role =
       record {
@@ -156,6 +160,7 @@ module _ (p version : ℕ) (cells : List ℕ) (beside : Option (ℕ × ℕ)) whe
         others = λ q start flight ne h. h;
       }
 
+-- a step of a call that the page has not comes to what it may
 goes_other : (role : Option ℕ) (words : List ℕ) (beside : Option (ℕ × ℕ)) (p : ℕ) (start : Start ℕ) (flight : Flight ℕ)
     → Other role p start flight → Tells role words → StepOf role p start flight words beside
 goes_other role words beside p (Atomic AcquireProducer) flight h t =
@@ -174,6 +179,7 @@ goes_other role words beside p (Atomic (Store value)) flight h t = absurd h
 goes_other role words beside p (Atomic Load) flight h t = absurd h
 goes_other role words beside p other flight h t = absurd h
 
+-- a call that the page has not is no store or load
 not_own : (role : Option ℕ) (p : ℕ) (start : Start ℕ) (flight : Flight ℕ) → Other role p start flight → is_store_or_load start ≡ false
 not_own role p (Atomic AcquireProducer) flight h = refl
 not_own role p (Atomic ReleaseProducer) flight h = refl
@@ -183,6 +189,7 @@ not_own role p (Atomic (Store value)) flight h = absurd h
 not_own role p (Atomic Load) flight h = absurd h
 not_own role p other flight h = absurd h
 
+-- a call that the page has not puts no question
 asks_nothing : (role : Option ℕ) (p : ℕ) (start : Start ℕ) (flight : Flight ℕ) → Other role p start flight → is_question (want_of one_word flight) ≡ false
 asks_nothing role p (Atomic AcquireProducer) flight h = subst (λ f. is_question (want_of one_word f) ≡ false) (sym h) refl
 asks_nothing role p (Atomic ReleaseProducer) flight h = subst (λ f. is_question (want_of one_word f) ≡ false) (sym h.0) refl
@@ -194,6 +201,7 @@ asks_nothing role p other flight h = absurd h
 
 -- ---- the calls of the page
 
+-- a store or load that the model lets begin is a call of the page, by the party of its role or by a loader
 own : (k : Option ℕ) (p : ℕ) (start : Start ℕ) (flight : Flight ℕ) → is_store_or_load start ≡ true
     → first_of kinds.Atomic 1 start (registries.Atomic k) ≡ Some flight
     → first_row ((begin_of kinds.Atomic 1 start).rows (registries.Atomic k) p) ≡ None
@@ -206,6 +214,7 @@ own k p (Atomic Load) flight mine named rows =
     record { call = page.LoadValue; start_is = refl; flight_is = the_flight named; who_is = subst (λ n. who k n ≡ Some p) next refl; may = refl }
 own k p other flight mine named rows = absurd (cc)
 
+-- any other call that it lets begin is one that the page has not
 other : (k : Option ℕ) (p : ℕ) (start : Start ℕ) (flight : Flight ℕ) → is_store_or_load start ≡ false
     → first_of kinds.Atomic 1 start (registries.Atomic k) ≡ Some flight
     → first_row ((begin_of kinds.Atomic 1 start).rows (registries.Atomic k) p) ≡ None
@@ -218,6 +227,7 @@ other k p (Atomic (Store value)) flight mine named rows = absurd (cc)
 other k p (Atomic Load) flight mine named rows = absurd (cc)
 other k p start flight mine named rows = absurd (cc)
 
+-- as a call begins the role stays
 keeps : (k : Option ℕ) (p : ℕ) (start : Start ℕ) (flight : Flight ℕ)
     → first_of kinds.Atomic 1 start (registries.Atomic k) ≡ Some flight
     → kept_after_begin one_word 1 start p (registries.Atomic k) ≡ registries.Atomic k
@@ -231,6 +241,7 @@ module _ (role : Option ℕ) (words : List ℕ) (t : Tells role words) where
       subst (λ ws. Leaves blank (Tells role) ws 0) (sym t.is)
       (record { old = refl; new = λ value. refl; tells = λ value u. record { version = value; cells = t.cells; is = refl } })
 
+  -- a step at a word of a cell leaves the word of the role
   at_cell : (n : ℕ) → Leaves blank (Tells role) words (2 + n)
   at_cell n =
       let far : suc (suc n) ≡ 2 + n = omega arith in
@@ -238,6 +249,7 @@ module _ (role : Option ℕ) (words : List ℕ) (t : Tells role words) where
       (subst (λ ws. Leaves blank (Tells role) ws (suc (suc n))) (sym t.is)
       (record { old = refl; new = λ value. refl; tells = λ value u. record { version = t.version; cells = slice_set t.cells n value; is = refl } }))
 
+-- a step of a call of the page leaves the word of the role
 leaves : (k : Option ℕ) (words : List ℕ) (stage : page.Stage) → Tells k words → Leaves blank (Tells k) words (page.does stage).0
 leaves k words (page.StoreLoadsVersion value) t = at_version k words t
 leaves k words (page.StoreStoresCell value version) t = at_cell k words t _
@@ -246,6 +258,7 @@ leaves k words page.LoadLoadsVersion t = at_version k words t
 leaves k words (page.LoadLoadsCell version) t = at_cell k words t _
 leaves k words (page.LoadChecksVersion version value) t = at_version k words t
 
+-- what is to be shown of the single value where its role changes hands
 handed : Hands by_role tie (Option ℕ)
 unfolding tie
 handed =
@@ -266,6 +279,7 @@ handed =
       no_owners = λ k. refl;
     }
 
+-- at the opening the two machines are the same
 opens : Sim by_role tie handed (machine.opening page.value) (opening one_word kinds.Atomic 1 0)
 unfolding handed
 opens =

@@ -137,6 +137,7 @@ module _ {T : Type 0} (how : page.Written T) where
   abbrev comes : ℕ → page.Stage T → ℕ → machine.After (page.Stage T) (page.Answer T)
   comes c stage old = (page.does how c stage).2 old
 
+  -- a stage of the page asks for the operation that the code asks for
   pub asks_same : (c : ℕ) (stage : page.Stage T) → c < 2 ^ 32 → Fits how c stage
       → ask_of (want (code_of how) (flight how c stage)) ≡ Some (asked (page.does how c stage).0 (page.does how c stage).1)
   asks_same c (page.PushLoadsWrite value) few fit = refl
@@ -183,6 +184,7 @@ module _ {T : Type 0} (how : page.Written T) where
   loads_same c read loaded true = refl
   loads_same c read loaded false = refl
 
+  -- a stage of the page goes on from each old word as the code does
   after_same : (c : ℕ) (stage : page.Stage T) (old : ℕ) → Fits how c stage
       → after (code_of how) (flight how c stage) old ≡ went how c (comes c stage old)
   after_same c (page.PushLoadsWrite value) old fit = grind arith
@@ -299,6 +301,7 @@ module _ {T : Type 0} (how : page.Written T) where
   abbrev tied : ℕ → Type 0
   tied c = TieOf (Unit {0}) (page.queue how c) (reading how) is_push_or_pop kinds.Queue c kept (code_of how)
 
+  -- each stage of the page's push or pop is a stage of the code's call: the same word, the same answer, the same way on
   unfoldable pub tie : (c : ℕ) → c < 2 ^ 32 → tied c
   tie c few =
       record {
@@ -467,6 +470,7 @@ module _ {T : Type 0} (how : page.Written T) where
       subst (λ ts. Sim (tie c few) 2 roles_told (world_of c turns) (0 + length turns) (run ts (acquired how c))) (same_turns c few turns)
       (all_turns (tie c few) 2 roles_told turns (all_within c few turns) (machine.opening (page.queue how c)) 0 (acquired how c) (omega arith) (opens c few))
 
+  -- what the page runs is linearizable as the bounded list
   pub linearizable : (c : ℕ) (turns : List (machine.Turn (page.Call T))) → c < 2 ^ 32 → length turns < 2 ^ 63
       → machine.IsLinearizable (page.bounded_list c) (world_of c turns).history
   linearizable c turns few small =

@@ -44,6 +44,7 @@ both_set = refl
 abbrev small : List (Turn Call) → List (Event Call Answer)
 small turns = (fold (turned (bit_set 2)) (opening (bit_set 2)) turns).history
 
+-- the second search finds the second place first, though the first is set again
 next_one : small (setting 0 0 ++ setting 0 1
     ++ Begin 1 ResetNext ∷ Next 1 ∷ Next 1 ∷ Next 1 ∷ Next 1 ∷ setting 0 0
     ++ Begin 1 ResetNext ∷ Next 1 ∷ Next 1 ∷ Next 1 ∷ Next 1 ∷ [])
@@ -80,6 +81,7 @@ module _ (call : Call) (answer : Answer) where
   is_only c is = ⊎_elim (λ e. e) (λ more. absurd (none_there c more)) (split only c [] is)
 
   module _ (act : Act) (last : ℕ) where
+    -- one call that is all of a sequence found 0, and left what is there in the end
     alone : (xs : List (Called Call Answer × Act)) → IsChain 0 (map (λ x. x.1) xs) last → All (λ x. Contains (calls_from one_call 0) x.0) xs
         → AllPairs (λ x y. x.0 ≢ y.0) xs → Contains xs (entry only act) → (act.found ≡ 0) × (act.left ≡ last)
     alone [] chain invoked once is = absurd (none_there (entry only act) is)

@@ -61,6 +61,7 @@ abbrev both_push : List (Turn index.Call)
 both_push =
     Begin 0 (index.Push 5) ∷ Begin 2 (index.Push 6) ∷ Next 0 ∷ Next 2 ∷ Next 0 ∷ Next 2 ∷ Next 0 ∷ Next 2 ∷ Next 0 ∷ Next 2 ∷ []
 
+-- two pushes that have both answered true are more than a list of one place takes
 not_anybody : IsLinearizable (index.bounded_list 1) (after (record (index.index_queue 1) { may = anybody }) both_push).history → ⊥
 not_anybody =
     neither_order (index.bounded_list 1) _ (called 0 0 (index.Push 5) 2 (index.Pushed true)) (called 1 2 (index.Push 6) 3 (index.Pushed true)) 2
@@ -90,6 +91,7 @@ next_pair (values.PushStoresCell value write word) =
     (values.at pairs 2 (write + 1) word, Store (slice_index (pairs.words_of value) word), λ old. GoOn (values.stores pairs 2 value write (word + 1)))
 next_pair stage = pair_does stage
 
+-- the pop answers what no push has stored
 not_next_pair : IsLinearizable (values.bounded_list 2) (after (record (values.queue pairs 2) { does = next_pair }) push_pop_pair).history → ⊥
 not_next_pair =
     in_turn_alone (values.bounded_list 2) _ (called 0 0 (values.Push (5, 6)) 1 (values.Pushed true))
@@ -103,6 +105,7 @@ torn (values.PushStoresCell value write word) =
     (values.at pairs 2 write word, Store (slice_index (pairs.words_of value) word), λ old. GoOn (values.PushStoresWrite value write))
 torn stage = pair_does stage
 
+-- the pop answers half of the value
 not_torn : IsLinearizable (values.bounded_list 2) (after (record (values.queue pairs 2) { does = torn }) push_pop_pair).history → ⊥
 not_torn =
     in_turn_alone (values.bounded_list 2) _ (called 0 0 (values.Push (5, 6)) 1 (values.Pushed true))

@@ -121,6 +121,7 @@ searches =
 abbrev of_two : Structure bits.Call bits.Stage bits.Answer
 of_two = record (bits.bit_set 2) { does = no_wrap }
 
+-- the second search finds none, though the bit of place 0 stands all the while
 not_no_wrap : ActsAt (bits.at 0) (after of_two searches).history (bits.now (after of_two searches).words 0) → ⊥
 not_no_wrap h =
     unequal 0 1 (omega arith) (in_sequence (bits.at 0) (after of_two searches).history (bits.now (after of_two searches).words 0) (
@@ -241,6 +242,7 @@ scanning =
     ∷ Begin 0 (unique.Release 0 false) ∷ Next 0 ∷ Next 0 ∷ Next 0 ∷ Next 0 ∷ Next 1 ∷ Next 1
     ∷ (acquiring 0 ++ Begin 1 unique.Acquire ∷ Next 1 ∷ Next 1 ∷ Next 1 ∷ [])
 
+-- here an index is acquired that has a holder
 not_flag_unseen : HoldAlone flag_unseen scanning → ⊥
 not_flag_unseen h =
     some_is_none 0

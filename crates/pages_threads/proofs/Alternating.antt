@@ -32,25 +32,26 @@ module _ {Call Stage Answer : Type 0} (of : Structure Call Stage Answer) (n : �
 
   invokes : (p : ℕ) (b : Bool) (o : Option Stage) (stage : Stage) → b ≡ is_some o
       → (if p == n then true else b) ≡ is_some (if n == p then Some stage else o)
-  invokes x0 x1 x2 x3 x4 = grind (arith, nat_tests)
+  invokes p b o stage b_is = grind (arith, nat_tests)
 
   responds : (p : ℕ) (b : Bool) (o : Option Stage) → b ≡ is_some o → (if p == n then false else b) ≡ is_some (if n == p then None else o)
-  responds x0 x1 x2 x3 = grind (arith, nat_tests)
+  responds p b o b_is = grind (arith, nat_tests)
 
   goes_on : (p : ℕ) (b : Bool) (o : Option Stage) (stage : Stage) → b ≡ is_some o → ((n == p) ≡ true → b ≡ true)
       → b ≡ is_some (if n == p then Some stage else o)
-  goes_on x0 x1 x2 x3 x4 x5 = grind (arith, nat_tests)
+  goes_on p b o stage b_is b_is_true = grind (arith, nat_tests)
 
   is_it : (p : ℕ) → (p == n) ≡ true → p ≡ n
-  is_it x0 x1 = grind (arith, nat_tests)
+  is_it p p_is_n = grind (arith, nat_tests)
 
   is_it_too : (p : ℕ) → (n == p) ≡ true → p ≡ n
-  is_it_too x0 x1 = grind (arith, nat_tests)
+  is_it_too p n_is_p = grind (arith, nat_tests)
 
   open_then : (history : List (Event Call Answer)) (e : Event Call Answer)
       → fold (open_after {Call = Call} {Answer = Answer} n) false (history ++ e ∷ []) ≡ open_after n (fold (open_after n) false history) e
   open_then history e = fold-append (open_after n) false history (e ∷ [])
 
+  -- as a call is invoked the party has one pending, and had none before
   begins : (w : World Call Stage Answer) (p : ℕ) (call : Call) (may : Bool) (o : Option Stage) → w.pending p ≡ o → Ties w → Ties (begun of w p call may o)
   begins w p call true None none h =
       record {
@@ -62,6 +63,7 @@ module _ {Call Stage Answer : Type 0} (of : Structure Call Stage Answer) (n : �
   begins w p call true (Some stage) is h = h
   begins w p call false o is h = h
 
+  -- as a call goes on or responds the party's calls alternate still
   goes : (w : World Call Stage Answer) (p : ℕ) (words : List ℕ) (stage : Stage) (after : After Stage Answer) → w.pending p ≡ Some stage → Ties w
       → Ties (gone of w p words after)
   goes w p words stage (GoOn next) is h =

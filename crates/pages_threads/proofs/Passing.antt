@@ -26,6 +26,7 @@ module _ {T Call Stage Answer : Type 0} (page : Paged T Call Stage Answer)
         ap (all_told page.by) knows.is
         ∙ runs knows.admitted v.turns (free (opening page.code page.kind page.capacity 0) v.turns knows.allowed)
 
+    -- what passes know is a run of the page, and what one knows later is that run, gone on
     pub passing : PassesRun page
     passing =
         record {

@@ -54,17 +54,17 @@ IsQuiet e = Unit {0}
 -- ---- what the page sees of it
 
 plain_passes : (b : Bool) (e : Event ℕ) (rest : List (machine.Event _ _)) → is_plain e ≡ true → Alternates 0 b (told by_role e ++ rest) → Alternates 0 b rest
-plain_passes x0 x1 x2 x3 x4 = grind arith
+plain_passes b e rest is_plain_true alternates_holds = grind arith
 
 plain_silent : (e : Event ℕ) → is_plain e ≡ true → IsSilent 0 (told by_role e)
-plain_silent x0 x1 = grind arith
+plain_silent e is_plain_true = grind arith
 
 told_begun : (p : ℕ) (start : Start ℕ) → is_push start ≡ true → told by_role (Begun p start) ≡ machine.Invoked 0 (call_seen start) ∷ []
-told_begun x0 x1 x2 = grind arith
+told_begun p start is_push_true = grind arith
 
 told_ended : (p : ℕ) (start : Start ℕ) (answer : Answer ℕ) → is_push start ≡ true
     → told by_role (Finished p start answer) ≡ machine.Responded 0 (answer_seen answer) ∷ []
-told_ended x0 x1 x2 x3 = grind arith
+told_ended p start answer is_push_true = grind arith
 
 -- ---- of whom a push is under way
 
@@ -81,17 +81,17 @@ span_more : (q : ℕ) (before : List (Event ℕ)) (e : Event ℕ) → span_of q 
 span_more q before e = fold-append (span_after q) Never before (e ∷ [])
 
 never_ended : (span : Span ℕ) (answer : Answer ℕ) → pushes (ended span answer) ≡ true → ⊥
-never_ended x0 x1 x2 = grind arith
+never_ended span answer pushes_true = grind arith
 
 writes_more : (b : Bool) (span : Span ℕ) (e : Event ℕ) → pushes (if b then longer span e else span) ≡ true → pushes span ≡ true
-writes_more x0 x1 x2 x3 = grind arith
+writes_more b span e pushes_true = grind arith
 
 begins_none : (b : Bool) (span : Span ℕ) (start : Start ℕ) → not (is_push start) ≡ true → pushes (if b then Open start [] else span) ≡ true
     → pushes span ≡ true
-begins_none x0 x1 x2 x3 x4 = grind arith
+begins_none b span start not_push pushes_true = grind arith
 
 ends_none : (b : Bool) (span : Span ℕ) (answer : Answer ℕ) → pushes (if b then ended span answer else span) ≡ true → pushes span ≡ true
-ends_none x0 x1 x2 x3 = grind (arith, never_ended)
+ends_none b span answer pushes_true = grind (arith, never_ended)
 
 after_plain : (q : ℕ) (span : Span ℕ) (e : Event ℕ) → is_plain e ≡ true → pushes (span_after q span e) ≡ true → pushes span ≡ true
 after_plain q span (Begun p start) other pushing = begins_none (p == q) span start other pushing
@@ -104,21 +104,23 @@ open_pushes start P (Open call wrote) h push = ap is_push h.0 ∙ push
 open_pushes start P (Ended call answer wrote) h push = absurd h
 
 is_it : (p q : ℕ) → (p == q) ≡ true → p ≡ q
-is_it x0 x1 x2 = grind (arith, nat_tests)
+is_it p q p_is_q = grind (arith, nat_tests)
 
 is_not : (p q : ℕ) → (p == q) ≡ false → Some p ≡ Some q → ⊥
-is_not x0 x1 x2 x3 = grind (arith, nat_tests)
+is_not p q p_is_not_q same = grind (arith, nat_tests)
 
 itself : (p : ℕ) → (p == p) ≡ true
-itself x0 = grind (arith, nat_tests)
+itself p = grind (arith, nat_tests)
 
 only_plain : (o : Option ℕ) (before : List (Event ℕ)) (e : Event ℕ) → is_plain e ≡ true → Only o before → Only o (before ++ e ∷ [])
 only_plain o before e plain only q pushing =
     only q (after_plain q (span_of q before) e plain (subst (λ s. pushes s ≡ true) (span_more q before e) pushing))
 
+-- as a call begins where nobody pushed, nobody but its party pushes
 only_begun : (before : List (Event ℕ)) (p : ℕ) (start : Start ℕ) → Only None before → Only (Some p) (before ++ Begun p start ∷ [])
 only_begun before p start only q pushing = go (p == q) refl (subst (λ s. pushes s ≡ true) (span_more q before (Begun p start)) pushing)
   where
+    -- so it is of that party and of every other
     go : (b : Bool) → (p == q) ≡ b → pushes (span_after q (span_of q before) (Begun p start)) ≡ true → Some p ≡ Some q
     go true same pushing = ap Some (is_it p q same)
     go false other pushing =
@@ -126,9 +128,11 @@ only_begun before p start only q pushing = go (p == q) refl (subst (λ s. pushes
         let none = only q there in
         absurd (cc)
 
+-- as the call of the one party that pushes ends, nobody pushes
 only_ended : (before : List (Event ℕ)) (p : ℕ) (start : Start ℕ) (answer : Answer ℕ) → Only (Some p) before → Only None (before ++ Finished p start answer ∷ [])
 only_ended before p start answer only q pushing = go (p == q) refl (subst (λ s. pushes s ≡ true) (span_more q before (Finished p start answer)) pushing)
   where
+    -- so it is of that party and of every other
     go : (b : Bool) → (p == q) ≡ b → pushes (span_after q (span_of q before) (Finished p start answer)) ≡ true → None ≡ Some q
     go true same pushing =
         let there : pushes (ended (span_of q before) answer) ≡ true = rw same at pushing in
@@ -162,6 +166,7 @@ module _ (promise : Promise ℕ) (capacity : ℕ) (es : List (Event ℕ)) (spans
       → is_push start ≡ true → pushes (span_of p before) ≡ true
   ends_own before after p start answer is push = open_pushes start _ (span_of p before) (spans before after (Finished p start answer) is) push
 
+  -- an event that is no begin and no end of a push leaves who pushes
   passes : (e : Event ℕ) (before after : List (Event ℕ)) → is_plain e ≡ true → Here before (e ∷ after) → Here (before ++ e ∷ []) after
   passes e before after plain h =
       record {
@@ -170,6 +175,7 @@ module _ (promise : Promise ℕ) (capacity : ℕ) (es : List (Event ℕ)) (spans
         rest = plain_passes (is_some h.who) e (all_told by_role after) plain h.rest;
       }
 
+  -- as a call begins it is its party that pushes, if it is a push
   begins : (p : ℕ) (start : Start ℕ) (before after : List (Event ℕ)) → Here before (Begun p start ∷ after) → (b : Bool) → is_push start ≡ b
       → Here (before ++ Begun p start ∷ []) after
   begins p start before after h false other = passes (Begun p start) before after (ap not other) h
@@ -181,6 +187,7 @@ module _ (promise : Promise ℕ) (capacity : ℕ) (es : List (Event ℕ)) (spans
         rest = sees.1;
       }
 
+  -- as a call ends nobody pushes, if it was a push
   finishes : (p : ℕ) (start : Start ℕ) (answer : Answer ℕ) (before after : List (Event ℕ)) → es ≡ before ++ Finished p start answer ∷ after
       → Here before (Finished p start answer ∷ after) → (b : Bool) → is_push start ≡ b → Here (before ++ Finished p start answer ∷ []) after
   finishes p start answer before after is h false other = passes (Finished p start answer) before after (ap not other) h
@@ -198,6 +205,7 @@ module _ (promise : Promise ℕ) (capacity : ℕ) (es : List (Event ℕ)) (spans
   step (Finished p start answer) before after is h = finishes p start answer before after is h (is_push start) refl
   step e before after is h = passes e before after refl h
 
+  -- over any events of the run one party at most pushes
   walk : (xs before after : List (Event ℕ)) → es ≡ before ++ (xs ++ after) → Here before (xs ++ after) → Here (before ++ xs) after
   walk [] before after is h = subst (λ bs. Here bs after) (sym (append-nil before)) h
   walk (e ∷ xs) before after is h =
@@ -217,6 +225,7 @@ module _ (promise : Promise ℕ) (capacity : ℕ) (es : List (Event ℕ)) (spans
     plainly : (e : Event ℕ) → is_plain e ≡ true → Silent e
     plainly e plain is rest quiet next = all_both (λ x. party_of x ≢ 0) (told by_role e) (all_told by_role during) (plain_silent e plain) (next plain)
 
+    -- the begin of a call leaves the producer silent
     begun : (q : ℕ) (start : Start ℕ) (b : Bool) → is_push start ≡ b → Silent (Begun q start)
     begun q start false other is rest quiet next = plainly (Begun q start) (ap not other) is rest quiet next
     begun q start true push is rest quiet next =
@@ -224,6 +233,7 @@ module _ (promise : Promise ℕ) (capacity : ℕ) (es : List (Event ℕ)) (spans
         let never = sees.0 refl in
         absurd (cc)
 
+    -- the end of a call leaves the producer silent
     finished : (q : ℕ) (start : Start ℕ) (answer : Answer ℕ) (b : Bool) → is_push start ≡ b → Silent (Finished q start answer)
     finished q start answer false other is rest quiet next = plainly (Finished q start answer) (ap not other) is rest quiet next
     finished q start answer true push is rest quiet next =
@@ -238,6 +248,7 @@ module _ (promise : Promise ℕ) (capacity : ℕ) (es : List (Event ℕ)) (spans
     one (Finished q start answer) is rest quiet next = finished q start answer (is_push start) refl is rest quiet next
     one e is rest quiet next = plainly e refl is rest quiet next
 
+  -- while a party pushes, and ends nothing, the page sees nothing of its producer
   silent : (p : ℕ) (during before after : List (Event ℕ)) → es ≡ before ++ (during ++ after) → Only (Some p) before
       → Alternates 0 true (all_told by_role (during ++ after)) → AllByRecursion IsQuiet (events_by p during)
       → IsSilent 0 (all_told by_role during)
@@ -248,6 +259,7 @@ module _ (promise : Promise ℕ) (capacity : ℕ) (es : List (Event ℕ)) (spans
       silent p during (before ++ e ∷ []) after (is ∙ sym (append_assoc before (e ∷ []) (during ++ after))) (only_plain (Some p) before e plain only)
       (plain_passes true e (all_told by_role (during ++ after)) plain rest) (all_after IsQuiet (own_of p e) (events_by p during) quiet))
 
+  -- between the begin and the end of a push the page sees nothing of its producer
   of_push : (p value : ℕ) (answer : Answer ℕ) (before during : List (Event ℕ))
       → es ≡ before ++ Begun p (Queues (PushIndex value)) ∷ (during ++ Finished p (Queues (PushIndex value)) answer ∷ [])
       → Alternates 0 false (all_told by_role es) → AllByRecursion IsQuiet (events_by p during)

@@ -28,6 +28,8 @@ module _ {C G M E : Type 0} (want_of : C → G → Want (Unit {0})) (after : C �
       (n : ℕ) (s : Stop C E) (r : M) (ws : List ℕ) → Stops n s r ws first room₀ words₀
       → (k : ℕ) × Stops k s r ws call room words
 
+  -- a driver has done so many steps of the call that it began with, has come to this one, and will
+  -- stop within its bound
   pub record Going (first : C) (room₀ : M) (words₀ : List ℕ) (done : ℕ) (call : C) (room : M)
       (words : List ℕ) : Type 0 where
     pub left : ℕ
@@ -44,6 +46,7 @@ module _ {C G M E : Type 0} (want_of : C → G → Want (Unit {0})) (after : C �
       → (k : ℕ) × (n ≡ k + 1) × Stops k s r ws d (next_room call room words) (next_words call words)
   step_on = grind arith
 
+  -- a driver that is under way is so one step later, where the call goes on
   pub goes_on : (first : C) (room₀ : M) (words₀ : List ℕ) (done : ℕ) (call d : C) (room : M)
       (words : List ℕ) → Going first room₀ words₀ done call room words → next call words ≡ GoOn d
       → Going first room₀ words₀ (done + 1) d (next_room call room words) (next_words call words)
@@ -66,6 +69,7 @@ module _ {C G M E : Type 0} (want_of : C → G → Want (Unit {0})) (after : C �
       → (f ≡ s) × (next_room call room words ≡ r) × (next_words call words ≡ ws)
   stopped = grind arith
 
+  -- where the call stops with its next step, the call as it began stops so too
   pub stops : (first : C) (room₀ : M) (words₀ : List ℕ) (done : ℕ) (call : C) (f : Stop C E)
       (room : M) (words : List ℕ) → Going first room₀ words₀ done call room words
       → next call words ≡ Done f
@@ -95,6 +99,7 @@ module _ {C G M E : Type 0} (want_of : C → G → Want (Unit {0})) (after : C �
   from_also P Q so (GoOn d) room words s r ws t = so d room words t
   from_also P Q so (Done f) room words s r ws t = t
 
+  -- where a call stops, what its next step comes to stops so too
   step_on_from : (call : C) (room : M) (words : List ℕ)
       → On call room words (next call words) (next_room call room words) (next_words call words)
   step_on_from call room words zero s r ws t = absurd t
@@ -108,6 +113,8 @@ module _ {C G M E : Type 0} (want_of : C → G → Want (Unit {0})) (after : C �
       subst (λ (z : After C (Stop C E) × M × List ℕ). On call room words z.0 z.1 z.2)
       (λ i. (sym goes i, sym keeps i, sym writes i)) (step_on_from call room words)
 
+  -- first steps of a call, and further ones from where these have come to, are first steps of the
+  -- call
   pub more_steps : (call d : C) (room x x₁ : M) (words y y₁ : List ℕ) (b a : After C (Stop C E)) → b ≡ GoOn d
       → On call room words b x y → On d x y a x₁ y₁ → On call room words a x₁ y₁
   more_steps call d room x x₁ words y y₁ b a is first later n s r ws t =
@@ -116,6 +123,8 @@ module _ {C G M E : Type 0} (want_of : C → G → Want (Unit {0})) (after : C �
       from_also (λ d x y. (k : ℕ) × (k ≤ u.0) × Stops k s r ws d x y) (λ d x y. (k : ℕ) × (k ≤ n) × Stops k s r ws d x y)
       (λ d x y v. let less = v.1 in (v.0, omega arith, v.2)) a x₁ y₁ s r ws (later u.0 s r ws u.2)
 
+  -- where first steps of a call that can stop go on, a driver is under way from where they have
+  -- come to, with no step done
   pub begins_later : (call d : C) (room x : M) (words y : List ℕ) (a : After C (Stop C E)) → a ≡ GoOn d
       → CanStop want_of after kept given call room words → On call room words a x y → Going call room words 0 d x y
   begins_later call d room x words y a is h on =
@@ -138,6 +147,7 @@ module _ {C G M E : Type 0} (want_of : C → G → Want (Unit {0})) (after : C �
 
   -- ---- of a call that puts no question
 
+  -- a call that puts no question and can end can stop
   pub end_is_stop : (call : C) (room : M) (words : List ℕ)
       → CanEnd want_of after kept given call room words
       → CanStop want_of after kept given call room words
@@ -191,6 +201,7 @@ module _ {C G M E : Type 0} (want_of : C → G → Want (Unit {0})) (after : C �
 
   -- ---- the same of a call that puts questions
 
+  -- the call stops within a driver's number of steps, and P holds of where it stops
   pub record Halts (P : Stop C E → M → List ℕ → Type 0) (call : C) (room : M) (words : List ℕ) : Type 0 where
     pub steps : ℕ
     pub few : steps ≤ 2 ^ 64 - 1
@@ -200,6 +211,7 @@ module _ {C G M E : Type 0} (want_of : C → G → Want (Unit {0})) (after : C �
     pub stops : StopsIn want_of after kept given steps stop last_room last_words call room words
     pub holds : P stop last_room last_words
 
+  -- a call that halts can stop
   pub can_stop : (P : Stop C E → M → List ℕ → Type 0) (call : C) (room : M) (words : List ℕ)
       → Halts P call room words → CanStop want_of after kept given call room words
   can_stop P call room words h =

@@ -74,6 +74,8 @@ module _ {F : Type 0} (pre : F → BitState → Type 0) (step : F → BitState �
   abbrev left : ℕ → List BitState
   left place = states_from place (drop place before)
 
+  -- before this place each word is 0, and the counts from it on are those that are still to be
+  -- handed out
   pub record Emptying (place : ℕ) (call : ResetAll) (words : List ℕ) (visit : F) : Type 0 where
     pub long : length before ≡ capacity
     pub at : place < capacity → call ≡ record { word = place; end = capacity }
@@ -129,6 +131,8 @@ module _ {F : Type 0} (pre : F → BitState → Type 0) (step : F → BitState �
       next_at : place + 1 < capacity → next ≡ record { word = place + 1; end = capacity }
       next_at = grind arith
 
+      -- once the count of a place is handed out, where it is not 0, the word is 0 and the emptying
+      -- goes on at the next place
       pub empties_one : (later : F) → (0 < n → step visit (record { bit = place; count = n }) tt later)
           → (n ≡ 0 → later ≡ visit) → Emptying (place + 1) next now later
       empties_one later did same =

@@ -25,6 +25,7 @@ AsksBelow k wants.Nothing = Unit {0}
 
 -- ---- one word of the front
 
+-- a word of the front is set in the front as in the whole list
 pub take_set : (k at x : ℕ) (words : List ℕ) → at < k
     → slice_set (take k words) at x ≡ take k (slice_set words at x)
 take_set zero at x words low = absurd (omega arith)
@@ -46,6 +47,7 @@ module _ (k at : ℕ) (low : at < k) (words : List ℕ) where
   set_behind : (x : ℕ) → Behind k words (slice_set words at x)
   set_behind = grind (arith, length-set, get_or-set_other)
 
+  -- an operation on a word of the front leaves the words behind it
   written_behind : (op : Op) → Behind k words (written_by words at op)
   written_behind Load = stays k words
   written_behind (Store new) = set_behind new
@@ -84,6 +86,8 @@ module _ {C E : Type 0} (want : C → Want (Unit {0})) (after : C → ℕ → Af
     (goes_low : (c : C) (old : ℕ) → Low c → LowThen Low (after c old))
     (before : List ℕ) (P Q : E → List ℕ → Type 0)
     (so : (e : E) (last : List ℕ) → Behind k before last → P e (take k last) → Q e last) where
+  -- what a step comes to over the front alone it comes to over all the words, where the rest of
+  -- the walk does
   from_front : (n : ℕ) (w : Want (Unit {0})) (call : C) (a : After C E) (words : List ℕ)
       → LowThen Low a → Behind k before words
       → ((d : C) → Low d → Walks want after n (OnEnd P) d (take k words) → Walks want after n (OnEnd Q) d words)
@@ -91,6 +95,7 @@ module _ {C E : Type 0} (want : C → Want (Unit {0})) (after : C → ℕ → Af
       → WalksFrom (Walks want after n (OnEnd Q)) (OnEnd Q) (stepped w call a) words
   from_front = grind arith
 
+  -- a walk over the front alone is one over all the words, with what its end says of them
   pub front_walks : (n : ℕ) (call : C) (words : List ℕ) → Low call → Behind k before words
       → Walks want after n (OnEnd P) call (take k words) → Walks want after n (OnEnd Q) call words
   front_walks zero call words low behind t = absurd t

@@ -36,6 +36,8 @@ module _ {C G M E : Type 0} (want_of : C → G → Want (Unit {0})) (after : C �
       (s : Stop C E) × (r : M) × (ws : List ℕ) × StopsFrom want_of after kept given
       (StopsIn want_of after kept given n s r ws) a room words s r ws × Apart P s r ws
 
+  -- a step of both together that halts so is a step of the call that stops so, with the room as
+  -- the step leaves it
   found_goes : (n : ℕ) (P : Stop (C × M) (E × M) → List ℕ → Type 0) (w : Want (Unit {0})) (call : C) (a : After C E) (room next : M) (words : List ℕ)
       → ((d : C) → Walks want_both after_both n P (d, next) words → Found n P d next words)
       → WalksFrom (Walks want_both after_both n P) P (stepped w (call, room) (with_room next a)) words
@@ -46,6 +48,7 @@ module _ {C G M E : Type 0} (want_of : C → G → Want (Unit {0})) (after : C �
   found_goes n P wants.Nothing call (GoOn d) room next words on t = on d t
   found_goes n P wants.Nothing call (Done e) room next words on t = (Ended e, next, words, (refl, refl, refl), t)
 
+  -- a walk of both together finds a stop of the call, with its room and the words
   found : (n : ℕ) (P : Stop (C × M) (E × M) → List ℕ → Type 0) (call : C) (room : M) (words : List ℕ)
       → Walks want_both after_both n P (call, room) words → Found n P call room words
   found zero P call room words t = absurd t
@@ -54,6 +57,7 @@ module _ {C G M E : Type 0} (want_of : C → G → Want (Unit {0})) (after : C �
       (kept call room (answer_in words (want_of call given))) (words_then words (want_of call given))
       (λ d u. found n P d (kept call room (answer_in words (want_of call given))) (words_then words (want_of call given)) u) t
 
+  -- a call with a room halts where both together are walked within a driver's number of steps
   pub halts_both : (n : ℕ) (P : Stop (C × M) (E × M) → List ℕ → Type 0) (call : C) (room : M) (words : List ℕ) → n ≤ 2 ^ 64 - 1
       → Walks want_both after_both n P (call, room) words
       → Halts want_of after kept given (Apart P) call room words

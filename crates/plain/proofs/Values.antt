@@ -92,6 +92,7 @@ module _ {V : Type 0} (words_of : V → List ℕ) (value_of : List ℕ → V) (s
     before : before_version (slice_index last 0) ≡ v
     before = let is = version_is in let f = fits.fits in omega (arith, more)
 
+    -- the cell then has the words of this value
     own : value_of (words_from last cell size) ≡ value
     own =
         let at : words_from cells cell size ≡ words_of value =
@@ -102,6 +103,7 @@ module _ {V : Type 0} (words_of : V → List ℕ) (value_of : List ℕ → V) (s
         words_same last cells cell size (λ i low high. get_or-set_other cells 0 i (written (Add 1) (slice_index cells 0)) 0 (λ e. absurd (omega arith))) in
         ap value_of (same ∙ at) ∙ given_back value
 
+    -- the store ends with `true` within its number of steps, and leaves these words
     goes : Ends (suc (suc (suc (size - 1)))) true last first_store ws
     goes =
         let n : suc (size - 1) ≡ size = omega arith in
@@ -111,6 +113,7 @@ module _ {V : Type 0} (words_of : V → List ℕ) (value_of : List ℕ → V) (s
         (at_store first_store (stores.StoresCell cell 0)) ws)
         n (goes_in cell (size - 1) 0 (omega arith) ws))
 
+    -- a store to a value whose version can still go up does what it promises
     stores_one : StoreRuns first_store ws
     stores_one =
         let is = version_is in
@@ -179,6 +182,7 @@ module _ {V R : Type 0} (value_of : List ℕ → V) (size : ℕ) (some : 1 ≤ s
       Runs (λ (c : Load V R) (given : Unit {0}). load_want c) (λ c given old. load_after size c old) (load_kept with_word) tt
       Loaded call room ws
 
+  -- a load does what it promises, where the room has place for the words of a value
   loads_first : (room : R) → size ≤ length (words_in room) → Represents size ws → LoadRuns first_load room
   loads_first room wide fits =
       let cell = cell_word size (before_version version) in

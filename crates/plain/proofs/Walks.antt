@@ -42,6 +42,7 @@ module _ {C E : Type 0} (want : C → Want (Unit {0})) (after : C → ℕ → Af
   abbrev pub Goes : ℕ → (Stop C E → List ℕ → Type 0) → After C E → List ℕ → Type 0
   Goes n P a words = WalksFrom (Walks n P) P (goes a) words
 
+  -- a walk within so many steps is one within one step more
   longer_by_one : (n : ℕ) (P : Stop C E → List ℕ → Type 0) (call : C) (words : List ℕ)
       → Walks n P call words → Walks (suc n) P call words
   longer_by_one zero P call words t = absurd t
@@ -82,6 +83,7 @@ module _ {C E D X : Type 0} (want : C → Want (Unit {0})) (after : C → ℕ �
   abbrev pub Then : ℕ → (Stop C E → List ℕ → Type 0) → X → List ℕ → Type 0
   Then n P x words = Goes want after n P (lift (Done x)) words
 
+  -- what has become of the inner call goes on as the outer one, for so many steps more
   part_goes : (m n : ℕ) (P : Stop C E → List ℕ → Type 0) (a : After D X) (words : List ℕ) → LowThen Low a
       → ((d : D) → Low d → Walks part_want part_after m (OnEnd (Then n P)) d words → Walks want after (plus m n) P (within d) words)
       → Goes part_want part_after m (OnEnd (Then n P)) a words
@@ -96,6 +98,7 @@ module _ {C E D X : Type 0} (want : C → Want (Unit {0})) (after : C → ℕ �
       → WalksFrom (Walks want after (plus m n) P) P (stepped w (within d) (lift a)) words
   part_from = grind (arith, part_goes)
 
+  -- a walk of the inner call, to an end from which the outer goes on, is a walk of the outer
   pub part_walks_low : (m n : ℕ) (P : Stop C E → List ℕ → Type 0) (d : D) (words : List ℕ) → Low d
       → Walks part_want part_after m (OnEnd (Then n P)) d words → Walks want after (plus m n) P (within d) words
   part_walks_low zero n P d words low t = absurd t
@@ -128,6 +131,7 @@ module _ {C G E : Type 0} (want_of : C → G → Want (Unit {0})) (after : C →
   Found n P call room words =
       (s : Stop C E) × (r : Unit {0}) × (ws : List ℕ) × StopsIn want_of after (λ c (room : Unit {0}) old. room) given n s r ws call room words × P s ws
 
+  -- so it is of what a step has come to
   found_from : (n : ℕ) (P : Stop C E → List ℕ → Type 0) (a : After C (Stop C E)) (room : Unit {0}) (words : List ℕ)
       → ((d : C) → Walks (λ c. want_of c given) (λ c old. after c given old) n P d words → Found n P d room words)
       → WalksFrom (Walks (λ c. want_of c given) (λ c old. after c given old) n P) P a words
@@ -136,6 +140,7 @@ module _ {C G E : Type 0} (want_of : C → G → Want (Unit {0})) (after : C →
   found_from n P (GoOn d) room words on t = on d t
   found_from n P (Done s) room words on t = (s, room, words, (refl, refl, refl), t)
 
+  -- a walk finds a stop of the driver, of which the same holds
   found : (n : ℕ) (P : Stop C E → List ℕ → Type 0) (call : C) (room : Unit {0}) (words : List ℕ)
       → Walks (λ c. want_of c given) (λ c old. after c given old) n P call words → Found n P call room words
   found zero P call room words t = absurd t
@@ -144,6 +149,7 @@ module _ {C G E : Type 0} (want_of : C → G → Want (Unit {0})) (after : C →
       (room_then (want_of call given) room room) (words_then words (want_of call given))
       (λ d u. found n P d (room_then (want_of call given) room room) (words_then words (want_of call given)) u) t
 
+  -- a call that is walked within a driver's number of steps halts so
   pub halts : (n : ℕ) (P : Stop C E → List ℕ → Type 0) (call : C) (words : List ℕ) → n ≤ 2 ^ 64 - 1
       → Walks (λ c. want_of c given) (λ c old. after c given old) n P call words
       → Halts want_of after (λ c (room : Unit {0}) old. room) given (λ s room ws. P s ws) call tt words

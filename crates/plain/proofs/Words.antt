@@ -7,6 +7,7 @@ use Rattle.plain.proofs.Names.{nat_tests, word_at}
 use Rattle.steps.specs.Copied.{value_in}
 use Rattle.plain.specs.Queues.{words_from}
 
+-- words from one place on are the same in two lists that have the same words there
 pub words_same : (ws vs : List ℕ) (at n : ℕ)
     → ((i : ℕ) → at ≤ i → i < at + n → slice_index ws i ≡ slice_index vs i)
     → words_from ws at n ≡ words_from vs at n
@@ -30,6 +31,7 @@ stored ws k xs at zero = ws
 stored ws k xs at (suc n) =
     stored (slice_set ws (word_at k at) (slice_index xs at)) k xs (at + 1) n
 
+-- a store of words leaves the list as long as it was
 pub stored_length : (ws : List ℕ) (k : ℕ) (xs : List ℕ) (at n : ℕ)
     → length (stored ws k xs at n) ≡ length ws
 stored_length ws k xs at zero = refl
@@ -37,6 +39,7 @@ stored_length ws k xs at (suc n) =
     stored_length (slice_set ws (word_at k at) (slice_index xs at)) k xs (at + 1) n
     ∙ length-set ws (word_at k at) (slice_index xs at)
 
+-- and it leaves each word before the stored ones and behind them
 pub stored_other : (ws : List ℕ) (k : ℕ) (xs : List ℕ) (at n j : ℕ) → k + at + n < 2 ^ 64
     → (j < k + at) ⊎ (k + at + n ≤ j)
     → slice_index (stored ws k xs at n) j ≡ slice_index ws j
@@ -47,6 +50,7 @@ stored_other ws k xs at (suc n) j small out =
     ∙ get_or-set_other ws (word_at k at) j (slice_index xs at) 0
     (λ e. ⊎_elim (λ h. absurd (omega arith)) (λ h. absurd (omega arith)) out)
 
+-- where it has stored it has the stored words
 pub stored_words : (ws : List ℕ) (k : ℕ) (xs : List ℕ) (at n : ℕ) → k + at + n < 2 ^ 64
     → k + at + n ≤ length ws → words_from (stored ws k xs at n) (k + at) n ≡ words_from xs at n
 stored_words ws k xs at zero small within = refl
@@ -71,6 +75,7 @@ abbrev pub loaded : List ℕ → List ℕ → ℕ → ℕ → ℕ → List ℕ
 loaded xs ws k at zero = xs
 loaded xs ws k at (suc n) = loaded (slice_set xs at (slice_index ws (word_at k at))) ws k (at + 1) n
 
+-- a load of words leaves each word of the room before the loaded ones and behind them
 loaded_other : (xs ws : List ℕ) (k at n j : ℕ) → (j < at) ⊎ (at + n ≤ j)
     → slice_index (loaded xs ws k at n) j ≡ slice_index xs j
 loaded_other xs ws k at zero j out = refl
@@ -86,6 +91,7 @@ loaded_length xs ws k at (suc n) =
     loaded_length (slice_set xs at (slice_index ws (word_at k at))) ws k (at + 1) n
     ∙ length-set xs at (slice_index ws (word_at k at))
 
+-- where it has loaded the room has the loaded words
 pub loaded_words : (xs ws : List ℕ) (k at n : ℕ) → k + at + n < 2 ^ 64 → at + n ≤ length xs
     → words_from (loaded xs ws k at n) at n ≡ words_from ws (k + at) n
 loaded_words xs ws k at zero small within = refl
@@ -122,6 +128,7 @@ module _ {R : Type 0} (with_word : R → ℕ → ℕ → R) where
 module _ {V R : Type 0} (value_of : List ℕ → V) (size : ℕ) (words_in : R → List ℕ)
     (with_word : R → ℕ → ℕ → R)
     (put_in : (x : R) (at word : ℕ) → words_in (with_word x at word) ≡ slice_set (words_in x) at word) where
+  -- the words in a room into which a cell is read are those of the room with the cell's loaded
   read_words : (room : R) (ws : List ℕ) (k at n : ℕ)
       → words_in (read_in with_word room ws k at n) ≡ loaded (words_in room) ws k at n
   read_words room ws k at zero = refl

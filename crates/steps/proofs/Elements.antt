@@ -36,6 +36,8 @@ module _ {T : Type 0} where
   shown_first-append None index xs ys = refl
   shown_first-append (Some value) index xs ys = refl
 
+  -- one element more shows what the elements before it show, and then its own value where it shows
+  -- one
   shown_next : (index : ℕ) (es : List (Element T)) (i : ℕ) (e : Element T)
       → slice_get es i ≡ Some e
       → shown_from index (take (suc i) es)
@@ -52,6 +54,7 @@ module _ {T : Type 0} where
       ∙ shown_first-append (value_shown x) index (shown_from (index + 1) (take i es))
       (shown_first (value_shown e) (index + 1 + i) []))
 
+  -- the same from the first element on
   shown_more : (es : List (Element T)) (i : ℕ) (e : Element T)
       → slice_get es i ≡ Some e
       → shown_from 0 (take (i + 1) es)
@@ -62,6 +65,7 @@ module _ {T : Type 0} where
       (shown_next 0 es i e at
       ∙ ap (λ n. shown_from 0 (take i es) ++ shown_first (value_shown e) n []) here)
 
+  -- what all elements show is what those before one show, then that one, then those behind it
   shown_splits : (index : ℕ) (es : List (Element T)) (i : ℕ) (e : Element T)
       → slice_get es i ≡ Some e
       → shown_from index es
@@ -80,6 +84,7 @@ module _ {T : Type 0} where
       (shown_first (value_shown e) (index + 1 + i)
       (shown_from (index + 1 + i + 1) (drop (suc i) es))))
 
+  -- the same from the first element on
   shown_parts : (es : List (Element T)) (i : ℕ) (e : Element T)
       → slice_get es i ≡ Some e
       → shown_from 0 es
@@ -115,6 +120,7 @@ module _ {T : Type 0} where
         ∙ append-nil (shown_from 0 (take i es)) in
         subst (λ xs. FoldsTo R f xs q) (sym same) calls
 
+    -- the calls so far and one more, at an element that shows its value
     pub folds_odd : (R : F → ℕ × T → F → Type 0) (f q h : F) (es : List (Element T)) (i : ℕ)
         (e : Element T) → slice_get es i ≡ Some e → e.count % 2 ≡ 1
         → FoldsTo R f (shown_from 0 (take i es)) q → R q (i, e.value) h
@@ -146,6 +152,7 @@ module _ {T : Type 0} where
             ended = inl (ap (shown_from 0) (take_all i es past));
           }
 
+      -- the call at an element that shows its value answered Stop, and was the last
       pub shown_stopped : (e : Element T) (last : F) → slice_get es i ≡ Some e
           → e.count % 2 ≡ 1
           → FoldsTo (λ p x r. step p x Continue r) f (shown_from 0 (take i es)) q

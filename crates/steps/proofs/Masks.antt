@@ -33,6 +33,7 @@ masked (suc most) p c low some alone = dite (ℕ_discrete c 1) one (more (masked
     one : c ≡ 1 → Masks p c
     one e = let none : c - 1 ≡ 0 = omega arith in ap (bit_and p) none ∙ and_zero_r p ∙ sym (ap (λ n. p % n) e ∙ omega arith)
 
+    -- an odd number other than 1 has its lowest bit in common with the one before it
     odd : (c ≡ 1 → ⊥) → c % 2 ≡ 1 → Masks p c
     odd ne e =
         let half : (c - 1) / 2 ≡ h = omega arith in
@@ -41,6 +42,7 @@ masked (suc most) p c low some alone = dite (ℕ_discrete c 1) one (more (masked
         let no : ⊥ = ne (omega arith) in
         absurd no
 
+    -- an even number masks as its half does
     even : (h ≤ most → 0 < h → bit_and h (h - 1) ≡ 0 → Masks (p / 2) h) → (c ≡ 1 → ⊥) → c % 2 ≡ 0 → Masks p c
     even halved ne e =
         let half : (c - 1) / 2 ≡ h - 1 = omega arith in

@@ -20,6 +20,7 @@ found_here places slots index low sent =
     one_left places slots index low
     ∙ ap (λ b. if b then Some index else next_sent places slots (index + 1)) sent
 
+-- where this index is not sent, the first one that is lies further on
 pub goes_further : (places : List Place) (slots index : ℕ) → index < slots
     → is_sent (place_at places index) ≡ false
     → next_sent places slots index ≡ next_sent places slots (index + 1)

@@ -72,6 +72,7 @@ look_fewer c d n goes = cc
 
 -- ---- lengths
 
+-- a length only loads
 pub len_tells : (c : Len) (stage : LenStage) (room : Unit {0}) (m n : ℕ)
     → IsTrue (is_store (len_asks stage))
     → (len_takes c stage m ≡ len_takes c stage n) × (room ≡ room)
@@ -83,6 +84,7 @@ len_tells c (lens.LoadsReadAgain write read) room m n t = no_store t
 -- ---- the bounded queue
 
 module _ {V : Type 0} (words_of : V → List ℕ) (size : ℕ) where
+  -- no store of a push tells it anything
   pub push_tells : (c : Push V) (stage : pushes.PushStage) (x : V) (room : Unit {0}) (m n : ℕ)
       → IsTrue (is_store (push_asks words_of stage x))
       → (push_takes size c stage m ≡ push_takes size c stage n) × (room ≡ room)
@@ -97,6 +99,7 @@ module _ {V : Type 0} (size : ℕ) where
   push_then (GoOn d) = push_left size d.stage + 1
   push_then (Done e) = 0
 
+  -- after each step of a push, fewer are left, whatever the step found
   push_stage_fewer : (c : Push V) (stage : pushes.PushStage) (k : ℕ)
       → push_then (push_takes size c stage k) ≤ push_left size stage
   push_stage_fewer c pushes.TheVariants.LoadsWrite k =
@@ -120,6 +123,7 @@ module _ {V : Type 0} (size : ℕ) where
       let e = ap push_then goes in let f = push_stage_fewer c c.stage k in omega arith
 
 module _ {V R : Type 0} (with_word : R → ℕ → ℕ → R) (size : ℕ) where
+  -- nor does the store of a pop
   pub pop_tells : (c : Pop V R) (stage : pops.PopStage) (room : R) (m n : ℕ)
       → IsTrue (is_store (pop_asks stage)) → (pop_takes size c stage m ≡ pop_takes size c stage n)
       × (pop_keeps with_word room stage m ≡ pop_keeps with_word room stage n)
@@ -133,6 +137,7 @@ module _ {V R : Type 0} (size : ℕ) where
   pop_then (GoOn d) = pop_left size d.stage + 1
   pop_then (Done e) = 0
 
+  -- after each step of a pop, fewer are left
   pop_stage_fewer : (c : Pop V R) (stage : pops.PopStage) (k : ℕ)
       → pop_then (pop_takes size c stage k) ≤ pop_left size stage
   pop_stage_fewer c pops.TheVariants.LoadsRead k = omega arith
@@ -154,6 +159,7 @@ module _ {V R : Type 0} (size : ℕ) where
       let e = ap pop_then goes in let f = pop_stage_fewer c c.stage k in omega arith
 
 module _ {V R : Type 0} (with_word : R → ℕ → ℕ → R) (size : ℕ) where
+  -- a peek only loads
   pub peek_tells : (c : Peek V R) (stage : PeekStage) (room : R) (m n : ℕ)
       → IsTrue (is_store (peek_asks stage)) → (peek_takes size c stage m ≡ peek_takes size c stage n)
       × (peek_keeps with_word room stage m ≡ peek_keeps with_word room stage n)
@@ -166,6 +172,7 @@ module _ {V R : Type 0} (size : ℕ) where
   peek_then (GoOn d) = peek_left size d.stage + 1
   peek_then (Done e) = 0
 
+  -- after each step of a peek, fewer are left
   peek_stage_fewer : (c : Peek V R) (stage : PeekStage) (k : ℕ)
       → peek_then (peek_takes size c stage k) ≤ peek_left size stage
   peek_stage_fewer c peeks.LoadsRead k = omega arith
@@ -186,6 +193,7 @@ module _ {V R : Type 0} (size : ℕ) where
 
 -- ---- the overflowing queue
 
+-- no store of the overflowing queue's push tells it anything
 pub overflow_push_tells : (c : over.Push) (stage : PushStage)
     (x : ℕ) (room : OneWord) (m n : ℕ) → IsTrue (is_store (overflow.push_asks c.capacity stage x))
     → (overflow.push_takes c stage m ≡ overflow.push_takes c stage n)
@@ -202,6 +210,7 @@ abbrev overflow_then : After over.Push PushEnd → ℕ
 overflow_then (GoOn d) = overflow.push_left d.stage + 1
 overflow_then (Done e) = 0
 
+-- after each step of this push, fewer are left
 overflow_stage_fewer : (c : over.Push) (stage : PushStage) (k : ℕ)
     → overflow_then (overflow.push_takes c stage k) ≤ overflow.push_left stage
 overflow_stage_fewer c over_pushes.HandsBack k = omega arith
@@ -226,6 +235,7 @@ pub overflow_push_fewer : (c d : over.Push) (k : ℕ) → overflow.push_after c 
 overflow_push_fewer c d k goes =
     let e = ap overflow_then goes in let f = overflow_stage_fewer c c.stage k in omega arith
 
+-- the pop of the overflowing queue has no store: it loads and exchanges
 pub overflow_pop_tells : (c : over_pop.Pop) (stage : PopStage) (room : OneWord) (m n : ℕ)
     → IsTrue (is_store (overflow.pop_asks c.capacity stage))
     → (overflow.pop_takes c stage m ≡ overflow.pop_takes c stage n)
@@ -239,6 +249,7 @@ overflow_pop_tells c (over_pops.MovesRead read) room m n t = no_store t
 -- ---- the single value
 
 module _ {V : Type 0} (words_of : V → List ℕ) (size : ℕ) where
+  -- no store of a word tells the store of a value anything
   pub store_tells : (c : Store V) (stage : StoreStage) (x : V) (room : Unit {0}) (m n : ℕ)
       → IsTrue (is_store (value.store_asks words_of stage x))
       → (value.store_takes size c stage m ≡ value.store_takes size c stage n) × (room ≡ room)
@@ -251,6 +262,7 @@ module _ {V : Type 0} (size : ℕ) where
   store_then (GoOn d) = value.store_left size d.stage + 1
   store_then (Done e) = 0
 
+  -- after each step of the store of a value, fewer are left
   store_stage_fewer : (c : Store V) (stage : StoreStage) (k : ℕ)
       → store_then (value.store_takes size c stage k) ≤ value.store_left size stage
   store_stage_fewer c stores.LoadsVersion k =
@@ -271,6 +283,7 @@ module _ {V : Type 0} (size : ℕ) where
       let e = ap store_then goes in let f = store_stage_fewer c c.stage k in omega arith
 
 module _ {V R : Type 0} (with_word : R → ℕ → ℕ → R) (size : ℕ) where
+  -- a load of the value has no store
   pub load_tells : (c : Load V R) (stage : LoadStage) (room : R) (m n : ℕ)
       → IsTrue (is_store (value.load_asks stage))
       → (value.load_takes size c stage m ≡ value.load_takes size c stage n)

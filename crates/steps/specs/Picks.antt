@@ -14,6 +14,8 @@ by_eq P a b x y hit miss =
     ⊎_elim (λ t. subst (λ z. P (if z then x else y)) (sym t.0) (hit t.1))
     (λ t. subst (λ z. P (if z then x else y)) (sym t.0) (miss t.1)) (eqb_tells a b)
 
+-- a fact about what the test of two equations picks: each equation that holds picks the first
+-- value
 pub by_either : {A : Type 0} (P : A → Type 0) (a b c d : ℕ) (x y : A) → (a ≡ b → P x)
     → (c ≡ d → P x) → (a ≢ b → c ≢ d → P y)
     → P (if (a == b) || (c == d) then x else y)

@@ -16,6 +16,7 @@ module _ {V : Type 0} (asked : V → ℕ) (holds : State (Unit {0}) V → Type 0
   weaker told more word op me h owed =
       (owed.0, λ s r long at small. let x = owed.1 s r long at small in (x.0, x.1, x.2, x.3, (h _ small _ x.4.0, x.4.1, x.4.2)))
 
+  -- a step may be made for a weaker promise where it may be made for a stronger one
   pub weaker_owes : (told more : V → ℕ → V → Type 0) (want : Want (Unit {0})) (me : Me (Unit {0}) V)
       → ((n : ℕ) (w : V) → told me.0 n w → more me.0 n w)
       → Owes asked holds words slots id told want me → Owes asked holds words slots id more want me

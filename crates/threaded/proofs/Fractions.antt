@@ -67,6 +67,7 @@ added_parts whole k s [] (t ∷ ts) h parts = absurd parts
 added_parts whole k s (l ∷ ks) [] h parts = absurd parts
 added_parts whole k s (l ∷ ks) (t ∷ ts) h parts = added_parts whole (k + l) (both_of s t) ks ts (both_is_part k l whole s t h parts.0) parts.1
 
+-- shares whose parts sum up to the whole are all of it, in whatever order they are joined
 pub any_order : (whole : ℕ) (ks : List ℕ) (s : Share) (ts : List Share) → 0 < whole → AreParts whole ks (s ∷ ts) → sum ks ≡ whole → IsAll (added s ts)
 any_order whole [] s ts any parts all = absurd parts
 any_order whole (k ∷ ks) s ts any parts all =

@@ -24,6 +24,7 @@ put_other f i x j ne = ap (λ b. if b then x else f j) (ne_eqb j i ne)
 
 -- ---- sums
 
+-- equal numbers have equal sums
 tally_same : (k l : ℕ → ℕ) (n : ℕ) → ((j : ℕ) → j < n → l j ≡ k j) → tally l n ≡ tally k n
 tally_same k l zero h = refl
 tally_same k l (suc n) h =
@@ -32,6 +33,7 @@ tally_same k l (suc n) h =
     let both : tally l n + l n ≡ tally k n + k n = omega arith in
     both
 
+-- the sum after one number is changed
 tally_put : (k : ℕ → ℕ) (i x n : ℕ) → i < n → tally (put k i x) n + k i ≡ tally k n + x
 tally_put k i x zero lt = absurd (omega arith)
 tally_put k i x (suc n) lt =
@@ -48,6 +50,7 @@ tally_put k i x (suc n) lt =
     let both : (tally (put k i x) n + put k i x n) + k i ≡ (tally k n + k n) + x = omega arith in
     both)
 
+-- the sum of doubled numbers is doubled
 tally_twice : (k : ℕ → ℕ) (n : ℕ) → tally (λ j. k j + k j) n ≡ tally k n + tally k n
 tally_twice k zero = refl
 tally_twice k (suc n) =
@@ -58,6 +61,7 @@ tally_twice k (suc n) =
 tally_at : (k : ℕ → ℕ) (i n : ℕ) → i < n → k i ≤ tally k n
 tally_at k i n lt = let h = tally_put k i 0 n lt in omega arith
 
+-- two numbers at different places are together at most the sum
 tally_two : (k : ℕ → ℕ) (i j n : ℕ) → j ≢ i → i < n → j < n → k i + k j ≤ tally k n
 tally_two k i j n ne below lt =
     let h = tally_put k i 0 n below in
@@ -122,6 +126,7 @@ module _ {V : Type 0} (share : V → Share) where
   abbrev Fits : ℕ → ℕ → Share → Type 0
   Fits whole k s = (0 < s.parts) × (s.part * whole ≡ s.parts * k)
 
+  -- the only seat has all shares
   pub shares_alone : (v : V) → share v ≡ all_shares → Shares share (v ∷ [])
   shares_alone v e =
       record {
@@ -132,6 +137,7 @@ module _ {V : Type 0} (share : V → Share) where
         fits = alone (λ j u. Fits 1 1 (share u)) v (subst (Fits 1 1) (sym e) (omega arith, refl));
       }
 
+  -- the shares stand where a seat's view changes and its share does not
   pub shares_stay : (views : List V) (id : ℕ) (v w : V) → get_elem? views id ≡ some v → share w ≡ share v → Shares share views → Shares share (set views id w)
   shares_stay views id v w at same h =
       record {
@@ -144,6 +150,7 @@ module _ {V : Type 0} (share : V → Share) where
             (subst (Fits h.whole (h.each id)) (sym same) (h.fits id v at));
       }
 
+  -- they stand where a seat gives the half of its share to a new seat
   pub shares_split : (views : List V) (id : ℕ) (v left right : V) → get_elem? views id ≡ some v
       → share left ≡ half_of (share v) → share right ≡ half_of (share v) → Shares share views
       → Shares share (set views id left ++ right ∷ [])
@@ -194,6 +201,7 @@ module _ {V : Type 0} (share : V → Share) where
       same_half : (a whole b k l : ℕ) → l ≡ k → a * whole ≡ b * k → a * (whole + whole) ≡ (b + b) * l
       same_half a whole b k l is e = let both : a * (whole + whole) ≡ (b + b) * k = omega arith in both ∙ ap (λ z. (b + b) * z) (sym is)
 
+  -- they stand where a seat takes over the share of another
   pub shares_join : (views : List V) (id other : ℕ) (v w both spent : V) → get_elem? views id ≡ some v → other ≢ id → get_elem? views other ≡ some w
       → share both ≡ both_of (share v) (share w) → share spent ≡ no_share → Shares share views → Shares share (set (set views id both) other spent)
   shares_join views id other v w both spent at apart at' e₀ e₁ h =

@@ -122,6 +122,7 @@ no_act : (before after : List SetAct) (one : SetAct) → [] ≡ before ++ one �
 no_act [] after one e = cc
 no_act (a ∷ bs) after one e = cc
 
+-- a remove that ends while its value still stands is refused
 hides_nothing : IsContained (container still (before_end ++ Finished 0 (Container (Remove 0 7 Default)) (State states.Unlocked) ∷ [])) → ⊥
 hides_nothing k =
     at_no_moment 0 _ before_end (

@@ -8,6 +8,7 @@ sum_is n m e = omega arith
 not_more : (n : ℕ) → 1 + n ≡ 0 → ⊥
 not_more n e = absurd (omega arith)
 
+-- where one more below the bound is chosen than none, the last is chosen or one before it
 none_step : (chosen : ℕ → Bool) (bound number : ℕ) (b : Bool) → chosen bound ≡ b → (if b then 1 else 0) + count_below chosen bound ≡ suc number
     → (chosen bound ≡ true → ⊥)
     → (count_below chosen bound ≡ suc number → ⊥)

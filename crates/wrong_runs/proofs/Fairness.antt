@@ -46,6 +46,7 @@ later : (k : ℕ) → k ≤ at k
 later zero = omega arith
 later (suc k) = omega arith
 
+-- after each moment party 0 takes a step, or has no call under way
 goes : (k : ℕ) → (flight_in (moment started turns (at k)).world 0 ≡ None) ⊎ (own_step 0 (moment started turns (at k)).world (turns (at k)) ≡ 1)
 goes zero = inr refl
 goes (suc zero) = inr refl
@@ -63,6 +64,7 @@ waits : (n : ℕ) → flight_in (moment started turns (suc (suc (suc (suc (suc n
 waits zero = λ e. cc
 waits (suc n) = waits n
 
+-- from the second moment on party 1 has a call under way and takes no step
 none_more : (k : ℕ) → 1 ≤ k → (flight_in (moment started turns k).world 1 ≡ None) ⊎ (own_step 1 (moment started turns k).world (turns k) ≡ 1) → ⊥
 none_more zero past h = absurd (omega arith)
 none_more (suc zero) past h = ⊎_elim (λ e. cc) (λ e. cc) h
@@ -90,6 +92,7 @@ have_died : (n : ℕ) → (moment started turns (suc (suc (suc (suc (suc n))))))
 have_died zero = refl
 have_died (suc n) = let so_far = have_died n in rw so_far refl
 
+-- no turn is refused
 allowed : (k : ℕ) → call_refusal (moment started turns k).world (turns k) ≡ None
 allowed zero = refl
 allowed (suc zero) = refl
@@ -100,6 +103,7 @@ allowed (suc (suc (suc (suc (suc n))))) =
     let lives = none_later n n (omega arith) in
     subst (λ kept. first_row (death_rows {T = ℕ} kept n) ≡ None) (sym (have_died n)) (rw lives refl)
 
+-- all turns are of two parties
 below : (k : ℕ) → IsBelow 2 (turns k)
 below zero = omega arith
 below (suc zero) = omega arith
@@ -108,6 +112,7 @@ below (suc (suc (suc zero))) = omega arith
 below (suc (suc (suc (suc zero)))) = omega arith
 below (suc (suc (suc (suc (suc n))))) = tt
 
+-- no turn begins a call
 begins_none : (k : ℕ) → begin_in (turns k) ≡ 0
 begins_none zero = refl
 begins_none (suc zero) = refl
@@ -116,6 +121,7 @@ begins_none (suc (suc (suc zero))) = refl
 begins_none (suc (suc (suc (suc zero)))) = refl
 begins_none (suc (suc (suc (suc (suc n))))) = refl
 
+-- up to any moment no call begins
 none_begin : (k : ℕ) → begins_by turns k ≤ 0
 none_begin zero = omega arith
 none_begin (suc k) =

@@ -44,6 +44,7 @@ later : (k : ℕ) → k ≤ at k
 later zero = omega arith
 later (suc k) = omega arith
 
+-- after each moment party 0 takes a step, or has no call under way
 goes : (k : ℕ) → (flight_in (moment_on started turns (at k)).world 0 ≡ None) ⊎ IsStepOf 0 (moment_on started turns (at k)).world (turns (at k))
 goes zero = inr (refl, refl)
 goes (suc zero) = inr (refl, refl)
@@ -67,6 +68,7 @@ waits_there e = cc
 waits : (n : ℕ) → flight_in (moment_on started turns (suc (suc (suc (suc (suc n)))))).world 1 ≢ None
 waits n none = waits_there (sym (same_call 1 n) ∙ none)
 
+-- from the second moment on party 1 has a call under way and takes no step
 none_more : (k : ℕ) → 1 ≤ k → (flight_in (moment_on started turns k).world 1 ≡ None) ⊎ IsStepOf 1 (moment_on started turns k).world (turns k) → ⊥
 none_more zero past h = absurd (omega arith)
 none_more (suc zero) past h = ⊎_elim (λ e. cc) (λ s. let e = s.1 in cc) h
@@ -84,6 +86,7 @@ below : (k : ℕ) → IsBelow 2 (turns k)
 below zero = omega arith
 below (suc k) = omega arith
 
+-- no call begins
 none_begin : (k : ℕ) → begun (moment_on started turns k).events ≤ begun started.events + 0
 none_begin zero = omega arith
 none_begin (suc zero) = omega arith

@@ -132,6 +132,7 @@ replacing = Finished 0 (Container (Add 4 7)) (Index 0) ∷ Begun 0 replace ∷ [
 abbrev unreplaced : List (Event ℕ)
 unreplaced = replacing ++ Finished 0 replace Done ∷ []
 
+-- the replace is begun as it may be
 may_replace : MayReplace 0 0 7 replacing
 may_replace =
     record {
@@ -183,6 +184,7 @@ asks_nothing k =
 abbrev emptied : List (Event ℕ)
 emptied = Filled 0 0 7 ∷ Begun 1 (recover LockIfLastIndex) ∷ FreedOf 1 0 7 ∷ []
 
+-- a recovery that might lock, leaves no index filled and answers Unlocked is refused
 unlocked_empty : runs (emptied ++ Finished 1 (recover LockIfLastIndex) (State Unlocked) ∷ []) → ⊥
 unlocked_empty k =
     let late = k.locks 1 0 7 emptied ([], refl) (record { before = []; after = []; is = refl }) in

@@ -69,6 +69,7 @@ ended_by_no = record asking { events = asking.events ++ Finished 1 (Robust (Find
 abbrev acquired : List (Event ℕ)
 acquired = Begun 0 (Robust (Acquire 1)) ∷ Filled 0 0 1 ∷ Granted 0 0 1 ∷ Finished 0 (Robust (Acquire 1)) (Index 0) ∷ []
 
+-- a find that counts no index has not counted one that stayed filled for its owner
 forgets : (start : Start ℕ) (before since : List (Event ℕ)) (number : ℕ) → 0 ≡ number
     → Stays (IsFilledWith 1 0) (before ++ Begun 1 start ∷ []) since
     → IsCount 1 (IsFilledWith 1) 1 number (before ++ Begun 1 start ∷ since)
@@ -107,6 +108,7 @@ uncopied_well =
     well_formed uncopied still (Each-append FreesRight [] uncopied (Each-nil FreesRight) (tt, (tt, (tt, (tt, tt)))))
     (Each-append ReplacesRight [] uncopied (Each-nil ReplacesRight) (tt, (tt, (tt, (tt, tt)))))
 
+-- a find that has counted an index, and not copied the value that stood there, is refused
 copies_none : Takes (container still placed) (Next 1) (container still uncopied) → ⊥
 copies_none k =
     let found = (k.found_there refl).all_copied uncopied_well 1 7 1 [] refl (no_decision 1) in

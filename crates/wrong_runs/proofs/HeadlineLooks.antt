@@ -105,6 +105,7 @@ none_began : (b : Bool) → IsShut {T = ℕ} (if b then Never else Never)
 none_began true = tt
 none_began false = tt
 
+-- no other call is under way during the look
 was_alone : WasAlone 1 overlooked
 was_alone =
     record {

@@ -25,6 +25,7 @@ IsList events = ActAs (as_list queues.IndexQueue 2) events
 abbrev unacted : List (Event ℕ)
 unacted = Begun 0 (push 7) ∷ Finished 0 (push 7) (Truth true) ∷ []
 
+-- a push of which no act is written has not acted since it began
 acts_nowhere : (before since : List (Event ℕ)) → Begun 0 (push 7) ∷ [] ≡ before ++ Begun 0 (push 7) ∷ since
     → flat_map (act_of 0) since ≡ (push 7, Truth true) ∷ [] → ⊥
 acts_nowhere [] since is once =
@@ -41,6 +42,7 @@ ends_unacted k =
 abbrev begun_again : List (Event ℕ)
 begun_again = Begun 0 (push 7) ∷ Begun 0 (push 8) ∷ Acted 0 (push 7) (Truth true) ∷ []
 
+-- a push that has begun again acts only behind another begin
 begins_again : (before since : List (Event ℕ)) → begun_again ≡ before ++ Begun 0 (push 7) ∷ since → BeginsNone 0 since → ⊥
 begins_again [] since is none =
     let rest : Begun 0 (push 8) ∷ Acted 0 (push 7) (Truth true) ∷ [] ≡ since = cc in (subst (BeginsNone 0) (sym rest) none).0 refl

@@ -134,6 +134,7 @@ none_stays false e = cc
 abbrev emptied : List (Event ℕ)
 emptied = Filled 0 0 7 ∷ Begun 1 (recover LockIfLastIndex) ∷ FreedOf 1 0 7 ∷ []
 
+-- a recovery that might lock, leaves no index filled and answers Unlocked is refused
 unlocked_empty : robust (emptied ++ Finished 1 (recover LockIfLastIndex) (State Unlocked) ∷ []) → ⊥
 unlocked_empty k =
     let late = k.locks 1 0 7 emptied ([], refl) (record { before = []; after = []; is = refl }) in

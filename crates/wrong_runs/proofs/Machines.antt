@@ -34,6 +34,7 @@ abbrev pub Never : (List (Event ℕ) → Type 0) → List (Event ℕ) → List (
 Never P before [] = P before → ⊥
 Never P before (e ∷ es) = (P before → ⊥) × Never P (before ++ e ∷ []) es
 
+-- what holds at none of the moments holds at none that is reached on the way
 there : (P : List (Event ℕ) → Type 0) (part rest before es : List (Event ℕ)) → es ≡ part ++ rest → Never P before es → P (before ++ part) → ⊥
 there P [] rest before [] is never h = never (subst P (append-nil before) h)
 there P [] rest before (e ∷ es) is never h = never.0 (subst P (append-nil before) h)
@@ -54,6 +55,7 @@ abbrev pub Stays : (List (Event ℕ) → Type 0) → List (Event ℕ) → List (
 Stays P before [] = P before
 Stays P before (e ∷ es) = P before × Stays P (before ++ e ∷ []) es
 
+-- what holds at all of the moments holds at each that is reached on the way
 stays_there : (P : List (Event ℕ) → Type 0) (part rest before es : List (Event ℕ)) → es ≡ part ++ rest → Stays P before es → P (before ++ part)
 stays_there P [] rest before [] is all = subst P (sym (append-nil before)) all
 stays_there P [] rest before (e ∷ es) is all = subst P (sym (append-nil before)) all.0
@@ -69,6 +71,7 @@ begins_one p start [] since none = none.0 refl
 begins_one p start (Begun q other ∷ before) since none = begins_one p start before since none.1
 begins_one p start (e ∷ before) since none = begins_one p start before since none
 
+-- what holds at all moments from a party's latest begin on holds at each from which the party begins nothing
 since_there : (p : ℕ) (start : Start ℕ) (P : List (Event ℕ) → Type 0) (before since past part rest : List (Event ℕ))
     → before ++ Begun p start ∷ since ≡ part ++ rest → BeginsNone p rest → Stays P (past ++ (before ++ Begun p start ∷ [])) since
     → P (past ++ part)

@@ -133,6 +133,7 @@ shut : (b : Bool) → IsShut (fold (λ (span : Span ℕ) (e : Event ℕ). if b t
 shut true = tt
 shut false = tt
 
+-- no other call is under way during the update
 alone : WasAlone 1 looked
 alone =
     record {
@@ -144,6 +145,7 @@ alone =
       holds = ((λ q other. shut (0 == q)), (refl, tt));
     }
 
+-- the run is well-formed
 looked_well_formed : IsWellFormedRun (with_blank looked)
 looked_well_formed =
     record {

@@ -94,6 +94,7 @@ last = starts.Robust (Release 0 7 LockIfLastIndex)
 abbrev unlocked : List (Event ℕ)
 unlocked = Filled 0 0 7 ∷ Begun 0 last ∷ FreedOf 0 0 7 ∷ []
 
+-- a release that has freed the last index, might lock and answers Unlocked is refused
 release_never_locks : IsRobustSet (set (0 ∷ 7 ∷ 9 ∷ []) (unlocked ++ Finished 0 last (State Unlocked) ∷ [])) → ⊥
 release_never_locks k =
     let since = (k.answers unlocked [] (Finished 0 last (State Unlocked)) refl).1 in

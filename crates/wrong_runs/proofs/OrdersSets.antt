@@ -39,6 +39,7 @@ set_again_is_true k = let e = k.set 1 1 stands_already ([], refl) in cc
 only_begin : (one : Event ℕ) (P : List (Event ℕ) → List (Event ℕ) → Type 0) → ((start : Start ℕ) → one ≡ Begun 1 start → ⊥)
     → SinceBegin 1 P (one ∷ Begun 1 reset_all ∷ []) → P (one ∷ []) []
 only_begin one P other h = found h.before h.start h.since h.is h.holds where
+  -- such a call began right behind the first event
   found : (before : List (Event ℕ)) (start : Start ℕ) (since : List (Event ℕ)) → one ∷ Begun 1 reset_all ∷ [] ≡ before ++ Begun 1 start ∷ since
       → P before since → P (one ∷ []) []
   found [] start since is held = absurd (other start (cc))

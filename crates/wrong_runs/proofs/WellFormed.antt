@@ -57,6 +57,7 @@ replaced =
     ∷ Finished 0 (replace 0 6 1) Done
     ∷ []
 
+-- this is what the calls write down
 pub handled_events : (ran_on handled).events
     ≡ replaced
     ++ Begun 0 (remove 0 1)
@@ -80,6 +81,7 @@ stands (suc n) = nobody_else n _ _
 abbrev replaces : List (Event ℕ)
 replaces = added ++ Begun 0 (replace 0 6 1) ∷ Hidden 0 0 ∷ Placed 0 0 6 ∷ []
 
+-- the replace was begun as it may be
 may_replace : MayReplace 0 0 1 replaces
 may_replace =
     record {
@@ -91,6 +93,7 @@ may_replace =
       holds = (refl, (tt, (tt, tt)));
     }
 
+-- the remove was begun as it may be, behind the replace
 may_remove : FreesRight (replaced ++ Begun 0 (remove 0 1) ∷ []) (FreedOf 0 0 1)
 may_remove =
     record {
@@ -102,6 +105,7 @@ may_remove =
       holds = refl;
     }
 
+-- the run is well-formed
 pub is_well_formed : IsWellFormedRun (ran_on handled)
 is_well_formed =
     record {

@@ -1,3 +1,6 @@
+-- The law `headline` (src/lib.rt; clauses `reached`, `runs`, `turn`, `lock_free`, `lock_free_by_default`, `lock_free_container` and
+-- `lock_free_channel`): `Holds` is true of a machine of every kind, at every admitted capacity, after every list of turns, of which
+-- those that are refused change nothing.
 use Rattle.std.proofs.Common.{◌≡◌, ◌⊎◌, ⊎_elim, ℕ, Bool, false, None, refl, subst}
 use Rattle.model.specs.declared.turn.Kind.TheVariants as kinds
 use Rattle.model.specs.declared.turn.Turn.{Turn}

@@ -1,3 +1,4 @@
+-- `of_machine` (src/lib.rt): its return meets what it ensures.
 use Rattle.headline.proofs.Reached.{holds}
 use Rattle.headline.proofs.of_machine.Goals as goal
 

@@ -1,3 +1,5 @@
+-- The law `promises` (src/lib.rt; clauses `run` and `turn`): all that the family of a machine's kind promises of every run, and of each
+-- further turn that is not refused; what it promises stands in `model`.
 use Rattle.std.proofs.Common.{refl}
 use Rattle.model.proofs.Orders.{reached_kept}
 use Rattle.machine.proofs.Laws.{laws_of}

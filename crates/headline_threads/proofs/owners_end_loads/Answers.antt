@@ -1,3 +1,7 @@
+-- `owners_end_loads` (src/lib.rt): its return meets the clauses `robust_between`, `robust_load`, `robust_asks`, `robust_rest`,
+-- `container_between`, `container_load`, `container_asks`, `container_rest`, `robust_between_by_default`, `robust_load_by_default`,
+-- `robust_asks_by_default`, `robust_rest_by_default`, `container_between_by_default`, `container_load_by_default`,
+-- `container_asks_by_default` and `container_rest_by_default`.
 use Rattle.headline_threads.proofs.Ending as laws
 use Rattle.headline_threads.proofs.owners_end_loads.Goals as goal
 

@@ -1,3 +1,5 @@
+-- The law `passes_end_loads` (src/lib.rt; clauses `between`, `known`, `asks` and `rest`): a finite load ends between threads, of the
+-- same kinds and parties.
 use Rattle.headline_threads.proofs.Ending.{passes_end_load, known_ends_load, known_asks_load, passes_rest}
 use Rattle.headline_threads.proofs.passes_end_loads.Goals as goal
 

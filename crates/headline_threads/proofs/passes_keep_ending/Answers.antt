@@ -1,3 +1,5 @@
+-- The law `passes_keep_ending` (src/lib.rt; clauses `ends`, `keep` and `known`): of the kinds that have a bound in `lock_free_bound`,
+-- where the calls that a pass has seen are of parties with numbers below n.
 use Rattle.headline_threads.proofs.Ending.{passes_end, passes_keep_ending as kept, known_keeps_ending}
 use Rattle.headline_threads.proofs.passes_keep_ending.Goals as goal
 

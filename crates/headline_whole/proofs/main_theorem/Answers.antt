@@ -1,3 +1,6 @@
+-- `main_theorem` (src/lib.rt): its return meets the clauses `runs`, `pushes_and_pops`, `stores_and_loads`, `no_two_hold`,
+-- `none_once_locked`, `copied`, `bits`, `counts`, `all_bits_reset`, `all_counts_reset`, `recovered`, `answers`, `states`, `places` and
+-- `calls`.
 use Rattle.std.proofs.Common.{◌≡◌, refl, subst}
 use Rattle.model.specs.declared.turn.Kind.{Kind}
 use Rattle.model.specs.declared.turn.Kind.TheVariants as kinds

@@ -1,3 +1,4 @@
+-- `no_two_hold` (src/lib.rt): its return meets what it ensures (`NoTwoHold`).
 use Rattle.std.proofs.Common.{sym, subst}
 use Rattle.headline.specs.Holders.{NoTwoHold}
 use Rattle.headline_whole.specs.Kinds.{hand_of, IsWellFormedFor}

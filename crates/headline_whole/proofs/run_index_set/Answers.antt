@@ -1,3 +1,4 @@
+-- `run_index_set` (src/lib.rt): its call of `no_two_hold` meets what that requires.
 use Rattle.std.proofs.Common.{◌≡◌, List, [], ◌∷◌, take, ap, ◌∙◌}
 use Rattle.model.specs.declared.turn.Turn.{Turn}
 use Rattle.model.specs.Turns.{after_turn, after_turns}

@@ -78,15 +78,15 @@ module _ {T : Type 0} (c : ℕ) (events : List (Event T)) (spans : Each (StandsR
     RightAct e p b = Tells (number b) e × Acts kinds.Bits b (number b) (number_after b (number b) e) (way p b)
 
     spread : (e : Event T) (q k p b : ℕ) → RightAct e q k → (q == p && k == b) ≡ true → RightAct e p b
-    spread x0 x1 x2 x3 x4 x5 x6 = grind (arith, both_true, is_number)
+    spread e q k p b right_act q_true = grind (arith, both_true, is_number)
 
     set_acts : (k : ℕ) (q : ℕ) (span : Span T) (w : Way') → Stands bits_promise c (event.Set q k) span
         → WayFits Fit k span w → Acts kinds.Bits k (number k) 1 w
-    set_acts x0 x1 x2 x3 x4 x5 = grind arith
+    set_acts k q span w stands way_fits = grind arith
 
     clear_acts : (k : ℕ) (q : ℕ) (span : Span T) (w : Way') → Stands bits_promise c (Cleared q k) span
         → WayFits Fit k span w → Acts kinds.Bits k (number k) 0 w
-    clear_acts x0 x1 x2 x3 x4 x5 = grind arith
+    clear_acts k q span w stands way_fits = grind arith
 
     module _ (m : M h) (numbered : Numbers h) (on : Ways Fit h) where
       set_goes : (q k : ℕ) → events ≡ h ++ event.Set q k ∷ after → M (h ++ event.Set q k ∷ [])
@@ -120,7 +120,7 @@ module _ {T : Type 0} (c : ℕ) (events : List (Event T)) (spans : Each (StandsR
 
         -- what was so of a beginning
         numbers_in : (part rest : List (Event T)) → h ≡ part ++ rest → Numbers part
-        numbers_in x0 x1 x2 = grind (arith, numbers, append_assoc)
+        numbers_in part rest h_is = grind (arith, numbers, append_assoc)
 
         sets_within : (part rest : List (Event T)) → h ≡ part ++ rest → (b : ℕ) → sets b part ≤ sets b events
         sets_within part rest cut b =
@@ -169,13 +169,13 @@ module _ {T : Type 0} (c : ℕ) (events : List (Event T)) (spans : Each (StandsR
           once = answers h after (Finished q (set_call k) (Truth false)) is
 
           under : (b : ℕ) → way q b ≡ Some ((set_call k), None)
-          under x0 = grind (arith, here, false)
+          under b = grind (arith, here, false)
 
           one : number_in k 0 once.part ≡ 1
           one = grind (arith, numbers_in, false, sets, clears)
 
           elsewhere : (b : ℕ) → k ≢ b → Ends c (Sure b) b (set_call k) (Truth false) (way q b)
-          elsewhere x0 x1 = grind (arith, false, under)
+          elsewhere b k_is_not_b = grind (arith, false, under)
 
           facts : (b : ℕ) → b < c → Fact kinds.Bits c Sure h q (set_call k) (Truth false) b
           facts b lt =
@@ -227,7 +227,7 @@ module _ {T : Type 0} (c : ℕ) (events : List (Event T)) (spans : Each (StandsR
           all = answers h after (Finished q next_call ResetNone) is
 
           under : (b : ℕ) → way q b ≡ Some (next_call, None)
-          under x0 = grind (arith, here)
+          under b = grind (arith, here)
 
           facts : (b : ℕ) → b < c → Fact kinds.Bits c Sure h q next_call ResetNone b
           facts b lt =
@@ -255,7 +255,7 @@ module _ {T : Type 0} (c : ℕ) (events : List (Event T)) (spans : Each (StandsR
               fits = here q all_call Done is b opened.wrote opened.is
 
               acted : 0 < clears b opened.wrote → Fact kinds.Bits c Sure h q all_call Done b
-              acted x0 = grind arith
+              acted clears_positive = grind arith
 
               silent : clears b opened.wrote ≤ 0 → Fact kinds.Bits c Sure h q all_call Done b
               silent few = go (number_in b 0 since.before) refl
@@ -321,10 +321,10 @@ module _ {T : Type 0} (c : ℕ) (events : List (Event T)) (spans : Each (StandsR
               mine = Silent h [] (sym (append-nil h)) tt (under k) refl refl (refl, λ same. look_tells answer (number_in k 0 h) number_is)
 
       ends : (q : ℕ) (s : Start T) (a : Answer T) → events ≡ h ++ Finished q s a ∷ after → M (h ++ Finished q s a ∷ [])
-      ends x0 x1 x2 x3 = grind (arith, end_set_true, end_set_false, end_next, end_none, end_all, end_look, open_for)
+      ends q s a events_are = grind (arith, end_set_true, end_set_false, end_next, end_none, end_all, end_look, open_for)
 
       more_marks : (e : Event T) → events ≡ h ++ e ∷ after → M (h ++ e ∷ [])
-      more_marks x0 x1 = grind (arith, goes_on, shut_way, ends, set_goes, clear_goes)
+      more_marks e events_are = grind (arith, goes_on, shut_way, ends, set_goes, clear_goes)
 
   pub bits_act : ActsByPlace kinds.Bits c events
   bits_act = record { marks = all.marks; is = all.is; right = all.right }

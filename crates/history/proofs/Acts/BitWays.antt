@@ -116,7 +116,7 @@ module _ {T : Type 0} where
   Fit start b wrote d = (clears b wrote ≡ 0 → d ≡ None) × (1 ≤ clears b wrote → d ≡ Some 1)
 
   fit_nil : (start : Start T) (b : ℕ) → Fit start b [] None
-  fit_nil x0 x1 = grind arith
+  fit_nil start b = grind arith
 
   fit_more : (start : Start T) (b : ℕ) (wrote : List (Event T)) (d : Option ℕ) (e : Event T)
       → sets {T = T} b (e ∷ []) ≡ 0 → clears {T = T} b (e ∷ []) ≡ 0 → Fit start b wrote d
@@ -138,7 +138,7 @@ module _ {T : Type 0} where
   set_fits : (q k b n : ℕ) (span : Span T) (way : Way T) → Stands bits_promise 0 (event.Set q k) span
       → (k ≡ b → n ≡ 0) → WayFits Fit b span way
       → WayFits Fit b (own_after span (event.Set q k)) (cond (k == b) (found_now n way) way)
-  set_fits x0 x1 x2 x3 x4 x5 x6 x7 x8 = grind arith
+  set_fits q k b n span way stands n_is_zero way_fits = grind arith
 
   fit_cleared : (start : Start T) (q k b : ℕ) (wrote : List (Event T)) → MayClear k start wrote → (k == b) ≡ true
       → Fit start b (wrote ++ Cleared q k ∷ []) (Some 1)
@@ -178,11 +178,11 @@ module _ {T : Type 0} where
   one_fits c p b n spans way (event.Set q k) stands at fits = go (q == p) refl
     where
       go : (t : Bool) → (q == p) ≡ t → WayFits Fit b (span_after p (spans p) (event.Set q k)) (way_after p b n way (event.Set q k))
-      go x0 x1 = grind (arith, set_fits, is_number)
+      go t q_is = grind (arith, set_fits, is_number)
   one_fits c p b n spans way (Cleared q k) stands at fits = go (q == p) refl
     where
       go : (t : Bool) → (q == p) ≡ t → WayFits Fit b (span_after p (spans p) (Cleared q k)) (way_after p b n way (Cleared q k))
-      go x0 x1 = grind (arith, cleared_fits, is_number)
+      go t q_is = grind (arith, cleared_fits, is_number)
   one_fits c p b n spans way (Counted q k) stands at fits = absurd stands
   one_fits c p b n spans way (TakenOut q k m) stands at fits = absurd stands
   one_fits c p b n spans way e stands at fits = grind (arith, quiet_fits, fit_more)

@@ -22,11 +22,11 @@ use Rattle.history.proofs.Acts.Ways.{along, begins_none_later, OpenFor, open_for
 use Rattle.history.proofs.Acts.Ways.{begun_fits, finished_fits, quiet_fits, Ways, ways_more}
 
 next_number : (n : ℕ) → n < 2 ^ 64 → (((n + 1) % 2 ^ 64 ≡ n + 1) × (n + 1 < 2 ^ 64)) ⊎ (((n + 1) % 2 ^ 64 ≡ 0) × (n + 1 ≡ 2 ^ 64))
-next_number x0 x1 = grind arith
+next_number n n_below = grind arith
 
 -- what is taken out is what stands
 same_rest : (m n v w t c : ℕ) → m < 2 ^ 64 → n < 2 ^ 64 → c ≡ t + m + 2 ^ 64 * v → c ≡ t + n + 2 ^ 64 * w → m ≡ n
-same_rest x0 x1 x2 x3 x4 x5 x6 x7 x8 x9 = grind arith
+same_rest m n v w t c m_below n_below first_c_is second_c_is = grind arith
 
 one_taken : (U : Type 0) (p k m b : ℕ) → (k == b) ≡ true → takes {T = U} b (TakenOut p k m ∷ []) ≡ m
 one_taken U p k m b t = rw t (omega arith)
@@ -124,7 +124,7 @@ module _ {T : Type 0} where
   Fit start b wrote d = (takes b wrote ≡ 0 → d ≡ None) × (1 ≤ takes b wrote → Found (λ n. Unit {0}) d)
 
   fit_nil : (start : Start T) (b : ℕ) → Fit start b [] None
-  fit_nil x0 x1 = grind arith
+  fit_nil start b = grind arith
 
   fit_more : (start : Start T) (b : ℕ) (wrote : List (Event T)) (d : Option ℕ) (e : Event T)
       → counts {T = T} b (e ∷ []) ≡ 0 → takes {T = T} b (e ∷ []) ≡ 0 → Fit start b wrote d
@@ -170,11 +170,11 @@ module _ {T : Type 0} where
   one_fits c p b n spans way (Counted q k) stands fits = go (q == p) refl
     where
       go : (t : Bool) → (q == p) ≡ t → WayFits Fit b (span_after p (spans p) (Counted q k)) (way_after p b n way (Counted q k))
-      go x0 x1 = grind (arith, count_fits, is_number, fits)
+      go t q_is = grind (arith, count_fits, is_number, fits)
   one_fits c p b n spans way (TakenOut q k m) stands fits = go (q == p) refl
     where
       go : (t : Bool) → (q == p) ≡ t → WayFits Fit b (span_after p (spans p) (TakenOut q k m)) (way_after p b n way (TakenOut q k m))
-      go x0 x1 = grind (arith, take_fits, is_number, fits)
+      go t q_is = grind (arith, take_fits, is_number, fits)
   one_fits c p b n spans way (event.Set q k) stands fits = absurd stands
   one_fits c p b n spans way (Cleared q k) stands fits = absurd stands
   one_fits c p b n spans way e stands fits = grind (arith, quiet_fits, fit_more)
@@ -228,15 +228,15 @@ module _ {T : Type 0} (c : ℕ) (events : List (Event T)) (spans : Each (StandsR
     RightAct e p b = Tells (number b) e × Acts kinds.Counts b (number b) (number_after b (number b) e) (way p b)
 
     spread : (e : Event T) (q k p b : ℕ) → RightAct e q k → (q == p && k == b) ≡ true → RightAct e p b
-    spread x0 x1 x2 x3 x4 x5 x6 = grind (arith, both_true, is_number)
+    spread e q k p b right_act q_true = grind (arith, both_true, is_number)
 
     count_acts : (k : ℕ) (q : ℕ) (span : Span T) (w : Way') → Stands counts_promise c (Counted q k) span
         → WayFits Fit k span w → Acts kinds.Counts k (number k) ((number k + 1) % 2 ^ 64) w
-    count_acts x0 x1 x2 x3 x4 x5 = grind arith
+    count_acts k q span w stands way_fits = grind arith
 
     take_acts : (k m : ℕ) (q : ℕ) (span : Span T) (w : Way') → Stands counts_promise c (TakenOut q k m) span
         → WayFits Fit k span w → (1 ≤ m) × Acts kinds.Counts k (number k) 0 w
-    take_acts x0 x1 x2 x3 x4 x5 x6 = grind arith
+    take_acts k m q span w stands way_fits = grind arith
 
     module _ (m : M h) (numbered : Numbers h) (on : Ways Fit h) where
       count_goes : (q k : ℕ) → events ≡ h ++ Counted q k ∷ after → M (h ++ Counted q k ∷ [])
@@ -265,7 +265,7 @@ module _ {T : Type 0} (c : ℕ) (events : List (Event T)) (spans : Each (StandsR
       here q b s wrote opened = grind (arith, fits_open)
 
       found_some : (n : ℕ) (w : Way') (s : Start T) (d : Option ℕ) → found_now n w ≡ Some (s, d) → d ≡ Some n
-      found_some x0 x1 x2 x3 x4 = grind arith
+      found_some n w s d found_now_is = grind arith
 
       rest_is : (n t c w : ℕ) → n < 2 ^ 64 → c ≡ t + n + 2 ^ 64 * w → (c - t) % 2 ^ 64 ≡ n
       rest_is n t c w low e = omega arith
@@ -364,7 +364,7 @@ module _ {T : Type 0} (c : ℕ) (events : List (Event T)) (spans : Each (StandsR
               fits = here q b all_call opened.wrote opened.is
 
               ends_so : (d : Option ℕ) → Found (λ n. Unit {0}) d → way q b ≡ Some (all_call, d) → Ends c (Sure b) b all_call Done (way q b)
-              ends_so x0 x1 x2 = grind arith
+              ends_so d found way_is = grind arith
 
               acted : 0 < takes b opened.wrote → Fact kinds.Counts c Sure h q all_call Done b
               acted some = grind (arith, ends_so)
@@ -416,10 +416,10 @@ module _ {T : Type 0} (c : ℕ) (events : List (Event T)) (spans : Each (StandsR
                           (refl, λ (sure : counts b events < 2 ^ 64). λ lt. absurd (omega arith)))
 
       ends : (q : ℕ) (s : Start T) (a : Answer T) → events ≡ h ++ Finished q s a ∷ after → M (h ++ Finished q s a ∷ [])
-      ends x0 x1 x2 x3 = grind (arith, end_set, end_all, end_look, open_for)
+      ends q s a events_are = grind (arith, end_set, end_all, end_look, open_for)
 
       more_marks : (e : Event T) → events ≡ h ++ e ∷ after → M (h ++ e ∷ [])
-      more_marks x0 x1 = grind (arith, goes_on, shut_way, ends, count_goes, take_goes)
+      more_marks e events_are = grind (arith, goes_on, shut_way, ends, count_goes, take_goes)
 
   pub counts_act : ActsByPlace kinds.Counts c events
   counts_act = record { marks = all.marks; is = all.is; right = all.right }

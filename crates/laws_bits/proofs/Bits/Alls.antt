@@ -68,6 +68,7 @@ module _ {T : Type 0} (code : Coding T) (c : ℕ) (scene : SetScene T) (holds : 
     clear_here : (b : ℕ) → element_of b ≡ word → stands then b ≡ false
     clear_here b at = swapped_clear s.words word b (sym at) near
 
+    -- by the swap each bit of the element is cleared that stood, and no other
     moved_by : (b : ℕ) → 0 + one_if (stands s.words b) ≡ clears b fx + one_if (stands then b)
     moved_by b = ⊎_elim here there (cases_eq (element_of b) word)
       where
@@ -97,6 +98,7 @@ module _ {T : Type 0} (code : Coding T) (c : ℕ) (scene : SetScene T) (holds : 
 
     -- ---- what has been cleared since the call began
 
+    -- a bit of the element was set as often as it was cleared, once the swap has told
     even : (b : ℕ) → element_of b ≡ word → sets b (events ++ fx) ≡ clears b (events ++ fx)
     even b at =
         let was = holds.conserved b in
@@ -138,6 +140,7 @@ module _ {T : Type 0} (code : Coding T) (c : ℕ) (scene : SetScene T) (holds : 
   span_then : span_of p (events ++ fx) ≡ Open (Bits ResetAll) (wrote ++ fx)
   span_then = span_of-own p events fx (all_own T p places) ∙ (ap (λ s. fold own_after s fx) is ∙ written)
 
+  -- no bit of a later element is cleared by the call so far
   none_then : (b : ℕ) → word + 1 ≤ element_of b → clears b (wrote ++ fx) ≡ 0
   none_then b past =
       let before = none b (omega arith) in
@@ -161,6 +164,7 @@ module _ {T : Type 0} (code : Coding T) (c : ℕ) (scene : SetScene T) (holds : 
     start_stays : get_or then 0 0 ≡ get_or s.words 0 0
     start_stays = get_or-set_other s.words word 0 0 0 (λ e. absurd (omega arith))
 
+    -- a swap of a word that is not the last leads to the next word
     swaps_on : word < length s.words → word + 1 < end → Does swaps next fx
     swaps_on near more =
         subst (λ es. Shows bit_set code c scene then (Open (Bits ResetAll) wrote) (party_then bit_set code c scene ResetAll swaps false next) es
@@ -188,6 +192,7 @@ module _ {T : Type 0} (code : Coding T) (c : ℕ) (scene : SetScene T) (holds : 
           knows = (omega arith, cleared_more near);
         })
 
+    -- the swap of the last word ends the call
     swaps_last : word < length s.words → word + 1 ≡ end → Does swaps done fx
     swaps_last near at =
         record {
@@ -227,6 +232,7 @@ module _ {T : Type 0} (code : Coding T) (c : ℕ) (scene : SetScene T) (holds : 
           knows = omega arith;
         }
 
+    -- any step of a reset of all bits shows what it has to
     pub reset_all_step : word ≤ end → ShowsStep bit_set code c scene wrote ResetAll (all_at room word end)
     reset_all_step below = go (nat_lt word end) refl (nat_lt (word + 1) end) refl
       where

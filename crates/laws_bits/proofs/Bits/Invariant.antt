@@ -27,6 +27,7 @@ module _ (words words' : List ℕ) (changes changes' : ℕ) (pays : Pays words w
   set_still = grind arith
 
 module _ {T : Type 0} where
+  -- what is so of the words and of the events
   pub record Holds (c : ℕ) (words : List ℕ) (events : List (Event T)) : Type 0 where
     pub sized : length words ≡ 1 + elements c
     pub conserved : (b : ℕ) → sets b events ≡ clears b events + one_if (stands words b)
@@ -64,6 +65,7 @@ module _ {T : Type 0} where
 
   -- ---- the kind of the bit sets
 
+  -- what is said of the bit sets
   abbrev pub bit_set : SetOutline T
   bit_set =
       record {
@@ -80,6 +82,7 @@ module _ {T : Type 0} where
 
   module _ (c : ℕ) (words : List ℕ) (events : List (Event T)) (changes : ℕ) (words' : List ℕ) (es : List (Event T))
       (changes' : ℕ) (preserves : Preserves c words events changes words' es changes') where
+    -- what holds of the machine holds after a turn that preserves it
     pub holds_more : Holds c words events → Holds c words' (events ++ es)
     holds_more h =
         record {
@@ -90,6 +93,7 @@ module _ {T : Type 0} where
           answers = Each-append (BitsAnswerRight c) events es h.answers preserves.right;
         }
       where
+        -- each bit was set as often as it was cleared, and once more if it stands
         conserved : (b : ℕ) → sets b (events ++ es) ≡ clears b (events ++ es) + one_if (stands words' b)
         conserved b =
             let was = h.conserved b in
@@ -116,6 +120,7 @@ module _ {T : Type 0} where
           → KnowsNext c p (events ++ es) words' since changes' backs stage
       next_still = grind (arith, passed_still, began_still, paid_still, place_after, came_still)
 
+      -- what a call knows it knows after a turn of another party
       pub call_still : (since backs : ℕ) (flight : BitsFlight) → KnowsCall p events words since changes backs flight
           → KnowsCall p (events ++ es) words' since changes' backs flight
       call_still since backs (Set run) h = set_still words words' changes changes' pays since backs run.given run.call.stage h

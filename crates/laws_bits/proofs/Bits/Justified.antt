@@ -25,6 +25,7 @@ module _ (T : Type 0) where
   all_effects p (b ∷ bs) = (refl, all_effects p bs)
 
 module _ {T : Type 0} where
+  -- what a step of a call that stands at its place did to the set is effects of its party
   are_effects : (c p old : ℕ) (wrote : List (Event T)) (start : BitsStart) (flight : BitsFlight)
       → CallAt c wrote start flight → AllByRecursion (IsEffectOf {T = T} (Next p)) (effects_of p flight old)
   are_effects c p old wrote (starts.Set bit) (calls.Set run) at = set_effects T p run.given old run.call.stage
@@ -33,6 +34,7 @@ module _ {T : Type 0} where
   are_effects c p old wrote (starts.IsSet bit) (calls.IsSet run) at = tt
   are_effects c p old wrote start flight at = absurd at
 
+  -- all that a kind owes is so of the bit sets
   pub laws : (code : Coding T) (c : ℕ) → SetLaws bit_set code c
   laws code c =
       record {

@@ -14,6 +14,7 @@ module _ {T : Type 0} where
       → KnowsCall p events words since changes backs flight → backs ≤ changes - since
   backs_paid = grind arith
 
+  -- what holds of the machine is what is promised of a bit set
   pub bits_kept : (c : ℕ) (t : Trace T) → t.world.capacity ≡ c → Holds c t.world.words t.events → IsBitSet t
   bits_kept c t same h =
       record {

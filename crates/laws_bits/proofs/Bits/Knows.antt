@@ -25,6 +25,7 @@ abbrev pub set_number : SetStage → ℕ → ℕ
 set_number setting.LoadsElement backs = backs
 set_number (setting.ExchangesElement found) backs = 1 + backs
 
+-- a reset of the next one, after so many turns back
 abbrev pub next_number : ℕ → ResetNextStage → ℕ → ℕ
 next_number c resetting.LoadsPosition backs = backs
 next_number c (resetting.LoadsElement start passed) backs = 1 + passed + backs
@@ -44,6 +45,8 @@ abbrev pub SetStands : ℕ → SetStage → Type 0
 SetStands bit setting.LoadsElement = Unit {0}
 SetStands bit (setting.ExchangesElement found) = has_flag found bit ≡ false
 
+-- a reset of the next one: it has come to this place, where the bit stood if it exchanges the
+-- element
 abbrev pub NextStands : ℕ → ResetNextStage → Type 0
 NextStands c resetting.LoadsPosition = Unit {0}
 NextStands c (resetting.LoadsElement start passed) = (start ≤ c) × (passed < c)
@@ -102,6 +105,8 @@ module _ {T : Type 0} where
   abbrev pub Began : ℕ → ℕ → ℕ → List (Event T) → Type 0
   Began c p start events = HeldSometime p (λ part. at_most c (position_of part) ≡ start) events
 
+  -- what a reset of the next one knows: its turns back are paid, the places that it has passed
+  -- were clear at some time, and where it began
   abbrev pub KnowsNext : ℕ → ℕ → List (Event T) → List ℕ → ℕ → ℕ → ℕ → ResetNextStage → Type 0
   KnowsNext c p events words since changes backs resetting.LoadsPosition =
       backs + since ≤ changes
@@ -114,6 +119,7 @@ module _ {T : Type 0} where
   KnowsNext c p events words since changes backs (resetting.StoresPosition place) =
       (backs + since ≤ changes) × CameTo p c place events
 
+  -- what any call of a bit set knows
   abbrev pub KnowsCall : ℕ → List (Event T) → List ℕ → ℕ → ℕ → ℕ → BitsFlight → Type 0
   KnowsCall p events words since changes backs (Set run) =
       KnowsSet words since changes backs run.given run.call.stage

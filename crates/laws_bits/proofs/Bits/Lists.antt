@@ -38,6 +38,7 @@ rise_from : (low high : ℕ) (bs : List ℕ) → low ≤ high → Rise high bs �
 rise_from low high [] le h = tt
 rise_from low high (b ∷ bs) le h = let at = h.0 in (omega arith, h.1)
 
+-- the numbers of a range that pass a test rise from the range's first
 rise_some : (test : ℕ → Bool) (first n : ℕ) → Rise first (filter test (range_with_len first n))
 rise_some test first zero = tt
 rise_some test first (suc n) = go (test first) (rise_some test (first + 1) n)
@@ -55,6 +56,7 @@ places_rise w found = rise_some (λ b. has_flag found b) (first_place w) 64
 abbrev pub all_cleared : {T : Type 0} → ℕ → List ℕ → List (Event T)
 all_cleared p bs = map (λ b. Cleared p b) bs
 
+-- the events are of party `p`
 module _ (T : Type 0) (p : ℕ) where
   abbrev cleared_all : List ℕ → List (Event T)
   cleared_all bs = all_cleared p bs
@@ -71,6 +73,7 @@ module _ (T : Type 0) (p : ℕ) where
   all_right c before [] = tt
   all_right c before (b ∷ bs) = (tt, all_right c (before ++ Cleared p b ∷ []) bs)
 
+  -- no such event sets a bit
   pub sets_none : (b : ℕ) (bs : List ℕ) → sets b (cleared_all bs) ≡ 0
   sets_none b [] = refl
   sets_none b (x ∷ bs) =

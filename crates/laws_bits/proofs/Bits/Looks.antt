@@ -23,6 +23,7 @@ module _ {T : Type 0} (code : Coding T) (c : ℕ) (scene : SetScene T) (holds : 
   seen : standing bit events ≡ one_if (stands s.words bit)
   seen = let is = holds.conserved bit in omega arith
 
+  -- the one step of a look ends it with what stands at its bit
   pub look_step : steps ≤ 0 → backs + since ≤ changes → ShowsStep bit_set code c scene [] (starts.IsSet bit) (look_at bit)
   look_step few paid =
       ends code c scene [] (starts.IsSet bit) (Some loading) false (answers.Truth (has_flag (get_or s.words (element_of bit) 0) bit))

@@ -73,6 +73,7 @@ module _ {T : Type 0} (code : Coding T) (c : ℕ) (scene : SetScene T) (holds : 
         → passed < c → Does [] (Some a) back (GoOn (next_at c (resetting.LoadsElement start passed))) []
     comes_on = grind (arith, goes_on, next_at, start, same_bits, same, low, passed_more, began_more, began)
 
+    -- a call that has found all places clear ends with none
     comes_none : Passed c p start c events → steps + 1 ≤ 3 + c + (backs + one_if back) → Does [] (Some a) back (Done answers.ResetNone) []
     comes_none held few =
         ends code c scene [] next (Some a) back answers.ResetNone (same_bits code c scene (Some a) same) (ap (λ ws. get_or ws 0 0) same)
@@ -99,6 +100,7 @@ module _ {T : Type 0} (code : Coding T) (c : ℕ) (scene : SetScene T) (holds : 
 
   -- ---- the reset position
 
+  -- the step in which a reset of the next one loads the position shows what it has to
   loads_position : backs + since ≤ changes → steps ≤ backs → DoesOf [] resetting.LoadsPosition
   loads_position paid few = go (nat_lt 0 c) refl
     where
@@ -157,6 +159,8 @@ module _ {T : Type 0} (code : Coding T) (c : ℕ) (scene : SetScene T) (holds : 
     abbrev loads_it : Ask
     loads_it = record { word = element; op = Load }
 
+    -- the step in which a reset of the next one loads an element shows what it has to, whether
+    -- the bit there stands or not
     loads : backs + since ≤ changes → steps ≤ 1 + passed + backs → DoesOf [] (resetting.LoadsElement start passed)
     loads paid few = go (has_flag word place) refl (nat_lt (passed + 1) c) refl
       where
@@ -203,6 +207,7 @@ module _ {T : Type 0} (code : Coding T) (c : ℕ) (scene : SetScene T) (holds : 
           knows = (omega arith, came);
         }
       where
+        -- the place that the exchange clears is the one that the call came to
         came : CameTo p c place (events ++ Cleared p place ∷ [])
         came =
             record {
@@ -223,6 +228,7 @@ module _ {T : Type 0} (code : Coding T) (c : ℕ) (scene : SetScene T) (holds : 
         new : then ≡ set s.words element (without_flag word place)
         new = grind (arith, done_writes, set, same)
 
+        -- by the exchange the bit of this place is cleared, and no other
         moved : (b : ℕ) (u : Bool) → (place == b) ≡ u → 0 + one_if (stands s.words b) ≡ clears {T = T} b (Cleared p place ∷ []) + one_if (stands then b)
         moved b true u =
             let here : place ≡ b = grind (arith, nat_tests) in
@@ -236,6 +242,8 @@ module _ {T : Type 0} (code : Coding T) (c : ℕ) (scene : SetScene T) (holds : 
             let after : stands then b ≡ stands s.words b = ap (λ ws. stands ws b) new ∙ cleared_leaves s.words place b near other in
             rw (u, after) refl
 
+    -- the step in which a reset of the next one exchanges an element shows what it has to,
+    -- whether it is as it was found or not
     exchanges_it : (found : ℕ) → has_flag found place ≡ true → backs + since ≤ changes
         → (word ≢ found → backs + since + 1 ≤ changes) → steps ≤ 2 + passed + backs
         → DoesOf [] (resetting.ExchangesElement start passed found)
@@ -253,6 +261,8 @@ module _ {T : Type 0} (code : Coding T) (c : ℕ) (scene : SetScene T) (holds : 
         failed : (word == found) ≡ false → words_after s.words (Some (exchanging found)) ≡ s.words
         failed t = failed_leaves s.words element found (without_flag found place) t
 
+        -- an element that is as it was found is cleared of its bit; in another one the bit is
+        -- tested again
         go : (t : Bool) → (word == found) ≡ t → (u : Bool) → has_flag word place ≡ u → (v : Bool) → nat_lt (passed + 1) c ≡ v → DoesOf [] stage
         go true t u e v f =
             parts false (GoOn (next_at c (resetting.StoresPosition place))) (Cleared p place ∷ [])
@@ -276,6 +286,7 @@ module _ {T : Type 0} (code : Coding T) (c : ℕ) (scene : SetScene T) (holds : 
 
   -- ---- the position after the place
 
+  -- the step in which a reset of the next one stores the position behind the place ends it
   stores : (place : ℕ) → backs + since ≤ changes → CameTo p c place events → steps ≤ 2 + c + backs
       → DoesOf (Cleared p place ∷ []) (resetting.StoresPosition place)
   stores place paid came few =
@@ -288,6 +299,8 @@ module _ {T : Type 0} (code : Coding T) (c : ℕ) (scene : SetScene T) (holds : 
       one : clears {T = T} place (Cleared p place ∷ []) ≡ 1
       one = let t : (place == place) ≡ true = grind (arith, nat_tests) in rw t refl
 
+  -- any step of a reset of the next one that stands at a stage, and knows what the stage tells,
+  -- shows what it has to
   pub next_step : (stage : ResetNextStage) → NextStands c stage
       → KnowsNext c p events s.words since changes backs stage → steps ≤ next_number c stage backs
       → DoesOf (next_wrote p stage) stage

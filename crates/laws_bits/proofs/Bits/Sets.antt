@@ -55,6 +55,7 @@ module _ {T : Type 0} (code : Coding T) (c : ℕ) (scene : SetScene T) (holds : 
   abbrev loading : Ask
   loading = record { word = element; op = Load }
 
+  -- the step in which a set loads its element leads on: it ends with false where the bit stands
   loads : backs + since ≤ changes → steps ≤ backs → DoesOf setting.LoadsElement
   loads paid few = go (has_flag word bit) refl
     where
@@ -103,6 +104,7 @@ module _ {T : Type 0} (code : Coding T) (c : ℕ) (scene : SetScene T) (holds : 
       one : sets {T = T} bit (told.Set p bit ∷ []) ≡ 1
       one = let t : (bit == bit) ≡ true = grind (arith, nat_tests) in rw t refl
 
+      -- by the exchange this bit is set, and no other
       moved : (b : ℕ) (u : Bool) → (bit == b) ≡ u
           → sets {T = T} b (told.Set p bit ∷ truth ∷ []) + one_if (stands s.words b) ≡ 0 + one_if (stands then b)
       moved b true u =
@@ -117,6 +119,8 @@ module _ {T : Type 0} (code : Coding T) (c : ℕ) (scene : SetScene T) (holds : 
           let after : stands then b ≡ stands s.words b = ap (λ ws. stands ws b) new ∙ set_leaves s.words bit b near other in
           rw (u, after) refl
 
+  -- the step in which a set exchanges its element shows what it has to, whether it is as it was
+  -- found or not
   exchanges : (found : ℕ) → has_flag found bit ≡ false → backs + since ≤ changes
       → (word ≢ found → backs + since + 1 ≤ changes) → steps ≤ 1 + backs
       → DoesOf (setting.ExchangesElement found)

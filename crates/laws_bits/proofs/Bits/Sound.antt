@@ -28,6 +28,7 @@ pub never_asks : {T : Type 0} (c : ℕ) (wrote : List (Event T)) (start : BitsSt
 never_asks = grind arith
 
 module _ {T : Type 0} where
+  -- the opening is right: no bit stands
   pub opens : (c : ℕ) → Holds {T = T} c (bits_words c) []
   opens c =
       record {
@@ -47,6 +48,7 @@ module _ {T : Type 0} where
     abbrev Shown : List (Event T) → BitsStart → BitsFlight → Type 0
     Shown wrote start flight = ShowsStep bit_set code c scene wrote start flight
 
+    -- each step of a call that stands at its place shows what it has to
     pub step_shows : (start : BitsStart) (flight : BitsFlight) (wrote : List (Event T))
         → StepOf bit_set code c scene start flight wrote
     step_shows (starts.Set bit) (calls.Set run) wrote at is from few knows =

@@ -37,6 +37,7 @@ module _ {T : Type 0} (code : Coding T) (c : ℕ) (scene : SetScene T) where
   abbrev pub Stands : Option Ask → List (Event T) → Type 0
   Stands ask es = get_or (words_after s.words ask) 0 0 ≡ fold position_after (get_or s.words 0 0) es
 
+  -- a step after which the same bits stand, and whose events tell of none, preserves what holds
   pub no_change : (ask : Option Ask) (es : List (Event T)) → SameBits ask → ((b : ℕ) → sets b es ≡ 0)
       → ((b : ℕ) → clears b es ≡ 0) → Stands ask es → AreRight (BitsAnswerRight c) events es
       → Preserves c s.words events changes (words_after s.words ask) es (changes + change_of s.words ask)

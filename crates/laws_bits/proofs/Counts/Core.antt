@@ -21,6 +21,7 @@ module _ {T : Type 0} where
   abbrev pub TakenBelow : ℕ → List (Event T) → List (Event T) → Type 0
   TakenBelow end before since = (b : ℕ) → b < end → 1 ≤ count_at b before → (1 ≤ takes b since) ⊎ (2 ^ 64 ≤ counts b before + counts b since)
 
+  -- what has been taken out has been so after more events
   pub taken_still : (end : ℕ) (before since es : List (Event T)) → TakenBelow end before since → TakenBelow end before (since ++ es)
   taken_still end before since es taken b below some = go (taken b below some)
     where

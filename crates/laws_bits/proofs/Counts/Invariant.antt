@@ -77,6 +77,7 @@ module _ {T : Type 0} where
 
   -- ---- the kind of the counting bit sets
 
+  -- what is said of the counting bit sets
   abbrev pub counting_set : SetOutline T
   counting_set =
       record {
@@ -93,6 +94,7 @@ module _ {T : Type 0} where
 
   module _ (c : ℕ) (words : List ℕ) (events : List (Event T)) (turns : ℕ) (words' : List ℕ) (es : List (Event T))
       (preserves : Preserves c words events turns words' es) where
+    -- what holds of the machine holds after a turn that preserves it
     pub holds_more : Holds c words events turns → Holds c words' (events ++ es) (turns + 1)
     holds_more h =
         record {
@@ -104,6 +106,8 @@ module _ {T : Type 0} where
           answers = Each-append (CountsAnswerOn c) events es h.answers preserves.right;
         }
       where
+        -- each place was counted as much as was taken out and stands there, but for whole turns
+        -- of its word
         conserved : (b : ℕ) → (wraps : ℕ) × (counts b (events ++ es) ≡ takes b (events ++ es) + get_or words' b 0 + 2 ^ 64 * wraps)
         conserved b =
             let before = (h.conserved b).1 in

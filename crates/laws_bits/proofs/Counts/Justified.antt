@@ -13,6 +13,7 @@ are_effects : (T : Type 0) (c p old : ℕ) (wrote : List (Event T)) (start : Bit
 are_effects = grind arith
 
 module _ {T : Type 0} where
+  -- all that a kind owes is so of the counting bit sets
   pub laws : (code : Coding T) (c : ℕ) → SetLaws counting_set code c
   laws code c =
       record {

@@ -20,6 +20,7 @@ module _ {T : Type 0} where
 
   -- ---- without an end
 
+  -- what holds of the machine is what is promised of a counting set in every run, however long
   pub counts_on : (c : ℕ) (t : Trace T) → t.world.capacity ≡ c → Holds c t.world.words t.events t.world.turns → IsCountingOn t
   counts_on c t same h =
       record {
@@ -33,10 +34,13 @@ module _ {T : Type 0} where
   part_counts : (b : ℕ) (events before after : List (Event T)) (e : Event T) → events ≡ before ++ e ∷ after → counts b before ≤ counts b events
   part_counts b events before after e is = let m = counts_more b before (e ∷ after) in rw is (omega arith)
 
+  -- a reset that has taken out what stood, but for places that were counted 2^64 times, has
+  -- taken it out from all where none was
   taken_exact : (c p : ℕ) (events : List (Event T)) → ((b : ℕ) → counts b events < 2 ^ 64)
       → SinceBegin p (HasTakenOn c) events → SinceBegin p (HasTaken c) events
   taken_exact c p events few h = record { before = h.before; start = h.start; since = h.since; is = h.is; within = h.within; holds = holds }
     where
+      -- something was taken from each place that counted above 0 as the call began
       holds : HasTaken c h.before h.since
       holds b below some = go (h.holds b below some)
         where
@@ -49,6 +53,7 @@ module _ {T : Type 0} where
               let low = few b in
               absurd (omega arith)
 
+  -- an answer that is right in every run is exact where no place was counted 2^64 times
   answer_exact : (c : ℕ) (before : List (Event T)) (e : Event T) → ((b : ℕ) → counts b before < 2 ^ 64)
       → CountsAnswerOn c before e → CountsAnswerRight c before e
   answer_exact c before (Finished p (Bits (Set place)) (Number number)) few h =
@@ -62,6 +67,8 @@ module _ {T : Type 0} where
       (h.0, (let low = few place in let is = h.1 in omega arith))
   answer_exact c before e few h = tt
 
+  -- in a run in which no place was counted 2^64 times, what is promised of every run is what is
+  -- promised of a counting set
   pub exact : (t : Trace T) → ((b : ℕ) → counts b t.events < 2 ^ 64) → IsCountingOn t → IsCountingSet t
   exact t few h =
       record {

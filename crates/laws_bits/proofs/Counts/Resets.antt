@@ -40,6 +40,7 @@ module _ {T : Type 0} (code : Coding T) (c : ℕ) (scene : SetScene T) (holds : 
 
   -- ---- the count
 
+  -- by the swap the count at its word is taken, and no other
   swapped : (b n : ℕ) → word < length ws → n ≡ cond (word == b) count 0 → 0 + get_or ws b 0 ≡ n + get_or (set ws word 0) b 0
   swapped b n within e = go (word == b) refl
     where
@@ -55,6 +56,7 @@ module _ {T : Type 0} (code : Coding T) (c : ℕ) (scene : SetScene T) (holds : 
           let none : n ≡ 0 = rw t at e in
           omega arith
 
+  -- no count is too great for a word after the swap
   not_far : word < length ws → (b : ℕ) → get_or (set ws word 0) b 0 < 2 ^ 64
   not_far within b = go (word == b) refl
     where
@@ -80,6 +82,7 @@ module _ {T : Type 0} (code : Coding T) (c : ℕ) (scene : SetScene T) (holds : 
     pub span : fold own_after (Open (Bits ResetAll) wrote) fx ≡ Open (Bits ResetAll) (wrote ++ fx)
 
   module _ (fx : List (Event T)) (out : TakesOut fx) where
+    -- what is below the next word has been taken out since the call began
     taken_more : SinceBegin p (TakenBelow (word + 1)) (events ++ fx)
     taken_more =
         let t : (word == word) ≡ true = grind (arith, nat_tests) in
@@ -95,6 +98,7 @@ module _ {T : Type 0} (code : Coding T) (c : ℕ) (scene : SetScene T) (holds : 
     span_then : span_of p (events ++ fx) ≡ Open (Bits ResetAll) (wrote ++ fx)
     span_then = span_of-own p events fx out.own ∙ (ap (λ s. fold own_after s fx) is ∙ out.span)
 
+    -- no count from the next word on is taken by the call so far
     empty_then : (b : ℕ) → word + 1 ≤ b → takes b (wrote ++ fx) ≡ 0
     empty_then b past =
         let t : (word == b) ≡ false = grind (arith, nat_tests) in
@@ -105,6 +109,7 @@ module _ {T : Type 0} (code : Coding T) (c : ℕ) (scene : SetScene T) (holds : 
 
   -- ---- the events of one swap
 
+  -- where the count was none the step has nothing to take out
   takes_nothing : count ≡ 0 → TakesOut []
   takes_nothing none =
       record {
@@ -117,6 +122,7 @@ module _ {T : Type 0} (code : Coding T) (c : ℕ) (scene : SetScene T) (holds : 
         span = ap (λ xs. Open (Bits ResetAll) xs) (sym (append-nil wrote));
       }
     where
+      -- nothing is taken from any place
       nothing : (b : ℕ) → 0 ≡ cond (word == b) count 0
       nothing b = go (word == b) refl
         where
@@ -141,6 +147,7 @@ module _ {T : Type 0} (code : Coding T) (c : ℕ) (scene : SetScene T) (holds : 
       moved : (b n m : ℕ) → n ≡ 0 → m ≡ cond (word == b) count 0 → (wraps : ℕ) × (n + get_or ws b 0 ≡ m + get_or (set ws word 0) b 0 + 2 ^ 64 * wraps)
       moved b n m none out = let s = swapped b m within out in (0, omega arith)
 
+      -- a swap of a count that is not the last leads to the next one
       goes_on : (fx : List (Event T)) → TakesOut fx → word + 1 < end → Does swaps next fx
       goes_on fx out more =
           subst (λ es. Shows counting_set code c scene (set ws word 0) (Open (Bits ResetAll) wrote)
@@ -167,6 +174,7 @@ module _ {T : Type 0} (code : Coding T) (c : ℕ) (scene : SetScene T) (holds : 
       all_taken : word + 1 ≡ c → (fx : List (Event T)) → TakesOut fx → SinceBegin p (HasTakenOn c) (events ++ fx)
       all_taken last fx out = subst (λ n. SinceBegin p (TakenBelow n) (events ++ fx)) last (taken_more fx out)
 
+      -- the swap of the last count, if it was none, ends the call
       ends_with_none : word + 1 ≡ c → count ≡ 0 → Does swaps done []
       ends_with_none last none =
           let out = takes_nothing none in

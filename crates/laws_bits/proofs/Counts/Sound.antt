@@ -19,6 +19,7 @@ pub never_asks : {T : Type 0} (c : ℕ) (wrote : List (Event T)) (start : BitsSt
 never_asks = grind arith
 
 module _ {T : Type 0} where
+  -- the opening is right: no place was counted
   pub opens : (c : ℕ) → Holds {T = T} c (counts_words c) [] 0
   opens c =
       record {
@@ -37,6 +38,7 @@ module _ {T : Type 0} where
     abbrev Shown : List (Event T) → BitsStart → BitsFlight → Type 0
     Shown wrote start flight = ShowsStep counting_set code c scene wrote start flight
 
+    -- each step of a call that stands at its place shows what it has to
     pub step_shows : (start : BitsStart) (flight : BitsFlight) (wrote : List (Event T))
         → StepOf counting_set code c scene start flight wrote
     step_shows (Set place) (Count run) wrote at is from few knows =

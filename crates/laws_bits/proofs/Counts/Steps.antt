@@ -20,6 +20,7 @@ module _ {T : Type 0} (code : Coding T) (c : ℕ) (scene : SetScene T) where
   module _ (holds : Holds c ws events turns) where
     -- ---- a set
 
+    -- a set counts its place, and ends with the number from before
     pub set_shows : (place : ℕ) → place < c → steps ≤ 0 → backs ≡ 0
         → StepShows counting_set code c scene [] (Set place)
         (Some (record { word = place; op = Add 1 })) false (Done (answers.Number (get_or ws place 0)))
@@ -49,6 +50,7 @@ module _ {T : Type 0} (code : Coding T) (c : ℕ) (scene : SetScene T) where
         now : get_or ws place 0 ≡ count_at place events % 2 ^ 64
         now = let h = (holds.conserved place).1 in let low = holds.low place in omega arith
 
+        -- no place is counted twice
         at_most_one : (b : ℕ) → counts {T = T} b (Counted p place ∷ Finished p (Bits (Set place)) (answers.Number (get_or ws place 0)) ∷ []) ≤ 1
         at_most_one b = go (place == b) refl
           where
@@ -65,6 +67,8 @@ module _ {T : Type 0} (code : Coding T) (c : ℕ) (scene : SetScene T) where
         past : (b : ℕ) → c ≤ b → counts {T = T} b (Counted p place ∷ Finished p (Bits (Set place)) (answers.Number (get_or ws place 0)) ∷ []) ≡ 0
         past b h = let t : (place == b) ≡ false = grind (arith, nat_tests) in rw t refl
 
+        -- the number of each place and what is counted of it stay in step, but for whole turns
+        -- of its word
         moved : place < length ws → (b : ℕ)
             → (wraps : ℕ)
             × (counts {T = T} b (Counted p place ∷ Finished p (Bits (Set place)) (answers.Number (get_or ws place 0)) ∷ [])
@@ -88,6 +92,7 @@ module _ {T : Type 0} (code : Coding T) (c : ℕ) (scene : SetScene T) where
                 let there = get_or-set_other ws place b ((get_or ws place 0 + 1) % 2 ^ 64) 0 other in
                 (0, rw t (omega arith))
 
+        -- no number is too great for its word after the set
         not_far : place < length ws → (b : ℕ) → get_or (set ws place ((get_or ws place 0 + 1) % 2 ^ 64)) b 0 < 2 ^ 64
         not_far within b = go (b == place) refl
           where
@@ -107,6 +112,7 @@ module _ {T : Type 0} (code : Coding T) (c : ℕ) (scene : SetScene T) where
     abbrev look_end : ℕ → List (Event T)
     look_end place = Finished p (Bits (starts.Count place)) (answers.Number (get_or ws place 0)) ∷ []
 
+    -- a look ends with the number of its place
     pub look_shows : (place : ℕ) → place < c → steps ≤ 0 → backs ≡ 0
         → StepShows counting_set code c scene [] (starts.Count place)
         (Some (record { word = place; op = Load })) false (Done (answers.Number (get_or ws place 0))) []

@@ -1,3 +1,5 @@
+-- The law `answered` (src/lib.rt; clauses `robust` and `container`): a call of the robust set, or of a container, puts no question again
+-- once it has an answer.
 use Rattle.laws_machine.proofs.Answering as laws
 use Rattle.laws_machine.proofs.Waiting as waiting
 use Rattle.laws_machine.proofs.answered.Goals as goal

@@ -1,3 +1,4 @@
+-- The law `asks_at_once` (src/lib.rt): what a recovery of the robust set writes that it asks, it asks.
 use Rattle.laws_machine.proofs.Asking as laws
 use Rattle.laws_machine.proofs.asks_at_once.Goals as goal
 

@@ -1,3 +1,4 @@
+-- The law `others_stay` (src/lib.rt): the calls of the other parties stay, in any machine.
 use Rattle.laws_machine.proofs.Others as laws
 use Rattle.laws_machine.proofs.others_stay.Goals as goal
 

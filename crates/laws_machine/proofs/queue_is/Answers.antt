@@ -1,3 +1,4 @@
+-- `queue_is` (src/lib.rt): its return meets what it ensures.
 use Rattle.laws_machine.proofs.Queue as laws
 use Rattle.laws_machine.proofs.queue_is.Goals as goal
 

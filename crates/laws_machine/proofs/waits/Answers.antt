@@ -1,3 +1,4 @@
+-- The law `waits` (src/lib.rt): a call of a container waits for a decision just where it asks about a value.
 use Rattle.laws_machine.proofs.Waiting as laws
 use Rattle.laws_machine.proofs.waits.Goals as goal
 

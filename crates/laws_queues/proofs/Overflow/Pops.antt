@@ -52,6 +52,7 @@ module _ {T : Type 0} (en : Coding T) (scene : Scene T kinds.Overflow)
   after_it ask back after = party_then en kinds.Overflow scene Pop ask back after
 
   module _ (calm : (position : ℕ) → pending_at position (flight_of (doing_of (party_of p latest))) ≡ None) where
+    -- a step that changes no word ends the pop with no value, where nothing waits
     finds_none : (ask : Option Ask) → words_after (layout ro k) ask ≡ layout ro k → k.waiting ≡ []
         → steps + step_count ask ≤ 4 + 2 * backs → backs + since ≤ changes → Does ask false (Done PoppedNone) Acts
     finds_none ask same empty s paid =
@@ -84,6 +85,7 @@ module _ {T : Type 0} (en : Coding T) (scene : Scene T kinds.Overflow)
           },
         )
 
+    -- the load of the read position does what a step should, in a queue with a capacity
     loads_read : 0 < c → steps ≤ 2 * backs + 0 → backs + since ≤ changes
         → Does (Some load_of_read) false (GoOn (at (overflow_pops.LoadsWrite k.read))) Quiet
     loads_read some s paid =
@@ -93,6 +95,7 @@ module _ {T : Type 0} (en : Coding T) (scene : Scene T kinds.Overflow)
         (omega arith, omega arith)
         (λ q ne st f h. (h, refl))
 
+    -- the load of the write position goes on to the load of the cell, where something waits
     goes_on : (read : ℕ) → 0 < c → read ≤ k.read → k.read < k.write → steps ≤ 2 * backs + 1 → backs + since + k.read ≤ changes + read
         → Does (Some load_of_write) false (GoOn (at (overflow_pops.LoadsCell read))) Quiet
     goes_on read some low waits s paid =
@@ -102,6 +105,7 @@ module _ {T : Type 0} (en : Coding T) (scene : Scene T kinds.Overflow)
         (low, omega arith)
         (λ q ne st f h. (h, refl))
 
+    -- the load of the write position does what a step should, whether something waits or not
     loads_write : (read : ℕ) → 0 < c → read ≤ k.read → (read < k.read → k.read < k.write) → steps ≤ 2 * backs + 1 → backs + since + k.read ≤ changes + read
         → Does (Some load_of_write) false (after en (at (overflow_pops.LoadsWrite read)) k.write) Acts
     loads_write read some low ahead s paid = go (k.write == read) refl
@@ -125,6 +129,8 @@ module _ {T : Type 0} (en : Coding T) (scene : Scene T kinds.Overflow)
             let waits : k.read < k.write = ⊎_elim moved still (cases_lt read k.read) in
             subst (λ a. Does (Some load_of_write) false a Acts) (sym goes) (goes_on read some low waits s paid)
 
+    -- the load of the cell does so: the pop has the value in its room, and goes on to move the
+    -- read position
     loads_cell : (read : ℕ) → 0 < c → read ≤ k.read → k.read < k.write → steps ≤ 2 * backs + 2 → backs + since + k.read ≤ changes + read
         → Does (Some (record { word = cell_word c read; op = Load })) false
         (GoOn (with_value (get_or k.cells (read % (c + 1)) 0) (overflow_pops.MovesRead read))) Quiet
@@ -164,11 +170,14 @@ module _ {T : Type 0} (en : Coding T) (scene : Scene T kinds.Overflow)
         (omega arith, omega arith)
         (λ q ne st f h. (h, refl))
 
+    -- the move of the read position does so: the pop takes the value, or a push has moved the
+    -- position and it turns back
     moves_read : (read : ℕ) → KnowsOverflowPop c k room (overflow_pops.MovesRead read)
         → steps ≤ 2 * backs + 3 → backs + since + k.read ≤ changes + read → span_of p events ≡ Open (Queues Pop) []
         → Moved (overflow_pops.MovesRead read)
     moves_read read knows s paid seen = go (k.read == read) refl
       where
+        -- so it is by whether the read position is the one that the pop has loaded
         go : (here : Bool) → (k.read == read) ≡ here → Moved (overflow_pops.MovesRead read)
         go true e =
             let same : read ≡ k.read = grind (arith, nat_tests) in
@@ -222,6 +231,7 @@ module _ {T : Type 0} (en : Coding T) (scene : Scene T kinds.Overflow)
       → pending_at position (flight_of (doing_of (party_of p latest))) ≡ None
   calm_at stage found position = ap (pending_at position) found
 
+  -- each step of a pop comes to what a step should
   pub overflow_pop_step :
       (stage : PopStage) → KnowsOverflowPop c k room stage
       → steps ≤ 2 * backs + overflow_pop_number stage → KnowsBacks k since changes backs stage

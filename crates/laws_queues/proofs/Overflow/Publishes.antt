@@ -190,6 +190,7 @@ module _ {T : Type 0} (en : Coding T) (scene : Scene T kinds.Overflow)
           },
         )
 
+    -- the store of the next write position does what a step should, whether there is room or not
     pub stores_write : Does [] next_write
         (after en (at (overflow_pushes.StoresWrite k.write read)) k.write)
         (effect_of en (layout ro k) (pending k.read ro.producer latest) (at (overflow_pushes.StoresWrite k.write read)) k.write)

@@ -56,6 +56,7 @@ module _ {T : Type 0} (en : Coding T) (scene : Scene T kinds.Overflow)
   few : IsCalm → length k.waiting ≤ c
   few = grind (arith, few_wait, pending, calm_none)
 
+  -- without capacity the push ends at once and hands its value back
   hands_back : c ≡ 0 → steps ≤ 0 → IsCalm → Does [] None (Done (PoppedIndex v)) Acts
   hands_back none s calm = (
     k,
@@ -98,6 +99,7 @@ module _ {T : Type 0} (en : Coding T) (scene : Scene T kinds.Overflow)
     },
   )
 
+  -- the load of the write position does what a step should, in a queue with a capacity
   loads_write : k.write < 2 ^ 64 - 1 → 0 < c → steps ≤ 0 → IsCalm
       → Does [] (Some load_of_write) (after en (at overflow_pushes.LoadsWrite) k.write) Quiet
   loads_write fresh some s calm =
@@ -111,6 +113,7 @@ module _ {T : Type 0} (en : Coding T) (scene : Scene T kinds.Overflow)
       (omega arith)
       (λ q ne st f h. (h, refl)))
 
+  -- the load of the read position does so
   loads_read : k.write < 2 ^ 64 - 1 → 0 < c → steps ≤ 1 → IsCalm
       → Does [] (Some load_of_read) (GoOn (at (overflow_pushes.StoresCell k.write k.read))) Quiet
   loads_read fresh some s calm =
@@ -123,6 +126,8 @@ module _ {T : Type 0} (en : Coding T) (scene : Scene T kinds.Overflow)
       (omega arith)
       (λ q ne st f h. (h, refl))
 
+  -- the store into the cell of the write position does so, at a read position that is not past the
+  -- queue's, from which the queue is no more than full
   stores_cell : k.write < 2 ^ 64 - 1 → (read : ℕ) → 0 < c → read ≤ k.read → k.write ≤ read + c → steps ≤ 2 → IsCalm
       → Does [] (Some (record { word = cell_word c k.write; op = Store v })) (GoOn (at (overflow_pushes.StoresWrite k.write read))) Quiet
   stores_cell fresh read some low far s calm =
@@ -252,6 +257,8 @@ module _ {T : Type 0} (en : Coding T) (scene : Scene T kinds.Overflow)
   abbrev oldest_at : ℕ → ℕ
   oldest_at read = get_or k.cells (read % (c + 1)) 0
 
+  -- the load of the cell of the read position that it has moved ends the push with the oldest
+  -- value
   loads_cell : (read : ℕ) → 0 < c → steps ≤ 5 → IsCalm
       → Does (Published p (Index v) ∷ HandedOut p (Index (oldest_at read))
       ∷ Acted p (Queues (PushIndex v)) (PoppedIndex (oldest_at read)) ∷ [])
@@ -316,12 +323,15 @@ module _ {T : Type 0} (en : Coding T) (scene : Scene T kinds.Overflow)
   abbrev asks_move : ℕ → Option Ask
   asks_move read = Some (record { word = read_word; op = Exchange read (after_position read) })
 
+  -- the move of the read position comes to what a step should: the push takes the oldest value
+  -- out, or a pop has moved the position
   moves_read : (read : ℕ) → KnowsOverflowPush c k v (overflow_pushes.MovesRead read) → steps ≤ 4
       → flight_of (doing_of (party_of p latest)) ≡ Some (flights.Queues (at (overflow_pushes.MovesRead read)))
       → span_of p events ≡ Open (Queues (PushIndex v)) (has_written c k p (at (overflow_pushes.MovesRead read)))
       → Moved (overflow_pushes.MovesRead read)
   moves_read read knows s found seen = go (k.read == read) refl
     where
+      -- so it is by whether the read position is the one that the push has loaded
       go : (here : Bool) → (k.read == read) ≡ here → Moved (overflow_pushes.MovesRead read)
       go true e =
           let same : read ≡ k.read = grind (arith, nat_tests) in
@@ -376,6 +386,7 @@ module _ {T : Type 0} (en : Coding T) (scene : Scene T kinds.Overflow)
           (sym goes)
           (subst (λ e. MovesBy (asks_move read) (Done PoppedNone) e) (sym told) all)
 
+  -- each step of a push comes to what a step should
   pub overflow_push_step :
       (stage : PushStage) → IsFreshOver k.write stage → KnowsOverflowPush c k v stage
       → steps ≤ overflow_push_number stage

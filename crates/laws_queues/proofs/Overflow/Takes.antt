@@ -218,6 +218,7 @@ module _ {T : Type 0} (en : Coding T) (scene : Scene T kinds.Overflow)
               ∙ (span_of-other p q run_3 (ends_p ∷ []) other (refl, tt)
               ∙ (span_of-own q run_2 (acts_q ∷ []) (refl, tt) ∙ ap (λ a. fold own_after a (acts_q ∷ [])) q_2))
 
+          -- the spans of the parties that are neither the popping one nor the pushing one stay
           theirs : (r : ℕ) → r ≢ p → r ≢ q → span_of r (events ++ told) ≡ span_of r events
           theirs r np nq =
               ap (span_of r) (sym whole)
@@ -232,6 +233,7 @@ module _ {T : Type 0} (en : Coding T) (scene : Scene T kinds.Overflow)
               → frame.Fits (family en kinds.Overflow c) after_queue r (party_of r latest) (span_of r (events ++ told))
           other_fits = grind (arith, family, theirs, any_stays, kept, clash)
 
+          -- the move makes room, and the push that waited for it acts with the pop
           takes_for : MovesBy (asks_move k.read) false (Done answer) (MakesRoom (Index value) q w)
           takes_for =
               let g = inv.queue.good in
@@ -300,6 +302,7 @@ module _ {T : Type 0} (en : Coding T) (scene : Scene T kinds.Overflow)
             let is = pending_is k.read latest q w ro.producer hung in
             takes_for is.0 is.1 is.2 is.3 is.4
 
+      -- the move of the read position takes the oldest value, whether a push waits for it or not
       pub takes_it : span_of p events ≡ Open (Queues Pop) [] → MovesBy (asks_move k.read) false (Done answer) (takes_effect (Index value) waits)
       takes_it seen =
           subst (λ o. MovesBy (asks_move k.read) false (Done answer) (takes_effect (Index value) o)) (sym waits_is)

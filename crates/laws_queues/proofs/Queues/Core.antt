@@ -55,6 +55,7 @@ module _ (a b c d : ℕ) (cells : List ℕ) where
   pub set_at : (n i v : ℕ) → n ≡ 4 + i → set (a ∷ b ∷ c ∷ d ∷ cells) n v ≡ a ∷ b ∷ c ∷ d ∷ set cells i v
   set_at n i v e = let four : n ≡ suc (suc (suc (suc i))) = omega arith in rw four refl
 
+-- the two positions, the values that wait between them, and the words of the cells
 pub record Core (V : Type 0) : Type 0 where
   pub write : ℕ
   pub read : ℕ
@@ -72,6 +73,8 @@ module _ {V : Type 0} (size : ℕ) (words_of : V → List ℕ) (c : ℕ) where
   abbrev pub Holds : List ℕ → ℕ → V → ℕ → Type 0
   Holds cells position v count = (i : ℕ) → i < count → get_or cells (size * (position % c) + i) 0 ≡ get_or (words_of v) i 0
 
+  -- so many values wait as lie between the positions, no more than there are cells, and each
+  -- stands in its own
   pub record Good (k : Core V) : Type 0 where
     pub write : k.write ≡ k.read + length k.waiting
     pub few : length k.waiting ≤ c

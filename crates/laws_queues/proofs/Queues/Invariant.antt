@@ -38,6 +38,7 @@ number en flight backs = 0
 
 -- ---- where a party's call stands, with the machine around it
 
+-- a queue's machine as one party steps: the queue, the party's call, and all that is around it
 pub record Scene (T : Type 0) (kd : QueueKind) : Type 0 where
   pub capacity : ℕ
   pub roles : Roles
@@ -134,6 +135,7 @@ module _ {T : Type 0} (en : Coding T) where
   abbrev pub family : QueueKind → ℕ → Family T
   family kd = families.family (outline kd) en
 
+  -- what holds of the queue, and what the frame says of every machine
   pub record Inv (kd : QueueKind) (scene : Scene T kd) : Type 0 where
     pub queue : Holds en kd scene.capacity scene.roles scene.core scene.latest scene.events scene.turns
     pub frame : frame.Inv (family kd scene.capacity) (queue_in scene) scene.latest scene.events scene.changes
@@ -158,6 +160,7 @@ module _ {T : Type 0} (en : Coding T) where
     pub within : k'.write < 2 ^ 64
 
   module _ (kd : QueueKind) (scene : Scene T kd) (ro' : Roles) (k' : Core (Val T kd)) (y : Party T) (es : List (Event T)) (changes' : ℕ) where
+    -- what holds of the queue holds after a turn that shows this of it
     pub holds_more : Holds en kd scene.capacity scene.roles scene.core scene.latest scene.events scene.turns → ShowsQueue kd scene ro' k' y es changes'
         → Holds en kd scene.capacity ro' k' (put scene.party y scene.latest) (scene.events ++ es) (scene.turns + 1)
     holds_more h s =
@@ -226,6 +229,7 @@ module _ {T : Type 0} (en : Coding T) where
 
   module _ (kd : QueueKind) (scene : Scene T kd) (ro' : Roles) (k' : Core (Val T kd)) (from : Span T) (y : Party T)
       (es : List (Event T)) (changes' : ℕ) (s : Shows kd scene ro' k' from y es changes') where
+    -- a turn that shows this, where its party's span was that one, owes what the frame asks
     pub owes : span_of scene.party scene.events ≡ from → Inv kd scene
         → frame.Owes (family kd scene.capacity) (record { roles = ro'; core = k' }) scene.party y scene.latest scene.events es changes'
     owes is inv =

@@ -157,6 +157,7 @@ module _ {T : Type 0} (own : QueueKind) (t : Trace T) (turn : Turn T) (p : ℕ) 
     abbrev Waits : QueueFlight T → Type 0
     Waits flight = (q w : ℕ) → waits ≡ Some (q, w) → q ≡ p → pending_at (get_or words 1 0) (Some (flights.Queues flight)) ≡ Some w
 
+    -- what a step of an overflowing queue's pop says of who acts is right
     overflow_pop_right :
         (k : Core ℕ) (place : Positions k.write k.read) (room : OneWord) (stage : PopStage) (old : ℕ)
         → KnowsOverflowPop c k room stage → asked ≡ ask_of (want en (Overflow (overflow_pop_at c room stage)))
@@ -191,7 +192,7 @@ module _ {T : Type 0} (own : QueueKind) (t : Trace T) (turn : Turn T) (p : ℕ) 
         → (start : QueueStart T) (call : rings.RingCall ℕ OneWord) (old : ℕ)
         → IndexAt kinds.IndexQueue c ro k p start call → finding_none own c ≡ Some load_of_write
         → asked ≡ ask_of (want en (Indices call)) → Tells start (Indices call) old → Acting start (Indices call) old
-    index_right x0 x1 x2 x3 x4 x5 x6 x7 x8 x9 = grind arith
+    index_right ro k positions start call old index_at finding_none_is asked_is tells = grind arith
 
     value_right : (ro : Roles) (k : Core T) → Positions k.write k.read
         → (start : QueueStart T) (call : rings.RingCall T (cells.Buffer 128)) (old : ℕ)
@@ -199,6 +200,7 @@ module _ {T : Type 0} (own : QueueKind) (t : Trace T) (turn : Turn T) (p : ℕ) 
         → asked ≡ ask_of (want en (Values call)) → Tells start (Values call) old → Acting start (Values call) old
     value_right = grind arith
 
+    -- what a step of any push or pop of an overflowing queue says of who acts is right
     overflow_right :
         (ro : Roles) (k : Core ℕ) (place : Positions k.write k.read) (start : QueueStart T) (call : OverflowCall) (old : ℕ)
         → OverflowAt c ro k p start call → (0 < c → finding_none own c ≡ Some load_of_write)
@@ -226,6 +228,7 @@ module _ {T : Type 0} (own : QueueKind) (t : Trace T) (turn : Turn T) (p : ℕ) 
         waiter
     overflow_right ro k place start call old at some none asks handed waiter h = absurd at
 
+    -- what a step of a call of any of the three kinds says of who acts is right
     step_right : (kd : QueueKind) → own ≡ kd
         → (ro : Roles) (k : Core (Val T kd)) (place : Positions k.write k.read) (start : QueueStart T) (flight : QueueFlight T) (old : ℕ)
         → At en kd c ro k p start flight → asked ≡ ask_of (want en flight)
@@ -258,6 +261,7 @@ waiter_is : {T : Type 0} (roles : Roles) (words : List ℕ) (latest : List (ℕ 
 waiter_is = grind arith
 
 module _ {T : Type 0} (en : Coding T) (law : IsCoding en) (kd : QueueKind) (c : ℕ) (t : Trace T) (s : frame.Sound (family en kd c) t) where
+  -- what a step writes of a call that stands there is in order
   pub writes : (p : ℕ) (x : Party T) (since : ℕ) → t.world.turns < 2 ^ 64 - 2 → (start : Start T) (flight : Flight T)
       → StandsThere (family en kd c) t s p x since start flight
       → Writes (outline kd) t (Next p)

@@ -22,10 +22,13 @@ use Rattle.laws_queues.proofs.Queues.Knows.{has_written, RoleAt, IndexAt, ValueA
 pub clash : (o : Option ℕ) (p q : ℕ) → q ≢ p → o ≡ Some p → o ≡ Some q → ⊥
 clash o p q ne a b = let same : Some p ≡ Some q = sym a ∙ b in ne (cc)
 
+-- where the queue goes from `k` to `k'`, the calls of the party `q` know what they knew: in a
+-- bounded queue
 pub record RingKeeps {V : Type 0} (en : Coding V) (c : ℕ) (ro : Roles) (k k' : Core V) (q : ℕ) : Type 0 where
   pub push : ro.producer ≡ Some q → (v : V) (stage : pushes.PushStage) → KnowsPush en c k v stage → KnowsPush en c k' v stage
   pub pop : ro.consumer ≡ Some q → (room : List ℕ) (stage : pops.PopStage) → KnowsPop en c k room stage → KnowsPop en c k' room stage
 
+-- and in an overflowing queue, whose push has also written the same
 pub record OverflowKeeps (T : Type 0) (c : ℕ) (ro : Roles) (k k' : Core ℕ) (q : ℕ) : Type 0 where
   pub push : ro.producer ≡ Some q → (v : ℕ) (stage : overflow_pushes.PushStage) → KnowsOverflowPush c k v stage
       → KnowsOverflowPush c k' v stage × (overflow_wrote {T = T} c k' q v stage ≡ overflow_wrote c k q v stage)
@@ -43,6 +46,7 @@ keeps_same en kinds.IndexQueue c ro k q = record { push = λ mine v stage h. h; 
 keeps_same en kinds.Overflow c ro k q = record { push = λ mine v stage h. (h, refl); pop = λ mine room stage h. h }
 keeps_same en kinds.Queue c ro k q = record { push = λ mine v stage h. h; pop = λ mine room stage h. h }
 
+-- `ro` and `ro'` hold the roles before and after, and the party `q` keeps those that it has
 module _ (ro ro' : Roles) (q : ℕ) (producer : ro.producer ≡ Some q → ro'.producer ≡ Some q) (consumer : ro.consumer ≡ Some q → ro'.consumer ≡ Some q) where
   role_kept : {T : Type 0} → (start : QueueStart T) (call : RoleCall) → RoleAt ro q start call → RoleAt ro' q start call
   role_kept = grind arith
@@ -64,6 +68,8 @@ module _ (ro ro' : Roles) (q : ℕ) (producer : ro.producer ≡ Some q → ro'.p
     KeptAt kd k k' start flight =
         At en kd c ro k q start flight → At en kd c ro' k' q start flight × (has_written {T = T} c k' q flight ≡ has_written c k q flight)
 
+    -- a call of another party stands where it stood, whatever its kind, where its kind's pushes
+    -- and pops keep what they know
     pub kept : (kd : QueueKind) (k k' : Core (Val T kd)) → Keeps en kd c ro k k' q
         → (start : QueueStart T) (flight : QueueFlight T) → KeptAt kd k k' start flight
     kept kd k k' keeps start (Role call) h = (role_kept start call h, refl)

@@ -74,6 +74,7 @@ module _ {T : Type 0} (en : Coding T) (kd : QueueKind) (scene : Scene T kd) (inv
         (after en (call_at which c stage) (old_of (layout ro k) (ask_of (want en (call_at which c stage)))))
         Quiet
 
+    -- the load of the write position does what a step should
     loads_write : steps ≤ 4 * backs + 0 → Knows lens.LoadsWrite → StaysAt lens.LoadsWrite
     loads_write s h =
         quiet en kd scene inv small before false start (Some load_of_write) (call_at which c (lens.LoadsRead k.write)) k refl refl refl refl g refl
@@ -81,6 +82,7 @@ module _ {T : Type 0} (en : Coding T) (kd : QueueKind) (scene : Scene T kd) (inv
         (omega arith, omega arith, omega arith)
         (λ q ne st f h. (h, refl))
 
+    -- so does the load of the read position
     loads_read : (write : ℕ) → steps ≤ 4 * backs + 1
         → Knows (lens.LoadsRead write)
         → StaysAt (lens.LoadsRead write)
@@ -93,11 +95,14 @@ module _ {T : Type 0} (en : Coding T) (kd : QueueKind) (scene : Scene T kd) (inv
         ((omega arith, omega arith, omega arith), λ same. rw same waits_now)
         (λ q ne st f h. (h, refl))
 
+    -- the second load of the write position does so: it goes on where it finds the same, and else
+    -- turns back
     loads_write_again : (write read : ℕ) → steps ≤ 4 * backs + 2
         → Knows (lens.LoadsWriteAgain write read)
         → StaysAt (lens.LoadsWriteAgain write read)
     loads_write_again write read s h = go (k.write == write) refl
       where
+        -- so it is by whether the write position is the one that was loaded
         go : (b : Bool) → (k.write == write) ≡ b
             → Stays en kd scene start (Some load_of_write) (not b)
             (goes_on (cond b (GoOn (record { capacity = c; stage = lens.LoadsReadAgain write read })) (GoOn (first_len c))))
@@ -122,11 +127,14 @@ module _ {T : Type 0} (en : Coding T) (kd : QueueKind) (scene : Scene T kd) (inv
             (omega arith)
             (λ q ne st f h. (h, refl))
 
+    -- the second load of the read position does so: it ends with the number that waits where it
+    -- finds the same, and else turns back
     loads_read_again : (write read : ℕ) → steps ≤ 4 * backs + 3
         → Knows (lens.LoadsReadAgain write read)
         → StaysAt (lens.LoadsReadAgain write read)
     loads_read_again write read s h = go (k.read == read) refl
       where
+        -- so it is by whether the read position is the one that was loaded
         go : (b : Bool) → (k.read == read) ≡ b
             → Stays en kd scene start (Some load_of_read) (not b)
             (goes_on (cond b (Done (number_waiting c write read)) (GoOn (first_len c))))

@@ -17,6 +17,7 @@ module _ {T : Type 0} where
   pending_put position None p y latest after before = refl
   pending_put position (Some q) p y latest after before = ⊎_elim mine theirs (cases_eq q p)
     where
+      -- so it is where the party that has moved is the one whose push may be pending
       mine : q ≡ p → pending position (Some q) (put p y latest) ≡ pending position (Some q) latest
       mine e =
           let here : party_of q (put p y latest) ≡ Some y = ap (λ n. party_of n (put p y latest)) e ∙ party_put_same p y latest in
@@ -39,6 +40,7 @@ module _ {T : Type 0} where
       → pending position pr (put p y latest) ≡ option_map (λ v. (p, v)) (pending_at position (flight_of (Some y.doing)))
   pending_after = grind (arith, pending, put, option_map, pending_here)
 
+-- what a pending push tells of a queue is so of another core in which the same waits
 pub hangs_same : (T : Type 0) (kd : QueueKind) (c : ℕ) (k k' : Core (Val T kd)) (o o' : Option (ℕ × ℕ))
     → k'.waiting ≡ k.waiting → o' ≡ o → Hangs T kd c k o → Hangs T kd c k' o'
 hangs_same T kinds.IndexQueue c k k' o o' same e h = tt

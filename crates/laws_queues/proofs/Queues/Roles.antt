@@ -36,6 +36,8 @@ module _ {T : Type 0} (en : Coding T) (kd : QueueKind) (scene : Scene T kd) (sma
   abbrev IsQuiet : Option ℕ → Option ℕ → Type 0
   IsQuiet pr co = IsCalm en kd (with_roles scene pr co) k.read
 
+  -- the step that asks for the producer's role shows what a step should, whoever holds the two
+  -- roles
   acquire_producer : (pr co : Option ℕ) → Inv en kd (with_roles scene pr co) → IsQuiet pr co
       → StepOf en kd (with_roles scene pr co) AcquireProducer (acquire_of producer_word)
   acquire_producer None co inv before = (
@@ -68,6 +70,7 @@ module _ {T : Type 0} (en : Coding T) (kd : QueueKind) (scene : Scene T kd) (sma
         (λ q ne st f h. (h, refl)),
   )
 
+  -- so does the step that asks for the consumer's role
   acquire_consumer : (pr co : Option ℕ) → Inv en kd (with_roles scene pr co) → IsQuiet pr co
       → StepOf en kd (with_roles scene pr co) AcquireConsumer (acquire_of consumer_word)
   acquire_consumer pr None inv before = (
@@ -99,6 +102,7 @@ module _ {T : Type 0} (en : Coding T) (kd : QueueKind) (scene : Scene T kd) (sma
         (λ q ne st f h. (h, refl)),
   )
 
+  -- so does the step that gives the producer's role back, of the party that holds it
   release_producer : (pr co : Option ℕ) → pr ≡ Some scene.party → Inv en kd (with_roles scene pr co) → IsQuiet pr co
       → StepOf en kd (with_roles scene pr co) ReleaseProducer (release_of producer_word)
   release_producer pr co holds inv before = (
@@ -119,6 +123,7 @@ module _ {T : Type 0} (en : Coding T) (kd : QueueKind) (scene : Scene T kd) (sma
         (λ q ne. kept _ _ q (λ h. absurd (clash pr scene.party q ne holds h)) (λ h. h) en c kd k k (keeps_same en kd c _ k q)),
   )
 
+  -- and the one that gives the consumer's role back
   release_consumer : (pr co : Option ℕ) → co ≡ Some scene.party → Inv en kd (with_roles scene pr co) → IsQuiet pr co
       → StepOf en kd (with_roles scene pr co) ReleaseConsumer (release_of consumer_word)
   release_consumer pr co holds inv before = (
@@ -168,6 +173,7 @@ module _ {T : Type 0} (en : Coding T) (kd : QueueKind) (scene : Scene T kd) (sma
         (λ q ne st f h. (h, refl)),
   )
 
+  -- the look at the consumer's role shows what a step should
   pub looks_at_consumer : Inv en kd scene → IsCalm en kd scene k.read → StepOf en kd scene HasConsumer (look_of consumer_word)
   looks_at_consumer inv before = (
     k,

@@ -59,6 +59,8 @@ module _ {T : Type 0} (en : Coding T) where
       in
       ap Value (ap en.value_of same ∙ law.given_back v)
 
+  -- where the cells from a position on have the values of a list, what is stored there by the
+  -- words is that list
   stored_is :
       IsCoding en → (kd : QueueKind) (c : ℕ) (words : List ℕ) (position : ℕ) (xs : List (Val T kd))
       → ((i : ℕ) (v : Val T kd) → slice_get xs i ≡ Some v → item_at en kd words (cell_of en kd c (position + i)) ≡ item kd v)
@@ -73,6 +75,7 @@ module _ {T : Type 0} (en : Coding T) where
       (λ i v e. let same : position + 1 + i ≡ position + suc i = omega arith in rw same (held (suc i) v e)) in
       rw (first, rest) refl
 
+  -- what waits by the words is what waits in the queue
   stored_waiting : IsCoding en → (kd : QueueKind) (c : ℕ) (ro : Roles) (k : Core (Val T kd))
       → Good (encoded en kd).size (encoded en kd).words_of (cells_of kd c) k
       → waiting_in en kd c (layout ro k) ≡ map (item kd) k.waiting
@@ -88,6 +91,7 @@ module _ {T : Type 0} (en : Coding T) where
       size : ℕ
       size = (encoded en kd).size
 
+      -- the cell of the read position plus `i` has the value that is the `i`th to wait
       held : (i : ℕ) (v : Val T kd) → slice_get k.waiting i ≡ Some v → item_at en kd (layout ro k) (cell_of en kd c (k.read + i)) ≡ item kd v
       held i v e =
           let below = at_below size (encoded en kd).words_of n k.waiting i v e in
@@ -106,6 +110,7 @@ module _ {T : Type 0} (en : Coding T) where
           subst (λ m. item_at en kd (layout ro k) m ≡ item kd v) (sym first)
           (item_is law kd (layout ro k) (4 + size * ((k.read + i) % n)) v (omega arith) word)
 
+  -- the list that the calls answer as is of what waits no more than the capacity, from the front
   listed_is : (kd : QueueKind) (c : ℕ) (k : Core (Val T kd))
       → Good (encoded en kd).size (encoded en kd).words_of (cells_of kd c) k
       → listed {T = T} kd c k.waiting ≡ take c (map (item kd) k.waiting)
@@ -122,6 +127,7 @@ module _ {T : Type 0} (en : Coding T) where
 
   -- ---- what is promised
 
+  -- between two turns the words and the events agree as those of a queue should
   queue_kept : IsCoding en → (kd : QueueKind) (c : ℕ) (t : Trace T) → t.world.coding ≡ en → t.world.capacity ≡ c
       → (s : frame.Sound (family en kd c) t) → IsQueue kd t
   queue_kept law kd c t same_coding same_capacity s =
@@ -180,6 +186,7 @@ module _ {T : Type 0} (en : Coding T) (law : IsCoding en) where
   empty kinds.Overflow c = sym (ap (map (item kinds.Overflow)) (take-nil {A = ℕ} c))
   empty kinds.Queue c = refl
 
+  -- the queue opens with what holds of it, at each capacity below `2 ^ 32`
   opens : (kd : QueueKind) (c : ℕ) → c < 2 ^ 32 → Opens (outline kd) en c
   opens kd c fits =
       let k : Core (Val T kd) = empty_core en kd c in
@@ -225,6 +232,7 @@ module _ {T : Type 0} (en : Coding T) (law : IsCoding en) where
       ≡ goes_of z p flight answer (registries.Queues s.roles)
   told = grind arith
 
+  -- each begin, step, decision and death keeps what holds of the queue
   turns : (kd : QueueKind) (c : ℕ) → Turns (outline kd) en c IsFreshTurn
   turns kd c =
       record {
@@ -235,6 +243,8 @@ module _ {T : Type 0} (en : Coding T) (law : IsCoding en) where
         death = frame.no_death (family en kd c) (λ kept words state fit. rw fit.kept refl);
       }
 
+  -- the family has what is owed beside the turns: its promise, its bounds, and that what a step
+  -- writes is in order, among others
   owed : (kd : QueueKind) (c : ℕ) → Owed (outline kd) en c
   owed kd c =
       record {
@@ -255,6 +265,7 @@ module _ {T : Type 0} (kd : QueueKind) where
   few code c t (Next p) s small = few_turns code kd c t s small p
   few code c t turn s small = tt
 
+  -- the family opens soundly and keeps what holds, at every capacity that is admitted
   all_turns : AllTurns {T = T} (outline kd) IsFreshTurn
   all_turns =
       record {
@@ -277,6 +288,7 @@ module _ {T : Type 0} (kd : QueueKind) where
   -- the same where turns have no bound, and no push finds the last position
   module _ (t : Trace T) (is : t.world.kind ≡ machine_kind kd) (coded : IsCoding t.world.coding)
       (admitted : capacity_error t.world.kind t.world.capacity ≡ None) (r : IsFreshRun t) where
+    -- a queue's machine whose run is fresh is sound
     pub sound_on : frame.Sound (family t.world.coding kd t.world.capacity) t
     sound_on =
         let w = t.world in

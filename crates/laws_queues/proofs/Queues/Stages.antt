@@ -148,6 +148,8 @@ module _ {T : Type 0} (en : Coding T) (kd : QueueKind) (scene : Scene T kd) wher
   abbrev pub MovesOf : QueueStart T → QueueFlight T → Type 0
   MovesOf start flight = Moves start (ask_of (want en flight)) (goes_back flight (old_for flight)) (after en flight (old_for flight)) (effect_for flight)
 
+  -- a step that writes events of its own party alone shows what is asked of one that may write
+  -- those of two parties
   pub alone :
       Inv en kd scene → (wrote : List (Event T)) (start : QueueStart T) (ask : Option Ask) (back : Bool)
       (after : After (QueueFlight T) (Answer T)) (effect : Effect T)

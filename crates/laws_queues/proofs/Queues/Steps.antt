@@ -50,6 +50,7 @@ use Rattle.laws_queues.proofs.Ring.Pushes.{push_step}
 -- ---- one step of a call
 
 module _ {T : Type 0} (en : Coding T) (kd : QueueKind) (scene : Scene T kd) (small : scene.core.write < 2 ^ 64) (inv : Inv en kd scene) where
+  -- the step of a call on a role shows what a step should
   role_step : (start : QueueStart T) (call : RoleCall) → RoleAt scene.roles scene.party start call → scene.steps ≤ 0
       → scene.backs ≡ 0 → IsCalm en kd scene scene.core.read → StepOf en kd scene start (Role call)
   role_step AcquireProducer (Acquire run) at s b before =
@@ -66,6 +67,7 @@ module _ {T : Type 0} (en : Coding T) (kd : QueueKind) (scene : Scene T kd) (sma
       subst (λ w. StepOf en kd scene HasConsumer (look_of w)) (sym at) (looks_at_consumer en kd scene small s b inv before)
   role_step start call at s b before = absurd at
 
+  -- a step of a call that tells a length shows what a step should
   length_step : (start : QueueStart T) (which : LengthOf) (run : Running Len (Unit {0}) (Unit {0}))
       → LengthAt scene.capacity start which run.call.capacity
       → scene.steps ≤ number_of en (Length which run) scene.backs
@@ -86,6 +88,7 @@ abbrev IsFreshRing : {V R : Type 0} → ℕ → RingCall V R → Type 0
 IsFreshRing write (rings.Push run) = IsFresh write run.call.stage
 IsFreshRing write other = Unit {0}
 
+-- a call of a bounded queue that is fresh as one of any kind is fresh as one of a bounded queue
 fresh_ring : {T : Type 0} (en : Coding T) (write : ℕ) (r : Ring) (call : RingCall (Val T (kind_of r)) (Room r))
     → IsFreshAt {T = T} write (ring.flight r call) → IsFreshRing write call
 fresh_ring en write of_indices (rings.Push run) h = h
@@ -107,6 +110,7 @@ module _ {T : Type 0} (en : Coding T) (law : IsCoding en) (r : Ring) (scene : Sc
       DoesStep en (kind_of r) scene [] start (ask_of (ring_want en r call)) false
       (ring_after en r call (old_of words (ask_of (ring_want en r call)))) (ring_effect en r call)
 
+  -- a step of a push of a bounded queue shows what a step should
   push_call : (v : Val T (kind_of r)) (call : RingCall (Val T (kind_of r)) (Room r))
       → PushAt (encoded en (kind_of r)) (words_in r) scene.capacity scene.roles scene.core scene.party v call
       → scene.steps ≤ ring_number (encoded en (kind_of r)) (words_in r) call → IsFreshRing scene.core.write call → RingStep (ring.push r v) call
@@ -117,6 +121,7 @@ module _ {T : Type 0} (en : Coding T) (law : IsCoding en) (r : Ring) (scene : Sc
   push_call v (rings.Pop run) at s fresh = absurd at
   push_call v (rings.Peek run) at s fresh = absurd at
 
+  -- so does a step of a pop
   pop_call : (call : RingCall (Val T (kind_of r)) (Room r))
       → PopAt (encoded en (kind_of r)) (words_in r) scene.capacity scene.roles scene.core scene.party call
       → scene.steps ≤ ring_number (encoded en (kind_of r)) (words_in r) call → RingStep Pop call
@@ -125,6 +130,7 @@ module _ {T : Type 0} (en : Coding T) (law : IsCoding en) (r : Ring) (scene : Sc
       subst (λ n. RingStep Pop (pop_at n run.room run.call.stage)) (sym at.1) (pop_step en r law scene inv small before run.room at.0 b run.call.stage at.2 s)
   pop_call (rings.Peek run) at s = absurd at
 
+  -- and a step of a peek
   peek_call : (call : RingCall (Val T (kind_of r)) (Room r))
       → PeekAt (encoded en (kind_of r)) (words_in r) scene.capacity scene.roles scene.core scene.party call
       → scene.steps ≤ ring_number (encoded en (kind_of r)) (words_in r) call → RingStep Peek call
@@ -135,6 +141,7 @@ module _ {T : Type 0} (en : Coding T) (law : IsCoding en) (r : Ring) (scene : Sc
       (peek_step en r law scene inv small before run.room at.0 b run.call.stage at.2 s)
 
 module _ {T : Type 0} (en : Coding T) (law : IsCoding en) where
+  -- a step of a push, pop or peek of the index queue shows what a step should
   index_step : (scene : Scene T IndexQueue) → scene.core.write < 2 ^ 64 → Inv en IndexQueue scene
       → (start : QueueStart T) (call : RingCall ℕ OneWord)
       → IndexAt IndexQueue scene.capacity scene.roles scene.core scene.party start call
@@ -148,6 +155,7 @@ module _ {T : Type 0} (en : Coding T) (law : IsCoding en) where
       peek_call en law of_indices scene small inv b before (rings.Peek run) at s
   index_step scene small inv start call at fresh s b before = absurd at
 
+  -- so does a step of a push, pop or peek of the queue of values
   value_step : (scene : Scene T kinds.Queue) → scene.core.write < 2 ^ 64
       → Inv en kinds.Queue scene → (start : QueueStart T) (call : RingCall T (cells.Buffer 128))
       → ValueAt en kinds.Queue scene.capacity scene.roles scene.core scene.party start call
@@ -172,6 +180,7 @@ module _ {T : Type 0} (en : Coding T) (scene : Scene T kinds.Overflow) (small : 
   abbrev MovesFrom : QueueStart T → OverflowCall → Type 0
   MovesFrom start call = IsCall scene start (Overflow call) → MovesOf en kinds.Overflow scene start (Overflow call)
 
+  -- a step of a push or a pop of the overflowing queue comes to what a step should
   overflow_step : Inv en kinds.Overflow scene → (start : QueueStart T) (call : OverflowCall)
       → OverflowAt scene.capacity scene.roles scene.core scene.party start call
       → scene.steps ≤ number_of en (Overflow call) scene.backs
@@ -188,6 +197,8 @@ module _ {T : Type 0} (en : Coding T) (scene : Scene T kinds.Overflow) (small : 
   overflow_step inv start call at s b fresh is = absurd at
 
 module _ {T : Type 0} (en : Coding T) (law : IsCoding en) where
+  -- a step of any call of a queue comes to what a step should, where the call stands and knows
+  -- what it should
   pub step_moves : (kd : QueueKind) (scene : Scene T kd) → scene.core.write < 2 ^ 64 → Inv en kd scene
       → (start : QueueStart T) (flight : QueueFlight T)
       → At en kd scene.capacity scene.roles scene.core scene.party start flight
@@ -274,6 +285,7 @@ module _ {T : Type 0} (en : Coding T) (law : IsCoding en) (kd : QueueKind) (c : 
 
   -- ---- a call begins
 
+  -- a begin whose first stage is right comes to what the frame asks of a begin
   begins : (start : QueueStart T) (flight : QueueFlight T)
       → IsFirst en kd c s.state.roles s.state.core p (t.events ++ Begun p (Queues start) ∷ []) t.world.changes start flight
       → flight_of (doing_of (party_of p t.world.latest)) ≡ None
@@ -318,6 +330,7 @@ module _ {T : Type 0} (en : Coding T) (law : IsCoding en) (kd : QueueKind) (c : 
         owes = owes en kd scene _ _ _ _ _ _ shows refl (inv_of y t.world.changes);
       }
 
+  -- a begin that the turns admit, and that no row refuses, comes to what the frame asks of a begin
   pub begin_comes : (start : Start T) (flight : Flight T) → MayBegin t.world p start
       → first_of (machine_kind kd) c start (registries.Queues s.state.roles) ≡ Some flight
       → first_row ((begin_of (machine_kind kd) c start).rows (registries.Queues s.state.roles) p) ≡ None

@@ -23,6 +23,7 @@ use Rattle.laws_queues.proofs.Queues.Knows.{in_one, in_cell, has_written, Hangs,
 use Rattle.laws_queues.proofs.Queues.Values.{Val, encoded, item}
 use Rattle.laws_queues.proofs.Ring.Knows.{ring_number, PushAt, PopAt, PeekAt}
 
+-- which of the two bounded queues it is: that of indices or that of values
 pub data Ring : Type 0 where
   of_indices : Ring
   of_values : Ring

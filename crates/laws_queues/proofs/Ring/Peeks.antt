@@ -96,6 +96,8 @@ module _ {T : Type 0} (en : Coding T) (r : Ring) (law : IsCoding en) (scene : Sc
   abbrev loads_cell : ℕ → PeekStage
   loads_cell i = peeks.LoadsCell (cell_word c size k.read) i
 
+  -- the load of the write position does what a step should, where the room has place for the words
+  -- of a value
   loads_write : size ≤ length (words_in r room) → steps ≤ 1 → DoesOf (peeks.LoadsWrite k.read)
   loads_write long s = go (c == 0 || k.write == k.read) refl
     where
@@ -147,6 +149,7 @@ module _ {T : Type 0} (en : Coding T) (r : Ring) (law : IsCoding en) (scene : Sc
           (sym (ap (λ (xs : List (Val T (kind_of r))). answer_of_item {T = T} (slice_get (items xs) 0)) has.2 ∙ answer_is r v))
           (omega arith))
 
+  -- each step of a peek does what a step should
   pub peek_step : (stage : PeekStage) → Knows room stage → steps ≤ peek_number size stage → DoesOf stage
   peek_step peeks.LoadsRead known s = loads_read known s
   peek_step (peeks.LoadsWrite read) known s =

@@ -85,6 +85,7 @@ module _ {T : Type 0} (en : Coding T) (r : Ring) (law : IsCoding en) (scene : Sc
   loads_read : size ≤ length (words_in r room) → steps ≤ 0 → DoesOf pops.LoadsRead
   loads_read long s = goes_on (Some load_of_read) room (pops.LoadsWrite k.read) refl (long, refl) (omega arith)
 
+  -- the load of the write position ends the pop with no value, where nothing waits
   refused : k.waiting ≡ [] → steps ≤ 1 → Does (Some load_of_write) (Done (answers.PoppedNone)) Acts
   refused empty s =
       let reached = inv.queue.reached in
@@ -124,6 +125,8 @@ module _ {T : Type 0} (en : Coding T) (r : Ring) (law : IsCoding en) (scene : Sc
   abbrev loads_cell : ℕ → PopStage
   loads_cell i = pops.LoadsCell k.read (cell_word c size k.read) i
 
+  -- the load of the write position does what a step should, where the room has place for the words
+  -- of a value
   loads_write : size ≤ length (words_in r room) → steps ≤ 1 → DoesOf (pops.LoadsWrite k.read)
   loads_write long s = go (c == 0 || k.write == k.read) refl
     where
@@ -168,6 +171,8 @@ module _ {T : Type 0} (en : Coding T) (r : Ring) (law : IsCoding en) (scene : Sc
           subst (λ a. Does ask a Quiet) (sym goes)
           (goes_on ask next (pops.StoresRead k.read) same (loads_last en r law c ro k fits g room i known last) (omega arith))
 
+  -- the store of the next read position ends the pop with the value that was loaded, which is the
+  -- oldest that waits
   stores_read : (rest : List (Val T (kind_of r))) → k.waiting ≡ read_in en r room ∷ rest → steps ≤ 2 + size → DoesOf (pops.StoresRead k.read)
   stores_read rest is s =
       let v : Val T (kind_of r) = read_in en r room in
@@ -217,6 +222,7 @@ module _ {T : Type 0} (en : Coding T) (r : Ring) (law : IsCoding en) (scene : Sc
         },
       )
 
+  -- each step of a pop does what a step should
   pub pop_step : (stage : PopStage) → KnowsPop (encoded en (kind_of r)) c k (words_in r room) stage → steps ≤ pop_number size stage → DoesOf stage
   pop_step pops.LoadsRead known s = loads_read known s
   pop_step (pops.LoadsWrite read) known s =

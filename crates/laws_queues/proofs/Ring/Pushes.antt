@@ -90,6 +90,7 @@ module _ {T : Type 0} (en : Coding T) (r : Ring) (law : IsCoding en) (scene : Sc
       (knows r c k' p events (since + change_of (layout ro k) ask) (changes + change_of (layout ro k) ask) (backs + 0) (at stage) (omega arith))
       others)
 
+  -- the load of the write position does what a step should
   loads_write : k.write < 2 ^ 64 - 1 → steps ≤ 0 → DoesOf pushes.LoadsWrite
   loads_write fresh s =
       let t : (k.write == 2 ^ 64 - 1) ≡ false = grind (arith, nat_tests) in
@@ -103,6 +104,7 @@ module _ {T : Type 0} (en : Coding T) (r : Ring) (law : IsCoding en) (scene : Sc
   room : (c == 0 || distance k.write k.read == c) ≡ false → length k.waiting < c
   room = grind arith
 
+  -- the load of the read position ends the push with `false`, where the queue is full
   refused : length k.waiting ≡ c → steps ≤ 1 → Does (Some load_of_read) (Done (answers.Truth false)) Acts
   refused lap s =
       let reached = inv.queue.reached in
@@ -145,6 +147,7 @@ module _ {T : Type 0} (en : Coding T) (r : Ring) (law : IsCoding en) (scene : Sc
   abbrev stores_cell : ℕ → PushStage
   stores_cell i = pushes.StoresCell k.write (cell_word c size k.write) i
 
+  -- the load of the read position does what a step should, whether the queue is full or not
   loads_read : k.write < 2 ^ 64 - 1 → steps ≤ 1 → DoesOf (pushes.LoadsRead k.write)
   loads_read fresh s = go (c == 0 || distance k.write k.read == c) refl
     where
@@ -186,6 +189,8 @@ module _ {T : Type 0} (en : Coding T) (r : Ring) (law : IsCoding en) (scene : Sc
       more : Holds size words_of c next.cells next.write v (i + 1)
       more = one_filled size words_of c k v i room below g so_far
 
+      -- the calls of the other parties stand where they stood, and have written the same, once the
+      -- value waits
       others : (q : ℕ) → q ≢ p → (st : QueueStart T) (f : QueueFlight T) → At en (kind_of r) c ro k q st f
           → At en (kind_of r) c ro next q st f × (has_written {T = T} c next q f ≡ has_written c k q f)
       others q ne =
@@ -212,6 +217,7 @@ module _ {T : Type 0} (en : Coding T) (r : Ring) (law : IsCoding en) (scene : Sc
           (refl, room, subst (λ n. Holds size words_of c next.cells next.write v n) (sym last) more, fresh)
           (omega arith) others)
 
+  -- the store of the next write position ends the push, with its value behind those that waited
   stores_write : k.write < 2 ^ 64 - 1 → length k.waiting < c → Holds size words_of c k.cells k.write v size
       → steps ≤ 2 + size → DoesOf (pushes.StoresWrite k.write)
   stores_write fresh room whole s =
@@ -284,6 +290,7 @@ module _ {T : Type 0} (en : Coding T) (r : Ring) (law : IsCoding en) (scene : Sc
         },
       )
 
+  -- each step of a push does what a step should
   pub push_step : (stage : PushStage) → IsFresh k.write stage
       → KnowsPush (encoded en (kind_of r)) c k v stage → steps ≤ push_number size stage → DoesOf stage
   push_step pushes.LoadsWrite fresh known s = loads_write fresh s

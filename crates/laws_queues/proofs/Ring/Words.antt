@@ -73,6 +73,7 @@ module _ {T : Type 0} (en : Coding T) (r : Ring) (law : IsCoding en) (c : ℕ) (
     abbrev old : ℕ
     old = get_or (layout ro k) (cell_asked size c k.read i) 0
 
+    -- what the load finds in the cell is the `i`th word of the front value
     old_is : old ≡ get_or (words_of v) i 0
     old_is =
         let few = g.few in

@@ -1,3 +1,6 @@
+-- The law `bit_set_is_the_code` (src/lib.rt; clauses `code`, `hands_out`, `sets`, `nexts`, `alls` and `machine`): the page of the bit
+-- set is about the code: each stage asks for what the code's function asks for, and goes on as it does, and a reset of all hands out
+-- what the machine's events say.
 use Rattle.pages.proofs.SetsAreTheCode as sets
 use Rattle.pages.proofs.BitSetRuns.{bits_runs}
 use Rattle.pages.proofs.bit_set_is_the_code.Goals as goal

@@ -1,3 +1,5 @@
+-- The law `counting_bit_set_is_the_code` (src/lib.rt; clauses `code`, `hands_out`, `sets`, `takes` and `machine`): the page of the
+-- counting bit set is about the code.
 use Rattle.pages.proofs.SetsAreTheCode as sets
 use Rattle.pages.proofs.CountingBitSetRuns.{counts_runs}
 use Rattle.pages.proofs.counting_bit_set_is_the_code.Goals as goal

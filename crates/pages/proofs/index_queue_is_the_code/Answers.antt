@@ -1,3 +1,6 @@
+-- The law `index_queue_is_the_code` (src/lib.rt; clauses `code`, `machine`, `pushes` and `pops`): the page is about the code: each stage
+-- asks for what the code's function asks for, and goes on as it does; and it is about machines: from where parties 0 and 1 have the
+-- roles, turn by turn, the words, the invocations and the responses are those of the model's machine.
 use Rattle.pages.proofs.Queue as queue
 use Rattle.pages.proofs.index_queue_is_the_code.Goals as goal
 

@@ -1,3 +1,5 @@
+-- The law `overflowing_queue_is_the_code` (src/lib.rt; clauses `code`, `machine`, `pushes` and `pops`): the page of the overflowing
+-- queue is about the code, and about machines, from where parties 0 and 1 have the roles.
 use Rattle.pages.proofs.Overflowing as queue
 use Rattle.pages.proofs.overflowing_queue_is_the_code.Goals as goal
 

@@ -1,3 +1,5 @@
+-- The law `queue_of_values_is_the_code` (src/lib.rt; clauses `code`, `pushes`, `pops` and `machine`): the page of the queue of values is
+-- about the code, and about machines, from where parties 0 and 1 have the roles.
 use Rattle.pages.proofs.ValuesQueue as queue
 use Rattle.pages.proofs.queue_of_values_is_the_code.Goals as goal
 

@@ -1,3 +1,5 @@
+-- The law `roles_change_hands` (src/lib.rt; clauses `index`, `overflowing`, `value` and `values`): roles change hands: on the model's
+-- machine, with neither a bound of parties nor one of turns, parties acquire the roles and give them back, and look.
 use Rattle.pages.proofs.IndexByRole as index
 use Rattle.pages.proofs.OverflowingByRole as overflowing
 use Rattle.pages.proofs.ValueByRole as value

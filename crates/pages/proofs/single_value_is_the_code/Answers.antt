@@ -1,3 +1,5 @@
+-- The law `single_value_is_the_code` (src/lib.rt; clauses `code`, `machine`, `stores` and `loads`): the page of the single value is
+-- about the code, and about machines of as many parties as its turns name, from where party 0 has the role.
 use Rattle.pages.proofs.Value as single
 use Rattle.pages.proofs.single_value_is_the_code.Goals as goal
 

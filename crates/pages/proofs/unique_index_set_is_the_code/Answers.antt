@@ -1,3 +1,5 @@
+-- The law `unique_index_set_is_the_code` (src/lib.rt; clauses `code`, `acquires`, `releases`, `locking_releases` and `machine`): the
+-- page of the unique index set is about the code, and about machines.
 use Rattle.pages.proofs.UniqueIndexSet as unique
 use Rattle.pages.proofs.UniqueRuns.{runs}
 use Rattle.pages.proofs.unique_index_set_is_the_code.Goals as goal

@@ -1,3 +1,4 @@
+-- `passes_are_linearizable` (src/lib.rt): its return meets the clauses `index`, `overflowing`, `value` and `values`.
 use Rattle.model.specs.declared.families.queues.QueueKind.TheVariants.{IndexQueue, Overflow, Queue}
 use Rattle.laws_queues.proofs.Queues.Sound.{admitted_fits}
 use Rattle.pages.specs.IndexQueue.{bounded_list}

@@ -1,3 +1,4 @@
+-- `passes_run_the_pages` (src/lib.rt): its return meets the clauses `index`, `overflowing`, `value` and `values`.
 use Rattle.model.specs.declared.families.queues.QueueKind.TheVariants.{IndexQueue, Queue}
 use Rattle.laws_queues.proofs.Queues.Sound.{admitted_fits}
 use Rattle.pages_threads.specs.Known.{index_page, overflowing_page, queue_page, value_page}

@@ -33,6 +33,7 @@ IsAnswer (Err e) = ⊥
 pub acquired_low : (s : Owners) (i : ℕ) → Ok i ≡ acquired s → i < length s.owners
 acquired_low = grind (arith, by_test, length, is_none, nat_tests)
 
+-- there are as many owners in the words as the capacity says
 pub owners_long : (capacity : ℕ) (words : List ℕ) → robust.Represents capacity words
     → length (owners_in words).owners ≡ capacity
 owners_long capacity [] fits = let e : 0 ≡ 1 + capacity = fits.long in absurd (omega arith)
@@ -141,6 +142,8 @@ module _ {V : Type 0} (words_of : V → List ℕ) (value_of : List ℕ → V) (s
     abbrev Then : Acquired → List ℕ → Type 0
     Then e last = From few_steps (Put words) (add_acquired first (Done e)) last
 
+    -- from an end of the acquire the add goes on as it should: it puts the value at the index, or
+    -- says that none was acquired
     so : (e : Acquired) (last : List ℕ) → Behind (1 + capacity) words last → Took e (take (1 + capacity) last) → Then e last
     so (Ok index) last behind took =
         let fits₂ = behind_fits value_of size capacity words last behind fits took.0 in
@@ -168,6 +171,7 @@ module _ {V : Type 0} (words_of : V → List ℕ) (value_of : List ℕ → V) (s
               ∙ ap (put_at old given.owner given.value) took.1),
         )
 
+    -- an add that runs alone puts its value into the map
     pub add_runs : Runs (add_want words_of size) (λ c given old. add_after size c old) (λ c (room : Unit {0}) old. room) given
         (λ e room ws. Put words e ws) first tt words
     add_runs =

@@ -71,6 +71,8 @@ module _ {V R F : Type 0} (value_of : List ℕ → V) (words_in : R → List ℕ
     found_all before now n joined calls number =
         record { before = before; now = now; calls = calls; ended = inl (sym (append-nil before) ∙ joined, refl, number) }
 
+    -- over the cells that are left the find halts where it ends, or where it asks about the next
+    -- index of the owner
     goes_on : (rest before left : List ℕ) (room : R) (now : F) (a : After (Find V R) ℕ) (done : ℕ) → length rest ≤ capacity → before ++ left ≡ all
         → FoldsTo (λ p x q. sees p x Continue q) f before now → length before ≡ done → done ≤ capacity
         → Goes (want_both want (find_after size) kept owner) (after_both want (find_after size) kept owner)
@@ -93,6 +95,7 @@ module _ {V R F : Type 0} (value_of : List ℕ → V) (words_in : R → List ℕ
         }
     goes_on rest before left room now (Done n) done short joined calls number low t = grind (arith, found_all)
 
+    -- a find that begins has come to nothing yet
     pub begins : (room : R) → size ≤ length (words_in room) → Finding ready 0 (first_find capacity) room f
     begins room long =
         let some = ready.holds.0.some in
@@ -117,6 +120,7 @@ module _ {V R F : Type 0} (value_of : List ℕ → V) (words_in : R → List ℕ
         joined : so_far.before ++ at.index ∷ mine owner (at.index + 1) at.rest ≡ all
         joined = ap (λ l. so_far.before ++ l) (sym at.left_is) ∙ so_far.joined
 
+        -- the visit that it asks for is one that the closure may get
         pub may_visit : (pre : F → V → ContainerHandle → Type 0) → TakesIndices (MaySee pre old owner) sees all f
             → pre now value (handle_of old owner index)
         may_visit pre may =
@@ -127,6 +131,7 @@ module _ {V R F : Type 0} (value_of : List ℕ → V) (words_in : R → List ℕ
         saw : (a : CallbackProgression) (next : F) → step now value (handle_of old owner index) a next → sees now at.index a next
         saw = grind (arith, value_in)
 
+        -- told to go on it is under way with one index more; told to stop, it has found this one
         pub onward : (a : CallbackProgression) (next : F) → step now value (handle_of old owner index) a next
             → Onward ready (done + 1) (find_after size asks owner (as_answer a)) room next
         onward Continue next t =
@@ -202,6 +207,7 @@ module _ {V R F : Type 0} (value_of : List ℕ → V) (words_in : R → List ℕ
             → Onward t.0 (done + 1) b room next → Further (done + 1) b room next last
         further = grind arith
 
+        -- so it is as the driver holds it, with the answer as a number
         pub further_so : (a : CallbackProgression) (next : F) → step now value (handle_of old owner index) a next
             → (answer : ℕ) → answer ≡ as_answer a → (b : After (Find V R) ℕ) → b ≡ find_after size asks owner answer
             → (later : R) → later ≡ kept asks room answer → Further (done + 1) b later next last

@@ -194,6 +194,7 @@ module _ {V R : Type 0} (value_of : List ℕ → V) (words_in : R → List ℕ) 
   abbrev pub each : ℕ
   each = suc (suc (suc (suc (size - 1))))
 
+  -- at an index whose cell has the owner, the find reads the value and asks about that index
   hit : (i found : ℕ) (rest left : List ℕ) → i < capacity → found ≤ i → slice_index its_cells i ≡ owner → drop (i + 1) its_cells ≡ rest
       → left ≡ i ∷ mine owner (i + 1) rest → (room : R) → size ≤ length (words_in room)
       → Walks W A each (StopsAt found left) (at (finds.LoadsCount i (one_more found)), room) words
@@ -228,6 +229,7 @@ module _ {V R : Type 0} (value_of : List ℕ → V) (words_in : R → List ℕ) 
         same = refl;
       })))
 
+  -- over the cells that are left the find stops at the next index of the owner, or at its end
   pub finds_on : (rest : List ℕ) (index found : ℕ) (left : List ℕ) → drop index its_cells ≡ rest → found ≤ index → left ≡ mine owner index rest
       → (room : R) → size ≤ length (words_in room)
       → Goes W A (plus (suc (length rest)) each) (StopsAt found left) (with_room room (find_comes_to (first_find capacity) index found)) words

@@ -28,6 +28,8 @@ module _ (capacity g : ℕ) (cells ws : List ℕ) (small : g < 2 ^ 64) (front : 
       → Walks raise_want raise_after 2 (OnEnd Q) raises.LoadsCounter ws
   raise_over = grind (arith, front_walks, raise_below, any_low, cells, stays, front, raise_walks)
 
+  -- a lock over all the words locks the set's words as it would alone, and leaves those behind
+  -- them
   pub lock_over : length cells ≡ capacity → capacity < 2 ^ 32 → (Q : ReleaseState → List ℕ → Type 0)
       → ((state : ReleaseState) (last : List ℕ) → Behind (1 + capacity) ws last → take (1 + capacity) last ≡ locking g cells ∷ cells → Q state last)
       → Walks lock_want (lock_after capacity) (plus (suc (suc (suc (length cells)))) 1) (OnEnd Q) first_lock ws
@@ -40,6 +42,7 @@ module _ (capacity g : ℕ) (cells ws : List ℕ) (small : g < 2 ^ 64) (front : 
       (sym front)
       (lock_walks capacity g cells small long few (λ e last. last ≡ locking g cells ∷ cells) refl))
 
+-- two words at different places can be set in either order
 set_swap : (l : List ℕ) (i j x y : ℕ) → i ≢ j → slice_set (slice_set l i x) j y ≡ slice_set (slice_set l j y) i x
 set_swap [] i j x y ne = refl
 set_swap (z ∷ l) zero zero x y ne = absurd (ne refl)
@@ -77,6 +80,7 @@ module _ {V : Type 0} (value_of : List ℕ → V) (size capacity container : ℕ
   counted_is : contents_in value_of size capacity container counted ≡ one_change s
   counted_is = grind (arith, one_more, take, take-set-le, map_same, value_at, value_same, get_or-set_other, get_or-set_same)
 
+  -- the words fit, and their contents are those before with one change counted
   pub record Counted (last : List ℕ) : Type 0 where
     pub fit : Holds value_of size capacity container last
     pub is : contents_in value_of size capacity container last ≡ one_change s
@@ -111,6 +115,7 @@ module _ {V : Type 0} (value_of : List ℕ → V) (size capacity container : ℕ
     hid_front : take (1 + capacity) hid ≡ take (1 + capacity) words
     hid_front = take-set-le (1 + capacity) words (count_word capacity index) (one_more n) (omega arith)
 
+    -- the set's words are then its counter as it was, and the cells with this index emptied
     pub bare_front : take (1 + capacity) bare ≡ g ∷ emptied
     bare_front =
         ap (take (1 + capacity)) bare_is
@@ -135,6 +140,7 @@ module _ {V : Type 0} (value_of : List ℕ → V) (size capacity container : ℕ
     abbrev both : List ℕ
     both = hidden value_of size capacity words fits index near wide
 
+    -- the contents of these words are those without the value
     hidden_contents : contents_in value_of size capacity container both ≡ without_value
     hidden_contents =
         let there = hides value_of size capacity words fits index near wide in
@@ -158,10 +164,13 @@ module _ {V : Type 0} (value_of : List ℕ → V) (size capacity container : ℕ
     hid_contents : contents_in value_of size capacity container hid ≡ without_value
     hid_contents = ap (contents_in value_of size capacity container) (sym hid_is) ∙ hidden_contents
 
+    -- the words fit, and their contents are those before with this index freed
     pub record Freed (last : List ℕ) : Type 0 where
       pub fit : Holds value_of size capacity container last
       pub is : contents_in value_of size capacity container last ≡ freed mode s index
 
+    -- once the counter is as the mode leaves it too, the words are those of the contents with this
+    -- index freed
     pub frees_so : (last : List ℕ) → Behind (1 + capacity) hid last → take (1 + capacity) last ≡ counter_then mode g emptied ∷ emptied → Freed last
     frees_so last behind front_is =
         let set : owners_in (take (1 + capacity) last) ≡ given_back mode s.owners index =

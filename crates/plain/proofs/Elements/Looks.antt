@@ -19,6 +19,7 @@ use Rattle.plain.proofs.Robust.Looks.{borrowed_walks}
 use Rattle.plain.proofs.Elements.Sets.{CountLow, count_goes_low, count_below}
 use Rattle.plain.proofs.Elements.Values.{front_fits, behind_contents, behind_fits}
 
+-- the count of borrowed indices is walked over any words of a set that fit
 borrowed_front : (capacity : ℕ) (words : List ℕ) → robust.Represents capacity words
     → (n : ℕ) × (n ≤ 2 ^ 40) × Walks (λ (c : BorrowedIndices). borrowed_want c) (λ c old. borrowed_after c old) n
     (OnEnd (λ e last. BehavesAs (robust.Represents capacity) owners_in borrowed raised words e last)) (first_borrowed capacity) words
@@ -49,6 +50,7 @@ module _ {V : Type 0} (value_of : List ℕ → V) (size capacity container : ℕ
   Counted words end last =
       BehavesAs (Represents size capacity) (contents_in value_of size capacity container) number counted words end last
 
+  -- a count over a container that runs alone does what it should
   pub count_at : (c : BorrowedIndices) → c ≡ first_borrowed capacity → (words : List ℕ) → Represents size capacity words
       → Runs (λ (c : BorrowedIndices) (given : Unit {0}). borrowed_want c) (λ c given old. borrowed_after c old) (λ c (room : Unit {0}) old. room) tt
       (λ e room ws. Counted words e ws) c tt words

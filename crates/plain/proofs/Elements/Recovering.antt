@@ -84,6 +84,7 @@ module _ {V R F : Type 0} (value_of : List ℕ → V) (words_in : R → List ℕ
     pub state_is : state ≡ state_of (read last).owners
     pub calls : HasRecovered step owner mode old (read last) f p
 
+  -- a recovery that begins has asked nothing yet
   begins : (ready : Begun) (room : R) → size ≤ length (words_in room) → Recovering ready 0 (first_recover capacity) room f words
   begins ready room long =
       let size_is = cells_long value_of size capacity container words ready.holds in
@@ -159,6 +160,7 @@ module _ {V R F : Type 0} (value_of : List ℕ → V) (words_in : R → List ℕ
     next_stage =
         if nat_lt (at.index + 1) capacity then recovers.LoadsCell (at.index + 1) else recovers.LoadsCounterAgain
 
+    -- told no, it is under way with one question more, and the contents stay
     on_no : (q : F) → step p value false q → Recovering ready (done + 1) (record { capacity = capacity; stage = next_stage; of = record {} }) room q last
     on_no q called =
         let far = short in
@@ -196,6 +198,7 @@ module _ {V R F : Type 0} (value_of : List ℕ → V) (words_in : R → List ℕ
     generation_then : (given_back mode t.s.owners at.index).generation ≡ counter_then mode g gone
     generation_then = grind (arith, given_back, owners_are, given_back_is)
 
+    -- where giving the index back locks the set, nothing is left to ask about
     shut_then : (given_back mode t.s.owners at.index).generation ≡ locked → left_then ≡ []
     shut_then e =
         ap (of_owner owner (at.index + 1))
@@ -206,6 +209,7 @@ module _ {V R F : Type 0} (value_of : List ℕ → V) (words_in : R → List ℕ
     abbrev emptying : RecoverStage
     emptying = recovers.EmptiesCell at.index (slice_index last (count_word capacity at.index))
 
+    -- told yes, it is under way with one question more, and goes on to empty the cell
     on_yes : (q : F) → step p value true q → Recovering ready (done + 1) (record { capacity = capacity; stage = emptying; of = record {} }) room q last
     on_yes q called =
         let far = short in
@@ -286,6 +290,7 @@ module _ {V R F : Type 0} (value_of : List ℕ → V) (words_in : R → List ℕ
       further (GoOn d) q h = (t.0, h)
       further (Done state) q h = h
 
+      -- so it is as the driver holds it, with the answer as a number
       pub further_so : (said : Bool) (q : F) → step p value said q → (answer : ℕ) → answer ≡ (if said then 1 else 0)
           → (b : After (Recover V R) ReleaseState) → b ≡ recover_after size put given answer
           → (later : R) → later ≡ kept put room answer → Further b later q

@@ -40,6 +40,7 @@ module _ (owner : ℕ) where
       → of_owner index (c ∷ rest) ≡ record { owner = owner; index = index } ∷ of_owner (index + 1) rest
   of_hit = grind (arith, filter, taken_from, map, owner_some, cond, eq-eqb)
 
+  -- a cell with another owner adds no index
   of_miss : (index c : ℕ) (rest : List ℕ) → c ≢ owner → of_owner index (c ∷ rest) ≡ of_owner (index + 1) rest
   of_miss index c rest n =
       ⊎_elim
@@ -158,6 +159,8 @@ module _ {V R : Type 0} (value_of : List ℕ → V) (words_in : R → List ℕ) 
         (λ t. let less : size ≤ k + 1 = grind (arith, nat_tests) in absurd (omega arith)))
 
     module _ (s : Contents V) (is : read words ≡ s) (from : ℕ) where
+      -- at an index whose cell has the owner, the recovery reads the value and asks about that
+      -- index
       hit : (i : ℕ) (rest : List ℕ) (left : List Owned) → i < capacity → from ≤ i
           → slice_index (cells_of words) i ≡ owner → drop (i + 1) (cells_of words) ≡ rest
           → left ≡ record { owner = owner; index = i } ∷ of_owner owner (i + 1) rest → (room : R) → size ≤ length (words_in room)
@@ -204,6 +207,8 @@ module _ {V R : Type 0} (value_of : List ℕ → V) (words_in : R → List ℕ) 
       state_at : (if slice_index words 0 == locked then Locked else Unlocked) ≡ state_of s.owners
       state_at = grind (arith, locked, head_is, generation_is)
 
+      -- over the cells that are left the recovery stops at the next index of the owner, or at its
+      -- end
       pub recovers_on : (rest : List ℕ) (index : ℕ) (left : List Owned) → drop index (cells_of words) ≡ rest → left ≡ of_owner owner index rest → from ≤ index
           → (room : R) → size ≤ length (words_in room)
           → Goes W A (fuel rest) (StopsAt s from left) (with_room room (recover_comes_to first index)) words
@@ -229,6 +234,7 @@ module _ {V R : Type 0} (value_of : List ℕ → V) (words_in : R → List ℕ) 
           (λ n. recovers_on rest (index + 1) left there.rest_is (all ∙ of_miss owner index c rest (λ e. n (word ∙ e))) (omega arith) room long))
           (λ t. let far : capacity ≤ index = grind (arith, nat_tests) in absurd (omega arith))
 
+    -- from its begin the recovery stops at the first index of the owner, or at its end
     pub begin_walk : (room : R) → size ≤ length (words_in room)
         → Walks W A (suc (fuel (cells_of words))) (StopsAt (read words) 0 (to_ask (read words) owner)) (first, room) words
     begin_walk room long =
@@ -293,6 +299,8 @@ module _ {V R : Type 0} (value_of : List ℕ → V) (words_in : R → List ℕ) 
     abbrev After_raise : ReleaseMode → List ℕ → Type 0
     After_raise m last = Goes W A (plus locks (fuel rest)) P (with_room room (recover_raised first index m (Done Unlocked))) last
 
+    -- once the counter has gone up, the recovery goes on from the next index, in the mode that
+    -- locks after a lock
     on_raised : (m : ReleaseMode) → mode ≡ m → (last : List ℕ) → Behind (1 + capacity) hid last → take (1 + capacity) last ≡ next_generation g ∷ gone
         → After_raise m last
     on_raised Default e last behind front_is =
@@ -309,6 +317,7 @@ module _ {V R : Type 0} (value_of : List ℕ → V) (words_in : R → List ℕ) 
     abbrev pub rounds : ℕ
     rounds = suc (suc (plus 2 (plus locks (fuel rest))))
 
+    -- with the cell emptied the recovery raises the counter, and goes on to where it stops next
     raises_on : Walks W A (plus 2 (plus locks (fuel rest))) P
         (at (recovers.Raises index raises.LoadsCounter), room)
         (bare value_of size capacity container words holds wide mode index near odd)

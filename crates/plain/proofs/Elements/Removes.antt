@@ -77,6 +77,8 @@ module _ {V : Type 0} (value_of : List ℕ → V) (size : ℕ) (wide : size ≤ 
     Then e last =
         From 2 (Gone words) (remove_released (call removes.LoadsCount) count (Done e)) last
 
+    -- from an end of the release the remove goes on as it should: the value has gone with its
+    -- index, or the release has failed
     so : index < capacity → (e : Released) (last : List ℕ) → Behind (1 + capacity) words last → Gave e (take (1 + capacity) last) → Then e last
     so near (Ok state) last behind gave =
         let fits₂ = behind_fits value_of size capacity words last behind fits gave.0 in
@@ -115,6 +117,7 @@ module _ {V : Type 0} (value_of : List ℕ → V) (size : ℕ) (wide : size ≤ 
         (behind_contents value_of size capacity container words last behind ∙ ap (λ set. record old { owners = set }) set))
         (cases_Bool (has old.owners index owner))
 
+    -- a remove that runs alone takes the element out of the map
     pub remove_runs : Runs remove_want remove_after (λ c (room : Unit {0}) old. room) given
         (λ e room ws. Gone words e ws) (first_remove capacity index) tt words
     remove_runs =

@@ -117,6 +117,8 @@ module _ {V : Type 0} (words_of : V → List ℕ) (value_of : List ℕ → V) (s
     refused : names old handle ≡ false → Put words (Err ContainerHandleNotOwnedByContainer) words
     refused = grind (arith, changed)
 
+    -- where the handle names what stands there, the words are then those of the map with the value
+    -- put in its place
     put_in : (near : given.index < capacity) → names old handle ≡ true
         → Put words (Ok tt) (after_change value_of size capacity words fits given.index near wide
         (shown value_of size capacity words fits given.index near wide xs given.value (sized given.value) (given_back given.value)))
@@ -128,6 +130,7 @@ module _ {V : Type 0} (words_of : V → List ℕ) (value_of : List ℕ → V) (s
               ∙ sym (ap (λ b. if b then changed old old.owners given.index (Some given.value) else old) hit),
         )
 
+    -- the replace is walked within its number of steps, whatever the handle names
     walks : Ends (suc few_steps) (Put words) (first_replace capacity given.index) words
     walks =
         by_test (λ stage. Ends (suc few_steps) (Put words) (call stage) words) (nat_lt given.index capacity) _ _
@@ -145,6 +148,7 @@ module _ {V : Type 0} (words_of : V → List ℕ) (value_of : List ℕ → V) (s
         refused (names_own capacity size container value_of words given.index given.owner
         ∙ has_past capacity (take (1 + capacity) words) (front_fits value_of size capacity words fits) given.index given.owner far))
 
+  -- a replace that runs alone puts its value in the place of the old one
   pub replace_at : (number : ℕ) → number ≡ given.owner → number < empty → (c : Replace V) → c ≡ first_replace capacity given.index
       → (words : List ℕ) → Represents size capacity words
       → Runs (replace_want words_of size) (replace_after size) (λ c (room : Unit {0}) old. room) given

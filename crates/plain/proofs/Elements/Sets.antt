@@ -139,6 +139,7 @@ module _ (capacity : ℕ) where
 
 -- ---- the walks over any words that fit
 
+-- an acquire of the set is walked over any words that fit, and does to the owners what it should
 pub acquire_front : (capacity owner : ℕ) → owner < empty → (words : List ℕ) → Represents capacity words
     → (n : ℕ) × (n ≤ 2 ^ 40) × Walks (λ c. acquire_want c owner) (λ c old. acquire_after c old) n
     (OnEnd (λ e last. BehavesAs (Represents capacity) owners_in acquired (λ s. after_acquire s owner) words e last)) (first_acquire capacity) words
@@ -151,6 +152,7 @@ acquire_front capacity owner lives (g ∷ cells) fits =
       take_walks capacity owner g cells fits.small (omega arith) fits.few lives fits.some,
     )
 
+-- and so is a release, of an index below the capacity
 pub release_front : (capacity index owner : ℕ) (mode : ReleaseMode) → owner < empty → (words : List ℕ) → Represents capacity words → index < capacity
     → (n : ℕ) × (n ≤ 2 ^ 40) × Walks (λ c. release_want c (record { index = index; owner = owner; mode = mode }))
     (λ c old. release_after c (record { index = index; owner = owner; mode = mode }) old) n

@@ -19,6 +19,7 @@ use Rattle.plain.proofs.Elements.Updates.{get_mapped, target, Part, P}
 equal : (a b : ℕ) → (a == b) ≡ true → a ≡ b
 equal = grind (arith, false, true≢false, eqb_tells)
 
+-- the numbers over a list of counts of the same length are those of the elements
 over_all : {V : Type 0} (counts : List ℕ) (elements : List (Element V)) → length counts ≡ length elements
     → numbers_over counts elements ≡ map (λ (e : Element V). e.count) elements
 over_all [] [] e = refl
@@ -38,6 +39,7 @@ module _ {V : Type 0} (value_of : List ℕ → V) (size : ℕ) (some : 1 ≤ siz
   capacity_is = owners_long capacity (take (1 + capacity) words) (front_fits value_of size capacity words fits)
 
   module _ (room : Showing V) (t : Part value_of size some wide capacity words fits old.seen old.shown room capacity) where
+    -- the numbers of the elements shown are those in the words
     counts_are : map number room.elements ≡ counts_in value_of size capacity words
     counts_are =
         let l = length-map room.elements number in let k = t.long in
@@ -51,6 +53,7 @@ module _ {V : Type 0} (value_of : List ℕ → V) (size : ℕ) (some : 1 ≤ siz
     target_is : (i : ℕ) → i < capacity → target value_of size some wide capacity words fits old.seen old.shown i ≡ value_then s (snapshot_of old) i
     target_is = grind (arith, get_or-map-range_with_len, value_at, map)
 
+    -- the values shown are those that the state should show then
     values_are : map value_shown room.elements ≡ map (value_then s (snapshot_of old)) (range_with_len 0 capacity)
     values_are =
         let l = length-map room.elements value_shown in let k = t.long in
@@ -68,6 +71,7 @@ module _ {V : Type 0} (value_of : List ℕ → V) (size : ℕ) (some : 1 ≤ siz
       → Brought s old false (record old { shown = room })
   brought_without = grind (arith, map, equal, length)
 
+  -- a look that has ended with `true` has brought the state up to date
   brought_so : (room : Showing V) (last : List ℕ) → Ended true room last
       → Brought s old true (record old { seen = seen_of old.seen room; shown = room })
   brought_so room last t =
@@ -128,6 +132,8 @@ module _ {V : Type 0} (value_of : List ℕ → V) (size capacity : ℕ) (s : Con
   got_settled answer new b =
       let t = b.shows settled (is ∙ sym long) in (t.0, t.1 ∙ ap (updated s) is_blank)
 
+-- a new state that is brought up to date is a settled state of the container, and its snapshot is
+-- the blank one updated
 pub got : {V : Type 0} (value_of : List ℕ → V) (size capacity container : ℕ) (words : List ℕ) → Represents size capacity words
     → (self : Contents V) → contents_in value_of size capacity container words ≡ self
     → (fresh : ContainerState V) → fresh.container ≡ container → fresh.capacity ≡ capacity → fresh.seen ≡ no_numbers capacity

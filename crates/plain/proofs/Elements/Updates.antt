@@ -32,6 +32,7 @@ get_set [] i x low = absurd (omega arith)
 get_set (y ∷ l) zero x low = refl
 get_set (y ∷ l) (suc i) x low = get_set l i x (omega arith)
 
+-- setting one element leaves each other one
 get_set_other : {X : Type 0} (l : List X) (i j : ℕ) (x : X) → j ≢ i → slice_get (slice_set l i x) j ≡ slice_get l j
 get_set_other [] i j x ne = refl
 get_set_other (y ∷ l) zero zero x ne = absurd (ne refl)
@@ -90,6 +91,7 @@ module _ {V : Type 0} (value_of : List ℕ → V) (size : ℕ) (some : 1 ≤ siz
       then slice_index_or (map value_shown first.elements) i None
       else value_at value_of size capacity words i
 
+  -- the element at this index has the number in the words, and shows what it should
   pub record Right (elements : List (Element V)) (j : ℕ) : Type 0 where
     pub e : Element V
     pub there : slice_get elements j ≡ Some e
@@ -104,6 +106,7 @@ module _ {V : Type 0} (value_of : List ℕ → V) (size : ℕ) (some : 1 ≤ siz
     pub done : (j : ℕ) → j < i → Right r.elements j
     pub rest : (j : ℕ) → i ≤ j → slice_get r.elements j ≡ slice_get first.elements j
 
+  -- once an index shows what it should, under its number, one index more is up to date
   part_next : (r r₂ : Showing V) (i : ℕ) (e : Element V) → i < capacity → e.count ≡ count i → value_shown e ≡ target i
       → r₂.change ≡ r.change → r₂.elements ≡ slice_set r.elements i e → length r₂.copy ≡ 128 → Part r i → Part r₂ (i + 1)
   part_next r r₂ i e near is shows change elements room h =
@@ -239,6 +242,8 @@ module _ {V : Type 0} (value_of : List ℕ → V) (size : ℕ) (some : 1 ≤ siz
       (t.2 ∙ h.room) h
 
   module _ (fresh : (slice_index words (change_word capacity) == seen.change) ≡ false) where
+    -- over the indices that are left the look brings each up to date, where the number of changes
+    -- is another
     looks_on : (k i : ℕ) → i + k ≡ capacity → (room : Showing V) → Known room i
         → From (most k) (look_comes_to (first_look capacity) i) room words
     looks_on zero i sum room known =
@@ -279,6 +284,7 @@ module _ {V : Type 0} (value_of : List ℕ → V) (size : ℕ) (some : 1 ≤ siz
   begins : Known (with_change first (slice_index words (change_word capacity))) 0
   begins = grind arith
 
+  -- a look is walked within its number of steps, whether the number of changes is another or not
   walks : Ends (suc (most capacity)) (first_look capacity) first words
   walks =
       let changed = slice_index words (change_word capacity) in

@@ -28,6 +28,7 @@ odd_next = grind (arith, true≢false, eq-eqb, one_more, two)
 even_next : (n : ℕ) → is_even n ≡ true → is_even (one_more n) ≡ false
 even_next = grind (arith, ne_eqb, true≢false, two)
 
+-- a store of words leaves the first few words of the list, if they all lie before it
 stored_front : (ws : List ℕ) (k : ℕ) (xs : List ℕ) (at n m : ℕ) → k + at + n < 2 ^ 64 → m ≤ k + at
     → take m (stored ws k xs at n) ≡ take m ws
 stored_front ws k xs at zero m small low = refl
@@ -63,6 +64,7 @@ module _ {V : Type 0} (value_of : List ℕ → V) (size capacity : ℕ) where
       ≡ record (contents_in value_of size capacity container ws) { owners = owners_in (take (1 + capacity) vs) }
   behind_contents = grind (arith, behind_values, map_same, take)
 
+  -- words fit a container where its own words of the set fit and those behind are as before
   pub behind_fits : (ws vs : List ℕ) → Behind (1 + capacity) ws vs → Represents size capacity ws
       → robust.Represents capacity (take (1 + capacity) vs) → Represents size capacity vs
   behind_fits ws vs h fits front =
@@ -116,6 +118,7 @@ module _ {V : Type 0} (value_of : List ℕ → V) (size capacity : ℕ) where
         then words
         else slice_set words count_at (one_more (slice_index words count_at))
 
+    -- nothing else has changed, and the number of this index is the even one of no value
     pub record Hides (later : List ℕ) : Type 0 where
       pub writes : Writes later
       pub even : is_even (slice_index later count_at) ≡ true
@@ -146,6 +149,7 @@ module _ {V : Type 0} (value_of : List ℕ → V) (size capacity : ℕ) where
       count_is : slice_index shown count_at ≡ one_more (slice_index hidden count_at)
       count_is = grind (arith, filled_long, within, get_or-set_same, one_more, fills_not, inl)
 
+      -- the cell then has these words
       words_are : words_from shown cell size ≡ xs
       words_are =
           let h = hides.writes.long in let w = cell_within in
@@ -162,10 +166,12 @@ module _ {V : Type 0} (value_of : List ℕ → V) (size capacity : ℕ) where
           → (k < cell) ⊎ (cell + size ≤ k)
       beside = grind (arith, apart, inl, inr)
 
+      -- nothing else has changed, and this value stands at the index
       pub record Shows (later : List ℕ) : Type 0 where
         pub writes : Writes later
         pub here : Stands later (Some value)
 
+      -- the index then shows this value
       pub shows : Shows shown
       shows =
           let h = hides in
@@ -204,6 +210,7 @@ module _ {V : Type 0} (value_of : List ℕ → V) (size capacity : ℕ) where
     pub change_fits : (later : List ℕ) → Writes later → Represents size capacity (after_change later)
     change_fits = grind (arith, get_or-take, length-set, small, get_or-set_other)
 
+    -- with the number of changes gone up, the contents are those changed at this index
     pub change_contents : (container : ℕ) (later : List ℕ) (o : Option V) → Writes later → Stands later o
         → contents_in value_of size capacity container (after_change later)
         ≡ changed (contents_in value_of size capacity container words) (owners_in (take (1 + capacity) words)) index o

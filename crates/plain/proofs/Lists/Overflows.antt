@@ -134,6 +134,7 @@ module _ (capacity : ℕ) where
       own : number_at kept wp ≡ value
       own = grind (arith, get_or-set_other, get_or-set_same, low)
 
+      -- the positions that waited keep their numbers
       kept_number : (p : ℕ) → rp ≤ p → p < wp → number_at kept p ≡ number_at words p
       kept_number p from below =
           let near = fits.near in
@@ -154,6 +155,7 @@ module _ (capacity : ℕ) where
       -- ---- there was room
 
       module _ (near : wp - rp < capacity) where
+        -- where there was room the words are those of the list with this value at its end
         added : Pushed words Added room kept
         added =
             let behind = fits.behind in
@@ -197,6 +199,8 @@ module _ (capacity : ℕ) where
         head : (m : ℕ) → wp - rp ≡ suc m → slice_get (waiting ++ value ∷ []) 0 ≡ Some (number_at words rp)
         head = grind arith
 
+        -- where there was none they are those of the list without its oldest value, which the room
+        -- has
         replaced : Pushed words Oldest (oldest room words) last
         replaced =
             let behind = fits.behind in
@@ -228,6 +232,7 @@ module _ (capacity : ℕ) where
     abbrev pub PushRuns : Push → OneWord → List ℕ → Type 0
     PushRuns call room words = Runs push_want (λ c given old. push_after c old) push_kept value (Pushed words) call room words
 
+    -- a push that runs alone does what it should, whatever the capacity and the number that wait
     runs_first : (room : OneWord) (words : List ℕ) → Represents capacity words → PushRuns (first_push capacity) room words
     runs_first room words fits =
         let wp = slice_index words 0 in
@@ -332,6 +337,7 @@ module _ (capacity : ℕ) where
     taken_out : (m : ℕ) → write - read ≡ suc m → Represents capacity words → Popped words true found taken
     taken_out = grind (arith, get_or-set_same, get_or-set_other, values_same, number_of, values_length, min, length, drop, length-set)
 
+    -- a pop that runs alone does what it should, whether something waits or not
     pops_first : Represents capacity words → PopRuns (first_pop capacity) room words
     pops_first fits =
         let behind = fits.behind in

@@ -47,6 +47,8 @@ module _ {V R : Type 0} (value_of : List ℕ → V) (size : ℕ) (some : 1 ≤ s
       → Ends 2 false room words (first_peek capacity) room words
   finds_none = grind (arith, by_either, false)
 
+  -- a peek of a list that is not empty reads the words of the cell of the read position, and ends
+  -- with `true`
   finds_one : (n : ℕ) → suc n ≡ size → (room : R) (words : List ℕ) → capacity ≢ 0
       → slice_index words 0 ≢ slice_index words 1
       → Ends (suc (suc (suc n))) true
@@ -102,6 +104,7 @@ module _ {V R : Type 0} (value_of : List ℕ → V) (size : ℕ) (some : 1 ≤ s
       Runs (λ (c : Peek V R) (given : Unit {0}). peek_want c) (λ c given old. peek_after size c old) (peek_kept with_word) tt
       (Peeked words) call room words
 
+  -- a peek that runs alone does what it should, where the room has place for the words of a value
   runs_first : (room : R) → size ≤ length (words_in room) → (words : List ℕ) → Represents size capacity words
       → PeekRuns (first_peek capacity) room words
   runs_first room wide words fits =

@@ -46,6 +46,8 @@ module _ {V R : Type 0} (value_of : List ℕ → V) (size : ℕ) (some : 1 ≤ s
       → Ends 2 false room words (first_pop capacity) room words
   finds_none = grind (arith, by_either, false)
 
+  -- a pop of a list that is not empty reads the words of the cell of the read position, moves
+  -- that, and ends with `true`
   comes_out : (n : ℕ) → suc n ≡ size → (room : R) (words : List ℕ) → capacity ≢ 0
       → slice_index words 0 ≢ slice_index words 1
       → Ends (suc (suc (suc (suc n)))) true
@@ -116,6 +118,7 @@ module _ {V R : Type 0} (value_of : List ℕ → V) (size : ℕ) (some : 1 ≤ s
       Runs (λ (c : Pop V R) (given : Unit {0}). pop_want c) (λ c given old. pop_after size c old) (pop_kept with_word) tt
       (Popped words) call room words
 
+  -- a pop that runs alone does what it should, where the room has place for the words of a value
   runs_first : (room : R) → size ≤ length (words_in room) → (words : List ℕ) → Represents size capacity words
       → PopRuns (first_pop capacity) room words
   runs_first room wide words fits =

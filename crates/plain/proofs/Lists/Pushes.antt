@@ -63,6 +63,8 @@ module _ {V : Type 0} (words_of : V → List ℕ) (value_of : List ℕ → V) (s
       → Ends 2 false words (first_push capacity) words
   no_room = grind (arith, by_eq, false, by_either)
 
+  -- a push to a list that is not full stores the words of its value, moves the write position, and
+  -- ends with `true`
   goes_in : (n : ℕ) → suc n ≡ size → (words : List ℕ) → slice_index words 0 ≢ 2 ^ 64 - 1 → capacity ≢ 0
       → distance (slice_index words 0) (slice_index words 1) ≢ capacity
       → Ends (suc (suc (suc (suc n)))) true
@@ -147,6 +149,7 @@ module _ {V : Type 0} (words_of : V → List ℕ) (value_of : List ℕ → V) (s
     last_fits : Represents size capacity last
     last_fits = grind (arith, write_is, read_is, long, last_long, small)
 
+    -- the cell of the write position then has this value
     own : value_at value_of size capacity last w ≡ value
     own =
         let at : words_from cells cell size ≡ words_of value =
@@ -157,6 +160,7 @@ module _ {V : Type 0} (words_of : V → List ℕ) (value_of : List ℕ → V) (s
         words_same last cells cell size (λ i low high. get_or-set_other cells 0 i (after_position w) 0 (λ e. let c = cell_is in absurd (omega arith))) in
         subst (λ k. value_of (words_from last k size) ≡ value) cell_is (ap value_of (same ∙ at) ∙ given_back value)
 
+    -- the positions that waited keep their values
     kept_value : (q : ℕ) → r ≤ q → q < w → value_at value_of size capacity last q ≡ value_at value_of size capacity words q
     kept_value q low high =
         let apart = cells_apart capacity size q w high (omega arith) in
@@ -179,6 +183,7 @@ module _ {V : Type 0} (words_of : V → List ℕ) (value_of : List ℕ → V) (s
       Runs (push_want words_of) (λ c given old. push_after size c old) (λ c (room : Unit {0}) old. room) value
       (Pushed words) call tt words
 
+  -- a push that runs alone does what it should, whether there is room or not
   runs_first : (words : List ℕ) → Represents size capacity words → PushRuns (first_push capacity) words
   runs_first words fits =
       dite (ℕ_discrete (slice_index words 0) (2 ^ 64 - 1))

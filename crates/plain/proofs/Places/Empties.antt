@@ -22,6 +22,7 @@ drop_all : (xs : List Bool) → drop (length xs) xs ≡ []
 drop_all [] = refl
 drop_all (x ∷ xs) = drop_all xs
 
+-- a test that fails at each place of a range gives `false` for all of them
 none_of : (f : ℕ → Bool) (n a : ℕ) → ((q : ℕ) → a ≤ q → q < a + n → f q ≡ false)
     → map f (range_with_len a n) ≡ replicate n false
 none_of f zero a h = refl
@@ -42,6 +43,7 @@ opened = grind (arith, none_of, stands, has_flag, zero_at, none_stands)
 
 -- ---- the places of one element
 
+-- no place stands in a range without flags
 none_in : (found place n : ℕ) → ((q : ℕ) → place ≤ q → q < place + n → has_flag found q ≡ false)
     → standing_in found place n ≡ []
 none_in found place zero clear = refl
@@ -65,6 +67,7 @@ module _ (capacity : ℕ) (before : List ℕ) where
   abbrev pub left : ℕ → List ℕ
   left place = standing_from place (drop place (flags_in capacity before))
 
+  -- the places left from one on are that one, if it stands, and those left behind it
   left_is : (place : ℕ) → place < capacity
       → left place ≡ (if stands before place then place ∷ left (place + 1) else left (place + 1))
   left_is place low =
@@ -120,6 +123,7 @@ module _ {F : Type 0} (pre : F → ℕ → Type 0) (step : F → ℕ → Unit {0
       pub calls : (last : F) → Folds visit (standing_in found place (end - place)) last
           → Folds first (standing_in found at (end - at)) last
 
+    -- where the flag of this place stands, it may be handed out, and those behind it after it
     both : (place left : ℕ) (visit : F) → place < end → Visiting place left visit → has_flag found place ≡ true
         → Takes pre step (place ∷ standing_in found (place + 1) (end - (place + 1))) visit
     both place left visit low h some =
@@ -133,6 +137,7 @@ module _ {F : Type 0} (pre : F → ℕ → Type 0) (step : F → ℕ → Unit {0
     may_visit place left visit low h stood is some =
         (both place left visit low h (sym is ∙ some)).0
 
+    -- once a place is handed out, if it stood, the element is under way at the next place
     pub visits_one : (place left next : ℕ) (visit : F) → place < end → end ≤ at + 64 → at ≤ place
         → Visiting place left visit → (stood : Bool) → stood ≡ has_flag found place → (later : F)
         → (stood ≡ true → step visit place tt later) → (stood ≡ false → later ≡ visit)
@@ -186,6 +191,7 @@ module _ {F : Type 0} (pre : F → ℕ → Type 0) (step : F → ℕ → Unit {0
       pub calls : (last : F) → Folds visit (left capacity before place) last
           → Folds first (standing (places_in capacity before)) last
 
+    -- the emptying begins where the places that stand may be handed out
     pub begins : Represents capacity before → Takes pre step (standing (places_in capacity before)) first
         → (call : ResetAll) → call ≡ all_bits capacity → Emptying 0 0 call before first
     begins fits takes call is =
@@ -217,6 +223,7 @@ module _ {F : Type 0} (pre : F → ℕ → Type 0) (step : F → ℕ → Unit {0
         found_is : found ≡ slice_index before (1 + element)
         found_is = is ∙ (ap (λ (c : ResetAll). slice_index words c.word) (h.at some) ∙ h.kept (1 + element) (omega arith))
 
+        -- the places left are those that stand in this element, and those left behind it
         splits : left capacity before place ≡ standing_in found place (end - place) ++ left capacity before end
         splits =
             left_splits capacity before found place (end - place) (omega arith)
@@ -230,6 +237,8 @@ module _ {F : Type 0} (pre : F → ℕ → Type 0) (step : F → ℕ → Unit {0
             takes_first (standing_in found place (end - place)) (left capacity before end) visit
             (subst (λ xs. Takes pre step xs visit) splits h.takes)
 
+        -- once the places of an element are handed out, its word is 0 and the emptying goes on at
+        -- the next element
         pub empties_one : (next : ResetAll) (now : List ℕ) (later : F) → now ≡ slice_set words call.word 0
             → (call.word + 1 < call.end → next ≡ record { word = call.word + 1; end = call.end })
             → Folds visit (standing_in found place (end - place)) later → Emptying (element + 1) end next now later
@@ -279,6 +288,7 @@ module _ {F : Type 0} (pre : F → ℕ → Type 0) (step : F → ℕ → Unit {0
       none q low =
           ap (λ w. has_flag w q) (h.swept (element_of q) (omega arith) (omega arith)) ∙ none_stands q
 
+      -- the words at the end are those of the set emptied
       pub all_emptied : places_in capacity words ≡ emptied (places_in capacity before)
       all_emptied =
           let clear : flags_in capacity words ≡ replicate (length (flags_in capacity before)) false =

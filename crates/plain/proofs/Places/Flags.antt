@@ -9,6 +9,7 @@ use Rattle.plain.specs.Bits.{flags_in}
 
 -- ---- lists of flags
 
+-- two maps over a range are the same where they are so at each number of it
 pub map_same : {X : Type 0} (f g : ℕ → X) (n a : ℕ) → ((q : ℕ) → a ≤ q → q < a + n → g q ≡ f q)
     → map g (range_with_len a n) ≡ map f (range_with_len a n)
 map_same f g zero a h = refl

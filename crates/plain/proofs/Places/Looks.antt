@@ -17,6 +17,7 @@ module _ (capacity place : ℕ) (low : place < capacity) (words : List ℕ) (fit
       (λ end room last. BehavesAs (Represents capacity) (places_in capacity) (λ (s : Places). has s place)
       (λ s. s) words end last) call tt words
 
+  -- a look that runs alone says whether the place stands, and leaves the words
   pub look_runs : (call : IsSet) → LookRuns call
   look_runs call =
       record {

@@ -19,6 +19,7 @@ use Rattle.plain.proofs.Places.Flags.{flag_at, flag_past, flags_change, same_fla
 
 -- ---- the first flag of a list that stands
 
+-- the first flag that stands in a list is the first of its places
 first_standing : (place n : ℕ) (flags : List Bool)
     → ((i : ℕ) → i < n → slice_index_or flags i false ≡ false) → slice_index_or flags n false ≡ true
     → slice_get (standing_from place flags) 0 ≡ Some (place + n)
@@ -28,6 +29,7 @@ first_standing place (suc n) (flag ∷ flags) clear is =
     ap (λ b. slice_get (if b then place ∷ standing_from (place + 1) flags else standing_from (place + 1) flags) 0) (clear 0 (omega arith))
     ∙ (first_standing (place + 1) n flags (λ i low. clear (suc i) (omega arith)) is ∙ ap Some (omega arith))
 
+-- a list whose flags are all clear has no place that stands
 none_standing : (place : ℕ) (flags : List Bool)
     → ((i : ℕ) → slice_index_or flags i false ≡ false) → standing_from place flags ≡ []
 none_standing place [] clear = refl
@@ -93,6 +95,7 @@ module _ (capacity : ℕ) (words : List ℕ) (fits : Represents capacity words) 
       sym (ap (stands words) is) ∙ clear j (omega arith))
       passed
 
+  -- a place that stands, where those passed before it are clear, is the next place
   pub next_is : (k : ℕ) → k < capacity → Clear k → stands words (at k) ≡ true
       → next_place (places_in capacity words) ≡ Some (at k)
   next_is k few clear is =
@@ -115,6 +118,7 @@ module _ (capacity : ℕ) (words : List ℕ) (fits : Represents capacity words) 
       ∙ (found ∙ ap Some (let e = here in omega arith)))
       (cases_lt (start + k) capacity)
 
+  -- where all places are clear there is no next place
   pub none_is : Clear capacity → next_place (places_in capacity words) ≡ None
   none_is clear =
       let s = fits.start in
@@ -167,6 +171,7 @@ module _ (capacity : ℕ) (words : List ℕ) (fits : Represents capacity words) 
     near : element_of place < length words
     near = let long = fits.long in let w = within in omega arith
 
+    -- at a place that stands the search clears it and ends with it
     finds : Clear k → has_flag found place ≡ true → (most : ℕ) → 3 ≤ most → Comes most k
     finds clear is most room =
         let small = fits.small in
@@ -227,6 +232,7 @@ module _ (capacity : ℕ) (words : List ℕ) (fits : Represents capacity words) 
         holds = rest.holds;
       }
 
+  -- from where so many places have been passed the search ends
   scan : (n k : ℕ) → k + suc n ≡ capacity → Clear k → Comes (suc (suc (suc n))) k
   scan zero k is clear = grind (arith, finds, comes_round, cases_Bool, stands)
   scan (suc n) k is clear =
@@ -243,6 +249,7 @@ module _ (capacity : ℕ) (words : List ℕ) (fits : Represents capacity words) 
   nowhere : capacity ≡ 0 → ResetRuns (first_reset capacity)
   nowhere = grind (arith, none_is, false, by_test, true≢false, without, nat_tests)
 
+  -- a reset that runs alone does what it should, from the start of the search
   from_start : (n : ℕ) → suc n ≡ capacity → ResetRuns (first_reset capacity)
   from_start n is =
       let small = fits.small in

@@ -35,6 +35,7 @@ module _ (capacity place : ℕ) (low : place < capacity) (words : List ℕ) (fit
   stood : has_flag found place ≡ true → SetRuns first_set
   stood = grind (arith, map_changed, stands, false, by_test, has_flag, true≢false, flag_at)
 
+  -- a place that is clear is set as it should be
   clear : has_flag found place ≡ false → SetRuns first_set
   clear is =
       let written : (if found == found then now else words) ≡ now =

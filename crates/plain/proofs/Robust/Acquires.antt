@@ -38,6 +38,7 @@ module _ (capacity owner g : ℕ) (cells : List ℕ) (small : g < 2 ^ 64) (long 
       → Ends (suc (suc n)) P (at_acquire first (acquires.Raises index raises.LoadsCounter)) (g ∷ cells₂)
   raises_on = grind (arith, part_walks, raise_walks)
 
+  -- from this index on the acquire fills the first cell that is free, or finds that none is
   tries : (P : Acquired → List ℕ → Type 0) → g ≢ locked → (rest : List ℕ) (index : ℕ) → drop index cells ≡ rest
       → ((i : ℕ) → i ≡ index + front rest → i < capacity → P (Ok i) (next_generation g ∷ slice_set cells i owner))
       → (front rest ≡ length rest → P (Err failures.OutOfIndices) (g ∷ cells))
@@ -90,6 +91,7 @@ module _ (capacity owner g : ℕ) (cells : List ℕ) (small : g < 2 ^ 64) (long 
   so : (e : Acquired) (last : List ℕ) → Represents capacity last → acquired old ≡ e → owners_in last ≡ granted old owner e → Took e last
   so e last fits is next = (fits, sym is, next ∙ ap (granted old owner) (sym is))
 
+  -- an acquire that runs alone takes an index of the map, or says why not
   pub take_walks : 1 ≤ capacity → Ends (suc (suc (suc (suc (suc (length cells)))))) Took first (g ∷ cells)
   take_walks some =
       let kept = some_cells some g cells refl small in

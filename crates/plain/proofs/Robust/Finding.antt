@@ -51,6 +51,8 @@ module _ {F : Type 0} (step : F → ℕ → CallbackProgression → F → Type 0
   found_all before now n joined calls number =
       record { before = before; now = now; calls = calls; ended = inl (sym (append-nil before) ∙ joined, refl, number) }
 
+  -- over the cells that are left the find halts where it ends, or where it asks about the next
+  -- index of the owner
   goes_on : (rest before left : List ℕ) (now : F) (a : After Find ℕ) (done : ℕ) → length rest ≤ capacity → before ++ left ≡ all
       → FoldsTo (λ p x q. step p x Continue q) f before now → length before ≡ done → done ≤ capacity
       → Goes (λ c. find_want c) (λ c old. find_after c owner old) (suc (length rest)) (StopsAt capacity owner g cells long few lives done left) a (g ∷ cells)
@@ -69,6 +71,7 @@ module _ {F : Type 0} (step : F → ℕ → CallbackProgression → F → Type 0
       }
   goes_on rest before left now (Done n) done short joined calls number low t = grind (arith, found_all)
 
+  -- a find that begins has come to nothing yet
   pub begins : 1 ≤ capacity → Finding 0 (first_find capacity) f
   begins some =
       let starts : find_comes_to (first_find capacity) 0 0 ≡ GoOn (first_find capacity) =
@@ -98,6 +101,7 @@ module _ {F : Type 0} (step : F → ℕ → CallbackProgression → F → Type 0
       pub same : last ≡ g ∷ cells
       same = at.same
 
+      -- told to go on it is under way with one index more; told to stop, it has found this one
       pub onward : (a : CallbackProgression) (next : F) → step now (index_in question) a next
           → Onward (done + 1) (find_after asks owner (as_answer a)) next
       onward Continue next t =
@@ -142,6 +146,7 @@ module _ {F : Type 0} (step : F → ℕ → CallbackProgression → F → Type 0
       → CanStop want find_after kept owner call tt words
   can_go = grind (arith, can_stop)
 
+  -- over any words: where it ends it has found what it says, and the words are as they were
   pub ended_so : (first : List ℕ) (done : ℕ) (call : Find) (now : F) (words : List ℕ) (n : ℕ) (r : Unit {0}) (last : List ℕ)
       → Searching first done call now words
       → StopsAlike want find_after kept owner call tt words (stops.Ended n) r last
@@ -152,6 +157,7 @@ module _ {F : Type 0} (step : F → ℕ → CallbackProgression → F → Type 0
       (stops_so want find_after kept owner _ call tt (g ∷ cells) t.4.run (stops.Ended n) r last
       (subst (λ ws. StopsAlike want find_after kept owner call tt ws (stops.Ended n) r last) t.3 alike))
 
+  -- over any words: the index that it asks about is one that the closure may get
   pub may_so : (first : List ℕ) (done : ℕ) (call : Find) (now : F) (words : List ℕ) (question : Question (Unit {0}))
       (asks : Find) (r : Unit {0}) (last : List ℕ)
       → Searching first done call now words
@@ -170,6 +176,7 @@ module _ {F : Type 0} (step : F → ℕ → CallbackProgression → F → Type 0
       → Onward step f capacity owner g cells long few lives done a now → Further (g ∷ cells) done a now words
   further = grind arith
 
+  -- over any words: told to go on, it is under way still
   pub goes_further : (first : List ℕ) (done : ℕ) (call : Find) (now : F) (words : List ℕ)
       (question : Question (Unit {0})) (asks : Find) (r : Unit {0}) (last : List ℕ)
       → Searching first done call now words
@@ -184,6 +191,7 @@ module _ {F : Type 0} (step : F → ℕ → CallbackProgression → F → Type 0
       (same step f capacity owner g cells t.0 t.1 t.2 done call now t.4 last question asks at)
       (onward step f capacity owner g cells t.0 t.1 t.2 done call now t.4 last question asks at a next called)
 
+  -- over any words: told either, it is under way or has found what it says
   pub further_so : (first : List ℕ) (done : ℕ) (call : Find) (now : F) (words : List ℕ)
       (question : Question (Unit {0})) (asks : Find) (r : Unit {0}) (last : List ℕ)
       → Searching first done call now words

@@ -25,6 +25,7 @@ module _ (owner : ℕ) where
   pub hits : (index c : ℕ) (rest : List ℕ) → owner < empty → c ≡ owner → mine index (c ∷ rest) ≡ index ∷ mine (index + 1) rest
   hits = grind (arith, taken_from, map, owner_some, cond, filter, eq-eqb)
 
+  -- a cell with another owner adds no index
   pub misses : (index c : ℕ) (rest : List ℕ) → c ≢ owner → mine index (c ∷ rest) ≡ mine (index + 1) rest
   misses index c rest n =
       ⊎_elim
@@ -54,6 +55,7 @@ module _ (capacity owner g : ℕ) (cells : List ℕ) (long : length cells ≡ ca
   StopsAt count left (Ended n) last = (left ≡ []) × (n ≡ count) × (last ≡ g ∷ cells)
   StopsAt count left (Asked question call) last = AsksAt count left question call last
 
+  -- over the cells that are left the find stops at the next index of the owner, or at its end
   pub finds_on : (rest : List ℕ) (index count : ℕ) (left : List ℕ) → drop index cells ≡ rest → count ≤ index → left ≡ mine owner index rest
       → Goes (λ c. find_want c) (λ c old. find_after c owner old) (suc (length rest)) (StopsAt count left)
       (find_comes_to (first_find capacity) index count) (g ∷ cells)

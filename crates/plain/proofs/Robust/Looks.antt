@@ -18,6 +18,7 @@ module _ (capacity g : ℕ) (cells : List ℕ) (small : g < 2 ^ 64) (long : leng
   abbrev pub Counted : ℕ → List ℕ → Type 0
   Counted end last = BehavesAs (Represents capacity) owners_in borrowed raised (g ∷ cells) end last
 
+  -- a count of borrowed indices is walked over the counter and the cells
   pub borrowed_walks : 1 ≤ capacity
       → Walks (λ (c : BorrowedIndices). borrowed_want c) (λ c old. borrowed_after c old)
       (plus (suc (suc (suc (length cells)))) 0) (OnEnd Counted) (first_borrowed capacity) (g ∷ cells)
@@ -37,6 +38,7 @@ module _ (capacity g : ℕ) (cells : List ℕ) (small : g < 2 ^ 64) (long : leng
         refl,
       )))
 
+  -- a count of borrowed indices that runs alone answers that number
   pub borrowed_runs : 1 ≤ capacity
       → Runs (λ (c : BorrowedIndices) (given : Unit {0}). borrowed_want c) (λ c given old. borrowed_after c old)
       (λ c (room : Unit {0}) old. room) tt (λ e room ws. Counted e ws) (first_borrowed capacity) tt (g ∷ cells)
@@ -55,6 +57,7 @@ module _ (capacity g : ℕ) (cells : List ℕ) (small : g < 2 ^ 64) (long : leng
 
 -- ---- the same over any words that fit
 
+-- so it is over any words that fit
 pub borrowed_at : (capacity : ℕ) (call : BorrowedIndices) → call ≡ first_borrowed capacity → (words : List ℕ) → Represents capacity words
     → Runs (λ (c : BorrowedIndices) (given : Unit {0}). borrowed_want c) (λ c given old. borrowed_after c old) (λ c (room : Unit {0}) old. room) tt
     (λ e room ws. BehavesAs (Represents capacity) owners_in borrowed raised words e ws) call tt words

@@ -19,6 +19,7 @@ use Rattle.plain.proofs.Walks.{plus, Walks, Goes, OnEnd, part_walks}
 
 -- ---- a place in the cells, with what stands from there on
 
+-- at this index there is a cell, with this word, and the rest of the cells stands behind it
 pub record Here (cells : List ℕ) (index word : ℕ) (rest : List ℕ) : Type 0 where
   pub near : index < length cells
   pub word_is : slice_index cells index ≡ word
@@ -140,6 +141,8 @@ module _ (capacity g : ℕ) (cells : List ℕ) (small : g < 2 ^ 64) (long : leng
       scans P total h other rest (index + 1) (one_more filled) at.rest_is (omega arith) (omega arith)))
       (λ t. let far : capacity ≤ index = grind (arith, nat_tests) in absurd (omega arith))
 
+  -- a count ends with `Locked` where the counter says so, and else with the number of filled cells
+  -- and the next generation
   pub count_walks : (P : Counted → List ℕ → Type 0)
       → (g ≡ locked → P ends.Locked (g ∷ cells))
       → (g ≢ locked → P (ends.Filled (number cells) (next_generation g)) (next_generation g ∷ cells))
@@ -153,6 +156,7 @@ module _ (capacity g : ℕ) (cells : List ℕ) (small : g < 2 ^ 64) (long : leng
   next_open : g ≢ locked → next_generation g ≢ locked
   next_open = grind (arith, next_below, next_there)
 
+  -- a lock ends with the state of the counter that it leaves
   pub lock_walks : (P : ReleaseState → List ℕ → Type 0) → P (state_number (locking g cells)) ((locking g cells) ∷ cells)
       → Walks lock_want (lock_after capacity) (plus (suc (suc (suc (length cells)))) 1) (OnEnd P) first_lock (g ∷ cells)
   lock_walks P h =

@@ -32,6 +32,7 @@ holds_none false = Unit {0}
 
 -- ---- numbers of taken indices
 
+-- there are no more taken indices than indices
 taken_most : (i : ℕ) (os : List (Option ℕ)) → length (taken_from i os) ≤ length os
 taken_most i [] = (let z : 0 ≤ 0 = omega arith in z)
 taken_most i (None ∷ os) =
@@ -170,6 +171,7 @@ module _ {F S : Type 0} (step : F → ℕ → ℕ → Bool → F → Type 0) (te
     short : length at.rest ≤ capacity
     short = grind (arith, length-drop, length, long)
 
+    -- told no, it is under way with one question more, and no cell is emptied
     on_no : (p₂ : F) → step p at.owner at.index false p₂
         → Recovering (done + 1)
         (at_recover (first_recover capacity)
@@ -283,6 +285,7 @@ module _ {F S : Type 0} (step : F → ℕ → ℕ → Bool → F → Type 0) (te
           subst (λ (z : ℕ × ℕ). pre p z.0 z.1) (λ i. (sym owner_is i, sym index_is i))
           (may.at t.asked p it left_then t.answers asked_so)
 
+      -- an index that was given back on a yes is one that the other closure may be told
       pub may_tell : {pre : S → ℕ → ℕ → Type 0} → TakesFreed step pre tell (to_recover old) f s → (p₂ : F) (b : Bool)
           → step p owner index b p₂ → IsTrue b → pre q owner index
       may_tell {pre} may p₂ true called agrees =
@@ -306,6 +309,7 @@ module _ {F S : Type 0} (step : F → ℕ → ℕ → Bool → F → Type 0) (te
 
 module _ {F S : Type 0} (step : F → ℕ → ℕ → Bool → F → Type 0) (tell : S → ℕ → ℕ → S → Type 0) (mode : ReleaseMode)
     (f : F) (s : S) (capacity : ℕ) where
+  -- from its begin the recovery stops at the first taken index, or at its end
   begin_walk : (g : ℕ) (cells : List ℕ) → length cells ≡ capacity
       → Walks (λ c. recover_want c) (λ c old. recover_after c mode old) (suc (suc (suc (length cells))))
       (StopsAt capacity g cells (to_recover (owners_in (g ∷ cells)))) (first_recover capacity) (g ∷ cells)
@@ -321,6 +325,7 @@ module _ {F S : Type 0} (step : F → ℕ → ℕ → Bool → F → Type 0) (te
       (λ other. recovers_on capacity mode g cells long cells 0 (to_recover (owners_in (g ∷ cells))) refl
       (ap (λ b. if b then [] else taken (owners_in (g ∷ cells))) (ne_eqb g locked other)))
 
+  -- a recovery that begins has asked nothing yet
   pub starts : (first : List ℕ) (call : Recover) → call ≡ first_recover capacity → Represents capacity first
       → Recovering step tell mode f s capacity first 0 call f s first
   starts [] call is fits = let e : 0 ≡ 1 + capacity = fits.long in absurd (omega arith)
@@ -348,6 +353,7 @@ module _ {F S : Type 0} (step : F → ℕ → ℕ → Bool → F → Type 0) (te
             (omega arith) (begin_walk g cells long));
       }
 
+-- a recovery asks fewer questions than a driver counts
 pub few_rounds : {F S : Type 0} (step : F → ℕ → ℕ → Bool → F → Type 0) (tell : S → ℕ → ℕ → S → Type 0) (mode : ReleaseMode)
     (f : F) (s : S) (capacity : ℕ) (first : List ℕ) → Represents capacity first → (done : ℕ) (call : Recover) (p : F) (q : S) (words : List ℕ)
     → Recovering step tell mode f s capacity first done call p q words → done < 2 ^ 64 - 1

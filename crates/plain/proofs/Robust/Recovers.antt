@@ -45,6 +45,7 @@ module _ (capacity : ℕ) (mode : ReleaseMode) where
   abbrev first : Recover
   first = first_recover capacity
 
+  -- over the cells that are left the recovery stops at the next taken index, or at its end
   pub recovers_on : (g : ℕ) (cells : List ℕ) → length cells ≡ capacity → (rest : List ℕ) (index : ℕ) (left : List Owned)
       → drop index cells ≡ rest → left ≡ taken_from index (map owner_in rest)
       → Goes want after (suc (suc (length rest))) (StopsAt capacity g cells left) (recover_comes_to first index) (g ∷ cells)
@@ -106,6 +107,7 @@ module _ (capacity g : ℕ) (cells : List ℕ) (small : g < 2 ^ 64) (long : leng
       (recover_comes_to (first_recover capacity) (index + 1)) (n ∷ emptied)
   then_on = grind (arith, recovers_on, emptied_long, drop-set-lt, empty)
 
+  -- in the mode that locks, the lock is walked, and the recovery goes on to where it stops next
   locks_on : (counter : ℕ) → counter < 2 ^ 64
       → Ends LockIfLastIndex rounds (locking counter emptied) (at (recovers.Locks index first_lock)) (counter ∷ emptied)
   locks_on counter low =
@@ -115,6 +117,7 @@ module _ (capacity g : ℕ) (cells : List ℕ) (small : g < 2 ^ 64) (long : leng
       (StopsAt capacity (locking counter emptied) emptied left_then) first_lock (counter ∷ emptied)
       (lock_walks capacity counter emptied low emptied_long few _ (then_on LockIfLastIndex (locking counter emptied)))
 
+  -- in either mode the raise is walked, and what follows it, to where the recovery stops next
   raises_on : (mode : ReleaseMode)
       → Ends mode (suc (suc rounds)) (counter_then mode g emptied) (at (recovers.Raises index raises.LoadsCounter)) (g ∷ emptied)
   raises_on Default =

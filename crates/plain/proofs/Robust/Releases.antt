@@ -70,6 +70,8 @@ module _ (capacity index owner g : ℕ) (cells : List ℕ) (small : g < 2 ^ 64) 
   abbrev answer : ReleaseMode → Released
   answer mode = Ok (release_state mode (owners_in (counter_then mode g emptied ∷ emptied)))
 
+  -- with the cell emptied the release raises the counter, locks in the mode that locks, and ends
+  -- with the answer of its mode
   raises_on : (mode : ReleaseMode) (P : Released → List ℕ → Type 0) → P (answer mode) (counter_then mode g emptied ∷ emptied)
       → Ends mode (suc (suc fuel)) P (at_release first (releases.Raises raises.LoadsCounter)) (g ∷ emptied)
   raises_on Default P h =
@@ -100,6 +102,8 @@ module _ (capacity index owner g : ℕ) (cells : List ℕ) (small : g < 2 ^ 64) 
   has_is : has old index owner ≡ (slice_index (g ∷ cells) (cell_word index) == owner)
   has_is = grind (arith, owns, get_or-map, owns_is, next_cell)
 
+  -- a release is walked, whether the index is the owner's or not, and does to the owners what it
+  -- should
   pub give_walks : (mode : ReleaseMode) → 1 ≤ capacity → Ends mode (suc (suc (suc fuel))) (GaveBack mode) first (g ∷ cells)
   give_walks mode some =
       by_eq (λ a. From mode (suc (suc fuel)) (GaveBack mode) a
@@ -125,6 +129,7 @@ module _ (capacity index owner g : ℕ) (cells : List ℕ) (small : g < 2 ^ 64) 
         sym (ap (λ b. if b then given_back mode old index else old) miss),
       ))
 
+  -- a release that runs alone does so
   pub give_runs : (mode : ReleaseMode) → 1 ≤ capacity
       → Runs release_want release_after (λ c (room : Unit {0}) old. room) (given mode) (λ e room ws. GaveBack mode e ws) first tt (g ∷ cells)
   give_runs mode some =

@@ -121,6 +121,7 @@ module _ (capacity : ℕ) where
     kept_next : (i : ℕ) → i < capacity → slice_index (last words) (next_word i) ≡ slice_index words (next_word i)
     kept_next = grind (arith, get_or-set_other, next_word, flag)
 
+    -- the free indices are then those behind the top
     last_free : free_in capacity (last words) ≡ chain words (next words) m
     last_free =
         let number : capacity - borrowed_number (slice_index (last words) 0) ≡ m =
@@ -131,6 +132,7 @@ module _ (capacity : ℕ) where
         (λ i. chain (last words) (start i) (number i))
         ∙ sym (chain_same words (last words) (next words) m (λ i h. sym (kept_next i (rest_below i h))))
 
+    -- the words then fit still
     last_fits : Represents capacity (last words)
     last_fits =
         let apart = one_less (p words) (chain words (next words) m) (subst (IsDistinct eqb) free_is fits.distinct) in
@@ -156,6 +158,7 @@ module _ (capacity : ℕ) where
     last_took : Took words (Ok (p words)) tt (last words)
     last_took = grind (arith, last_fits, answers, top, free_is, last_free, drop, locked, last_unlocked, leaves)
 
+  -- an acquire that runs alone takes the top of the stack, or says why not
   runs_first : (words : List ℕ) → Represents capacity words → TakeRuns (first_acquire capacity) words
   runs_first words fits =
       ⊎_elim (λ shut. record {

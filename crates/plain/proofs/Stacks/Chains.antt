@@ -48,6 +48,7 @@ one_less i xs h = (not_in i xs h.0, h.1)
 
 -- ---- the chain of next indices
 
+-- a chain is the same over two lists of words that link each of its indices alike
 pub chain_same : (ws vs : List ℕ) (k n : ℕ)
     → ((i : ℕ) → is_in i (chain ws k n) ≡ true → slice_index ws (next_word i) ≡ slice_index vs (next_word i))
     → chain ws k n ≡ chain vs k n

@@ -22,6 +22,7 @@ one_linked = grind (arith, length-set, get_or-set_other, get_or-set_same, false,
 
 -- ---- the numbers of a range
 
+-- a number of a range is in it
 pub in_range : (i a n : ℕ) → a ≤ i → i < a + n → is_in i (range_with_len a n) ≡ true
 in_range i a zero low high = absurd (omega arith)
 in_range i a (suc n) low high =
@@ -31,6 +32,7 @@ in_range i a (suc n) low high =
     in_rest i a (range_with_len (a + 1) n) (in_range i (a + 1) n (omega (arith, other)) (omega arith)))
     (eqb_tells i a)
 
+-- and what is in it lies within its bounds
 pub range_within : (i a n : ℕ) → is_in i (range_with_len a n) ≡ true → (a ≤ i) × (i < a + n)
 range_within i a zero h = absurd (true≢false (sym h))
 range_within i a (suc n) h =
@@ -40,6 +42,7 @@ range_within i a (suc n) h =
     let low = r.0 in let high = r.1 in (omega arith, omega arith))
     (eqb_tells i a)
 
+-- no number is in a range twice
 range_distinct : (a n : ℕ) → IsDistinct eqb (range_with_len a n)
 unfolding IsDistinct
 range_distinct a zero = tt
@@ -53,6 +56,7 @@ range_distinct a (suc n) =
 
 module _ (capacity : ℕ) (words : List ℕ) (some : 1 ≤ capacity) (few : capacity ≤ 2 ^ 24 - 2)
     (h : Linked capacity capacity words) where
+  -- from each index on the chain is the rest of the indices in order
   chain_is : (i n : ℕ) → i + n ≡ capacity → chain words i n ≡ range_with_len i n
   chain_is i zero end = refl
   chain_is i (suc n) end =
@@ -66,6 +70,7 @@ module _ (capacity : ℕ) (words : List ℕ) (some : 1 ≤ capacity) (few : capa
   none_claimed : (i : ℕ) → claimed capacity words i ≡ false
   none_claimed i = ap (λ w. has_flag w i) (h.flags (flag_word capacity i) (omega arith))
 
+  -- the words of the open set fit
   fits : Represents capacity words
   fits =
       record {

@@ -122,6 +122,7 @@ module _ (M : Type 0) (capacity index : ℕ) (words : List ℕ) (fits : Represen
       Runs (release_want {M = M} false) (λ c given old. release_after false c old) (λ c (room : Unit {0}) old. room) index
       (Gave capacity index words) call tt words
 
+  -- a release in mode Default that runs alone puts the index on top of the stack
   gives_first : GiveRuns (first_release capacity)
   gives_first =
       let free_one = unlocked false capacity index words fits is_out in
@@ -226,6 +227,8 @@ module _ (M : Type 0) (capacity index : ℕ) (words : List ℕ) (fits : Represen
         },
       )
 
+  -- a release in mode LockIfLastIndex that runs alone does so, or locks where it was the last one
+  -- that was out
   locks_first : LockRuns (first_release capacity)
   locks_first =
       let free_one = unlocked true capacity index words fits is_out in

@@ -7,6 +7,7 @@ use Rattle.plain.proofs.States.Changing.{adds}
 use Rattle.plain.proofs.States.Showing.{updates}
 
 module _ {V : Type 0} where
+  -- after an add and an update a state follows the container, and shows its values
   pub shown_then : (old now last : Contents V) (owner : ℕ) (value : V) (seen after : Snapshot V) → MayChange old
       → Follows old seen → now ≡ after_add old owner value → last ≡ now → after ≡ updated now seen
       → Follows last after × (after.values ≡ last.values)

@@ -51,6 +51,7 @@ module _ {V : Type 0} where
     pub few : count_at t i ≤ count_at s i + 2
     pub even : is_even (count_at t i) ≡ true → value_at t i ≡ None
 
+  -- one change is counted, and each index is as it was or has moved
   pub record Moves (s t : Contents V) : Type 0 where
     pub counts : length t.counts ≡ length s.counts
     pub values : length t.values ≡ length s.values
@@ -59,6 +60,7 @@ module _ {V : Type 0} where
     pub at : (i : ℕ) → IsSame s t i ⊎ HasMoved s t i
 
   module _ (s t : Contents V) (c : IsCounted s) (m : Moves s t) where
+    -- contents that are counted are so still once they have moved
     counted_then : IsCounted t
     counted_then =
         record {
@@ -71,6 +73,7 @@ module _ {V : Type 0} where
           even = λ i e. ⊎_elim (λ same. same.1 ∙ c.even i (subst (λ n. is_even n ≡ true) same.0 e)) (λ moved. moved.even e) (m.at i);
         }
 
+    -- a snapshot that follows the contents follows them still once they have moved
     follows_then : (seen : Snapshot V) → Follows s seen → Follows t seen
     follows_then seen f =
         record {
@@ -110,11 +113,12 @@ module _ {V : Type 0} where
       -- by what stands there then, and by the number that it had
       here : (v : Option V) (b : Bool) → is_even n ≡ b → (count : ℕ) → count ≡ count_with v n → (w : Option V) → w ≡ v
           → ((count ≡ n) × (w ≡ value_at s index)) ⊎ ((n < count) × (count ≤ n + 2) × (is_even count ≡ true → w ≡ None))
-      here x0 x1 x2 x3 x4 x5 x6 = grind (arith, count_with, one_more, inl, small, inr, even_is, is_odd)
+      here v b is_even_is count count_is w w_is_v = grind (arith, count_with, one_more, inl, small, inr, even_is, is_odd)
 
       within : index < capacity s → (i : ℕ) → i ≡ index → IsSame s t i ⊎ HasMoved s t i
-      within x0 x1 x2 = grind (arith, inl, inr, here, get_or-set_same, count_with)
+      within index_below i i_is_index = grind (arith, inl, inr, here, get_or-set_same, count_with)
 
+      -- an index past the capacity changes nothing
       beyond : capacity s ≤ index → (i : ℕ) → IsSame s t i
       beyond past i =
           let counts = c.counts in
@@ -124,8 +128,9 @@ module _ {V : Type 0} where
           )
 
       there : (i : ℕ) → (i ≡ index → ⊥) → IsSame s t i
-      there x0 x1 = grind (arith, get_or-set_other, count_with)
+      there i not_i_is_index = grind (arith, get_or-set_other, count_with)
 
+      -- a change at one index moves the contents: they are as they were at every other
       changed_moves : Moves s t
       changed_moves =
           let far = may in
@@ -145,6 +150,7 @@ module _ {V : Type 0} where
 
 -- ---- the owners of so many indices
 
+-- giving an index back leaves as many owners
 given_back_long : (mode : ReleaseMode) (s : Owners) (index : ℕ) → owners.capacity (owners.given_back mode s index) ≡ owners.capacity s
 given_back_long Default s index = length-set s.owners index None
 given_back_long LockIfLastIndex s index =
@@ -161,6 +167,7 @@ given_back_long LockIfLastIndex s index =
 module _ {V : Type 0} where
   -- ---- each call
 
+  -- an add keeps that the contents are counted, and that a snapshot follows them
   pub adds : (s : Contents V) (owner : ℕ) (value : V) → MayChange s → Keeps s (after_add s owner value)
   adds s owner value may = go (owners.acquired s.owners)
     where
@@ -168,6 +175,7 @@ module _ {V : Type 0} where
       go (Ok index) = changed_keeps s may (owners.granted s.owners owner (Ok index)) (length-set s.owners.owners index (Some owner)) index (Some value)
       go (Err failure) = keeps_same s
 
+  -- so does a remove
   pub removes : (s : Contents V) (handle : ContainerHandle) (mode : ReleaseMode) → MayChange s → Keeps s (after_remove s handle mode)
   removes s handle mode may = go (names s handle)
     where
@@ -175,6 +183,7 @@ module _ {V : Type 0} where
       go true = changed_keeps s may (owners.given_back mode s.owners handle.index) (given_back_long mode s.owners handle.index) handle.index None
       go false = keeps_same s
 
+  -- and a replace
   pub replaces : (s : Contents V) (handle : ContainerHandle) (value : V) → MayChange s → Keeps s (after_replace s handle value)
   replaces s handle value may = go (names s handle)
     where
@@ -183,7 +192,7 @@ module _ {V : Type 0} where
       go false = keeps_same s
 
   pub counts : (s : Contents V) → Keeps s (counted s)
-  counts x0 = grind (arith, counted)
+  counts s = grind (arith, counted)
 
   -- ---- indices are freed, as one change
 
@@ -193,6 +202,7 @@ module _ {V : Type 0} where
     pub even : is_even (count_at t i) ≡ true
     pub none : value_at t i ≡ None
 
+  -- no change is counted yet, and each index is as it was or has been freed
   pub record Frees (s t : Contents V) : Type 0 where
     pub counts : length t.counts ≡ length s.counts
     pub values : length t.values ≡ length s.values
@@ -229,12 +239,13 @@ module _ {V : Type 0} where
           both_so yes_so no_so = let same : true ≡ false = sym yes_so ∙ no_so in absurd (cc)
 
       freed_here : index < capacity s → (i : ℕ) → i ≡ index → IsSame s u i ⊎ HasGone s u i
-      freed_here x0 x1 x2 = grind (arith, inl, inr, gone, get_or-set_same)
+      freed_here index_below i i_is_index = grind (arith, inl, inr, gone, get_or-set_same)
 
       -- what is as it was in t
       by_last : (i : ℕ) → IsSame t u i → IsSame s u i ⊎ HasGone s u i
-      by_last x0 x1 = grind (arith, inl, inr)
+      by_last i same = grind (arith, inl, inr)
 
+      -- freeing an index past the capacity changes nothing
       freed_beyond : capacity s ≤ index → (i : ℕ) → IsSame t u i
       freed_beyond past i =
           let a = f.counts in
@@ -246,7 +257,7 @@ module _ {V : Type 0} where
           )
 
       freed_there : (i : ℕ) → (i ≡ index → ⊥) → IsSame t u i
-      freed_there x0 x1 = grind (arith, get_or-set_other)
+      freed_there i not_i_is_index = grind (arith, get_or-set_other)
 
       frees_more : Frees s u
       frees_more = grind (arith, counts, length-set, given_back_long, freed_here, by_last, freed_there, cases_eq, freed_beyond, capacity)
@@ -255,6 +266,7 @@ module _ {V : Type 0} where
     all_frees [] t f = f
     all_frees (o ∷ which) t f = all_frees which (freed mode t o.index) (frees_more t f o.index)
 
+    -- indices that are freed as one change move the contents
     recovered_moves : (which : List Owned) → Moves s (one_change (all_freed mode s which))
     recovered_moves which =
         let f = all_frees which s (record { counts = refl; values = refl; places = refl; changes = refl; at = λ i. inl (refl, refl) }) in

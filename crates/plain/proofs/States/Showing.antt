@@ -12,7 +12,7 @@ use Rattle.plain.specs.Following.{IsCounted, Follows}
 
 -- what stands in a list of one value, which is read past its end too
 same_all : {A : Type 0} (n i : ℕ) (x : A) → get_or (replicate n x) i x ≡ x
-same_all x0 x1 x2 = grind (arith, get_or-replicate, length-replicate, get_or_past)
+same_all n i x = grind (arith, get_or-replicate, length-replicate, get_or_past)
 
 zero_most : (n m : ℕ) → n ≡ 0 → n ≤ m
 zero_most n m e = omega arith
@@ -23,7 +23,7 @@ none_yet n m changes few none zero_is = omega arith
 
 module _ {V : Type 0} where
   pub opens : (size container : ℕ) → IsCounted {V = V} (opened size container)
-  opens x0 x1 = grind (arith, length-replicate, zero_most, same_all)
+  opens size container = grind (arith, length-replicate, zero_most, same_all)
 
   -- ---- brought up to date
 
@@ -38,6 +38,7 @@ module _ {V : Type 0} where
     abbrev now : List (Option V)
     now = map (value_then s seen) (range_with_len 0 (capacity s))
 
+    -- what it should show of an index then is what the contents have there
     value_is : (i : ℕ) → value_then s seen i ≡ get_or s.values i None
     value_is i = go (get_or s.counts i 0 == get_or seen.counts i 0) refl
       where
@@ -46,6 +47,7 @@ module _ {V : Type 0} where
         go true t = let same : get_or s.counts i 0 ≡ get_or seen.counts i 0 = grind (arith, nat_tests) in f.same i same
         go false t = refl
 
+    -- and so are all of the values
     now_is : now ≡ s.values
     now_is =
         let a = length-map-range_with_len (value_then s seen) 0 (capacity s) in
@@ -59,6 +61,7 @@ module _ {V : Type 0} where
     follows_now : Follows s then_seen
     follows_now = grind (arith, length-map-range_with_len, capacity, now_is)
 
+  -- a state that follows its container follows it when brought up to date, and shows its values
   pub updates : (s : Contents V) (seen : Snapshot V) → Follows s seen → Follows s (updated s seen) × ((updated s seen).values ≡ s.values)
   updates s seen f = go (s.changes == seen.changes) refl
     where
@@ -72,6 +75,7 @@ module _ {V : Type 0} where
 
   -- ---- a new state
 
+  -- a snapshot that shows nothing follows any contents that are counted
   blank_follows : (s : Contents V) → IsCounted s → Follows s (blank (capacity s))
   blank_follows s c =
       record {

@@ -13,6 +13,7 @@ use Rattle.steps.specs.Bits.Places.{first_place, places_in}
 
 -- ---- the numbers from a on
 
+-- the numbers of a range lie in it
 range_within : (a n : ℕ) → All (λ p. (a ≤ p) × (p < a + n)) (range_with_len a n)
 range_within a zero = All-nil (λ p. (a ≤ p) × (p < a + 0))
 range_within a (suc n) =
@@ -21,6 +22,7 @@ range_within a (suc n) =
     (λ p h. let l = h.0 in let r = h.1 in (omega arith, omega arith)) (range_with_len (a + 1) n)
     (range_within (a + 1) n))
 
+-- they rise
 range_rises : (a n : ℕ) → AllPairs (λ x y. x < y) (range_with_len a n)
 range_rises a zero = λ i j d lt within. absurd (omega arith)
 range_rises a (suc n) =
@@ -40,6 +42,7 @@ module _ (test : ℕ → Bool) (p : ℕ) where
       ∙ (ap (λ b. cond b 1 0 + times rest) (ne_eqb a p ne) ∙ (let z : 0 + times rest ≡ n = omega arith in z))
   head_other a rest n ne is false = is
 
+  -- a place outside a range is not among the range's numbers
   named_never : (a n : ℕ) → (p < a) ⊎ (a + n ≤ p) → times (filter test (range_with_len a n)) ≡ 0
   named_never a zero out = refl
   named_never a (suc n) out =
@@ -53,6 +56,7 @@ module _ (test : ℕ → Bool) (p : ℕ) where
       ∙ (ap (λ b. cond b 1 0 + times rest) (eq-eqb a p same) ∙ (let z : 1 + times rest ≡ 1 = omega arith in z))
   head_same a rest same is false = is
 
+  -- a place in a range is among those that pass the test once if it passes, and else never
   named_once : (a n : ℕ) → a ≤ p → p < a + n → times (filter test (range_with_len a n)) ≡ cond (test p) 1 0
   named_once a zero from to = absurd (omega arith)
   named_once a (suc n) from to =

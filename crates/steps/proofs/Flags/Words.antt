@@ -90,6 +90,7 @@ module _ (words : List ℕ) where
   pub set_stands : (p : ℕ) → element_of p < length words → stands (set words (element_of p) (with_flag (get_or words (element_of p) 0) p)) p ≡ true
   set_stands p near = stands_in (with_flag (get_or words (element_of p) 0) p) p near ∙ with_stands (get_or words (element_of p) 0) p
 
+  -- the flags of all other places are as before
   pub set_leaves : (p q : ℕ) → element_of p < length words → p ≢ q
       → stands (set words (element_of p) (with_flag (get_or words (element_of p) 0) p)) q ≡ stands words q
   set_leaves p q near ne =
@@ -107,6 +108,7 @@ module _ (words : List ℕ) where
   pub cleared_clear : (p : ℕ) → element_of p < length words → stands (set words (element_of p) (without_flag (get_or words (element_of p) 0) p)) p ≡ false
   cleared_clear p near = stands_in (without_flag (get_or words (element_of p) 0) p) p near ∙ without_clear (get_or words (element_of p) 0) p
 
+  -- the flags of all other places are as before
   pub cleared_leaves : (p q : ℕ) → element_of p < length words → p ≢ q
       → stands (set words (element_of p) (without_flag (get_or words (element_of p) 0) p)) q ≡ stands words q
   cleared_leaves p q near ne =

@@ -25,12 +25,14 @@ use Rattle.steps.specs.Bits.Looks.{is_set_want, is_set_after, count_want, count_
 use Rattle.steps.specs.Bits.ResetAll.{reset_all_want, reset_all_after, reset_all_kept, reset_all_left}
 use Rattle.steps.specs.declared.copied.OneWord.{OneWord}
 
+-- the set of a bit loads and exchanges
 pub set_tells : (stage : SetStage) (place : ℕ) (room : Unit {0}) (m n : ℕ)
     → IsTrue (is_store (set_asks stage place))
     → (set_takes stage place m ≡ set_takes stage place n) × (room ≡ room)
 set_tells sets.LoadsElement place room m n t = no_store t
 set_tells (sets.ExchangesElement found) place room m n t = no_store t
 
+-- the store of a reset_next tells it nothing
 pub reset_tells : (c : ResetNext) (stage : ResetNextStage) (room : Unit {0}) (m n : ℕ)
     → IsTrue (is_store (reset_asks c.capacity stage))
     → (reset_takes c stage m ≡ reset_takes c stage n) × (room ≡ room)
@@ -63,6 +65,7 @@ look_tells c place room m n t = no_store t
 pub look_fewer : (c d : Count) (n : ℕ) → count_after c n ≡ GoOn d → 0 < 0
 look_fewer c d n goes = cc
 
+-- a reset_all swaps, and stores nothing
 pub reset_all_tells : (c : ResetAll) (room : OneWord) (m n : ℕ)
     → IsTrue (is_store (reset_all_want c))
     → (reset_all_after c m ≡ reset_all_after c n)
@@ -78,6 +81,7 @@ abbrev reset_all_then : After ResetAll (Unit {0}) → ℕ
 reset_all_then (GoOn d) = reset_all_left d + 1
 reset_all_then (Done e) = 0
 
+-- after each swap of a reset_all, fewer words are left
 reset_all_nearer : (c : ResetAll) (n : ℕ)
     → reset_all_then (reset_all_after c n) ≤ reset_all_left c
 reset_all_nearer c n =

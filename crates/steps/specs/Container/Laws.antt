@@ -44,6 +44,7 @@ use Rattle.steps.specs.Container.Look.{look_asks, look_takes, look_keeps}
 -- ---- a store tells them nothing
 
 module _ {T : Type 0} (words_of : T → List ℕ) (size : ℕ) where
+  -- no store of an add tells it anything
   pub add_tells : (c : Add T) (stage : AddStage) (given : Owned T) (room : Unit {0}) (m n : ℕ)
       → IsTrue (is_store (add_asks words_of size c.capacity stage given))
       → (add_takes size c stage m ≡ add_takes size c stage n) × (room ≡ room)
@@ -58,6 +59,7 @@ module _ {T : Type 0} (words_of : T → List ℕ) (size : ℕ) where
   add_tells c (adds.AddsCount index) given room m n t = no_store t
   add_tells c (adds.AddsChange index) given room m n t = no_store t
 
+  -- nor does one of a replacement
   pub replace_tells : (c : Replace T) (stage : ReplaceStage) (given : Replacement T)
       (room : Unit {0}) (m n : ℕ)
       → IsTrue (is_store (replace_asks words_of size c.capacity stage given))
@@ -70,6 +72,7 @@ module _ {T : Type 0} (words_of : T → List ℕ) (size : ℕ) where
   replace_tells c replaces.AddsCount given room m n t = no_store t
   replace_tells c replaces.AddsChange given room m n t = no_store t
 
+-- a removal has no store but those of its release
 pub remove_tells : (c : Remove) (stage : RemoveStage) (given : GiveBack)
     (room : Unit {0}) (m n : ℕ) → IsTrue (is_store (remove_asks c.capacity stage given))
     → (remove_takes c stage given m ≡ remove_takes c stage given n) × (room ≡ room)
@@ -84,6 +87,7 @@ remove_tells c (removes.Hides count state) given room m n t = no_store t
 remove_tells c (removes.AddsChange state) given room m n t = no_store t
 
 module _ {T R : Type 0} (with_word : R → ℕ → ℕ → R) (size : ℕ) where
+  -- a find only loads
   pub find_tells : (c : Find T R) (stage : FindStage) (owner : ℕ) (room : R) (m n : ℕ)
       → IsTrue (is_store (find_asks size c.capacity stage))
       → (find_takes size c stage owner m ≡ find_takes size c stage owner n)
@@ -94,6 +98,7 @@ module _ {T R : Type 0} (with_word : R → ℕ → ℕ → R) (size : ℕ) where
   find_tells c (finds.ChecksCount index found count) owner room m n t = no_store t
   find_tells c (finds.Asks index found) owner room m n t = no_store t
 
+  -- a recovery has no store
   pub recover_tells : (c : Recover T R) (stage : RecoverStage) (given : DeadOwner)
       (room : R) (m n : ℕ) → IsTrue (is_store (recover_asks size c.capacity stage given.owner))
       → (recover_takes size c stage given m ≡ recover_takes size c stage given n)
@@ -113,6 +118,7 @@ module _ {T R : Type 0} (with_word : R → ℕ → ℕ → R) (size : ℕ) where
   recover_tells c (recovers.AddsChange state) given room m n t = no_store t
 
 module _ {T : Type 0} (value_of : List ℕ → T) (size : ℕ) where
+  -- a look only loads
   pub look_tells : (c : Look T) (stage : LookStage) (seen : Numbers) (s : Showing T)
       (m n : ℕ) → IsTrue (is_store (look_asks size c.capacity stage))
       → (look_takes size c stage seen m ≡ look_takes size c stage seen n)
@@ -130,6 +136,7 @@ module _ {T : Type 0} (size : ℕ) where
   replace_then (GoOn d) = replace_left size d.stage + 1
   replace_then (Done e) = 0
 
+  -- after each step of a replacement, fewer are left
   replace_stage_fewer : (c : Replace T) (stage : ReplaceStage) (given : Replacement T)
       (k : ℕ) → replace_then (replace_takes size c stage given k) ≤ replace_left size stage
   replace_stage_fewer c replaces.Refuses given k = omega arith
@@ -161,6 +168,7 @@ module _ {T R : Type 0} (size : ℕ) (few : size ≤ 128) where
   find_then (GoOn d) = find_left size d.capacity d.stage + 1
   find_then (Done e) = 0
 
+  -- to go on to the next index leaves fewer steps than are reckoned for this one
   next_nearer : (c : Find T R) (index found : ℕ)
       → find_then (find_comes_to c (index + 1) found) ≤ 140 * (c.capacity - index)
   next_nearer c index found =
@@ -169,6 +177,7 @@ module _ {T R : Type 0} (size : ℕ) (few : size ≤ 128) where
       (λ t. let further : index + 1 < c.capacity = grind (arith, nat_tests) in omega arith)
       (λ t. omega arith)
 
+  -- after each step of a find, fewer are left
   find_stage_fewer : (c : Find T R) (stage : FindStage) (owner k : ℕ)
       → find_then (find_takes size c stage owner k) ≤ find_left size c.capacity stage
   find_stage_fewer c (finds.LoadsCell index found) owner k =

@@ -1,8 +1,9 @@
 -- What the calls of the unique index set keep to: a store tells them nothing, and one that ends by
 -- itself comes nearer to its end at each step.
 use Rattle.std.specs.Prelude.{◌≡◌, ℕ, ◌+◌, ◌<◌, ◌≤◌, Bool, false, IsTrue, refl}
-use Rattle.std.proofs.Common.{arith, ap, sym, true≢false}
+use Rattle.std.proofs.Common.{arith, ap}
 use Rattle.steps.specs.Ask.{is_store}
+use Rattle.steps.specs.Laws.{no_store}
 use Rattle.steps.specs.Picks.{by_eq}
 use Rattle.steps.specs.Queues.Ring.{load}
 use Rattle.steps.specs.declared.ask.After.{After}
@@ -19,9 +20,7 @@ use Rattle.steps.specs.declared.indices.looks.IsLocked.{IsLocked}
 use Rattle.steps.specs.Indices.Unique.{acquire_asks, acquire_takes, at_release, release_asks, release_takes}
 use Rattle.steps.specs.Indices.Unique.{release_after, release_left, state_after, borrowed_after, locked_after}
 
-no_store : {A : Type 0} → IsTrue false → A
-no_store t = absurd (true≢false (sym t))
-
+-- an acquire has no store
 pub acquire_tells : (c : Acquire) (stage : AcquireStage) (room : Unit {0}) (m n : ℕ)
     → IsTrue (is_store (acquire_asks c.capacity stage))
     → (acquire_takes c stage m ≡ acquire_takes c stage n) × (room ≡ room)
@@ -32,6 +31,7 @@ acquire_tells c (acquires.Claims index) room m n t = no_store t
 acquire_tells c (acquires.Scans index) room m n t = no_store t
 
 module _ {M : Type 0} where
+  -- the store of a release tells it nothing
   pub release_tells : (lock : Bool) (c : Release M) (stage : ReleaseStage) (index : ℕ)
       (room : Unit {0}) (m n : ℕ) → IsTrue (is_store (release_asks lock c.capacity index stage))
       → (release_takes lock c stage m ≡ release_takes lock c stage n) × (room ≡ room)
@@ -45,6 +45,7 @@ module _ {M : Type 0} where
   release_then (GoOn d) = release_left d.stage + 1
   release_then (Done e) = 0
 
+  -- after each step of a release in the default mode, fewer are left
   release_stage_fewer : (c : Release M) (stage : ReleaseStage) (k : ℕ)
       → release_then (release_takes false c stage k) ≤ release_left stage
   release_stage_fewer c releases.ClearsFlag k = omega arith

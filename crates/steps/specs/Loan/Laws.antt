@@ -1,5 +1,5 @@
 -- What the calls of a loan channel keep to: a store tells them nothing.
-use Rattle.std.specs.Prelude.{◌≡◌, ℕ, false, IsTrue, List, if◌then◌else◌, refl}
+use Rattle.std.specs.Prelude.{◌≡◌, ℕ, Bool, false, IsTrue, List, if◌then◌else◌, refl}
 use Rattle.std.proofs.Common.{ap}
 use Rattle.steps.specs.Ask.{is_store}
 use Rattle.steps.specs.Indices.UniqueLaws.{release_tells}
@@ -28,6 +28,8 @@ use Rattle.steps.specs.declared.loan.take_back.TakeBack.{TakeBack}
 use Rattle.steps.specs.declared.loan.take_back.TakeBackStage.{TakeBackStage}
 use Rattle.steps.specs.declared.loan.take_back.TakeBackStage.TheVariants as take_backs
 use Rattle.steps.specs.declared.queues.overflow.PopStage.TheVariants as overflow_pops
+use Rattle.steps.specs.declared.queues.overflow.Push.{Push}
+use Rattle.steps.specs.declared.queues.overflow.PushEnd.{PushEnd}
 use Rattle.steps.specs.declared.queues.overflow.PushEnd.TheVariants.{Added}
 use Rattle.steps.specs.declared.queues.overflow.PushStage.TheVariants as pushes
 use Rattle.steps.specs.declared.queues.ring.PopStage.TheVariants as pops
@@ -39,17 +41,27 @@ shifted_store base (wants.Ask ask) t = t
 shifted_store base (wants.Question question) t = t
 shifted_store base wants.Nothing t = t
 
+-- a store by a part of a call tells the part nothing, wherever the part's words lie
 pub part_tells : {C E R : Type 0} (base : ℕ) (want : Want (Unit {0})) {a b : After C E} {x y : R}
     → (IsTrue (is_store want) → (a ≡ b) × (x ≡ y)) → IsTrue (is_store (shifted base want))
     → (part_after base a ≡ part_after base b) × (x ≡ y)
 part_tells base want told t =
     let same = told (shifted_store base want t) in (ap (part_after base) same.0, same.1)
 
+-- nor does a store of the release of a place
 back_tells : (slots index : ℕ) (stage : ReleaseStage) (m n : ℕ)
     → IsTrue (is_store (back_asks slots index stage)) → back_takes slots stage m ≡ back_takes slots stage n
 back_tells slots index stage m n t =
     (release_tells false (inner_release slots stage) stage index tt m n t).0
 
+-- after the store of the write position: the read position moves where the queue was full, else the value is added
+abbrev stored : Send → ℕ → ℕ → Bool → After Push PushEnd
+stored c write read full =
+    if full
+    then GoOn (overflow.at_push (send.inner_push c.queue (pushes.StoresWrite write read)) (pushes.MovesRead read))
+    else Done Added
+
+-- no store of a send tells it anything
 pub send_tells : (c : Send) (stage : SendStage) (given : ℕ) (room : Unit {0}) (m n : ℕ)
     → IsTrue (is_store (send.send_asks c.slots c.queue stage given))
     → (send.send_takes c stage given m ≡ send.send_takes c stage given n) × (room ≡ room)
@@ -61,14 +73,8 @@ send_tells c (sends.Pushes (pushes.StoresCell write read)) given room m n t =
     (refl, refl)
 send_tells c (sends.Pushes (pushes.StoresWrite write read)) given room m n t = (
   by_equal
-      (λ b. send.send_pushed c given m
-      (if b then GoOn
-      (overflow.at_push (send.inner_push c.queue (pushes.StoresWrite write read)) (pushes.MovesRead read))
-      else Done Added)
-      ≡ send.send_pushed c given n
-      (if b then GoOn
-      (overflow.at_push (send.inner_push c.queue (pushes.StoresWrite write read)) (pushes.MovesRead read))
-      else Done Added))
+      (λ full. send.send_pushed c given m (stored c write read full)
+      ≡ send.send_pushed c given n (stored c write read full))
       (distance write read) c.queue (λ e. refl) (λ e. refl),
   refl,
 )
@@ -79,6 +85,7 @@ send_tells c (sends.Pushes (pushes.LoadsCell read)) given room m n t =
 send_tells c (sends.Releases index stage) given room m n t =
     (ap (send.send_released c index) (back_tells c.slots index stage m n t), refl)
 
+-- nor do the stores of a take-back
 pub take_back_tells : (c : TakeBack) (stage : TakeBackStage) (room : Unit {0}) (m n : ℕ)
     → IsTrue (is_store (take_back.take_back_asks c.slots c.queue stage))
     → (take_back.take_back_takes c stage m ≡ take_back.take_back_takes c stage n) × (room ≡ room)
@@ -93,6 +100,7 @@ take_back_tells c (take_backs.Pops (pops.StoresRead read) found) room m n t =
 take_back_tells c (take_backs.Releases index stage) room m n t =
     (ap (take_back.take_back_released c index) (back_tells c.slots index stage m n t), refl)
 
+-- nor do those of a reclaim
 pub reclaim_tells : (c : Reclaim) (stage : ReclaimStage) (places : List Place)
     (room : Unit {0}) (m n : ℕ)
     → IsTrue (is_store (reclaim.reclaim_asks c.slots c.queue stage))

@@ -1,3 +1,4 @@
+-- `calls_end_if_fair` (src/going.rt): its return meets the clauses `kinds`, `robust` and `container`.
 use Rattle.headline.proofs.Idle as laws
 use Rattle.headline.proofs.going.calls_end_if_fair.Goals as goal
 

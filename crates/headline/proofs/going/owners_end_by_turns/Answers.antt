@@ -1,3 +1,5 @@
+-- `owners_end_by_turns` (src/going.rt): its return meets the clauses `robust_by_default`, `container_by_default`, `robust` and
+-- `container`.
 use Rattle.headline.proofs.Defaults as laws
 use Rattle.headline.proofs.going.owners_end_by_turns.Goals as goal
 

@@ -1,3 +1,5 @@
+-- The law `calls_end` (src/loads.rt; clauses `in_rounds`, `in_rounds_by_default`, `in_rounds_container`, `in_rounds_channel`,
+-- `by_turns`, `by_turns_channel` and `if_fair`): a call ends whose party goes on.
 use Rattle.headline.proofs.Nexts as nexts
 use Rattle.machine.proofs.Loads as laws
 use Rattle.headline.proofs.loads.calls_end.Goals as goal

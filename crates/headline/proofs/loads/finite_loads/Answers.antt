@@ -1,3 +1,5 @@
+-- The law `finite_loads` (src/loads.rt; clauses `load_ends`, `load_ends_by_default`, `load_ends_container` and `load_ends_channel`): a
+-- finite load ends.
 use Rattle.machine.proofs.Loads as laws
 use Rattle.headline.proofs.loads.finite_loads.Goals as goal
 

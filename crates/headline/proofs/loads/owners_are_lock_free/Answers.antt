@@ -1,3 +1,7 @@
+-- The law `owners_are_lock_free` (src/loads.rt; clauses `robust`, `robust_load`, `robust_if_fair`, `container`, `container_load` and
+-- `container_if_fair`): a robust index set and a container are lock-free in every run, whichever calls begin; two calls that lock can
+-- make each other begin again, but each time one of them has raised the counter of the set, which never falls; as numbers of steps their
+-- bounds say nothing of practice.
 use Rattle.machine.proofs.Loads as laws
 use Rattle.headline.proofs.loads.owners_are_lock_free.Goals as goal
 

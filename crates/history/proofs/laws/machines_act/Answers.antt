@@ -1,3 +1,4 @@
+-- `machines_act` (src/laws.rt): its return meets what it ensures (`ActsByPlace`).
 use Rattle.history.proofs.Acts.Machines as machines
 use Rattle.history.proofs.laws.machines_act.Goals as goal
 

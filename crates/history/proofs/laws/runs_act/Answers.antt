@@ -1,3 +1,4 @@
+-- `runs_act` (src/laws.rt): its return meets what it ensures (`ActsByPlace`).
 use Rattle.history.proofs.Acts.Laws as laws
 use Rattle.history.proofs.laws.runs_act.Goals as goal
 

@@ -1,3 +1,5 @@
+-- The law `runs_go_on` (src/laws.rt; clauses `calls`, `splits`, `joins`, `first` and `tables`): one run of the model is the whole life
+-- of a table.
 use Rattle.history.proofs.OneRun.{continues_further, continues_split, continues_join, knows_first, seats_know_one}
 use Rattle.history.proofs.laws.runs_go_on.Goals as goal
 

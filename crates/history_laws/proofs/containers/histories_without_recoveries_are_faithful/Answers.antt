@@ -1,3 +1,5 @@
+-- The law `histories_without_recoveries_are_faithful` (src/containers.rt): where no recovery began, nobody acts for an owner in
+-- recovery.
 use Rattle.history_laws.proofs.ContainerLaws.{none_recovers}
 use Rattle.history_laws.proofs.containers.histories_without_recoveries_are_faithful.Goals as goal
 

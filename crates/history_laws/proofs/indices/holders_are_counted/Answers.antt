@@ -1,3 +1,5 @@
+-- The law `holders_are_counted` (src/indices.rt): of the indices that count as in use, those that count as held are those that somebody
+-- holds.
 use Rattle.history_laws.proofs.IndicesLaws.{counted}
 use Rattle.history_laws.proofs.indices.holders_are_counted.Goals as goal
 

@@ -1,3 +1,5 @@
+-- The law `locks_are_final` (src/indices.rt; clauses `held` and `claimed`): once the set is locked, nobody holds an index, and none is
+-- claimed.
 use Rattle.history_laws.proofs.IndicesLaws.{held_none, claimed_none}
 use Rattle.history_laws.proofs.indices.locks_are_final.Goals as goal
 

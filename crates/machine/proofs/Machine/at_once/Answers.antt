@@ -1,3 +1,5 @@
+-- `Machine::at_once` (src/lib.rt): its call of `steps` meets what that requires, `self` meets the invariant of its type, and its return
+-- meets the clause `kept`.
 use Rattle.std.proofs.Common.{replicate, sym, subst}
 use Rattle.model.specs.Coding.{coding_by}
 use Rattle.model.specs.declared.turn.Turn.TheVariants.{Next}

@@ -1,3 +1,4 @@
+-- `Machine::keeps_guarantees` (src/lib.rt): its return meets what it ensures (`KeepsGuarantees`).
 use Rattle.std.proofs.Common.{subst}
 use Rattle.model.specs.Coding.{coding_by}
 use Rattle.model.specs.Turns.{IsReached}

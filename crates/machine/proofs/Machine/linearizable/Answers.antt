@@ -1,3 +1,4 @@
+-- `Machine::linearizable` (src/lib.rt): its return meets what it ensures (`IsLinearizableRun`).
 use Rattle.std.proofs.Common.{subst}
 use Rattle.model.specs.Coding.{coding_by}
 use Rattle.model.specs.Turns.{IsReached}

@@ -1,3 +1,4 @@
+-- `Machine::new` (src/lib.rt): its call of `made` meets what that requires.
 use Rattle.model.specs.Coding.{coding_by, IsCoding}
 use Rattle.model.specs.World.{opening_as}
 use Rattle.parts.specs.Parts.{trace_of}

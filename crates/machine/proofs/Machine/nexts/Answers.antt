@@ -1,3 +1,5 @@
+-- `Machine::nexts` (src/lib.rt): each iteration keeps the invariant of its loop, and its return meets the clauses `each_before` and
+-- `each`.
 use Rattle.std.proofs.Common.{◌≡◌, replicate, subst, arith}
 use Rattle.model.specs.Coding.{coding_by}
 use Rattle.model.specs.declared.turn.Turn.TheVariants.{Next}

@@ -1,3 +1,4 @@
+-- `Machine::reached` (src/lib.rt): its return meets what it ensures (`IsReached`).
 use Rattle.std.proofs.Common.{subst}
 use Rattle.model.specs.Coding.{coding_by}
 use Rattle.model.specs.Turns.{IsReached}

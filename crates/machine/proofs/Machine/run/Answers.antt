@@ -1,3 +1,4 @@
+-- `Machine::run` (src/lib.rt): its return meets the clause `each`.
 use Rattle.std.proofs.Math.Seq.{take-length}
 use Rattle.machine.proofs.Machine.run.Goals as goal
 

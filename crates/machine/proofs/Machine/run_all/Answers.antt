@@ -1,3 +1,5 @@
+-- `Machine::run_all` (src/lib.rt): the invariant of its loop holds at the start and after each iteration, and its return meets the
+-- clauses `refused`, `each_before` and `each`.
 use Rattle.std.proofs.Common.{◌≡◌, ◌<◌, IfSome, Some, length, take, slice_get, refl, sym, subst, ap, ◌∙◌, arith}
 use Rattle.std.proofs.Math.Seq.{take-length}
 use Rattle.std.proofs.lemmas.Option.{slice_get_read}

@@ -1,3 +1,5 @@
+-- `Machine::step` (src/lib.rt): its call of `step` meets what that requires, `self` meets the invariant of its type, and its return
+-- meets the clauses `allowed`, `ok`, `later`, `word`, `call`, `counts`, `others`, `tells`, `events` and `kept`.
 use Rattle.std.proofs.Common.{ap, sym, subst}
 use Rattle.model.specs.Coding.{coding_by}
 use Rattle.model.specs.World.{trace_in}

@@ -1,3 +1,6 @@
+-- The law `not_lock_free_below` (src/theorems.rt; clauses `index_queue`, `overflow`, `queue`, `value`, `bits`, `counts`, `robust` and
+-- `loan`): no such bound is less than these, at so many parties, this capacity and values of one word: there is a run of so many steps
+-- in which no call ends.
 use Rattle.laws_loan.proofs.WorkedLockFree as worked_loan
 use Rattle.model.proofs.WorkedLockFree as worked
 use Rattle.machine.proofs.Rounds as rounds

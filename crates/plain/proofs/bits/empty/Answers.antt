@@ -1,3 +1,5 @@
+-- `empty` (src/bits.rt): its call of `visit_element` meets the requirement `takes`, each iteration keeps the invariant of its loop, and
+-- its return meets the clauses `places` and `calls`.
 use Rattle.std.proofs.Common.{◌≡◌, subst, arith}
 use Rattle.steps.specs.Bits.Words.{elements}
 use Rattle.plain.proofs.Places.Empties.{Emptying, takes_element, empties_one, all_emptied, all_called}

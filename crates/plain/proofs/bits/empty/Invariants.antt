@@ -1,3 +1,5 @@
+-- `empty` (src/bits.rt): the loop over the words keeps that those before it are 0, and that the places that stood in
+-- them have been handed out.
 use Rattle.plain.proofs.Places.Empties.{Emptying}
 use Rattle.plain.proofs.bits.empty.Given as given
 

@@ -1,3 +1,4 @@
+-- `is_set` (src/bits.rt): its call of `drive` meets what that requires, and its return meets what it ensures.
 use Rattle.plain.proofs.Alone.{can_end, ends_so}
 use Rattle.plain.proofs.Places.Looks.{look_runs}
 use Rattle.plain.proofs.bits.is_set.Goals as goal

@@ -1,3 +1,4 @@
+-- `add` (src/container.rt): its call of `drive` meets what that requires, and its return meets what it ensures.
 use Rattle.plain.proofs.Alone.{can_end, ends_so}
 use Rattle.plain.proofs.Elements.Adds.{add_at}
 use Rattle.plain.proofs.Elements.Filled.{still, values_long, filled_add}

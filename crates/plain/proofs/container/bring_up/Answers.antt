@@ -1,3 +1,4 @@
+-- `bring_up` (src/container.rt): its call of `drive` meets what that requires, and its return meets the clauses `words` and `brought`.
 use Rattle.plain.proofs.Alone.{can_end, ends_so}
 use Rattle.plain.proofs.Elements.Updates.{look_runs}
 use Rattle.plain.proofs.Elements.Snapshots.{words_kept, brought_if, brought_not}

@@ -1,3 +1,4 @@
+-- `count` (src/container.rt): its call of `drive` meets what that requires, and its return meets what it ensures (`BehavesAs`).
 use Rattle.plain.proofs.Alone.{can_end, ends_so}
 use Rattle.plain.proofs.Elements.Looks.{count_at}
 use Rattle.plain.proofs.Elements.Filled.{still, filled_counted}

@@ -1,3 +1,4 @@
+-- `look` (src/container.rt): its call of `drive` meets what that requires, and its return meets what it ensures (`BehavesAs`).
 use Rattle.plain.proofs.Alone.{can_end, ends_so}
 use Rattle.plain.proofs.Elements.Looks.{look_at}
 use Rattle.plain.proofs.Elements.Filled.{still}

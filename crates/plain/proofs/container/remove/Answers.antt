@@ -1,3 +1,4 @@
+-- `remove` (src/container.rt): its call of `drive` meets what that requires, and its return meets what it ensures.
 use Rattle.plain.proofs.Alone.{can_end, ends_so}
 use Rattle.plain.proofs.Elements.Removes.{remove_at}
 use Rattle.plain.proofs.Elements.Filled.{still, filled_remove}

@@ -1,3 +1,4 @@
+-- `count` (src/counts.rt): its call of `drive` meets what that requires, and its return meets the clauses `answer` and `counts`.
 use Rattle.std.proofs.Common.{refl, arith, slice_index}
 use Rattle.plain.proofs.counts.count.Goals as goal
 

@@ -1,3 +1,5 @@
+-- `empty` (src/counts.rt): its call of `call_counted` meets what that requires, each iteration keeps the invariant of its loop, and its
+-- return meets the clauses `counts` and `calls`.
 use Rattle.std.proofs.Common.{◌≡◌, subst, arith}
 use Rattle.plain.proofs.Emptied.{Emptying, callable, empties_one, ends}
 use Rattle.plain.proofs.counts.empty.Given as given

@@ -1,3 +1,5 @@
+-- `empty` (src/counts.rt): the loop over the places keeps that the words before this one are 0, and that their counts
+-- have been handed out.
 use Rattle.plain.proofs.Emptied.{Emptying}
 use Rattle.plain.proofs.counts.empty.Given as given
 

@@ -1,3 +1,4 @@
+-- `set` (src/counts.rt): its call of `drive` meets what that requires, and its return meets the clauses `answer` and `counts`.
 use Rattle.std.proofs.Common.{refl, arith, slice_index}
 use Rattle.steps.specs.Objects.Counts.{counted}
 use Rattle.plain.proofs.counts.set.Goals as goal

@@ -1,3 +1,5 @@
+-- `drive_words_to_stop` (src/drive.rt): the invariant of its loop holds at the start and after each iteration, and its return meets what
+-- it ensures.
 use Rattle.std.proofs.Common.{arith}
 use Rattle.std.proofs.Common.{◌∙◌, sym, subst, ℕ, List}
 use Rattle.plain.specs.Alone.{StopsAlike}

@@ -1,3 +1,5 @@
+-- `drive_words_to_stop` (src/drive.rt): the loop keeps that the driver is under way from its first call, with so many
+-- steps done.
 use Rattle.plain.proofs.Alone.{Going}
 use Rattle.plain.proofs.drive.drive_words_to_stop.Given as given
 

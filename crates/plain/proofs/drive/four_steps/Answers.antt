@@ -1,3 +1,4 @@
+-- `four_steps` (src/drive.rt): its return meets what it ensures (`StopsOn`).
 use Rattle.plain.proofs.Alone.{more_steps}
 use Rattle.plain.proofs.drive.four_steps.Goals as goal
 

@@ -1,3 +1,4 @@
+-- `two_steps` (src/drive.rt): its return meets what it ensures (`StopsOn`).
 use Rattle.plain.proofs.Alone.{one_step, more_steps}
 use Rattle.plain.proofs.drive.two_steps.Goals as goal
 

@@ -1,3 +1,4 @@
+-- `add_and_show` (src/laws.rt): its return meets the clauses `follows` and `shows`.
 use Rattle.plain.specs.States.{snapshot_of}
 use Rattle.plain.proofs.States.Called.{shown_then}
 use Rattle.plain.proofs.laws.add_and_show.Goals as goal

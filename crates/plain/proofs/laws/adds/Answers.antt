@@ -1,3 +1,4 @@
+-- The law `adds` (src/laws.rt): an add keeps that.
 use Rattle.plain.proofs.States.Changing as laws
 use Rattle.plain.proofs.laws.adds.Goals as goal
 

@@ -1,3 +1,4 @@
+-- `len` (src/overflowing.rt): its call of `drive` meets what that requires, and its return meets what it ensures.
 use Rattle.std.proofs.Common.{subst, sym, ap}
 use Rattle.plain.specs.Overflowing.{list_in, Represents}
 use Rattle.plain.proofs.Alone.{can_end, ends_so}

@@ -1,3 +1,4 @@
+-- `pop` (src/overflowing.rt): its call of `drive` meets what that requires, and its return meets what it ensures.
 use Rattle.std.proofs.Common.{◌∙◌}
 use Rattle.plain.proofs.Alone.{can_end, ends_so}
 use Rattle.plain.proofs.Lists.Overflows.{pop_runs}

@@ -1,3 +1,4 @@
+-- `pop` (src/queues.rt): its call of `drive` meets what that requires, and its return meets what it ensures.
 use Rattle.std.proofs.Common.{refl, set, arith, ◌∙◌}
 use Rattle.plain.proofs.Names.{Buffer}
 use Rattle.plain.proofs.Alone.{can_end, ends_so}

@@ -1,3 +1,4 @@
+-- `push` (src/queues.rt): its call of `drive` meets what that requires, and its return meets what it ensures.
 use Rattle.plain.proofs.Alone.{can_end, ends_so}
 use Rattle.plain.proofs.Lists.Pushes.{push_runs}
 use Rattle.plain.proofs.queues.push.Goals as goal

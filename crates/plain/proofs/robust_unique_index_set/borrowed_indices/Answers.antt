@@ -1,3 +1,5 @@
+-- `borrowed_indices` (src/robust_unique_index_set.rt): its call of `drive` meets what that requires, and its return meets what it
+-- ensures.
 use Rattle.plain.proofs.Alone.{can_end, ends_so}
 use Rattle.plain.proofs.Robust.Looks.{borrowed_at}
 use Rattle.plain.proofs.robust_unique_index_set.borrowed_indices.Goals as goal

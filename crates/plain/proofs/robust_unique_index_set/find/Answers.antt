@@ -1,3 +1,5 @@
+-- `find` (src/robust_unique_index_set.rt): its calls of `drive_to_stop` and `visit_at` meet what those require, the invariant of its
+-- loop holds at the start and after each iteration, and its return meets the clauses `words` and `found`.
 use Rattle.std.proofs.Common.{arith}
 use Rattle.std.proofs.Common.{sym, ◌∙◌}
 use Rattle.plain.proofs.Robust.Finding.{starts, can_go, ended_so, may_so, further_so}

@@ -1,3 +1,4 @@
+-- `find` (src/robust_unique_index_set.rt): the loop keeps that the find is under way, with so many indices visited.
 use Rattle.plain.proofs.Robust.Finding.{Searching}
 use Rattle.plain.proofs.robust_unique_index_set.find.Given as given
 

@@ -1,3 +1,6 @@
+-- `recover` (src/robust_unique_index_set.rt): its calls of `drive_to_stop`, `ask_about`, `tell_where` and `unreachable` meet what those
+-- require, the invariant of its loop holds at the start and after each iteration, and its return meets the clauses `fits`, `state` and
+-- `calls`.
 use Rattle.std.proofs.Common.{sym, ◌∙◌, ◌<◌, ◌-◌, ◌^◌, arith}
 use Rattle.plain.proofs.Robust.Recovering.{starts, can_go, ended_so, asks_so, may_ask, may_tell, onward_so, few_rounds}
 use Rattle.plain.proofs.robust_unique_index_set.recover.Goals as goal

@@ -1,3 +1,4 @@
+-- `release` (src/robust_unique_index_set.rt): its call of `drive` meets what that requires, and its return meets what it ensures.
 use Rattle.plain.proofs.Alone.{can_end, ends_so}
 use Rattle.plain.proofs.Robust.Releases.{give_at}
 use Rattle.plain.proofs.robust_unique_index_set.release.Goals as goal

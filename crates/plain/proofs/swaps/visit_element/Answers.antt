@@ -1,3 +1,5 @@
+-- `visit_element` (src/swaps.rt): its call of `call_standing` meets what that requires, each iteration keeps the invariant of its loop,
+-- and its return meets what it ensures (`FoldsTo`).
 use Rattle.std.proofs.Common.{ap, ◌∙◌, arith}
 use Rattle.steps.specs.Bits.Words.{has_flag}
 use Rattle.steps.proofs.Flags.Words.{none_stands}

@@ -1,3 +1,5 @@
+-- `visit_element` (src/swaps.rt): the loop over the places of an element keeps that those before this one have been
+-- handed out.
 use Rattle.plain.proofs.Places.Empties.{Visiting}
 use Rattle.plain.proofs.swaps.visit_element.Given as given
 

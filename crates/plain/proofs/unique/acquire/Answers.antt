@@ -1,3 +1,4 @@
+-- `acquire` (src/unique.rt): its call of `drive` meets what that requires, and its return meets what it ensures (`BehavesAs`).
 use Rattle.plain.proofs.Alone.{can_end, ends_so}
 use Rattle.plain.proofs.Stacks.Acquires.{take_runs}
 use Rattle.plain.proofs.unique.acquire.Goals as goal

@@ -1,3 +1,4 @@
+-- `count` (src/unique.rt): its call of `drive` meets what that requires, and its return meets what it ensures (`BehavesAs`).
 use Rattle.plain.proofs.Alone.{can_end, ends_so}
 use Rattle.plain.proofs.Stacks.Looks.{count_runs}
 use Rattle.plain.proofs.unique.count.Goals as goal

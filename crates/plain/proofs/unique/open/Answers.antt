@@ -1,3 +1,4 @@
+-- `open` (src/unique.rt): its return meets what it ensures (`IfOk`).
 use Rattle.std.proofs.Common.{◌≡◌, subst, arith}
 use Rattle.plain.proofs.Stacks.Opened.{Linked, all_free}
 use Rattle.plain.proofs.unique.open.Goals as goal

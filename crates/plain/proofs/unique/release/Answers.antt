@@ -1,3 +1,4 @@
+-- `release` (src/unique.rt): its call of `drive` meets what that requires, and its return meets what it ensures (`BehavesAs`).
 use Rattle.plain.proofs.Alone.{can_end, ends_so}
 use Rattle.plain.proofs.Stacks.Releases.{give_runs}
 use Rattle.steps.specs.declared.indices.unique.DefaultMode.{DefaultMode}

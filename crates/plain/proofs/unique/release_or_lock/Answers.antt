@@ -1,3 +1,4 @@
+-- `release_or_lock` (src/unique.rt): its call of `drive` meets what that requires, and its return meets what it ensures.
 use Rattle.plain.proofs.Alone.{can_end, ends_so}
 use Rattle.plain.proofs.Stacks.Releases.{lock_runs}
 use Rattle.steps.specs.declared.indices.unique.LockMode.{LockMode}

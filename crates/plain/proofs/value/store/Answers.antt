@@ -1,3 +1,4 @@
+-- `store` (src/value.rt): its call of `drive` meets what that requires, and its return meets what it ensures.
 use Rattle.plain.proofs.Alone.{can_end, ends_so}
 use Rattle.plain.proofs.Values.{store_runs}
 use Rattle.plain.proofs.value.store.Goals as goal

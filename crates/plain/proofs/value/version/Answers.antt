@@ -1,3 +1,4 @@
+-- `version` (src/value.rt): its call of `drive` meets what that requires, and its return meets the clauses `answer` and `words`.
 use Rattle.std.proofs.Common.{refl, arith, slice_index}
 use Rattle.plain.proofs.value.version.Goals as goal
 

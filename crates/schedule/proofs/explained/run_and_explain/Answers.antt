@@ -1,3 +1,4 @@
+-- `run_and_explain` (src/explained.rt): its return meets what it ensures.
 use Rattle.std.proofs.Common.{None, Err}
 use Rattle.schedule.proofs.Known.{run_known, run_unread, told_alone}
 use Rattle.schedule.proofs.explained.run_and_explain.Goals as goal

@@ -1,3 +1,4 @@
+-- `put` (src/output.rt): each iteration keeps the invariant of its loop.
 use Rattle.std.proofs.Common.{refl}
 use Rattle.std.proofs.lemmas.List.{take_rest}
 use Rattle.schedule.proofs.Writing.{wrote_more, wrote_none}

@@ -1,3 +1,4 @@
+-- `put_events` (src/output.rt): each iteration keeps the invariant of its loop, and its return meets what it ensures (`Writes`).
 use Rattle.std.proofs.Common.{ap, ◌∙◌, ◌++◌, arith}
 use Rattle.std.proofs.KnownBytes.{Appends-trans}
 use Rattle.texts.specs.Print.{event_text}

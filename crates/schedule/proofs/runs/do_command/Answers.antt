@@ -1,3 +1,4 @@
+-- `do_command` (src/runs.rt): its return meets what it ensures (`Prints`).
 use Rattle.schedule.proofs.Turns.{once_told}
 use Rattle.schedule.proofs.runs.do_command.Goals as goal
 

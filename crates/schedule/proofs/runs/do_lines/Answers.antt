@@ -1,3 +1,5 @@
+-- `do_lines` (src/runs.rt): the invariant of its loop holds at the start and after each iteration, and its return meets what it ensures
+-- (`IsOutput`).
 use Rattle.std.proofs.Common.{[], refl, ap, length, arith}
 use Rattle.std.proofs.KnownBytes.{Appends-nil}
 use Rattle.schedule.specs.Output.{world_of}

@@ -1,3 +1,4 @@
+-- `do_text` (src/runs.rt): its call of `do_lines` meets what that requires, and its return meets what it ensures (`IsOutput`).
 use Rattle.std.proofs.Common.{sym, ◌∙◌, arith}
 use Rattle.schedule.specs.Output.{world_of}
 use Rattle.schedule.proofs.Whole.{few_lines, text_missing, text_malformed, text_unopened, text_lines, first_admitted, first_malformed}

@@ -1,3 +1,4 @@
+-- `run_in` (src/runs.rt): its call of `do_text` meets what that requires, and its return meets what it ensures (`IsRun`).
 use Rattle.std.proofs.Common.{arith}
 use Rattle.schedule.proofs.Whole.{flushed_end, flush_failed}
 use Rattle.schedule.proofs.runs.run_in.Goals as goal

@@ -1,3 +1,4 @@
+-- `take_nexts` (src/runs.rt): its call of `events_from` meets what that requires, and its return meets what it ensures (`Prints`).
 use Rattle.std.proofs.Common.{◌≡◌, ◌≤◌, ◌+◌, ◌++◌, ◌⊎◌, ◌≢◌, inl, inr, true, length, ap, sym, ◌∙◌, subst, arith}
 use Rattle.std.proofs.lemmas.List.{length-append}
 use Rattle.std.specs.Io.KnownBytes.{Appends}

@@ -1,3 +1,4 @@
+-- `take_turn` (src/runs.rt): its return meets what it ensures.
 use Rattle.std.proofs.Common.{◌++◌, ap, sym, ◌∙◌, subst}
 use Rattle.model.specs.Turns.{events_of}
 use Rattle.texts.specs.Print.{events_text}

@@ -54,6 +54,7 @@ lock_stores_not (locks.ExchangesCounter counter) t = no_store t
 
 -- ---- nor do the calls
 
+-- an acquire has no store
 pub acquire_tells : (c : Acquire) (stage : AcquireStage) (owner : ℕ)
     (room : Unit {0}) (m n : ℕ) → IsTrue (is_store (acquire_asks stage owner))
     → (acquire_takes c stage m ≡ acquire_takes c stage n) × (room ≡ room)
@@ -63,6 +64,7 @@ acquire_tells c (acquires.ChecksCounter counter) owner room m n t = no_store t
 acquire_tells c (acquires.Raises index raise) owner room m n t =
     raise_stores_not raise t
 
+-- a release has none
 pub release_tells : (c : Release) (stage : ReleaseStage) (given : GiveBack)
     (room : Unit {0}) (m n : ℕ) → IsTrue (is_store (release_asks stage given))
     → (release_takes c stage given m ≡ release_takes c stage given n) × (room ≡ room)
@@ -70,12 +72,14 @@ release_tells c releases.EmptiesCell given room m n t = no_store t
 release_tells c (releases.Raises raise) given room m n t = raise_stores_not raise t
 release_tells c (releases.Locks lock) given room m n t = lock_stores_not lock t
 
+-- a find only loads
 pub find_tells : (c : Find) (stage : FindStage) (owner : ℕ) (room : Unit {0}) (m n : ℕ)
     → IsTrue (is_store (find_asks stage))
     → (find_takes c stage owner m ≡ find_takes c stage owner n) × (room ≡ room)
 find_tells c (finds.LoadsCell index found) owner room m n t = no_store t
 find_tells c (finds.Asks index found) owner room m n t = no_store t
 
+-- a recovery has no store
 pub recover_tells : (c : Recover) (stage : RecoverStage) (mode : ReleaseMode)
     (room : Unit {0}) (m n : ℕ) → IsTrue (is_store (recover_asks stage))
     → (recover_takes c stage mode m ≡ recover_takes c stage mode n) × (room ≡ room)
@@ -99,6 +103,7 @@ abbrev find_then : After Find ℕ → ℕ
 find_then (GoOn d) = find_left d.capacity d.stage + 1
 find_then (Done e) = 0
 
+-- to go on to the next index leaves fewer steps than a new question at this one
 next_nearer : (c : Find) (index found : ℕ)
     → find_then (find_comes_to c (index + 1) found) ≤ 2 * (c.capacity - index)
 next_nearer c index found =
@@ -107,6 +112,7 @@ next_nearer c index found =
     (λ t. let further : index + 1 < c.capacity = grind (arith, nat_tests) in omega arith)
     (λ t. omega arith)
 
+-- after each step of a find, fewer are left
 find_stage_fewer : (c : Find) (stage : FindStage) (owner k : ℕ)
     → find_then (find_takes c stage owner k) ≤ find_left c.capacity stage
 find_stage_fewer c (finds.LoadsCell index found) owner k =

@@ -1,3 +1,4 @@
+-- `number_of` (src/text.rt): each iteration keeps the invariant of its loop, and its return meets the clause `value`.
 use Rattle.std.proofs.Common.{◌+◌, sym, arith}
 use Rattle.std.proofs.lemmas.Str.{digit_value_digit}
 use Rattle.std.proofs.lemmas.Int.Digits.{digits_value_more}

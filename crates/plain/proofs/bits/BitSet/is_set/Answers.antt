@@ -1,3 +1,4 @@
+-- `BitSet::is_set` (src/bits.rt): its call of `is_set` meets the requirement `below`.
 use Rattle.std.proofs.Common.{length, arith}
 use Rattle.plain.proofs.Places.Flags.{flags_length}
 use Rattle.plain.proofs.bits.BitSet.is_set.Goals as goal

@@ -1,3 +1,4 @@
+-- `BitSet::reset_all` (src/bits.rt): its call of `empty` meets the requirement `takes`, and its return meets the clause `calls`.
 use Rattle.std.proofs.Common.{subst, sym}
 use Rattle.plain.proofs.Names.{Places, standing}
 use Rattle.plain.specs.Visits.{Takes, WasCalled}

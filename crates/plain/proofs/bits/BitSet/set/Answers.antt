@@ -1,3 +1,4 @@
+-- `BitSet::set` (src/bits.rt): its call of `set` meets the requirement `below`.
 use Rattle.std.proofs.Common.{length, arith}
 use Rattle.plain.proofs.Places.Flags.{flags_length}
 use Rattle.plain.proofs.bits.BitSet.set.Goals as goal

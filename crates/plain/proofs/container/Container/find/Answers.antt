@@ -1,3 +1,5 @@
+-- `Container::find` (src/container/visits.rt): its call of `find` meets the requirement `visits`, and its return meets the clause
+-- `found`.
 use Rattle.std.proofs.Common.{arith}
 use Rattle.plain.proofs.Elements.Finding.{takes_at, found_at}
 use Rattle.plain.proofs.container.Container.find.Goals as goal

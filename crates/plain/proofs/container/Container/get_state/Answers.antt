@@ -1,3 +1,4 @@
+-- `Container::get_state` (src/container.rt): its return meets the clauses `of` and `shows`.
 use Rattle.plain.proofs.Elements.Snapshots.{got}
 use Rattle.plain.proofs.container.Container.get_state.Goals as goal
 

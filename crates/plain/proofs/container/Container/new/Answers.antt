@@ -1,3 +1,4 @@
+-- `Container::new` (src/container.rt): its result meets the invariant of its type, and its return meets the clause `map`.
 use Rattle.std.proofs.Common.{rules, ◌∙◌, sym, subst, arith}
 use Rattle.plain.specs.Contents.{IsFilled}
 use Rattle.plain.proofs.Elements.Filled.{filled_opened}

@@ -1,3 +1,5 @@
+-- `Container::recover` (src/container/recovery.rt): its call of `recover` meets the requirement `questions`, and its return meets the
+-- clause `calls`.
 use Rattle.std.proofs.Common.{arith}
 use Rattle.plain.proofs.Elements.Recovering.{questions_at, recovered_at}
 use Rattle.plain.proofs.container.Container.recover.Goals as goal

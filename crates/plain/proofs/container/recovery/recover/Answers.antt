@@ -1,3 +1,5 @@
+-- `recover` (src/container/recovery.rt): its calls of `drive_to_stop` and `ask_about` meet what those require, the invariant of its loop
+-- holds at the start and after each iteration, and its return meets the clauses `holds`, `state` and `calls`.
 use Rattle.std.specs.Prelude.{slice_set}
 use Rattle.std.proofs.Common.{refl, sym, ◌∙◌, arith}
 use Rattle.plain.proofs.Names.{Buffer}

@@ -1,3 +1,4 @@
+-- `recover` (src/container/recovery.rt): the loop keeps that the recovery is under way, with so many questions asked.
 use Rattle.std.specs.Prelude.{slice_set}
 use Rattle.std.proofs.Common.{refl}
 use Rattle.plain.proofs.Names.{Buffer}

@@ -1,3 +1,5 @@
+-- `find` (src/container/visits.rt): its calls of `drive_to_stop` and `visit_value` meet what those require, the invariant of its loop
+-- holds at the start and after each iteration, its cast loses nothing, and its return meets the clauses `words` and `found`.
 use Rattle.std.specs.Prelude.{slice_set}
 use Rattle.std.proofs.Common.{refl, sym, ◌∙◌, arith}
 use Rattle.plain.proofs.Names.{Buffer}

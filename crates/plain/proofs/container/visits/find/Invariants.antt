@@ -1,3 +1,4 @@
+-- `find` (src/container/visits.rt): the loop keeps that the find is under way, with so many values visited.
 use Rattle.std.specs.Prelude.{slice_set}
 use Rattle.std.proofs.Common.{refl}
 use Rattle.plain.proofs.Names.{Buffer}

@@ -1,3 +1,5 @@
+-- `CountingBitSet::reset_all` (src/counts.rt): its call of `empty` meets the requirement `takes`, and its return meets the clause
+-- `calls`.
 use Rattle.std.proofs.Common.{ℕ, List, subst, sym}
 use Rattle.steps.specs.Objects.Counts.{states}
 use Rattle.plain.specs.Visits.{Takes, WasCalled}

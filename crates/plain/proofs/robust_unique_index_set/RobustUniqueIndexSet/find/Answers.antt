@@ -1,3 +1,5 @@
+-- `RobustUniqueIndexSet::find` (src/robust_unique_index_set.rt): its call of `find` meets the requirement `indices`, and its return
+-- meets the clause `found`.
 use Rattle.std.proofs.Common.{sym, ap}
 use Rattle.steps.specs.Objects.Owners.{indices_of}
 use Rattle.plain.proofs.Robust.Finding.{takes_at, found_at}

@@ -1,3 +1,5 @@
+-- `RobustUniqueIndexSet::recover` (src/robust_unique_index_set.rt): its call of `recover` meets the requirements `questions` and
+-- `freed`, and its return meets the clause `calls`.
 use Rattle.std.proofs.Common.{sym, ap}
 use Rattle.steps.specs.Objects.Owners.{to_recover}
 use Rattle.plain.proofs.Robust.Recovering.{questions_at, freed_at, recovered_at}

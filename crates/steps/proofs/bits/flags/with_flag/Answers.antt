@@ -1,3 +1,4 @@
+-- `with_flag` (src/bits/flags.rt): its return meets the clauses `stands` and `others`.
 use Rattle.std.proofs.Common.{◌≡◌, sym, subst}
 use Rattle.std.specs.Prelude.{IsTrue, bit_or}
 use Rattle.steps.specs.Bits.Words.{has_flag}

@@ -1,3 +1,4 @@
+-- `without_flag` (src/bits/flags.rt): its return meets the clauses `clear` and `others`.
 use Rattle.std.proofs.Common.{◌≡◌, ◌-◌, ◌^◌, sym, subst}
 use Rattle.std.specs.Prelude.{IsFalse, bit_and}
 use Rattle.steps.specs.Bits.Words.{has_flag}

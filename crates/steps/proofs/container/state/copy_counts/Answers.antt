@@ -1,3 +1,4 @@
+-- `copy_counts` (src/container/state.rt): each iteration keeps the invariant of its loop.
 use Rattle.std.proofs.Common.{rules, ◌≡◌, ◌≤◌, length, arith}
 use Rattle.std.specs.Prelude.{Some, slice_get}
 use Rattle.std.proofs.lemmas.Option.{slice_get_read}

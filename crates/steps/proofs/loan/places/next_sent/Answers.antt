@@ -1,3 +1,4 @@
+-- `next_sent` (src/loan/places.rt): each iteration keeps the invariant of its loop, and its return meets what it ensures.
 use Rattle.std.proofs.Common.{◌∙◌, sym}
 use Rattle.steps.proofs.Places.{found_here, goes_further}
 use Rattle.steps.proofs.loan.places.next_sent.Goals as goal

@@ -1,3 +1,4 @@
+-- `cell_word` (src/queues/ring.rt): its return meets what it ensures.
 use Rattle.std.proofs.Common.{rules, ◌≡◌, ◌-◌, ◌%◌, ◌<◌, bit_and, arith}
 use Rattle.steps.proofs.Masks.{masked}
 use Rattle.steps.proofs.queues.ring.cell_word.Goals as goal

@@ -1,3 +1,5 @@
+-- `Line::push_number` (src/line.rt): the invariant of its loop holds at the start and after each iteration, its arithmetic does not
+-- overflow, and its return meets the clause `text`.
 use Rattle.std.proofs.Common.{◌+◌, ◌-◌, ◌%◌, ◌++◌, ap, ◌∙◌, append-nil, arith, decimal, length-set}
 use Rattle.texts.proofs.Digits.{digit_more, length-decimal_tenth, digit_first, length-decimal_digit, length-decimal_wide, taken_to_end}
 use Rattle.texts.proofs.line.Line.push_number.Goals as goal

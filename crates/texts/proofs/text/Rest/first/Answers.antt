@@ -1,3 +1,4 @@
+-- `Rest::first` (src/text.rt): its return meets what it ensures (`MatchOption`).
 use Rattle.texts.proofs.Texts.{first_part, only_part}
 use Rattle.texts.proofs.text.Rest.first.Goals as goal
 

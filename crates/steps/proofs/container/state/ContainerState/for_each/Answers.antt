@@ -1,3 +1,4 @@
+-- `ContainerState::for_each` (src/container/state.rt): its return meets what it ensures (`HasShown`).
 use Rattle.steps.proofs.container.state.ContainerState.for_each.Goals as goal
 
 pub returns : goal.returns
