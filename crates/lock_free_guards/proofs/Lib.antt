@@ -1,4 +1,5 @@
 pub mod Grants
+pub mod Cuts
 pub mod Trying
 pub mod UniqueTries
 pub mod RobustTries

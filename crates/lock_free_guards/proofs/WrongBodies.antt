@@ -22,6 +22,7 @@ use Rattle.model.specs.Families.Indices.Robust.Promises.{HeldThroughout, StillTo
 use Rattle.model.specs.Families.Indices.Robust.Reading.{Yes, filled_of, set_acts_of, IsOneOf}
 use Rattle.laws_robust.specs.Gone.{IsHonest}
 use Rattle.history.specs.History.{Called}
+use Rattle.history.specs.Passes.{HasSplit}
 use Rattle.history.specs.Robust.{visit, HasFreed}
 use Rattle.history.specs.declared.view.View.{View}
 use Rattle.lock_free_owners.specs.Robust.Contracts.{HasGiven}
@@ -31,6 +32,7 @@ use Rattle.lock_free_sets.proofs.Unique.Holding.{times_both, times_one}
 use Rattle.lock_free_guards.specs.Acquired.{HasAcquired, HasFailed}
 use Rattle.lock_free_guards.specs.Held.{HoldsFor, number_freed}
 use Rattle.lock_free_guards.specs.Recovered.{IsToldFor, HasRecoveredOwner, IsRightOwnerRecovery}
+use Rattle.lock_free_guards.specs.Cuts.{AreCut}
 use Rattle.lock_free_guards.specs.Tries.{refused_by, EndsTries, EndsSometime, EndsWithin, EndsAtLimit}
 use Rattle.lock_free_guards.specs.Unique.{HoldsMore, HoldsTheSame}
 use Rattle.lock_free_guards.proofs.Trying.{unlocked_before}
@@ -231,4 +233,13 @@ acquire_holds_one_it_was_refused index is old new held more wrong =
     let one = times_one index index in
     let it : (index == index) ≡ true = grind (arith, nat_tests) in
     let counted : one_if index index ≡ 1 = rw it refl in
+    absurd (omega arith)
+
+-- ---- `split_many`
+
+-- it makes one more without a split
+pub split_many_splits_none : (v w : View ℕ) → AreCut HasSplit (w ∷ []) v v → ⊥
+split_many_splits_none v w h =
+    let once = h.1.asked in
+    let same = ap (λ (u : View ℕ). u.asked) h.2 in
     absurd (omega arith)

@@ -5,3 +5,4 @@ pub mod Unique
 pub mod Acquired
 pub mod Recovered
 pub mod Guards
+pub mod Cuts

@@ -5,4 +5,5 @@
 
 pub mod owner_recovery;
 pub mod robust_index;
+pub mod splits;
 pub mod unique_index;

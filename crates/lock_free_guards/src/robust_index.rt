@@ -4,6 +4,8 @@ ghost use Rattle.lock_free_owners.specs.RobustUniqueIndexSet.{capacity_of, made,
 ghost use Rattle.lock_free_guards.specs.Held.{HoldsFor};
 
 use lock_free_owners::mpmc::robust_unique_index_set::{OwnerId, Pass, RobustUniqueIndexSet};
+use std::fmt;
+use std::fmt::{Debug, Formatter};
 use std::sync::Wait;
 use steps::indices::enums::ReleaseMode;
 
@@ -34,5 +36,14 @@ impl<'a, R: Wait> Drop for RobustIndex<'a, R> {
             index,
         } = self;
         let _ = set.release(rt, index, owner, ReleaseMode::Default, &mut pass);
+    }
+}
+
+impl<R: Wait> Debug for RobustIndex<'_, R> {
+    fn fmt<W: fmt::Write>(&self, f: &mut Formatter<W>) -> fmt::Result {
+        f.debug_struct("RobustIndex")
+            .field("owner", &self.owner)
+            .field("index", &self.index)
+            .finish_non_exhaustive()
     }
 }

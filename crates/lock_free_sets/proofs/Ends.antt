@@ -34,7 +34,7 @@ module _ {C M E : Type 0} (kind : Kind) (call : Calling ℕ C M E)
 module _ {C M E : Type 0} (kind : Kind) (call : Calling ℕ C M E) (base w : View ℕ) (e : E) (m : M) (ends : Ends one_word kind call base e m w)
     (idle : base.going ≡ None) (wrote : ℕ → List (Event ℕ)) where
   pub has_made : ends.wrote ≡ wrote ends.party → HasMade call.start (call.answer e m) wrote base w
-  has_made x0 = grind (arith, called, one_word)
+  has_made wrote_is = grind (arith, called, one_word)
 
 -- all that was seen before the end of the call
 abbrev pub before_end : {p : ℕ} {start : Start ℕ} {answer : Answer ℕ} {wrote : List (Event ℕ)} {old new : View ℕ}

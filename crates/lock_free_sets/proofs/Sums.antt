@@ -9,12 +9,12 @@ use Rattle.model.specs.Reading.{whose, is_party}
 pub sum_made : {T : Type 0} → (f : Event T → ℕ) (p : ℕ) (start : Start T) (answer : Answer T) (wrote : List (Event T)) (old new : View T)
     → Called p start answer wrote old new
     → sum_by f new.made ≡ sum_by f old.made + (f (Begun p start) + (sum_by f wrote + f (Finished p start answer)))
-sum_made x0 x1 x2 x3 x4 x5 x6 x7 = grind (arith, sum_by, sum_by-append, sum_by-cons, sum_by_push)
+sum_made f p start answer wrote old new called = grind (arith, sum_by, sum_by-append, sum_by-cons, sum_by_push)
 
 -- a party's events are some of all events
 some_of : (f : Event ℕ → ℕ) (e : Event ℕ) (own all : List (Event ℕ)) (t : Bool) → sum_by f own ≤ sum_by f all
     → sum_by f (cond t (e ∷ []) [] ++ own) ≤ sum_by f (e ∷ all)
-some_of x0 x1 x2 x3 x4 x5 = grind (arith, sum_by-cons)
+some_of f e own all t sum_by_up_to = grind (arith, sum_by-cons)
 
 sum_of_party : (f : Event ℕ → ℕ) (p : ℕ) (es : List (Event ℕ)) → sum_by f (events_by p es) ≤ sum_by f es
 sum_of_party f p [] = omega arith
@@ -23,7 +23,7 @@ sum_of_party f p (e ∷ es) = some_of f e (events_by p es) es (is_party p (whose
 -- what a call wrote was seen
 pub sum_seen : (f : Event ℕ → ℕ) (p : ℕ) (start : Start ℕ) (answer : Answer ℕ) (wrote : List (Event ℕ)) (old new : View ℕ)
     → Called p start answer wrote old new → sum_by f wrote ≤ sum_by f new.seen
-sum_seen x0 x1 x2 x3 x4 x5 x6 x7 = grind (arith, sum_by, sum_of_party, sum_by-append, sum_by-cons)
+sum_seen f p start answer wrote old new called = grind (arith, sum_by, sum_of_party, sum_by-append, sum_by-cons)
 
 -- the sums over what was seen only grow
 pub sum_grows : (f : Event ℕ → ℕ) (seen events : List (Event ℕ)) → IsBeginning seen events → sum_by f seen ≤ sum_by f events
@@ -31,7 +31,7 @@ sum_grows f seen events h = let e = ap (sum_by f) h.is ∙ sum_by-append f seen 
 
 pub seen_begins : (p : ℕ) (start : Start ℕ) (answer : Answer ℕ) (wrote : List (Event ℕ)) (old new : View ℕ)
     → Called p start answer wrote old new → IsBeginning old.seen new.seen
-seen_begins x0 x1 x2 x3 x4 x5 x6 = grind (arith, append_assoc)
+seen_begins p start answer wrote old new called = grind (arith, append_assoc)
 
 pub same_last : {A : Type 0} → (xs ys : List A) (a b : A) → xs ++ a ∷ [] ≡ ys ++ b ∷ [] → a ≡ b
 same_last [] [] a b e = cc

@@ -44,7 +44,7 @@ module _ {T : Type 0} where
 
   moved : (taken given : ℕ) (old new more : List (Event T)) → new ≡ old ++ more → sum_by takes_producer more ≡ taken
       → sum_by gives_producer more ≡ given → Moved taken given old new
-  moved x0 x1 x2 x3 x4 x5 x6 x7 = grind (arith, sum_by-append, takes_producer, gives_producer, sum_by)
+  moved taken given old new more new_is takes_producer_is gives_producer_is = grind (arith, sum_by-append, takes_producer, gives_producer, sum_by)
 
 -- a store is left out where its first load finds the last version
 ends_at : {T : Type 0} (code : Coding T) (x : T) (stage : StoreStage) (n : ℕ) (a : Ask)
@@ -67,11 +67,11 @@ module _ {T : Type 0} (code : Coding T) (base w : View T) (idle : base.going ≡
     pub begun : 0 < length (stored base.seen) → 0 < length (stored w.seen)
 
   begun_still : IsBeginning base.seen w.seen → 0 < length (stored base.seen) → 0 < length (stored w.seen)
-  begun_still x0 x1 = grind (arith, length, stored, flat_map-append, stores, length-append)
+  begun_still beginning length_positive = grind (arith, length, stored, flat_map-append, stores, length-append)
 
   module _ {C M E : Type 0} (call : Calling T C M E) where
     ends_leaves : (e : E) (m : M) → Ends code kinds.Atomic call base e m w → Leaves
-    ends_leaves x0 x1 x2 = grind (arith, opened, append_assoc, begun_still)
+    ends_leaves e m ends = grind (arith, opened, append_assoc, begun_still)
 
     pub leaves : (e : E) (m : M) → Over code kinds.Atomic call base e m w → Leaves
     leaves e m (inl ends) = ends_leaves e m ends
@@ -103,7 +103,7 @@ module _ {T : Type 0} (code : Coding T) (base w : View T) (idle : base.going ≡
   -- ---- the role
 
   pub acquired : (b : Bool) (m : Unit {0}) → Ends code kinds.Atomic acquires_producer base b m w → HasAcquired b base w
-  acquired x0 x1 x2 = grind (arith, called, acquires_producer)
+  acquired b m ends = grind (arith, called, acquires_producer)
 
   pub taken_once : (b : Bool) (m : Unit {0}) → Ends code kinds.Atomic acquires_producer base b m w → b ≡ true → Moved 1 0 base.made w.made
   unfolding acquired
@@ -220,7 +220,7 @@ module _ {T : Type 0} (code : Coding T) (base w : View T) (idle : base.going ≡
 
     stored_so : (m : Unit {0}) → (ends : Ends code kinds.Atomic (stores_value code x) base true m w)
         → Called ends.party (Atomic (Store x)) (Truth true) (act ends.party ∷ []) base w
-    stored_so x0 x1 = grind (arith, called, stores_value)
+    stored_so m ends = grind (arith, called, stores_value)
 
     has_stored : (m : Unit {0}) → Ends code kinds.Atomic (stores_value code x) base true m w → HasStored x base w
     has_stored m ends =
@@ -248,7 +248,7 @@ module _ {T : Type 0} (code : Coding T) (base w : View T) (idle : base.going ≡
 
     pub at_end_if : base.other ≡ [] → 0 < base.share.part → HasProducer base.made → (e : Bool) (m : Unit {0})
         → Over code kinds.Atomic (stores_value code x) base e m w → e ≡ false → WasAtEnd base w
-    at_end_if x0 x1 x2 x3 x4 x5 x6 = grind (arith, ends_at, slice_index, length, stored, version_is_count, looked_alone)
+    at_end_if other_is_empty part_positive producer e m over e_is_false = grind (arith, ends_at, slice_index, length, stored, version_is_count, looked_alone)
 
     pub store_moves : (e : Bool) (m : Unit {0}) → Over code kinds.Atomic (stores_value code x) base e m w → Moved 0 0 base.made w.made
     store_moves e m (inl ends) =
@@ -279,7 +279,7 @@ module _ {T : Type 0} (code : Coding T) (base w : View T) (idle : base.going ≡
 
     loaded_so : (e : Unit {0}) (m : R) → (ends : Ends code kinds.Atomic (loads_value code words_in) base e m w)
         → Called ends.party (Atomic Load) (Loaded (value_there m)) (Acted ends.party (Atomic Load) (Loaded (value_there m)) ∷ []) base w
-    loaded_so x0 x1 x2 = grind (arith, called, loads_value)
+    loaded_so e m ends = grind (arith, called, loads_value)
 
     pub has_loaded : (e : Unit {0}) (m : R) → Ends code kinds.Atomic (loads_value code words_in) base e m w → HasLoaded (value_there m) base w
     has_loaded e m ends =

@@ -14,7 +14,7 @@ use Rattle.history.proofs.ValueOpened.{set_right, mix, mix_step, mix_length, mix
 
 -- its version
 pub first_is : (version : ℕ) → (if nat_lt version 2 then 2 else version) ≡ first_stores version + 1
-first_is x0 = grind (arith, suc, nat_lt, nat_tests)
+first_is version = grind (arith, suc, nat_lt, nat_tests)
 
 module _ {T : Type 0} (code : Coding T) (value : T) (version : ℕ) where
   -- the words of the first cell in the end
@@ -105,7 +105,7 @@ module _ {T : Type 0} (code : Coding T) (law : IsCoding code) (value : T) (versi
       ∙ (ap (λ w. set (set (filled at) (2 + code.size + at) (get_or ws at 0)) (2 + at) w) one ∙ (steps at below ∙ ap filled next))))
 
   cells_are : (n : ℕ) → (if nat_lt 2 n then ws else zeros) ++ ws ≡ opened_cells code value (first_stores n)
-  cells_are x0 = grind (arith, suc, nat_lt, nat_tests)
+  cells_are n = grind (arith, suc, nat_lt, nat_tests)
 
   pub ends : filled code.size ≡ (first_stores version + 1) ∷ 1 ∷ (opened_cells code value (first_stores version) ++ 0 ∷ [])
   ends = grind (arith, mix_all, firsts_long, zeros_long, first_stores, mix, cells_are)
@@ -114,14 +114,14 @@ module _ {T : Type 0} (code : Coding T) (law : IsCoding code) (value : T) (versi
 
 module _ {T : Type 0} (value : T) where
   times_some : (n : ℕ) → 0 < n → 0 < length (stored (stored_times value n))
-  times_some x0 x1 = grind (arith, suc, length, stored, stored_times, stored_once, flat_map-append, stores, length-append)
+  times_some n n_positive = grind (arith, suc, length, stored, stored_times, stored_once, flat_map-append, stores, length-append)
 
   stores_some : (version : ℕ) → 0 < first_stores version
-  stores_some x0 = grind (arith, suc)
+  stores_some version = grind (arith, suc)
 
   -- something was stored
   pub opened_some : (size version : ℕ) → 0 < length (stored (opened_view value size version).seen)
-  opened_some x0 x1 = grind (arith, first_stores, times_some, stores_some, length, stored, stored_times, flat_map-append, stores, length-append)
+  opened_some size version = grind (arith, first_stores, times_some, stores_some, length, stored, stored_times, flat_map-append, stores, length-append)
 
   times_has : (n : ℕ) → HasProducer (stored_times value n)
   times_has zero = refl
@@ -133,4 +133,4 @@ module _ {T : Type 0} (value : T) where
 
   -- and the role was given back
   pub opened_lacks : (size version : ℕ) → LacksProducer (opened_view value size version).made
-  opened_lacks x0 x1 = grind (arith, first_stores, sum_by-append, takes_producer, stored_times, gives_producer, times_has)
+  opened_lacks size version = grind (arith, first_stores, sum_by-append, takes_producer, stored_times, gives_producer, times_has)

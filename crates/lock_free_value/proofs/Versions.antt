@@ -84,10 +84,10 @@ module _ {T : Type 0} where
   -- ---- what stands in a beginning stands in the whole
 
   pub still_stored : (p v : ℕ) (x : T) (old new : List (Event T)) → IsBeginning old new → IsStored p v x old → IsStored p v x new
-  still_stored x0 x1 x2 x3 x4 x5 x6 = grind (arith, append_assoc)
+  still_stored p v x old new beginning is_stored = grind (arith, append_assoc)
 
   pub still_loaded : (p v : ℕ) (x : T) (old new : List (Event T)) → IsBeginning old new → IsLoaded p v x old → IsLoaded p v x new
-  still_loaded x0 x1 x2 x3 x4 x5 x6 = grind (arith, append_assoc)
+  still_loaded p v x old new beginning loaded = grind (arith, append_assoc)
 
   -- ---- versions that were known
 

@@ -14,6 +14,7 @@ rest_of counted taken less few =
     omega arith
 
 module _ (old new : View ℕ) (place left : ℕ) where
+  -- what was taken out of the place, and what one more count finds there, are all that was counted
   pub all_counted : ((f : Event ℕ → ℕ) → sum_by f old.seen ≡ sum_by f old.made)
       → ((f : Event ℕ → ℕ) → sum_by f new.seen ≡ sum_by f new.made)
       → HasCounted place left old new → AnswersCount place left new

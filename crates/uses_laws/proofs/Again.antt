@@ -18,7 +18,7 @@ use Rattle.lock_free.specs.HistoryView.View.{View}
 -- a party's events are some of all events
 some_of : (f : Event ℕ → ℕ) (e : Event ℕ) (own all : List (Event ℕ)) (mine : Bool) → sum_by f own ≤ sum_by f all
     → sum_by f (cond mine (e ∷ []) [] ++ own) ≤ sum_by f (e ∷ all)
-some_of x0 x1 x2 x3 x4 x5 = grind (arith, sum_by-cons)
+some_of f e own all mine sum_by_up_to = grind (arith, sum_by-cons)
 
 of_party : (f : Event ℕ → ℕ) (p : ℕ) (es : List (Event ℕ)) → sum_by f (events_by p es) ≤ sum_by f es
 of_party f p [] = omega arith
@@ -38,6 +38,7 @@ seen_more f p start answer wrote old new c =
     let some = of_party f p c.during in
     omega arith
 
+-- a set that answers true has set its place once more than was seen before
 set_once : (place : ℕ) (old new : View ℕ) → HasSet place true old new → sets place old.seen + 1 ≤ sets place new.seen
 set_once place old new h =
     let wrote : List (Event ℕ) = events.Set h.by place ∷ [] in
@@ -47,6 +48,7 @@ set_once place old new h =
     let one : sets place wrote ≡ 1 = rw same (omega arith) in
     omega arith
 
+-- between two sets of one place that both answer true the place was cleared
 pub cleared_since : (place : ℕ) (old between new : View ℕ) → HasSet place true old between → HasSet place true between new
     → sets place old.seen ≡ clears place old.seen + standing place old.seen
     → sets place new.seen ≡ clears place new.seen + standing place new.seen → standing place new.seen ≤ 1

@@ -40,10 +40,12 @@ record TakenIn (place : ℕ) (events : List (Event ℕ)) : Type 0 where
 later : (place : ℕ) (e : Event ℕ) (es : List (Event ℕ)) → TakenIn place es → TakenIn place (e ∷ es)
 later place e es h = record { by = h.by; number = h.number; first = e ∷ h.first; second = h.second; is = ap (λ xs. e ∷ xs) h.is }
 
+-- where something was taken out of a place, an event says by whom and how much
 taken_in : (place : ℕ) (es : List (Event ℕ)) → 1 ≤ takes place es → TakenIn place es
 taken_in place [] some = absurd (omega arith)
 taken_in place (TakenOut p x m ∷ es) some = go (x == place) refl (λ more. taken_in place es more)
   where
+    -- so it is whether the first event takes out of this place or of another
     go : (t : Bool) → (x == place) ≡ t → (1 ≤ takes place es → TakenIn place es) → TakenIn place (TakenOut p x m ∷ es)
     go true t rest =
         let same : x ≡ place = grind (arith, nat_tests) in
@@ -88,6 +90,7 @@ module _ (place p : ℕ) (start : Start ℕ) (end : Event ℕ) (events earlier s
       let rest : count_at place before % 2 ^ 64 ≡ count_at place before = mod-eq_of_lt small in
       omega arith
 
+  -- all that was counted is taken out, whether the place counted something as the call began or not
   all_taken : (1 ≤ count_at place earlier → (1 ≤ takes place since) ⊎ (2 ^ 64 ≤ counts place earlier + counts place since))
       → counts place events ≤ takes place events
   all_taken missed = ⊎_elim some none (cases_lt 0 (count_at place earlier))
@@ -104,9 +107,11 @@ module _ (place p : ℕ) (start : Start ℕ) (end : Event ℕ) (events earlier s
           let more = takes_more place earlier (Begun p start ∷ since) in
           omega arith
 
+      -- so it is where the place counted something
       some : 0 < count_at place earlier → counts place events ≤ takes place events
       some stood = ⊎_elim (λ out. by_one (taken_in place since out)) wrapped (missed (omega arith))
         where
+          -- too little was counted for the count to wrap
           wrapped : 2 ^ 64 ≤ counts place earlier + counts place since → counts place events ≤ takes place events
           wrapped many =
               let c = counted in
@@ -122,6 +127,7 @@ module _ {F : Type 0} (step : F → BitState → F → Type 0) (capacity : ℕ) 
     (after : (f : Event ℕ → ℕ) → sum_by f new.seen ≡ sum_by f new.made)
     (each : Each TakesAll new.seen)
     (conserved : (place : ℕ) → counts place new.seen ≡ takes place new.seen + count_at place new.seen) where
+  -- a reset of all, of a pass that knows all, has taken out of each place what was counted there
   pub drained : (place : ℕ) → place < capacity → counts place old.made < 2 ^ 64 → takes place new.made ≡ counts place new.made
   drained place low few =
       let is_count : Event ℕ → ℕ = λ e. cond (is_count_of place e) 1 0 in

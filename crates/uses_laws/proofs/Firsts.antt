@@ -16,6 +16,7 @@ use Rattle.lock_free.specs.Event.TheVariants.{Begun, Claimed, Finished}
 use Rattle.lock_free.specs.History.{Called}
 use Rattle.lock_free.specs.HistoryView.View.{View}
 
+-- where nothing but what a call wrote has a part in a sum, the sum is that of what it wrote
 add_up : {all a b old others begin rest during last end wrote : ℕ} → all ≡ a + b → a ≡ old + others → old ≡ 0 → others ≡ 0
     → b ≡ begin + rest
     → begin ≡ 0
@@ -27,6 +28,7 @@ add_up : {all a b old others begin rest during last end wrote : ℕ} → all ≡
 add_up parts front none others opened no_begin rest during closed no_end = omega arith
 
 module _ (f : Event ℕ → ℕ) (p : ℕ) where
+  -- an event with no part in the sum adds none for its party either
   own_none : (e : Event ℕ) → f e ≡ 0 → sum_by f (own_of p e) ≡ 0
   own_none e none = go (is_party p (whose e))
     where
@@ -34,6 +36,7 @@ module _ (f : Event ℕ → ℕ) (p : ℕ) where
       go true = let is = sum_by-cons f e [] in omega arith
       go false = refl
 
+  -- the events of a party's first call sum to what the call wrote
   sum_own : (start : Start ℕ) (answer : Answer ℕ) (wrote : List (Event ℕ)) (old new : View ℕ) → Called p start answer wrote old new
       → f (Begun p start) ≡ 0
       → f (Finished p start answer) ≡ 0

@@ -32,6 +32,7 @@ module _ (owner : ℕ) (old new : View ℕ) (taken : HasTaken owner (Err OutOfIn
       let b = ends taken.by in
       omega arith
 
+  -- what a young pass has made is young still after the refusal
   still_young : IsYoung old.made → IsYoung new.made
   still_young young =
       let locks = same_of lock_call (λ p. refl) (λ p. refl) in
@@ -42,6 +43,7 @@ module _ (owner : ℕ) (old new : View ℕ) (taken : HasTaken owner (Err OutOfIn
 
 -- what was seen is what was made
 module _ (v : View ℕ) (whole : (f : Event ℕ → ℕ) → sum_by f v.seen ≡ sum_by f v.made) where
+  -- where what was made is young, what was seen is
   seen_young : IsYoung v.made → IsYoung v.seen
   seen_young young =
       let locks = whole lock_call in
@@ -50,6 +52,8 @@ module _ (v : View ℕ) (whole : (f : Event ℕ → ℕ) → sum_by f v.seen ≡
       let few = young.few in
       record { unlocked = omega arith; few = omega arith }
 
+-- where an acquire of a young pass that knows all was refused for want of an index, each had an owner at a moment of
+-- the call
 pub was_full : AreApart → (owner : ℕ) (old new : View ℕ) → HasTaken owner (Err OutOfIndices) old new → WasRefused owner OutOfIndices old new
     → ((f : Event ℕ → ℕ) → sum_by f new.seen ≡ sum_by f new.made) → IsYoung old.made → WasFull old.capacity new.seen
 was_full apart owner old new taken refused whole young =
@@ -70,6 +74,7 @@ was_full apart owner old new taken refused whole young =
 -- an acquire that got an index
 module _ (owner index : ℕ) (old new : View ℕ) (taken : HasTaken owner (Ok index) old new)
     (whole : (f : Event ℕ → ℕ) → sum_by f new.seen ≡ sum_by f new.made) where
+  -- an index that nobody has given back is not given back by the acquire
   pub never_freed : (i : ℕ) → times_freed i old.made ≡ 0 → times_freed i new.seen ≡ 0
   never_freed i never =
       let all = sum_made (freeing i) taken.by (Robust (Acquire owner)) (Index index) taken.wrote old new taken.called in

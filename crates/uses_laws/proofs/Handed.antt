@@ -13,6 +13,7 @@ use Rattle.lock_free.specs.HistoryView.View.{View}
 use Rattle.lock_free.proofs.Sums.{sum_made}
 use Rattle.uses_laws.specs.Sums.{clear, cleared, taken_out, taken}
 
+-- a reset that clears these places clears so many
 clears : (p : ℕ) (places : List ℕ) → cleared (map (cleared_by p) places) ≡ length places
 clears p [] = refl
 clears p (x ∷ places) =
@@ -20,6 +21,7 @@ clears p (x ∷ places) =
     let rest = clears p places in
     omega arith
 
+-- a reset that takes these counts out takes out their sum
 takes : (p : ℕ) (states : List BitState) → taken (map (taken_by p) states) ≡ sum_by (λ (s : BitState). s.count) states
 takes p [] = refl
 takes p (s ∷ states) =
@@ -29,6 +31,7 @@ takes p (s ∷ states) =
     omega arith
 
 module _ {F : Type 0} (old new : View ℕ) where
+  -- a reset adds to what its pass has cleared as many as it visits
   pub clears_more : (step : F → ℕ → F → Type 0) (capacity : ℕ) (visit visited : F)
       → (h : HasCleanedOut step capacity visit visited old new) → cleared new.made ≡ cleared old.made + length h.places
   clears_more step capacity visit visited h =
@@ -36,6 +39,7 @@ module _ {F : Type 0} (old new : View ℕ) where
       let here = clears h.made.by h.places in
       omega arith
 
+  -- a reset adds to what its pass has taken out the counts that it hands out
   pub takes_more : (step : F → BitState → F → Type 0) (capacity : ℕ) (visit visited : F)
       → (h : HasTakenOut step capacity visit visited old new)
       → taken new.made ≡ taken old.made + sum_by (λ (s : BitState). s.count) h.states

@@ -24,11 +24,13 @@ use Rattle.uses_laws.specs.Order.{PushedInOrder, StoredInOrder}
 module _ {T : Type 0} where
   -- ---- a call responds after its invocation
 
+  -- the response to a party stands no earlier than the events that were searched
   not_before : (p : ℕ) (es : List (Event T)) (n : ℕ) (r : Response T) → response_in p es n ≡ Some r → n ≤ r.place
   not_before p [] n r e = absurd (cc)
   not_before p (Finished q start answer ∷ es) n r e =
       go (λ x. not_before p es (n + 1) r x) (cases_eq q p)
     where
+      -- so it is where the first of them is the party's response
       mine : q ≡ p → n ≤ r.place
       mine same =
           let is : Some (response_at n answer) ≡ Some r = sym (responded p q start answer es n same) ∙ e in
@@ -43,12 +45,14 @@ module _ {T : Type 0} where
       go later either = ⊎_elim mine (theirs later) either
   not_before p (x ∷ es) n r e = let more = not_before p es (n + 1) r e in omega arith
 
+  -- a call responds after its invocation
   responds : (es : List (Event T)) (n : ℕ) (call : Call T) (r : Response T) → Contains (calls_from es n) call → call.response ≡ Some r → call.place < r.place
   responds [] n call r there e = absurd (none_there call there)
   responds (Begun p start ∷ es) n call r there e =
       ⊎_elim here (λ more. responds es (n + 1) call r more e)
       (split (call_at n p start (response_in p es (n + 1))) call (calls_from es (n + 1)) there)
     where
+      -- so does the call that the first event begins
       here : call_at n p start (response_in p es (n + 1)) ≡ call → call.place < r.place
       here same =
           let is : response_in p es (n + 1) ≡ Some r = ap (λ (z : Call T). z.response) same ∙ e in
@@ -61,6 +65,7 @@ module _ {T : Type 0} where
     ends_before : r.place < y.place
     ends_before = subst (λ (o : Option (Response T)). StandsBefore o y.place) done before
 
+    -- a call that precedes another is another
     apart : (history : List (Event T)) → Contains (calls_of history) x → x ≡ y → ⊥
     apart history there same =
         let late = responds history 0 x r there done in
@@ -94,6 +99,7 @@ module _ {T : Type 0} where
         → Contains (calls_of history) x → x.response ≡ Some r → Precedes x y → one.0 < two.0
     in_order x y a b r one two there done before = ⊎_elim (λ less. less) (λ most. ⊎_elim (same) (other most) (cases_eq two.0 one.0)) (cases_lt one.0 two.0)
       where
+        -- both do not stand at one place
         same : two.0 ≡ one.0 → one.0 < two.0
         same e =
             let first = read (x, a) one in
@@ -102,6 +108,7 @@ module _ {T : Type 0} where
             let is : (y, b) ≡ (x, a) = cc in
             absurd (apart x y r done before history there (sym (ap (λ (z : Call T × Answer T). z.0) is)))
 
+        -- nor does the second stand before the first
         other : two.0 ≤ one.0 → two.0 ≢ one.0 → one.0 < two.0
         other most ne =
             let less : two.0 < one.0 = omega arith in

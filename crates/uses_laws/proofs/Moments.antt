@@ -12,6 +12,7 @@ abbrev pub Stays : (List (Event ℕ) → Type 0) → List (Event ℕ) → List (
 Stays P before [] = P before
 Stays P before (e ∷ es) = P before × Stays P (before ++ e ∷ []) es
 
+-- what holds at all of the moments holds at each that is reached on the way
 stays_there : (P : List (Event ℕ) → Type 0) (part rest before es : List (Event ℕ)) → es ≡ part ++ rest → Stays P before es → P (before ++ part)
 stays_there P [] rest before [] is all = subst P (sym (append-nil before)) all
 stays_there P [] rest before (e ∷ es) is all = subst P (sym (append-nil before)) all.0
@@ -27,6 +28,7 @@ begins_one p start [] since none = none.0 refl
 begins_one p start (Begun q other ∷ before) since none = begins_one p start before since none.1
 begins_one p start (e ∷ before) since none = begins_one p start before since none
 
+-- what holds at all moments from a party's latest begin on holds at each from which the party begins nothing
 since_there : (p : ℕ) (start : Start ℕ) (P : List (Event ℕ) → Type 0) (before since past part rest : List (Event ℕ))
     → before ++ Begun p start ∷ since ≡ part ++ rest → BeginsNone p rest → Stays P (past ++ (before ++ Begun p start ∷ [])) since
     → P (past ++ part)

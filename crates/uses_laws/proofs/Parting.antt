@@ -23,6 +23,7 @@ module _ {E T : Type 0} {kind : kinds.Ghosts E} {words : Words.Ghosts T} (pass :
   pub same_queue : (producer_queue producer ≡ queue_of pass) × (consumer_queue consumer ≡ queue_of pass)
   same_queue = (ends.produces.queue ∙ ends.queue, ends.consumes.queue ∙ ends.right_queue)
 
+  -- the ends and the pass agree, in what each has seen, made and asked for
   pub parted : HasParted (view pass) (producer_view producer) (consumer_view consumer)
   parted =
       let cut = ends.cut in

@@ -38,6 +38,7 @@ more_aside asked few aside load less most = omega arith
 
 module _ {T : Type 0} (code : Coding T) (kind : Kind) (capacity : ℕ) (bound : Bound) (aside : ℕ) (old new : View T)
     (knows : Knows code kind capacity old) (later : Continues code kind capacity old new) (few : new.aside ≤ aside) where
+  -- by the laws, calls end and loads do between two moments of a pass, whichever calls it has seen begin
   pub ends_within : Laws T kind bound → (n : ℕ) → AreBelow n new.seen
       → EndsWithin code kind capacity (bound n capacity code.size) aside old new later
   ends_within laws n below =
@@ -52,6 +53,7 @@ module _ {T : Type 0} (code : Coding T) (kind : Kind) (capacity : ℕ) (bound : 
         rests = laws.rest code capacity old new knows later n below;
       }
 
+  -- calls end and loads do between two moments of a pass that has seen no call begin but such ones
   pub ends_within_of : (Such : Start T → Type 0) → LawsOf T kind Such bound → (n : ℕ) → AreBelow n new.seen → BeginSuch Such new.seen
       → EndsWithin code kind capacity (bound n capacity code.size) aside old new later
   ends_within_of Such laws n below such =

@@ -16,6 +16,7 @@ at_most_one true = omega arith
 at_most_one false = omega arith
 
 module _ (f : ℕ → ℕ) where
+  -- numbers of at most 1 sum to no more than how many they are
   sum_few : (n : ℕ) → ((i : ℕ) → f i ≤ 1) → sum_below f n ≤ n
   sum_few zero few = omega arith
   sum_few (suc n) few =
@@ -45,6 +46,7 @@ module _ (c : ℕ) (seen made mine other : List (Event ℕ)) (held : ℕ → Boo
   sum_both : (f : Event ℕ → ℕ) → sum_by f seen ≡ sum_by f mine + sum_by f other
   sum_both f = all f ∙ (ap (sum_by f) both_made ∙ sum_by-append f mine other)
 
+  -- two passes that know all hold no more indices than there are
   pub few_held : (is js : List ℕ) → HeldBy is mine → HeldBy js other → length is + length js ≤ c
   few_held is js one two =
       let long = length_is c (is ++ js) none in
@@ -52,6 +54,7 @@ module _ (c : ℕ) (seen made mine other : List (Event ℕ)) (held : ℕ → Boo
       let both = length-append is js in
       omega arith
     where
+      -- no index is held twice by both
       once : (i : ℕ) → times i (is ++ js) ≤ 1
       once i =
           let both = times_both i is js in
@@ -63,6 +66,7 @@ module _ (c : ℕ) (seen made mine other : List (Event ℕ)) (held : ℕ → Boo
           let most = at_most_one (held i) in
           omega arith
 
+      -- no index past the capacity is held
       none : (i : ℕ) → c ≤ i → times i (is ++ js) ≡ 0
       none i past =
           let both = times_both i is js in
@@ -72,9 +76,11 @@ module _ (c : ℕ) (seen made mine other : List (Event ℕ)) (held : ℕ → Boo
           let zero_is = behind i past in
           omega arith
 
+  -- where one pass holds all indices the other holds nothing
   pub none_else : ((i : ℕ) → sum_by (frees i) other ≤ sum_by (claims i) other) → (is : List ℕ) → HeldBy is mine → length is ≡ c → HoldsNothing other
   none_else least is one long i = ⊎_elim below past (cases_lt i c)
     where
+      -- no index is held twice by the one
       once : (j : ℕ) → times j is ≤ 1
       once j =
           let a = one j in
@@ -85,6 +91,7 @@ module _ (c : ℕ) (seen made mine other : List (Event ℕ)) (held : ℕ → Boo
           let low = least j in
           omega arith
 
+      -- no index past the capacity is held by the one
       none : (j : ℕ) → c ≤ j → times j is ≡ 0
       none j far =
           let a = one j in
@@ -92,6 +99,7 @@ module _ (c : ℕ) (seen made mine other : List (Event ℕ)) (held : ℕ → Boo
           let zero_is = behind j far in
           omega arith
 
+      -- of an index below the capacity the other has freed what it claimed
       below : i < c → times i [] + sum_by (frees i) other ≡ sum_by (claims i) other
       below less =
           let sum = length_is c is none in
@@ -104,6 +112,7 @@ module _ (c : ℕ) (seen made mine other : List (Event ℕ)) (held : ℕ → Boo
           let low = least i in
           omega arith
 
+      -- so it has of an index past the capacity
       past : c ≤ i → times i [] + sum_by (frees i) other ≡ sum_by (claims i) other
       past far =
           let claimed = sum_both (claims i) in

@@ -89,6 +89,7 @@ module _ (given : Owned ℕ) where
     pub unlocked : lock_calls new.made ≡ lock_calls old.made
     pub few : 3 * changes new.made + rises new.made ≤ 3 * changes old.made + rises old.made + 6
 
+  -- an add leaves the sums that a history of adds alone has
   leaves_from : (r : Added) (old from new : View ℕ) → (h : HasAdded given r old new) → from ≡ h.from → Leaves from new
   leaves_from r old from new h is =
       let es = h.wrote in
@@ -109,6 +110,7 @@ module _ (given : Owned ℕ) where
 -- ---- the history is what was made
 
 module _ (laws : Laws) (code : Coding ℕ) (capacity : ℕ) (old between new : View ℕ) (calm : HasOnlyAdded old.made) where
+  -- the history is contained after two adds that follow on adds alone
   pub whole_after : (one two : Owned ℕ) (r s : Added) → old.going ≡ None → between.going ≡ None → HasAdded one r old between
       → HasAdded two s between new → ((f : Event ℕ → ℕ) → sum_by f new.seen ≡ sum_by f new.made)
       → IsHistory code kinds.Container capacity new.seen → IsContained new.seen

@@ -65,6 +65,7 @@ unequal m n less same = omega arith
 no_less : (m n : ℕ) → n ≤ m → m < n → ⊥
 no_less m n most less = omega arith
 
+-- the two stores stand in their order in the history
 pub stored_in_turn : StoredInOrder 5 7 both
 stored_in_turn =
     record {
@@ -138,6 +139,7 @@ producer = record (left_view first) { seen = role_taken 0 roles.Producer; made =
 abbrev consumer : View ℕ
 consumer = record (right_view first) { seen = role_taken 1 roles.Consumer; made = role_taken 1 roles.Consumer; party = Some 1; asked = 1 }
 
+-- both ends are what the pass is parted into
 pub parted_in_three : HasParted first producer consumer
 parted_in_three =
     record {

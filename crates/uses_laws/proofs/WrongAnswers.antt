@@ -65,6 +65,7 @@ release_says_locked index owner by mode before v w is unlocked k =
     let locked : is_locked before ≡ true = said (Release index owner mode) (State Locked) _ before by v w is k in
     cc
 
+-- a release that may lock, and answers Unlocked where all is locked, is refused
 pub release_says_unlocked : (index owner by : ℕ) (before : List (Event ℕ)) (v w : View ℕ)
     → Saw before by (Release index owner LockIfLastIndex) (State Unlocked) w
     → is_locked before ≡ true
@@ -90,6 +91,7 @@ apart =
     Each-append BeginsAlone [] (emptied ++ Finished 1 (Robust releases) (State Unlocked) ∷ []) (Each-nil BeginsAlone)
     (tt, ((λ locks q. no_call (0 == q)), (tt, (tt, tt))))
 
+-- a release that has freed the last index, might lock and answers Unlocked is refused
 pub release_leaves_the_last : IsRightRelease 0 7 LockIfLastIndex (Ok Unlocked) first (saw emptied 1 releases (State Unlocked)) → ⊥
 release_leaves_the_last k =
     ⊎_elim (λ worn. let late : 2 ^ 64 - 2 ≤ 6 = worn apart in absurd (omega arith))
@@ -101,6 +103,7 @@ release_leaves_the_last k =
 
 -- ---- a recovery
 
+-- a recovery that answers Locked where nothing is locked is refused
 pub recovery_says_locked : (by : ℕ) (mode : ReleaseMode) (before : List (Event ℕ)) (v w : View ℕ)
     → Saw before by (Recover mode) (State Locked) w
     → is_locked before ≡ false
@@ -110,6 +113,7 @@ recovery_says_locked by mode before v w is unlocked k =
     let locked : is_locked before ≡ true = said (Recover mode) (State Locked) _ before by v w is k in
     cc
 
+-- a recovery that answers Unlocked where all is locked is refused
 pub recovery_says_unlocked : (by : ℕ) (mode : ReleaseMode) (before : List (Event ℕ)) (v w : View ℕ)
     → Saw before by (Recover mode) (State Unlocked) w
     → is_locked before ≡ true
@@ -131,6 +135,7 @@ recovery_asks_nothing k =
 
 -- ---- a count
 
+-- a count above 0 of a locked set is refused
 pub count_of_a_locked_set : (number by : ℕ) (before : List (Event ℕ)) (v w : View ℕ)
     → Saw before by BorrowedIndices (Number (suc number)) w
     → is_locked before ≡ true
@@ -150,6 +155,7 @@ counts_two_of_one k =
     at_none_since 1 (Robust BorrowedIndices) (IsFilled 1) (Filled 0 0 7 ∷ []) [] (λ e. cc)
     (right.once 1 (omega arith) (both_of_two right.chosen right.is))
 
+-- a count of none, where one index had an owner throughout, is refused
 pub counts_none_of_one : IsRightCount 0 first (saw one 1 BorrowedIndices (Number 0)) → ⊥
 counts_none_of_one k =
     let right = (said BorrowedIndices (Number 0) _ one 1 first (saw one 1 BorrowedIndices (Number 0)) refl k).1 refl in
@@ -159,6 +165,7 @@ counts_none_of_one k =
 
 -- ---- a look at the lock
 
+-- a look that answers true where nothing is locked is refused
 pub look_says_otherwise : (by : ℕ) (before : List (Event ℕ)) (v w : View ℕ) → Saw before by IsLocked (Truth true) w
     → is_locked before ≡ false
     → IsRightLook true v w

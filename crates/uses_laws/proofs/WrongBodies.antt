@@ -148,6 +148,7 @@ module _ {T : Type 0} where
       let f = length-append (handed_out u.seen) (second ∷ []) in
       absurd (omega arith)
 
+  -- a pop that takes one out, and then finds no other, has not found the queue empty
   pub pop_skips_the_last : (first : Item T) (u v w : View T) → PopDone first u v → PopEmpty v w → PopEmpty u w → ⊥
   pop_skips_the_last first u v w one none k =
       let a = ap length (one.1).list in
@@ -277,6 +278,7 @@ none_twice before after place capacity up =
     let two = get_or-append-add before (place ∷ place ∷ after) 1 0 in
     absurd (omega arith)
 
+-- what ascends below a number has none from there on
 none_past : (before after : List ℕ) (place capacity : ℕ) → capacity ≤ place → Ascends capacity (before ++ place ∷ after) → ⊥
 none_past before after place capacity past up =
     let all = length-append before (place ∷ after) in
@@ -310,6 +312,7 @@ same_counts p q (x ∷ xs) (y ∷ ys) e =
     let more = same_counts p q xs ys rest in
     cc
 
+-- a reset of all that hands out other counts than it took is refused
 pub reset_all_hands_out_at_most_1000 : (capacity : ℕ) (took told : List BitState) (v w : View ℕ) → took ≢ told
     → HasTakenOut notes capacity [] took v w
     → HasTakenOut notes capacity [] told v w
@@ -357,6 +360,7 @@ loaned_within [] index e = cc
 loaned_within (p ∷ places) zero e = omega arith
 loaned_within (p ∷ places) (suc index) e = let less = loaned_within places index e in omega arith
 
+-- a send that settles its own index first leaves other places
 pub loan_send_settles_before_its_table : (places : List Place) (index : ℕ) → place_at places index ≡ Loaned
     → slice_set (returned index places) index Sent ≡ returned index (slice_set places index Sent)
     → ⊥
@@ -383,6 +387,7 @@ popped_all (n ∷ numbers) v w k =
     let rest = popped_all numbers k.0 w k.2 in
     omega arith
 
+-- a pop of one value is not all that a reclaim pops
 pub loan_reclaim_pops_once : (number : ℕ) (v w : View ℕ) → PopDone (Index number) v w → HasEmptied v w → ⊥
 loan_reclaim_pops_once number v w one k =
     let once = makes _ _ _ _ v w one.0.called in
@@ -444,6 +449,7 @@ is_locked_is_always_true v w right k = let e = (made_once _ _ _ _ _ _ _ v w righ
 abbrev hears : List ℕ → ℕ → CallbackProgression → List ℕ → Type 0
 hears before index progression after = after ≡ before ++ index ∷ []
 
+-- a closure that notes each index has heard those that the find came to
 heard : (capacity owner number : ℕ) (seen : List ℕ) (old new : List (Event ℕ)) → (k : HasFound hears capacity owner [] number seen old new)
     → seen ≡ k.indices
 heard capacity owner number seen old new k =

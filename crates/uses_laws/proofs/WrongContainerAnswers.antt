@@ -62,6 +62,7 @@ add_says_locked value owner by before v w is unlocked k =
     let locked : is_locked before ≡ true = said (Add value owner) (NoPlace failures.IsLocked) _ before by v w is k.answered in
     cc
 
+-- an add that answers that there is no space, though the container is locked, is refused
 pub add_says_full : (value owner by : ℕ) (before : List (Event ℕ)) (v w : View ℕ)
     → Saw before by (Add value owner) (NoPlace failures.OutOfSpace) w
     → is_locked before ≡ true
@@ -138,6 +139,7 @@ apart start answer =
     Each-append BeginsAlone [] (emptied start ++ Finished 1 (Container start) answer ∷ []) (Each-nil BeginsAlone)
     (tt, ((λ locks q. no_call (0 == q)), (tt, (tt, tt))))
 
+-- a remove that has freed the last index, might lock and answers Unlocked is refused
 pub remove_leaves_the_last : IsRightRemove (giving 0 7 LockIfLastIndex) (Ok Unlocked) first (saw (emptied removes) 1 removes (State Unlocked)) → ⊥
 remove_leaves_the_last k =
     ⊎_elim (λ worn. let late : 2 ^ 64 - 2 ≤ 6 = worn (apart removes (State Unlocked)) in absurd (omega arith))
@@ -186,6 +188,7 @@ replace_of_another k =
 abbrev dead : ℕ → ReleaseMode → DeadOwner
 dead owner mode = record { owner = owner; mode = mode }
 
+-- a recovery that answers Locked where nothing is locked is refused
 pub recovery_says_locked : (owner by : ℕ) (mode : ReleaseMode) (before : List (Event ℕ)) (v w : View ℕ)
     → Saw before by (Recover owner mode) (State Locked) w
     → is_locked before ≡ false
@@ -199,6 +202,7 @@ recovery_says_locked owner by mode before v w is unlocked k =
 abbrev recovers : ReleaseMode → ContainerStart ℕ
 recovers mode = Recover 7 mode
 
+-- a recovery that answers Unlocked where all was locked when it began is refused
 pub recovery_says_unlocked : (mode : ReleaseMode)
     → IsRightRecovery (dead 7 mode) Unlocked first (saw (locked_first (recovers mode)) 1 (recovers mode) (State Unlocked))
     → ⊥
@@ -236,6 +240,7 @@ recovery_leaves_the_last k =
 
 -- ---- how many
 
+-- a length above 0 of a locked container is refused
 pub length_of_a_locked_container : (number by : ℕ) (before : List (Event ℕ)) (v w : View ℕ)
     → Saw before by Len (Number (suc number)) w
     → is_locked before ≡ true
@@ -273,6 +278,7 @@ test_of_a_locked_container by before v w is locked k =
 
 -- ---- a look at the lock
 
+-- a look that answers true where nothing is locked is refused
 pub look_says_otherwise : (by : ℕ) (before : List (Event ℕ)) (v w : View ℕ) → Saw before by IsLocked (Truth true) w
     → is_locked before ≡ false
     → IsRightLook true v w

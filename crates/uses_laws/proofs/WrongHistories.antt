@@ -87,6 +87,7 @@ takes_the_party k = let e = k.right_party in cc
 abbrev new : View ℕ
 new = right_view first
 
+-- this is how a split is right
 splits_right : HasSplit first stays new
 splits_right =
     record {
@@ -161,6 +162,7 @@ Heads e = ⊥
 abbrev ends : ℕ → List (Event ℕ)
 ends by = Finished by (Robust (Recover Default)) (State Unlocked) ∷ []
 
+-- what a recovery writes at an index begins with a question
 head_came : (by index owner : ℕ) (came : Came) (more : List (Event ℕ)) (e : Event ℕ) (rest : List (Event ℕ))
     → e ∷ rest ≡ wrote_to by index owner came ++ more
     → Heads e
@@ -197,6 +199,7 @@ one_freed by index owner WasTold visits is told =
 one_freed by index owner HasFreed visits is told = told.1
 one_freed by index owner HasLocked visits is told = told.1
 
+-- no list of what a recovery came to gives that it freed an index and told nobody
 none_told : (by : ℕ) (visits : List Visit) → freed_one.made ≡ Begun by (Robust (Recover Default)) ∷ (wrote_by by visits ++ ends by)
     → FoldsTo (tells never_told) [] (freed_of visits) []
     → ⊥
@@ -219,6 +222,7 @@ no_to_one by index owner WasTold visits is said = cc
 no_to_one by index owner HasFreed visits is said = cc
 no_to_one by index owner HasLocked visits is said = cc
 
+-- no list of what a recovery came to gives that it freed an index and was told no
 none_agreed : (by : ℕ) (visits : List Visit) → freed_one.made ≡ Begun by (Robust (Recover Default)) ∷ (wrote_by by visits ++ ends by)
     → FoldsTo (asks says_no) [] (questions_of visits) []
     → ⊥

@@ -101,6 +101,7 @@ lease_asks_once_more k =
     let most : 12 ≤ 1 + load (default_bound 1 2 1) 1 = (k.fewer 1 (omega arith, tt) (tt, tt)).asked in
     absurd (omega (most, arith))
 
+-- a release that may lock, and asks for one operation more than its load, is refused
 pub release_asks_once_more :
     OwnersGoOn one_word kinds.Robust 2 room_bound default_bound 1 first (record first { seen = locking; asked = 2 + load (room_bound 1 2 1) 1 })
     → ⊥

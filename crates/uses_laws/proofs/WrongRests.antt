@@ -28,6 +28,7 @@ abbrev stage_of : Flight ℕ → Option FindStage
 stage_of (flights.Container (calls.Find run)) = Some run.call.stage
 stage_of flight = None
 
+-- a find that ends with its next step ends as its stage says
 find_ends : (flight : Flight ℕ) (answer : Answer ℕ) (stage : FindStage) → stage_of flight ≡ Some stage → EndsAs flight answer
     → FindEndsAs stage answer
 find_ends (flights.Container (calls.Find run)) answer stage is ends =

@@ -24,7 +24,7 @@ within (p ∷ ps) (suc i) h = let lt = within ps i h in omega arith
 
 -- what is not out is free
 pub is_free : (p : Place) → is_out p ≡ false → p ≡ Free
-is_free x0 x1 = grind arith
+is_free p is_out_false = grind arith
 
 -- what is sent is out
 pub sent_out : (p : Place) → is_sent p ≡ true → is_out p ≡ true
@@ -118,7 +118,7 @@ not_reached ps ys i sent e h = ap is_sent (sym (at_so_far ps i) ∙ ap (λ z. pl
 
 module _ (ps ys : List Place) (i : ℕ) (e : ys ≡ so_far i ps) (lt : i < length ps) where
   pub sent_step : is_sent (place_at ys i) ≡ true → (set ys i Free ≡ so_far (i + 1) ps) × (count_by is_sent (take (i + 1) ps) ≡ count_by is_sent (take i ps) + 1)
-  sent_step x0 = grind (arith, is_sent, place_at, at_so_far, set, add-one, freed_one, count_by_more_yes)
+  sent_step is_sent_true = grind (arith, is_sent, place_at, at_so_far, set, add-one, freed_one, count_by_more_yes)
 
   pub other_step : is_sent (place_at ys i) ≡ false → (ys ≡ so_far (i + 1) ps) × (count_by is_sent (take (i + 1) ps) ≡ count_by is_sent (take i ps))
   other_step h =

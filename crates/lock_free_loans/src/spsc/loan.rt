@@ -13,6 +13,7 @@ use lock_free_sets::mpmc::unique_index_set::{Pass, UniqueIndexSet};
 use thiserror::Error;
 
 mod calls;
+mod debug;
 mod places;
 
 /// The end of a loan channel that loans and sends. It keeps a table of where each index is: Free, Loaned, which is

@@ -28,22 +28,22 @@ module _ {T : Type 0} (code : Coding T) (base from : View T) (settled : SettledF
   -- ---- where it began
 
   settled_since : SettledFrom code kinds.Container base from → IsBeginning base.seen from.seen
-  settled_since x0 = grind (arith, append-nil, append_assoc)
+  settled_since settled_from = grind (arith, append-nil, append_assoc)
 
   settled_idle : SettledFrom code kinds.Container base from → from.going ≡ None
-  settled_idle x0 = grind arith
+  settled_idle settled_from = grind arith
 
   settled_capacity : SettledFrom code kinds.Container base from → from.capacity ≡ base.capacity
-  settled_capacity x0 = grind arith
+  settled_capacity settled_from = grind arith
 
   settled_share : SettledFrom code kinds.Container base from → from.share ≡ base.share
-  settled_share x0 = grind arith
+  settled_share settled_from = grind arith
 
   settled_party : SettledFrom code kinds.Container base from → from.party ≡ base.party
-  settled_party x0 = grind arith
+  settled_party settled_from = grind arith
 
   settled_state : SettledFrom code kinds.Container base from → from.state ≡ base.state
-  settled_state x0 = grind arith
+  settled_state settled_from = grind arith
 
   settled_aside : SettledFrom code kinds.Container base from → from.aside ≤ base.aside + to_settle base
   settled_aside (inl h) = (let same = ap (λ (z : View T). z.aside) h.0 in omega arith)
@@ -69,7 +69,7 @@ module _ {T : Type 0} (code : Coding T) (base from : View T) (settled : SettledF
       (continues_further code kinds.Container from.capacity base from w (settled_ran settled) h)
 
   pub later : (xs : List (Event T)) → IsBeginning base.seen (from.seen ++ xs)
-  later x0 = grind (arith, settled_since, append_assoc)
+  later xs = grind (arith, settled_since, append_assoc)
 
   pub from_since : (xs ys : List (Event T)) → ys ≡ from.seen ++ xs → IsBeginning base.seen ys
   from_since xs ys is = (let all = later xs in record { rest = all.rest; is = is ∙ all.is })
@@ -163,10 +163,10 @@ module _ {T : Type 0} (code : Coding T) (base from : View T) (settled : SettledF
 
     module _ (leaves : LeavesState call) (by_same : (was : Option ℕ) (p : ℕ) → call.by was p → IfSome was (λ q. q ≡ p)) where
       same_party : (p party : ℕ) → call.by from.party party → base.party ≡ Some p → p ≡ party
-      same_party x0 x1 x2 x3 = grind (arith, settled_party)
+      same_party p party by_holds party_is = grind (arith, settled_party)
 
       kept_by : (party : ℕ) → w.party ≡ Some party → call.by from.party party → (from.party ≡ Some party → w.state ≡ from.state) → KeepsState base w
-      kept_by x0 x1 x2 x3 x4 x5 = grind (arith, same_party, settled_party, settled_state)
+      kept_by party party_is by_party same_state p p_is = grind (arith, same_party, settled_party, settled_state)
 
       pub ended_keeps : (e : E) (m : M) → Ends code kinds.Container call from e m w → KeepsState base w
       ended_keeps e m ends = kept_by ends.party ends.mine ends.same (ends.state leaves)

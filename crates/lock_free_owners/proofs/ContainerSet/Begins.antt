@@ -32,7 +32,7 @@ module _ {T : Type 0} (code : Coding T) where
   module _ {C E : Type 0} (begins : ℕ → C → Type 0) (call : Calling T C (Unit {0}) E) where
     begins_by : (v : View T) (c : C) → begins v.capacity c → (v.going ≡ None → At code kinds.Container call v v c tt)
         → (v.going ≡ None) ⊎ IsResting code v → CallAt code begins call v v c tt
-    begins_by x0 x1 x2 x3 x4 = grind arith
+    begins_by v c begins_holds at either = grind arith
 
     pub begins_at : (v : View T) (c : C) → begins v.capacity c → (v.going ≡ None → At code kinds.Container call v v c tt) → IsIdle v → v.other ≡ []
         → 0 < v.share.part → CallAt code begins call v v c tt
@@ -47,7 +47,7 @@ module _ {T : Type 0} (code : Coding T) where
 
     add_first : (v : View T) (c : Adding T) (m : Unit {0}) → BeginsAdd given v.capacity c → v.going ≡ None → v.other ≡ [] → 0 < v.share.part
         → At code kinds.Container (adds_value code.size given) v v c m
-    add_first x0 x1 x2 x3 x4 x5 x6 = grind (arith, adds_value, container_add_first)
+    add_first v c m begins_add going_is_none other_is_empty part_positive = grind (arith, adds_value, container_add_first)
 
     pub add_keeps : Keeps code (AddAt code given) (AddEnds code given) (λ c. add_want code.words_of code.size c given) (λ c n. add_after code.size c n)
         (λ c m n. m)
@@ -71,7 +71,7 @@ module _ {T : Type 0} (code : Coding T) where
 
     remove_first : (v : View T) (c : Removing) (m : Unit {0}) → BeginsRemove given v.capacity c → v.going ≡ None → v.other ≡ [] → 0 < v.share.part
         → At code kinds.Container (removes_value given) v v c m
-    remove_first x0 x1 x2 x3 x4 x5 x6 = grind (arith, removes_value, container_remove_first)
+    remove_first v c m begins_remove going_is_none other_is_empty part_positive = grind (arith, removes_value, container_remove_first)
 
     pub remove_keeps : Keeps code (RemoveAt code given) (RemoveEnds code given) (λ c. remove_want c given) (λ c n. remove_after c given n) (λ c m n. m)
     remove_keeps = rested_keeps code (removes_value given) (λ c. remove_want c given) (λ c m. refl) (BeginsRemove given) remove_asks
@@ -96,7 +96,7 @@ module _ {T : Type 0} (code : Coding T) where
 
     replace_first : (v : View T) (c : Replacing T) (m : Unit {0}) → BeginsReplace given v.capacity c → v.going ≡ None → v.other ≡ [] → 0 < v.share.part
         → At code kinds.Container (replaces_value code.size given) v v c m
-    replace_first x0 x1 x2 x3 x4 x5 x6 = grind (arith, replaces_value, container_replace_first)
+    replace_first v c m begins_replace going_is_none other_is_empty part_positive = grind (arith, replaces_value, container_replace_first)
 
     pub replace_keeps : Keeps code (ReplaceAt code given) (ReplaceEnds code given) (λ c. replace_want code.words_of code.size c given)
         (λ c n. replace_after code.size c given n) (λ c m n. m)
@@ -117,7 +117,7 @@ module _ {T : Type 0} (code : Coding T) where
 
     count_first : (v : View T) (c : Counting) (m : Unit {0}) → BeginsCount v.capacity c → v.going ≡ None → v.other ≡ [] → 0 < v.share.part
         → At code kinds.Container (counts_values which) v v c m
-    count_first x0 x1 x2 x3 x4 x5 x6 = grind (arith, counts_values, container_count_first)
+    count_first v c m begins_count going_is_none other_is_empty part_positive = grind (arith, counts_values, container_count_first)
 
     pub count_keeps : Keeps code (CountAt code which) (CountEnds code which) borrowed_want borrowed_after (λ c m n. m)
     count_keeps = rested_keeps code (counts_values which) borrowed_want (λ c m. refl) BeginsCount count_asks borrowed_after (λ c m n. m)

@@ -43,15 +43,15 @@ module _ {T : Type 0} where
 
   effects_none : (code : Coding T) (p : ℕ) (state : Option (ContainerState T)) (flight : ContainerFlight T) (old : ℕ)
       → NoEnds (effects code p state flight old)
-  effects_none x0 x1 x2 x3 x4 = grind arith
+  effects_none code p state flight old = grind arith
 
   questions_none : (p : ℕ) (flight : ContainerFlight T) (old : ℕ) → NoEnds (questions p flight old)
-  questions_none x0 x1 x2 = grind arith
+  questions_none p flight old = grind arith
 
   step_none : (code : Coding T) (words : List ℕ) (beside : Option (ℕ × ℕ)) (p : ℕ) (start : Start T) (flight : Flight T) (old : ℕ)
       (dead : List ℕ) (states : List (ℕ × ContainerState T))
       → NoEnds (step_of code words beside p start flight old (registries.Container dead states)).wrote
-  step_none x0 x1 x2 x3 x4 x5 x6 x7 x8 = grind (arith, both_none, effects_none, questions_none)
+  step_none code words beside p start flight old dead states = grind (arith, both_none, effects_none, questions_none)
 
   -- ---- so a turn writes it last
 

@@ -28,10 +28,10 @@ module _ {T : Type 0} (code : Coding T) (owner capacity cell found : ℕ) where
       (λ e. absurd (other e)) (λ ne. refl)
 
   next : cell + 1 < capacity → find_comes_to here (cell + 1) found ≡ GoOn (at_cell {T = T} capacity (cell + 1) found)
-  next x0 = grind (arith, by_test, nat_lt, nat_tests)
+  next cell_below = grind (arith, by_test, nat_lt, nat_tests)
 
   past : capacity ≤ cell + 1 → find_comes_to here (cell + 1) found ≡ Done found
-  past x0 = grind (arith, by_test, nat_lt, nat_tests)
+  past capacity_up_to = grind (arith, by_test, nat_lt, nat_tests)
 
   module _ (base w : View T) (room : Buffer 128) (copies : List (ℕ × T)) (k : ℕ) where
     abbrev There : After (Find T (Buffer 128)) ℕ → Type 0

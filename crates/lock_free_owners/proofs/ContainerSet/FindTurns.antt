@@ -63,12 +63,12 @@ module _ {T : Type 0} (code : Coding T) (law : IsCoding code) (owner : ℕ) wher
 
   answers_later : (c : Find T (Buffer 128)) (n : ℕ) (stage : FindStage) → is_question (find_asks code.size c.capacity stage) ≡ true
       → IsLater (find_takes code.size c stage owner n)
-  answers_later x0 x1 x2 x3 = grind (arith, by_test, nat_lt)
+  answers_later c n stage is_question_true = grind (arith, by_test, nat_lt)
 
   never_first : (capacity : ℕ) (c d : Find T (Buffer 128)) (m : Copying T) (n : ℕ) → is_question (find_want code.size c) ≡ true
       → find_goes code owner c n ≡ GoOn d
       → BeginsFind owner capacity d m → ⊥
-  never_first x0 x1 x2 x3 x4 x5 x6 x7 = grind (arith, answers_later)
+  never_first capacity c d m n is_question_true find_goes_is begins_find = grind (arith, answers_later)
 
   -- each step at a word
   pub find_keeps : KeepsWhere code kinds.Container (container_words code) (λ (c : Find T (Buffer 128)). is_question (find_want code.size c) ≡ false)
@@ -80,7 +80,7 @@ module _ {T : Type 0} (code : Coding T) (law : IsCoding code) (owner : ℕ) wher
       (container_find_word code law words_in kept_at put_in owner)
 
   pub at_its_word : (capacity : ℕ) (stage : FindStage) → IsAtWord stage → is_question (find_asks code.size capacity stage) ≡ false
-  at_its_word x0 x1 x2 = grind arith
+  at_its_word capacity stage at_word = grind arith
 
   apart : (base v : View T) (c : Find T (Buffer 128)) (m k : Copying T) → IsResting code v
       → BeginsFind owner v.capacity c k → FindBegun code owner base v c m → ⊥
@@ -93,7 +93,7 @@ module _ {T : Type 0} (code : Coding T) (law : IsCoding code) (owner : ℕ) wher
   rested_at base v c m waits = subst (λ z. IsResting code z) (sym waits.is) waits.resting
 
   begins_at : (base v : View T) (c : Find T (Buffer 128)) (m : Copying T) → WaitsAt base v c m → BeginsFind owner v.capacity c m
-  begins_at x0 x1 x2 x3 x4 = grind arith
+  begins_at base v c m waits_at = grind arith
 
   -- it has copied the same, whatever the view with which it is told that it began
   same_copies : (base other v : View T) (c : Find T (Buffer 128)) (m k : Copying T) → FindAt code owner base v c m → FindAt code owner other v c k → m.1 ≡ k.1
@@ -144,11 +144,11 @@ module _ {T : Type 0} (code : Coding T) (law : IsCoding code) (owner : ℕ) wher
 
     -- it is under way, and has heard no answer yet
     under_at : (from : View T) → FindBegun code owner from v c m → IsUnderWay code kinds.Container (finding code owner) from v c m
-    under_at x0 x1 = grind (arith, clash, is_question, find_want, due, find_call, words_in, kept_at, put_in, number_of)
+    under_at from find_begun = grind (arith, clash, is_question, find_want, due, find_call, words_in, kept_at, put_in, number_of)
 
     pub asked_from : FindAt code owner base v c m
         → (from : View T) × SettledFrom code kinds.Container base from × IsUnderWay code kinds.Container (finding code owner) from v c m
-    asked_from x0 = grind (arith, under_at)
+    asked_from find_at = grind (arith, under_at)
 
     same_room : (n : ℕ) → find_copying code owner c m n ≡ m
     same_room n = ap (λ stage. (keeps_of kept_at stage m.0 n, copies_after stage n (value_of_room code words_in m.0) m.1)) is
@@ -166,7 +166,7 @@ module _ {T : Type 0} (code : Coding T) (law : IsCoding code) (owner : ℕ) wher
 
     rests_at : (e : ℕ) (said : Bool) → find_goes code owner c (number_of said) ≡ Done e → (at : FindAt code owner base v c m)
         → RestsAt code kinds.Container (find_goes code owner) (find_copying code owner) (finding code owner) (asked_from at).0 v e m
-    rests_at x0 x1 x2 x3 = grind (arith, asked_from, due, same_room, number_of)
+    rests_at e said find_goes_is at = grind (arith, asked_from, due, same_room, number_of)
 
   -- ---- where it has ended, or rests
 
@@ -228,7 +228,7 @@ module _ {T : Type 0} (code : Coding T) (law : IsCoding code) (owner : ℕ) wher
           }
 
       at_question : (stage : FindStage) → is_question (find_asks code.size rest.asking.capacity stage) ≡ true → asks stage ≡ true
-      at_question x0 x1 = grind arith
+      at_question stage is_question_true = grind arith
 
       pub rested_left : IsLeft code base w
       rested_left =

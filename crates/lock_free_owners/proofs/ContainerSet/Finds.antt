@@ -26,7 +26,7 @@ use Rattle.lock_free_owners.proofs.Rules.Container.Finding.{Came, widen, found_a
 use Rattle.lock_free_owners.proofs.Rules.Container.Finding.{IsQuiet, came_none, quietly, told_on, told_to_stop, may_ask}
 
 one_more_is : (n : ℕ) → n < 2 ^ 32 → one_more n ≡ n + 1
-one_more_is x0 x1 = grind (arith, one_more)
+one_more_is n n_below = grind (arith, one_more)
 
 module _ {T F : Type 0} (code : Coding T) (step : F → T → ContainerHandle → CallbackProgression → F → Type 0)
     (cap owner id : ℕ) (base : View T) (f : F) where
@@ -50,7 +50,7 @@ module _ {T F : Type 0} (code : Coding T) (step : F → T → ContainerHandle �
   whole : (w : View T) (n bound : ℕ) (q : F) (copies : List (ℕ × T))
       → IsLeft code base w × HasSearched cap owner n bound (visits_of owner id copies) base w
       → HasFound step cap (IsNamed cap owner id) f n bound (visits_of owner id copies) q → FindTakes code.size cap base w → Over w n q
-  whole x0 x1 x2 x3 x4 x5 x6 x7 = grind (arith, visits_of)
+  whole w n bound q copies both found find_takes_holds = grind (arith, visits_of)
 
   module _ (law : IsCoding code) (small : cap < 2 ^ 32) (size : cap ≡ base.capacity) (v : View T) (c : Find T (Buffer 128)) (m : Buffer 128)
       (p : F) (h : Searching v c m p) where
@@ -69,7 +69,7 @@ module _ {T F : Type 0} (code : Coding T) (step : F → T → ContainerHandle �
     stepped w (Done n) left copies stands ends found few = whole w n cap p copies (over_so code law owner cap base w n (left, copies) id size ends) found few
 
     at_word : (stage : FindStage) → IsQuiet step cap owner id f stage → IsAtWord stage
-    at_word x0 x1 = grind arith
+    at_word stage quiet = grind arith
 
     few_then : (most before : ℕ) (w : View T) → before + 1 ≤ most → TakesAtMost before base v → TakesAtMost 1 v w → TakesAtMost most base w
     few_then most before w more few one = omega arith
@@ -157,7 +157,7 @@ module _ {T F : Type 0} (code : Coding T) (step : F → T → ContainerHandle �
 
     turned : (stage : FindStage) → c.stage ≡ stage → (w : View T) (a : After (Find T (Buffer 128)) ℕ) (left : Buffer 128) (q : F)
         → FindTurns code owner stage v c m a left w → FindMoves step code.size id c owner stage (value_in_room m) p a q → Further w a left q
-    turned x0 x1 x2 x3 x4 x5 x6 x7 = grind (arith, by_step, by_answer)
+    turned stage same_stage w a kept q find_turns find_moves = grind (arith, by_step, by_answer)
 
     pub further : (w : View T) (a : After (Find T (Buffer 128)) ℕ) (left : Buffer 128) (q : F) → FindTurns code owner c.stage v c m a left w
         → FindMoves step code.size id c owner c.stage (value_in_room m) p a q → Further w a left q
@@ -169,7 +169,7 @@ module _ {T F : Type 0} (code : Coding T) (step : F → T → ContainerHandle �
     -- ---- it passes cells
 
     in_sight : (stage : FindStage) → visits.FindStage code.size cap stage → IsWithin cap stage
-    in_sight x0 x1 = grind arith
+    in_sight stage find_stage = grind arith
 
     pub may_pass : IsWithin c.capacity c.stage
     may_pass = subst (λ n. IsWithin n c.stage) (sym h.stands.0) (in_sight c.stage h.stands.1)
@@ -236,7 +236,7 @@ module _ {T F : Type 0} (code : Coding T) (step : F → T → ContainerHandle �
   pub starts : (c : Find T (Buffer 128)) (m : Buffer 128) → c ≡ first_find cap → m ≡ fresh_cell → 0 < cap
       → FindAt code owner base base (first_find cap) (fresh_cell, [])
       → Searching base c m f
-  starts x0 x1 x2 x3 x4 x5 = grind (arith, came_none)
+  starts c m c_is m_is_fresh_cell cap_positive find_at = grind (arith, came_none)
 
 -- ---- it ends
 

@@ -45,7 +45,7 @@ module _ {T : Type 0} (code : Coding T) (v : View T) (fresh : v.other ≡ []) (s
   of_find p start flight mine going due = absurd (true≢false (sym due))
 
   of_call : (p : ℕ) (start : Start T) (flight : Flight T) → v.party ≡ Some p → v.going ≡ Some (start, flight) → is_at_question flight ≡ true → Rests
-  of_call x0 x1 x2 x3 x4 x5 = grind (arith, of_find)
+  of_call p start flight party_is going_is is_at_question_true = grind (arith, of_find)
 
   by_party : (party : Option ℕ) (going : Option (Start T × Flight T)) → v.party ≡ party → v.going ≡ going → may_rest party going ≡ true → Rests
   by_party party None mine going t = inl going

@@ -12,7 +12,7 @@ module _ {T : Type 0} (size : ℕ) (seen : Numbers) (capacity index : ℕ) where
   CountsNext other d = d.stage ≡ looks.LoadsCount other → (d ≡ at_count capacity other) × (index < other) × (other < capacity)
 
   pub counts_next : (n other : ℕ) (d : Look T) → look_after size (at_count capacity index) seen n ≡ GoOn d → CountsNext other d
-  counts_next x0 x1 x2 = grind (arith, by_test, by_eq, is_even, slice_index_or, at_look, look_comes_to, look_finds, nat_lt, nat_tests)
+  counts_next n other d = grind (arith, by_test, by_eq, is_even, slice_index_or, at_look, look_comes_to, look_finds, nat_lt, nat_tests)
 
 module _ {T : Type 0} (code : Coding T) (which : LookOf) (from : View T) (shown : Showing T) (seen : Numbers) (w : View T) (m : Showing T) where
   pub gone_on : (a : After (Look T) Bool) (d : Look T) → a ≡ GoOn d → LookOnGoes code which from shown seen a m w → LookOnAt code which from shown seen w d m

@@ -64,11 +64,11 @@ module _ {T : Type 0} (code : Coding T) (law : IsCoding code) (which : LookOf) (
 
   joins : On → (base : View T) (a : After (Looking T) Bool) (m : Showing T) (w : View T)
       → NextOf (RestedLooks code which from.capacity seen) (RestedLooked code which from.capacity seen) from a m w → NextOf At Over base a m w
-  joins x0 x1 x2 x3 x4 x5 = grind arith
+  joins on base a m w next_of = grind arith
 
   leaves : (On → ⊥) → (base : View T) (a : After (Looking T) Bool) (m : Showing T) (w : View T)
       → NextOf (Still (LookStands code.size)) LookEnds from a m w → NextOf At Over base a m w
-  leaves x0 x1 x2 x3 x4 x5 = grind arith
+  leaves not_on base a m w next_of = grind arith
 
   abbrev ToldOn : Looking T → Showing T → View T → ℕ → View T → Type 0
   ToldOn c m =
@@ -105,7 +105,7 @@ module _ {T : Type 0} (code : Coding T) (law : IsCoding code) (which : LookOf) (
   finds c index count = by_test Past (is_even count) _ _ (λ t. comes c (index + 1)) (λ t. tt)
 
   takes : (c : Looking T) (stage : LookStage) (n : ℕ) → IsPast stage → Past (look_takes code.size c stage seen n)
-  takes x0 x1 x2 x3 = grind (arith, by_test, slice_index_or, comes, finds, nat_lt)
+  takes c stage n past = grind (arith, by_test, slice_index_or, comes, finds, nat_lt)
 
   goes_past : (base : View T) (a : After (Looking T) Bool) (m : Showing T) (w : View T) → Past a → NextOf At Over base a m w → NextOf AtOn OverOn base a m w
   goes_past base (GoOn d) m w past h = (h, past)
@@ -124,7 +124,7 @@ module _ {T : Type 0} (code : Coding T) (law : IsCoding code) (which : LookOf) (
 
   -- what the first step leads to on a container that has an index
   pub first_leads : (capacity : ℕ) (a : After (Looking T) Bool) (n : ℕ) → 0 < capacity → a ≡ look_after code.size (first_look capacity) seen n → IsAfterFirst a
-  first_leads x0 x1 x2 x3 x4 = grind (arith, by_test, look_comes_to, first_look, nat_lt, nat_tests)
+  first_leads capacity a n capacity_positive a_is = grind (arith, by_test, look_comes_to, first_look, nat_lt, nat_tests)
 
   -- ---- where a step has led
 
@@ -146,10 +146,10 @@ module _ {T : Type 0} (code : Coding T) (law : IsCoding code) (which : LookOf) (
 
   begins_on : On → (from.going ≡ None) ⊎ IsResting code from → from.other ≡ [] → 0 < from.share.part
       → RestedLooks code which from.capacity seen from from (first_look from.capacity) shown
-  begins_on x0 x1 x2 x3 = grind (arith, state_rests_idle, first_look, state_rests_rested)
+  begins_on on either other_is_empty part_positive = grind (arith, state_rests_idle, first_look, state_rests_rested)
 
   pub look_begins : IsIdle from → from.other ≡ [] → 0 < from.share.part → LookAt code which from shown seen from (first_look from.capacity) shown
-  look_begins x0 x1 x2 = grind (arith, begins_on, rests)
+  look_begins is_idle other_is_empty part_positive = grind (arith, begins_on, rests)
 
 module _ {T : Type 0} (code : Coding T) (which : LookOf) (from w : View T) (seen : Numbers) (changed : Bool) (m : Showing T)
     (ends : RestedLooked code which from.capacity seen from changed m w) where
@@ -185,7 +185,7 @@ module _ (T : Type 0) where
   none_copied p (suc index) = inl (none_copied p index)
 
   pub some_copied : (capacity p : ℕ) (changed : Bool) (es : List (Event T)) → HasLookedAll capacity p changed es → HasCopied p 0 capacity es
-  some_copied x0 x1 x2 x3 x4 = grind (arith, none_copied)
+  some_copied capacity p changed es looked_all = grind (arith, none_copied)
 
 -- ---- the state that the pass has
 
@@ -202,7 +202,7 @@ module _ {T : Type 0} (code : Coding T) (from : View T) where
   pub latest_so : (which : LookOf) (w : View T) (changed : Bool) (old new : ContainerState T) → old.capacity ≡ from.capacity
       → new ≡ settled_if (Done changed) (record old { shown = new.shown })
       → RestedLooked code which from.capacity old.seen from changed new.shown w → HasIt w new
-  latest_so x0 x1 x2 x3 x4 x5 x6 x7 = grind (arith, unnumbered, settled_if, state_of_look, settled)
+  latest_so which w changed old new same_capacity new_is rested_looked = grind (arith, unnumbered, settled_if, state_of_look, settled)
 
 -- what is known of a pass that a look has left
 pub record Left {T : Type 0} (v w : View T) : Type 0 where
@@ -214,7 +214,7 @@ pub record Left {T : Type 0} (v w : View T) : Type 0 where
 module _ {T : Type 0} (code : Coding T) (which : LookOf) (from : View T) (shown : Showing T) (seen : Numbers)
     (changed : Bool) (m : Showing T) (w : View T) where
   pub left_so : Decided (IsOnHistory code which from shown seen) → IsIdle from → from.other ≡ [] → LookOver code which from shown seen changed m w → Left from w
-  left_so x0 x1 x2 x3 = grind (arith, idle_none, share_from, capacity_from)
+  left_so decided is_idle other_is_empty look_over = grind (arith, idle_none, share_from, capacity_from)
 
   -- and what it knows is a run still
   pub knows_so : Decided (IsOnHistory code which from shown seen) → Knows code kinds.Container from.capacity from

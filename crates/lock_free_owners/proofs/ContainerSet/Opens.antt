@@ -11,7 +11,7 @@ module _ (capacity size : ℕ) where
   -- the words as they are filled in
   pub filled : (rest : ℕ) → rest ≡ total_words capacity size + 1 - (1 + capacity)
       → (0 ∷ replicate capacity empty) ++ replicate rest 0 ≡ opening_words size capacity ++ 0 ∷ []
-  filled x0 x1 = grind (arith, replicate, empty, one_more, append_assoc)
+  filled rest rest_is = grind (arith, replicate, empty, one_more, append_assoc)
 
 module _ {T : Type 0} (code : Coding T) (law : IsCoding code) (capacity : ℕ) (some : 0 < capacity) (small : capacity < 2 ^ 32) where
   most : nat_lt (2 ^ 32 - 1) capacity ≡ false

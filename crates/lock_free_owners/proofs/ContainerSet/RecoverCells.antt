@@ -27,10 +27,10 @@ module _ {T : Type 0} (code : Coding T) (given : DeadOwner) (capacity cell : ℕ
       (λ e. absurd (other e)) (λ ne. refl)
 
   next : cell + 1 < capacity → recover_comes_to here (cell + 1) ≡ GoOn (at_cell {T = T} capacity (cell + 1))
-  next x0 = grind (arith, by_test, nat_lt, goes_to, nat_tests)
+  next cell_below = grind (arith, by_test, nat_lt, goes_to, nat_tests)
 
   past : capacity ≤ cell + 1 → recover_comes_to here (cell + 1) ≡ GoOn (stands recovers.LoadsCounterAgain)
-  past x0 = grind (arith, by_test, nat_lt, goes_to, nat_tests)
+  past capacity_up_to = grind (arith, by_test, nat_lt, goes_to, nat_tests)
 
   module _ (base w : View T) (room : Buffer 128) (visits : List (ℕ × Came T)) (k : ℕ) where
     abbrev There : After (Recover T (Buffer 128)) ReleaseState → Type 0

@@ -54,7 +54,8 @@ module _ {T : Type 0} (code : Coding T) (law : IsCoding code) (given : DeadOwner
   begins_first : (v : View T) (c : Recover T (Buffer 128)) (m : Visiting T) → BeginsRecover given v.capacity c m → v.going ≡ None → v.other ≡ []
       → 0 < v.share.part
       → RecoverBegun code given v v c m
-  begins_first x0 x1 x2 x3 x4 x5 x6 = grind (arith, container_recover_first, words_in, kept_at, put_in, room_of, fresh_room)
+  begins_first v c m begins_recover going_is_none other_is_empty part_positive =
+      grind (arith, container_recover_first, words_in, kept_at, put_in, room_of, fresh_room)
 
   -- no answer leads there
   abbrev IsLater : After (Recover T (Buffer 128)) ReleaseState → Type 0
@@ -66,11 +67,11 @@ module _ {T : Type 0} (code : Coding T) (law : IsCoding code) (given : DeadOwner
 
   answers_later : (c : Recover T (Buffer 128)) (n : ℕ) (stage : RecoverStage) → is_question (recover_asks code.size c.capacity stage given.owner) ≡ true
       → IsLater (recover_takes code.size c stage given n)
-  answers_later x0 x1 x2 x3 = grind (arith, by_test, goes_to, nat_lt, clash, is_question, raise_asks_none, lock_asks_none)
+  answers_later c n stage is_question_true = grind (arith, by_test, goes_to, nat_lt, clash, is_question, raise_asks_none, lock_asks_none)
 
   never_first : (capacity : ℕ) (c d : Recover T (Buffer 128)) (m : Visiting T) (n : ℕ) → is_question (recover_want code.size c given) ≡ true
       → recover_goes code given c n ≡ GoOn d → BeginsRecover given capacity d m → ⊥
-  never_first x0 x1 x2 x3 x4 x5 x6 x7 = grind (arith, answers_later)
+  never_first capacity c d m n is_question_true recover_goes_is begins_recover = grind (arith, answers_later)
 
   pub recover_keeps : Keeps code (RecoverAt code given) (RecoverEnds code given) (λ c. recover_want code.size c given) (recover_goes code given)
       (recover_visiting code given)
@@ -90,7 +91,7 @@ module _ {T : Type 0} (code : Coding T) (law : IsCoding code) (given : DeadOwner
   rested_at base v c m waits = subst (λ z. IsResting code z) (sym waits.is) waits.resting
 
   begins_at : (base v : View T) (c : Recover T (Buffer 128)) (m : Visiting T) → WaitsAt base v c m → BeginsRecover given v.capacity c m
-  begins_at x0 x1 x2 x3 x4 = grind arith
+  begins_at base v c m waits_at = grind arith
 
   -- it has done the same, whatever the view with which it is told that it began
   same_visits : (base other v : View T) (c : Recover T (Buffer 128)) (m k : Visiting T) → RecoverAt code given base v c m → RecoverAt code given other v c k
@@ -139,11 +140,11 @@ module _ {T : Type 0} (code : Coding T) (law : IsCoding code) (given : DeadOwner
     due = ap (λ stage. is_question (recover_asks code.size c.capacity stage given.owner)) is
 
     under_at : (from : View T) → RecoverBegun code given from v c m → IsUnderWay code kinds.Container (recovering code given) from v c m
-    under_at x0 x1 = grind (arith, clash, is_question, recover_want, due, recover_call, words_in, kept_at, put_in, number_of)
+    under_at from recover_begun = grind (arith, clash, is_question, recover_want, due, recover_call, words_in, kept_at, put_in, number_of)
 
     asked_from : RecoverAt code given base v c m
         → (from : View T) × SettledFrom code kinds.Container base from × IsUnderWay code kinds.Container (recovering code given) from v c m
-    asked_from x0 = grind (arith, under_at)
+    asked_from recover_at = grind (arith, under_at)
 
     same_room : (n : ℕ) → recover_visiting code given c m n ≡ m
     same_room n = ap (λ stage. (keeps_of kept_at stage m.0 n, visits_after given.owner stage n (value_there code words_in m.0) m.1)) is

@@ -130,7 +130,7 @@ module _ {T F : Type 0} (code : Coding T) (step : F → T → Bool → F → Typ
     module _ (w : View T) (a : After (Recover T (Buffer 128)) ReleaseState) (left : Buffer 128) (q : F) where
       passes : (stage : RecoverStage) → c.stage ≡ stage → IsQuiet step cap shut given f stage
           → RecoverGoes code given v c m a left w → q ≡ p → Further w a left q
-      passes x0 x1 x2 x3 x4 = grind (arith, by_step)
+      passes stage same_stage quiet recover_goes_holds q_is_p = grind (arith, by_step)
 
       turned : (stage : RecoverStage) → c.stage ≡ stage → RecoverTurns code given stage v c m a left w
           → RecoverMoves step code.size c given stage value p a q → Further w a left q
@@ -235,4 +235,4 @@ module _ {T F : Type 0} (code : Coding T) (step : F → T → Bool → F → Typ
   pub starts : (c : Recover T (Buffer 128)) (m : Buffer 128) → c ≡ first_recover cap → m ≡ fresh_cell
       → RecoverAt code given base base (first_recover cap) (fresh_cell, [])
       → Standing base c m f
-  starts x0 x1 x2 x3 x4 = grind arith
+  starts c m c_is m_is_fresh_cell recover_at = grind arith

@@ -12,11 +12,11 @@ use Rattle.lock_free_owners.specs.Container.Contracts.{IsSound}
 module _ {T : Type 0} {worn other : Type 0} (may : worn → other) where
   since_each : (mode : ReleaseMode) (p owner : ℕ) (events : List (Event T)) → FilledSinceEachBy worn mode p owner events
       → FilledSinceEachBy other mode p owner events
-  since_each x0 x1 x2 x3 x4 = grind arith
+  since_each mode p owner events filled_since_each_by = grind arith
 
   -- what an answer says where its counter may be worn it says where that may be for another reason
   pub worn_on : (capacity : ℕ) (before : List (Event T)) (e : Event T) → AnswersBy Word worn capacity before e → AnswersBy Word other capacity before e
-  worn_on x0 x1 x2 x3 = grind (arith, since_each)
+  worn_on capacity before e answers_by = grind (arith, since_each)
 
 pub sound_history : {T : Type 0} (code : Coding T) (capacity : ℕ) (events : List (Event T)) → IsHistory code kinds.Container capacity events
     → IsSound code capacity events

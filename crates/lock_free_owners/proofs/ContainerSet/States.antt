@@ -10,19 +10,19 @@ use Rattle.lock_free_owners.proofs.ContainerSet.Facts.{keeps}
 
 module _ {T : Type 0} (code : Coding T) (base w : View T) where
   pub add_leaves : (given : Owned T) (answer : Added) → AddEnds code given base answer tt w → KeepsState base w
-  add_leaves x0 x1 x2 = grind (arith, keeps, adds_value)
+  add_leaves given answer add_ends = grind (arith, keeps, adds_value)
 
   pub remove_leaves : (given : GiveBack) (answer : Removed) → RemoveEnds code given base answer tt w → KeepsState base w
-  remove_leaves x0 x1 x2 = grind (arith, keeps, removes_value)
+  remove_leaves given answer remove_ends = grind (arith, keeps, removes_value)
 
   pub replace_leaves : (given : Replacement T) (answer : Replaced) → ReplaceEnds code given base answer tt w → KeepsState base w
-  replace_leaves x0 x1 x2 = grind (arith, keeps, replaces_value)
+  replace_leaves given answer replace_ends = grind (arith, keeps, replaces_value)
 
   pub count_leaves : (which : CountOf) (n : ℕ) → CountEnds code which base n tt w → KeepsState base w
-  count_leaves x0 x1 x2 = grind (arith, keeps, counts_values)
+  count_leaves which n count_ends = grind (arith, keeps, counts_values)
 
   pub lock_leaves : (b : Bool) → LockEnds code base b tt w → KeepsState base w
-  lock_leaves x0 x1 = grind (arith, keeps, sees_lock)
+  lock_leaves b lock_ends = grind (arith, keeps, sees_lock)
 
   pub recover_leaves : (given : DeadOwner) (state : ReleaseState) (m : Visiting T) → RecoverEnds code given base state m w → KeepsState base w
-  recover_leaves x0 x1 x2 x3 = grind (arith, ended_keeps, recovering)
+  recover_leaves given state m recover_ends = grind (arith, ended_keeps, recovering)

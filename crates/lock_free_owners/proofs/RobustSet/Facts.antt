@@ -93,7 +93,7 @@ last_of {start} {answer} a = record { rest = Finished a.by (Robust start) answer
 -- what any call leaves of what a pass knows
 module _ {C M E : Type 0} (call : Calling ℕ C M E) where
   goes : (base w : View ℕ) (e : E) (m : M) → Ends one_word kinds.Robust call base e m w → Goes base w
-  goes x0 x1 x2 x3 x4 = grind (arith, opened, append_assoc)
+  goes base w e m ends = grind (arith, opened, append_assoc)
 
   one_aside : (base w : View ℕ) → (w.aside ≡ base.aside) ⊎ (w.aside ≡ base.aside + 1) → w.aside ≤ base.aside + 1
   one_aside base w x = ⊎_elim (λ (same : w.aside ≡ base.aside). omega arith) (λ (more : w.aside ≡ base.aside + 1). omega arith) x
@@ -112,7 +112,7 @@ module _ (base w : View ℕ) (m : Unit {0}) (idle : base.going ≡ None) where
 
   module _ (owner : ℕ) where
     pub taken : (answer : Acquired) → Ends one_word kinds.Robust (takes_owned owner) base answer m w → HasTaken owner answer base w
-    taken x0 x1 = grind (arith, called, one_word, takes_owned)
+    taken answer ends = grind (arith, called, one_word, takes_owned)
 
     pub taken_answered : (answer : Acquired) → Ends one_word kinds.Robust (takes_owned owner) base answer m w
         → AnsweredBy (Acquire owner) (acquire_answer answer) base w
@@ -143,7 +143,7 @@ module _ (base w : View ℕ) (m : Unit {0}) (idle : base.going ≡ None) where
 
     pub within : (answer : Acquired) → Ends one_word kinds.Robust (takes_owned owner) base answer m w → (capacity : ℕ) → base.capacity ≡ capacity
         → IfOk answer (λ index. index < capacity)
-    within x0 x1 x2 x3 = grind (arith, taken)
+    within answer ends capacity same_capacity = grind (arith, taken)
 
     refused_so : (e : UniqueIndexSetAcquireFailure) → Ends one_word kinds.Robust (takes_owned owner) base (Err e) m w → WasRefused owner e base w
     refused_so OutOfIndices ends =
@@ -173,7 +173,7 @@ module _ (base w : View ℕ) (m : Unit {0}) (idle : base.going ≡ None) where
 
     pub given : (mode : ReleaseMode) (answer : Released) → Ends one_word kinds.Robust (gives_owned (given_of mode)) base answer m w
         → HasGiven (given_of mode) answer base w
-    given x0 x1 x2 = grind (arith, called, one_word, gives_owned)
+    given mode answer ends = grind (arith, called, one_word, gives_owned)
 
     pub given_answered : (mode : ReleaseMode) (answer : Released) → Ends one_word kinds.Robust (gives_owned (given_of mode)) base answer m w
         → AnsweredBy (Release index owner mode) (release_answer answer) base w
@@ -221,7 +221,7 @@ module _ (base w : View ℕ) (m : Unit {0}) (idle : base.going ≡ None) where
   -- ---- looks
 
   pub counted : (n : ℕ) → Ends one_word kinds.Robust counts_owned base n m w → HasCounted n base w
-  counted x0 x1 = grind (arith, called, one_word, counts_owned)
+  counted n ends = grind (arith, called, one_word, counts_owned)
 
   module _ (n : ℕ) (ends : Ends one_word kinds.Robust counts_owned base n m w) where
     pub counted_answered : IsRightCount n base w
@@ -234,7 +234,7 @@ module _ (base w : View ℕ) (m : Unit {0}) (idle : base.going ≡ None) where
     counted_none lock = counted_answered.right.0 (lock_stays counted_answered.since lock)
 
   pub looked : (b : Bool) → Ends one_word kinds.Robust looks_owned base b m w → HasLooked b base w
-  looked x0 x1 = grind (arith, called, one_word, looks_owned)
+  looked b ends = grind (arith, called, one_word, looks_owned)
 
   pub looked_answered : (b : Bool) → Ends one_word kinds.Robust looks_owned base b m w → IsRightLook b base w
   looked_answered b ends = (let t = looked b ends in answered_by base w ends.history t.by IsLocked (Truth b) t.wrote t.called)
@@ -302,7 +302,7 @@ only_looked capacity v w h =
     }
 
 pub looks_goes : (capacity : ℕ) (base w : View ℕ) → Looks one_word kinds.Robust capacity base w → Goes base w
-looks_goes x0 x1 x2 x3 = grind arith
+looks_goes capacity base w looks = grind arith
 
 -- looks behind a call of the pass
 pub looks_after : (capacity : ℕ) (base v w : View ℕ) → Goes base v → Looks one_word kinds.Robust capacity v w

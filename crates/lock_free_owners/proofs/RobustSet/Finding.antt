@@ -28,17 +28,17 @@ at_cell capacity so_many index = record { capacity = capacity; stage = finds.Loa
 -- ---- fewer steps are left behind each
 
 comes_down : (c : Find) (cap left index found : ℕ) → c.capacity ≡ cap → 2 * (cap - index) + 1 < left → GoesDown cap left (find_comes_to c index found)
-comes_down x0 x1 x2 x3 x4 x5 x6 = grind (arith, by_test, nat_lt, at_find)
+comes_down c cap left index found same_cap left_above = grind (arith, by_test, nat_lt, at_find)
 
 module _ (c : Find) (cap : ℕ) (is : c.capacity ≡ cap) where
   -- from a cell that it has come to
   pub load_down : (first so_many index found owner k : ℕ) → first ≤ index → index < cap
       → GoesDown cap (find_left cap (finds.LoadsCell first so_many)) (find_takes c (finds.LoadsCell index found) owner k)
-  load_down x0 x1 x2 x3 x4 x5 x6 x7 = grind (arith, by_eq, find_left, at_find, one_more, find_comes_to, comes_down)
+  load_down first so_many index found owner k first_up_to_index index_below_cap = grind (arith, by_eq, find_left, at_find, one_more, find_comes_to, comes_down)
 
   pub ask_down : (index found owner : ℕ) (answer : CallbackProgression) → index < cap
       → GoesDown cap (find_left cap (finds.Asks index found)) (find_takes c (finds.Asks index found) owner (says answer))
-  ask_down x0 x1 x2 x3 x4 = grind (arith, comes_down)
+  ask_down index found owner answer index_below_cap = grind (arith, comes_down)
 
 module _ {F : Type 0} (step : F → ℕ → CallbackProgression → F → Type 0) (cap owner : ℕ) (base : View ℕ) (f : F) where
   abbrev Came : ℕ → ℕ → List (Event ℕ) → F → Type 0
@@ -116,14 +116,15 @@ module _ {F : Type 0} (step : F → ℕ → CallbackProgression → F → Type 0
           }
 
     found_all : low ≡ cap → HasFound step cap owner f n p base.seen es
-    found_all x0 = grind arith
+    found_all low_is_cap = grind arith
 
   -- ---- a turn
 
   -- it has come past the indices below this one
   comes : (w : View ℕ) (c : Find) (index found : ℕ) (q : F) → Looked w → w.capacity ≡ cap → 0 < w.share.part → c.capacity ≡ cap → index ≤ cap
       → TakesAtMost index base w → Came index found w.seen q → On (find_comes_to c index found) w q
-  comes x0 x1 x2 x3 x4 x5 x6 x7 x8 x9 x10 x11 = grind (arith, by_test, nat_lt, at_find, nat_tests, found_all)
+  comes w c index found q looked first_capacity_is_cap part_positive second_capacity_is_cap index_up_to_cap takes_at_most came =
+      grind (arith, by_test, nat_lt, at_find, nat_tests, found_all)
 
   module _ (small : cap < 2 ^ 32) (fits : owner < empty) (v w : View ℕ) (c : Find) (p : F) (h : Search v c p) where
     module _ (index found k : ℕ) (at : SoFar (finds.LoadsCell index found) v p) (looks : LooksAt one_word kinds.Robust cap (cell_word index) v k w)
@@ -170,7 +171,7 @@ module _ {F : Type 0} (step : F → ℕ → CallbackProgression → F → Type 0
         (at.1, found_last index at.3.0 v.seen p at.3.2 at.1.mine found q at.0 at.3.1 at.2 hit, (let most = few in omega arith))
 
   pub starts : (c : Find) → c ≡ first_find cap → base.capacity ≡ cap → 0 < base.share.part → 0 < cap → Search base c f
-  starts x0 x1 x2 x3 x4 = grind (arith, came_none)
+  starts c c_is capacity_is_cap part_positive cap_positive = grind (arith, came_none)
 
   -- the closure may be called with the index that it has come to
   pub may_go : {pre : F → ℕ → Type 0} (v : View ℕ) (c : Find) (p : F) → TakesPlaces pre (λ p x q. step p x Continue q) cap f → Search v c p
@@ -178,4 +179,4 @@ module _ {F : Type 0} (step : F → ℕ → CallbackProgression → F → Type 0
   may_go {pre} v c p takes h = go c.stage h.so_far
     where
       go : (stage : FindStage) → SoFar stage v p → FindAsks pre cap stage p
-      go x0 x1 = grind arith
+      go stage so_far = grind arith

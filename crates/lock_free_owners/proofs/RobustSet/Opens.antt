@@ -13,4 +13,4 @@ module _ (capacity : ℕ) (some : 0 < capacity) (small : capacity < 2 ^ 32) wher
 
   pub robust_opens : (words : List ℕ) → words ≡ opening_words capacity ++ 0 ∷ []
       → IsMachine one_word kinds.Robust capacity (opening words [] (first_view capacity))
-  robust_opens x0 x1 = grind (arith, opens, one_word, most, least)
+  robust_opens words words_are = grind (arith, opens, one_word, most, least)

@@ -40,7 +40,7 @@ module _ {F S : Type 0} (step : F → ℕ → ℕ → Bool → F → Type 0) (te
   -- the first step
   counter_moves : (call : Recovering) (after : After Recovering ReleaseState) (k : ℕ) → call ≡ first_recover cap → after ≡ recover_after call mode k
       → (p : F) (x : S) → RecoverMoves step tell call mode call.stage k p x after p x
-  counter_moves x0 x1 x2 x3 x4 x5 x6 = grind (arith, recover_after)
+  counter_moves call after k call_is after_is p x = grind (arith, recover_after)
 
   -- a step that it has heard this at
   module _ (v w : View ℕ) (call : Recovering) (after : After Recovering ReleaseState) (k : ℕ) (goes : RecoverSteps mode v call k after w)
@@ -88,7 +88,7 @@ module _ {F S : Type 0} (step : F → ℕ → ℕ → Bool → F → Type 0) (te
       (p : F) (x : S) (so : Stands v call p x) (still : Onward step tell cap shut f s after so.0 p x) where
     still_at : (a : After Recovering ReleaseState) → after ≡ a
         → Next (λ (z : View ℕ). z.capacity) (RecoverAt mode) (RecoverEnds mode) base a so.0 w × Onward step tell cap shut f s a so.0 p x
-    still_at x0 x1 = grind arith
+    still_at a after_is_a = grind arith
 
     pub stays_on : (next : Recovering) → after ≡ GoOn next → Stands w next p x
     stays_on next is = (let now = still_at (GoOn next) is in (so.0, now.0, now.1))
@@ -138,7 +138,7 @@ module _ (mode : ReleaseMode) (base v : View ℕ) (call : Recovering) (visits : 
 
   pub said_goes : RecoverAt mode base v call visits → Next (λ (z : View ℕ). z.capacity) (RecoverAt mode) (RecoverEnds mode) base
       (recover_after call mode (number_of said)) (visits_after call visits (number_of said)) v
-  said_goes x0 = grind (arith, recover_after, number_of, visits_after, recover_hears, one_word, is_question, recover_asks, lasts, recover_takes)
+  said_goes recover_at = grind (arith, recover_after, number_of, visits_after, recover_hears, one_word, is_question, recover_asks, lasts, recover_takes)
 
 -- ---- a cell that it has come to
 

@@ -16,10 +16,10 @@ use Rattle.lock_free_owners.specs.Robust.Turns.{Goes}
 
 module _ {T C E : Type 0} (at : View T → View T → C → Unit {0} → Type 0) (ends : View T → E → Unit {0} → View T → Type 0) where
   pub gone_on : (base v w : View T) (c d : C) (a : After C E) → Goes at ends v c a w → a ≡ GoOn d → at base v c tt → at base w d tt
-  gone_on x0 x1 x2 x3 x4 x5 x6 x7 x8 = grind arith
+  gone_on base v w c d a goes a_is at_holds = grind arith
 
   pub has_ended : (base v w : View T) (c : C) (e : E) (a : After C E) → Goes at ends v c a w → a ≡ Done e → at base v c tt → ends base e tt w
-  has_ended x0 x1 x2 x3 x4 x5 x6 x7 x8 = grind arith
+  has_ended base v w c e a goes a_is at_holds = grind arith
 
 -- ---- an exchange of a cell leads to the next cell, or to no cell
 
@@ -31,7 +31,7 @@ module _ (capacity counter cell : ℕ) where
   FillsNext other index d = d.stage ≡ acquires.FillsCell other index → (d ≡ fills index) × (cell < index) × (index < capacity)
 
   pub fills_next : (k other index : ℕ) (d : Acquire) → acquire_after (fills cell) k ≡ GoOn d → FillsNext other index d
-  fills_next x0 x1 x2 x3 = grind (arith, by_test, empty, at_acquire, acquire_tries, nat_lt, nat_tests)
+  fills_next k other index d = grind (arith, by_test, empty, at_acquire, acquire_tries, nat_lt, nat_tests)
 
 -- ---- so does a load of a cell by a count
 
@@ -47,7 +47,7 @@ module _ (capacity counter cell filled : ℕ) where
 
   comes_next : (seen other index found : ℕ) (d : BorrowedIndices) → counted (count_comes_to capacity counter (cell + 1) seen) ≡ GoOn d
       → LoadsNext other index found d
-  comes_next x0 x1 x2 x3 x4 = grind (arith, by_test, nat_lt, greatest, nat_tests)
+  comes_next seen other index found d = grind (arith, by_test, nat_lt, greatest, nat_tests)
 
   pub loads_next : (k other index found : ℕ) (d : BorrowedIndices) → borrowed_after (loads cell filled) k ≡ GoOn d → LoadsNext other index found d
   loads_next k other index found d = comes_next (if k == empty then filled else one_more filled) other index found d

@@ -12,6 +12,7 @@ use threaded::driver::seated::Home;
 
 mod calls;
 mod counts;
+mod debug;
 mod drives;
 mod elements;
 mod fixed;

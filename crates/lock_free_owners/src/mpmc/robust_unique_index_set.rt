@@ -21,6 +21,7 @@ mod acquires;
 mod asks;
 mod calls;
 mod counts;
+mod debug;
 mod drives;
 mod finds;
 mod fixed;

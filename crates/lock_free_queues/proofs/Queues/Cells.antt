@@ -61,7 +61,7 @@ module _ {T : Type 0} (code : Coding T) (kd : QueueKind) (capacity : ℕ) (t : T
     its_words = s.fit.words
 
     go : (o : Option (Val T kd)) → slice_get s.state.core.waiting rank ≡ o → Stands i x
-    go x0 x1 = grind (arith, option_map, there, its_words, free, lies)
+    go o slice_get_is = grind (arith, option_map, there, its_words, free, lies)
 
     pub stands : Stands i x
     stands = go (slice_get s.state.core.waiting rank) refl

@@ -264,10 +264,10 @@ module _ {T : Type 0} (code : Coding T) (law : IsCoding code) (kd : QueueKind) (
         omega arith)
 
     same_value : (i : ℕ) → value_at z.value_of z.size cells ws i ≡ value_at z.value_of z.size cells words i
-    same_value x0 = grind (arith, words_alike)
+    same_value i = grind (arith, words_alike)
 
     value_there : (i : ℕ) → first ≤ i → i < write → slice_get values (i - first) ≡ Some (value_at z.value_of z.size cells words i)
-    value_there x0 x1 x2 = grind (arith, value_in_list, value_at, same_value)
+    value_there i first_up_to_i i_below_write = grind (arith, value_in_list, value_at, same_value)
 
     rest_is : drop (first - taken) (waiting moment) ≡ map named values
     rest_is =

@@ -52,13 +52,13 @@ module _ {T : Type 0} (code : Coding T) (r : Ring) (base w : View T) (idle : bas
   module _ {C : Type 0} (item : Item T) (call : Calling T C (Unit {0}) Bool) (is : IsPush code item call)
       (alone : base.other ≡ []) (some : 0 < base.share.part) (has : HasRole Producer base.made) where
     pushed_so : (e : Bool) (m : Unit {0}) → Ends code (machine_kind (kind_of r)) call base e m w → HasPushed item e base w
-    pushed_so x0 x1 x2 = grind (arith, called)
+    pushed_so e m ends = grind (arith, called)
 
     at_last : (e : Bool) (m : Unit {0}) → LeftOut code (machine_kind (kind_of r)) call base e m w → WasAtEnd base w
     at_last e m left = was_at_end code (kind_of r) base w call is.at_end (role_alone r Producer) alone some has e m left
 
     pub pushed : (e : Bool) (m : Unit {0}) → Over code (machine_kind (kind_of r)) call base e m w → HasPushed item e base w ⊎ (e ≡ false) × WasAtEnd base w
-    pushed x0 x1 x2 = grind (arith, pushed_so, at_last)
+    pushed e m over = grind (arith, pushed_so, at_last)
 
     pub published_if : (e : Bool) (m : Unit {0}) → Over code (machine_kind (kind_of r)) call base e m w → e ≡ true → HasPublished item base w
     published_if e m (inl ends) took =
@@ -77,7 +77,7 @@ module _ {T : Type 0} (code : Coding T) (kd : QueueKind) (base w : View T) (idle
   pub has_popped : {C M V : Type 0} (named : V → Item T) (value : M → V) (call : Calling T C M Bool)
       → IsPop named value call → (e : Bool) (m : M) → Ends code (machine_kind kd) call base e m w
       → HasPopped (option_map named (pop_answer (value m) e)) base w
-  has_popped x0 x1 x2 x3 x4 x5 x6 = grind (arith, option_map, called)
+  has_popped named value call pop e m ends = grind (arith, option_map, called)
 
 -- what its answer says of the list
 module _ {T V : Type 0} (code : Coding T) (r : Ring) (named : V → Item T) (capacity : ℕ) (base w : View T)

@@ -41,7 +41,7 @@ pushes_alone Queue = tt
 
 module _ {T : Type 0} where
   of_one : (role : Role) (before : List (Event T)) (e : Event T) → ByHolder before e → ByHolderOf role before e
-  of_one x0 x1 x2 x3 = grind arith
+  of_one role before e by_holder_holds = grind arith
 
 module _ {T : Type 0} (code : Coding T) (kd : QueueKind) where
   abbrev pub kind_here : Kind
@@ -239,7 +239,7 @@ module _ {T : Type 0} (code : Coding T) (kd : QueueKind) where
     stood_as : (which : LengthOf) (p c : ℕ) (answer : Answer T) (xs : List (Event T))
         → TellsLength c xs (Finished p (Queues (length_start which)) answer)
         → HeldSometime p (λ part. answer ≡ length_answer which c (length (waiting part))) xs
-    stood_as x0 x1 x2 x3 x4 x5 = grind arith
+    stood_as which p c answer xs tells_length = grind arith
 
     pub measured : (which : LengthOf) (n : ℕ) (m : Unit {0})
         → Ends code (machine_kind kd) (counts_waiting which base.capacity) base n m w
@@ -274,12 +274,12 @@ module _ {T : Type 0} (code : Coding T) (kd : QueueKind) where
         omega arith
 
     pub acquired : (role : Role) (taken : Bool) (m : Unit {0}) → Ends code (machine_kind kd) (takes_role role) base taken m w → HasAcquired role taken base w
-    acquired x0 x1 x2 x3 = grind (arith, called)
+    acquired role taken m ends = grind (arith, called)
 
     -- ---- releases: while the role was held, and as it was given back, nobody else wrote what its holder writes
 
     pub released : (role : Role) (e m : Unit {0}) → Ends code (machine_kind kd) (gives_role role) base e m w → HasReleased role base w
-    released x0 x1 x2 x3 = grind (arith, called)
+    released role e m ends = grind (arith, called)
 
     left_after : (role : Role) → IsAlone kd role → IsHistory code (machine_kind kd) base.capacity w.seen
         → HasReleased role base w → flat_map (marks role) w.seen ≡ flat_map (marks role) base.seen
@@ -329,7 +329,7 @@ aside_most (inr more) = omega arith
 module _ {T : Type 0} (code : Coding T) (kind : Kind) where
   module _ {C M E : Type 0} (call : Calling T C M E) (base w : View T) where
     later_than : (p : ℕ) (wrote last : List (Event T)) → Since p call.start wrote last base w → IsBeginning base.seen w.seen
-    later_than x0 x1 x2 x3 = grind (arith, opened, append_assoc)
+    later_than p wrote last since = grind (arith, opened, append_assoc)
 
     pub goes_on : (e : E) (m : M) → Ends code kind call base e m w → Goes base w
     goes_on e m ends =

@@ -7,7 +7,7 @@ use Rattle.lock_free_queues.proofs.Queues.Tests.{not_below}
 
 -- the value of words that are zeros
 pub zeros_in : {V : Type 0} (value_of : List ℕ → V) (size n : ℕ) → size ≤ n → value_in value_of size (replicate n 0) ≡ value_of (replicate size 0)
-zeros_in x0 x1 x2 x3 = grind (arith, length-replicate, not_below, length, take, take-replicate)
+zeros_in value_of size n size_up_to_n = grind (arith, length-replicate, not_below, length, take, take-replicate)
 
 module _ (ws : List ℕ) (size capacity : ℕ) where
   abbrev pub filled : ℕ → List ℕ
@@ -33,12 +33,12 @@ module _ (ws : List ℕ) (size capacity : ℕ) where
 
   -- and is written again
   pub filled_again : (j : ℕ) → j < size * capacity → set (filled (size * capacity)) j (get_or ws (j % size) 0) ≡ filled (size * capacity)
-  filled_again x0 x1 = grind (arith, set, filled_there, set_same)
+  filled_again j j_below = grind (arith, set, filled_there, set_same)
 
   -- one word more
   pub fills_more : (a b c d at word : ℕ) → at < size * capacity → word ≡ get_or ws (at % size) 0
       → set (a ∷ b ∷ c ∷ d ∷ (filled at ++ 0 ∷ [])) (4 + at) word ≡ a ∷ b ∷ c ∷ d ∷ (filled (at + 1) ++ 0 ∷ [])
-  fills_more x0 x1 x2 x3 x4 x5 x6 x7 = grind (arith, filled_length, suc, set_left, set)
+  fills_more a b c d at word at_below word_is = grind (arith, filled_length, suc, set_left, set)
 
 -- the cells of an index queue, in which the number 0 was written, are as they were
 pub zeros_stay : (capacity n : ℕ) → filled (0 ∷ []) 1 capacity n ≡ replicate capacity 0

@@ -21,7 +21,7 @@ nobody (Some p) e = absurd (omega arith)
 module _ {T : Type 0} where
   moves : (role : Role) (before : List (Event T)) (e : Event T) → GrantsRight before e
       → takes role e + one (held role before) ≡ gives role e + one (role_after role (held role before) e)
-  moves x0 x1 x2 x3 = grind (arith, granted)
+  moves role before e grants_right = grind (arith, granted)
 
   adds_up : (role : Role) (before es : List (Event T)) → Each GrantsRight (before ++ es)
       → sum_by (takes role) es + one (held role before) ≡ sum_by (gives role) es + one (held role (before ++ es))

@@ -9,14 +9,14 @@ module _ {T : Type 0} where
   -- what moves no role leaves it
   pub still_has : (role : Role) (es more : List (Event T)) → sum_by (takes role) more ≡ 0
       → sum_by (gives role) more ≡ 0 → HasRole role es → HasRole role (es ++ more)
-  still_has x0 x1 x2 x3 x4 x5 = grind (arith, sum_by-append, takes, gives)
+  still_has role es more takes_is_zero gives_is_zero has_role = grind (arith, sum_by-append, takes, gives)
 
   lacks_after : (role : Role) (es more : List (Event T)) → sum_by (takes role) more ≡ 0
       → sum_by (gives role) more ≡ 1 → HasRole role es → LacksRole role (es ++ more)
-  lacks_after x0 x1 x2 x3 x4 x5 = grind (arith, sum_by-append, takes, gives)
+  lacks_after role es more takes_is_zero gives_is_one has_role = grind (arith, sum_by-append, takes, gives)
 
   pub after_pop : (role : Role) (x : Item T) (es : List (Event T)) → HasRole role es → HasRole role (es ++ popped_once x)
-  after_pop x0 x1 x2 x3 = grind (arith, still_has)
+  after_pop role x es has_role = grind (arith, still_has)
 
 -- a push moves no role: of a bounded queue, and of an overflowing one
 module _ {T : Type 0} where
@@ -24,10 +24,10 @@ module _ {T : Type 0} where
   IsQuiet answer = (role : Role) (x : Item T) → (sum_by (takes role) (pushed_once answer x) ≡ 0) × (sum_by (gives role) (pushed_once answer x) ≡ 0)
 
   pub quiet_true : IsQuiet (Truth true)
-  quiet_true x0 x1 = grind arith
+  quiet_true role x = grind arith
 
   pub quiet_none : IsQuiet PoppedNone
-  quiet_none x0 x1 = grind arith
+  quiet_none role x = grind arith
 
 module _ {T : Type 0} (answer : Answer T) (quiet : IsQuiet answer) where
   pub after_push : (role : Role) (x : Item T) (es : List (Event T)) → HasRole role es → HasRole role (es ++ pushed_once answer x)

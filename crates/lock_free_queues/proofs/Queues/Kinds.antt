@@ -26,7 +26,7 @@ module _ {T : Type 0} (code : Coding T) where
   -- the first pass has no role
   pub opens_bare : (kd : QueueKind) (capacity position : ℕ)
       → LacksRole Producer (opened_by code kd capacity position).made × LacksRole Consumer (opened_by code kd capacity position).made
-  opens_bare x0 x1 x2 = grind (arith, has_none, quiet_true, position_at, quiet_none)
+  opens_bare kd capacity position = grind (arith, has_none, quiet_true, position_at, quiet_none)
 
 module _ {T : Type 0} (code : Coding T) (law : IsCoding code) where
   abbrev Keeps : {C M E : Type 0} → QueueKind → Calling T C M E → (C → Want (Unit {0})) → (C → ℕ → After C E) → (C → M → ℕ → M) → Type 0

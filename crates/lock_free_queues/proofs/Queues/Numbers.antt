@@ -36,4 +36,4 @@ module _ (capacity : ℕ) (small : capacity < 2 ^ 32) (position : ℕ) (fits : p
   pub numbers_open : (kd : QueueKind) (cells start : ℕ) (words : List ℕ) → words_in_cells 1 kd capacity ≡ cells
       → start ≡ position_at capacity position → words ≡ start ∷ start ∷ 1 ∷ 1 ∷ (replicate cells 0 ++ 0 ∷ [])
       → IsMachine one_word (machine_kind kd) capacity (opening words [] (opened_by one_word kd capacity position))
-  numbers_open x0 x1 x2 x3 x4 x5 x6 = grind (arith, opens)
+  numbers_open kd cells start words words_in_cells_is start_is words_are = grind (arith, opens)

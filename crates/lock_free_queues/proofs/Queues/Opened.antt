@@ -165,7 +165,7 @@ module _ {T : Type 0} (code : Coding T) (law : IsCoding code) (r : Ring) (v : Va
       name = Queues (push_of it)
 
       stored : (k : ℕ) → k < size → slice_set (now k) (word_at cell k) (get_or ws k 0) ≡ now (suc k)
-      stored x0 x1 = grind (arith, place_low, word_at, place_is, set_left)
+      stored k k_below_size = grind (arith, place_low, word_at, place_is, set_left)
 
       word_low : (k : ℕ) → k < size → word_at cell k < 4 + size * capacity
       word_low k below = (let is = place_is k below in let inside = place_low k below in omega arith)
@@ -354,7 +354,7 @@ module _ {T : Type 0} (code : Coding T) (law : IsCoding code) (r : Ring) (v : Va
           (append_assoc es (Begun 0 (Queues Pop) ∷ []) (events_of_pop code capacity it)) e
 
   quiet_roles : QuietRoles effects
-  quiet_roles x0 = grind arith
+  quiet_roles role = grind arith
 
   -- ---- all of it
 

@@ -22,7 +22,7 @@ use Rattle.history.proofs.OneHolder.{first_own, first_wrote}
 
 module _ {T : Type 0} where
   told_is : (p value : ℕ) (m : OneWord) (e : PushEnd) → HasActed e → over_push_wrote {T = T} p value m.0 e ≡ over_push_events p value (push_answer value m.0 e)
-  told_is x0 x1 x2 x3 x4 = grind arith
+  told_is p value m e acted = grind arith
 
 module _ {T : Type 0} (code : Coding T) (base w : View T) (h : IsHistory code kinds.Overflow base.capacity w.seen) where
   -- what leaves is what waited first
@@ -95,7 +95,7 @@ module _ {T : Type 0} (code : Coding T) (base w : View T) (h : IsHistory code ki
 -- a push is left out where its first load finds the last position
 over_ends_at : (capacity value n : ℕ) (a : Ask) (stage : pushes.PushStage) → over_push_skips stage n ≡ true
     → push_asks capacity stage value ≡ wants.Ask a → (a.word ≡ 0) × (n ≡ 2 ^ 64 - 1)
-over_ends_at x0 x1 x2 x3 x4 x5 x6 = grind (arith, nat_tests)
+over_ends_at capacity value n a stage over_push_skips_true push_asks_is = grind (arith, nat_tests)
 
 module _ {T : Type 0} (code : Coding T) (base w : View T) (idle : base.going ≡ None) where
   module _ (value : ℕ) (alone : base.other ≡ []) (some : 0 < base.share.part) (has : HasRole Producer base.made) where
@@ -104,7 +104,7 @@ module _ {T : Type 0} (code : Coding T) (base w : View T) (idle : base.going ≡
     Pushed back = HasOverflowed value back base w ⊎ (back ≡ Some value) × WasAtEnd base w
 
     overflowed : (e : PushEnd) (m : OneWord) → Ends code kinds.Overflow (pushes_over value) base e m w → HasOverflowed value (push_answer value m.0 e) base w
-    overflowed x0 x1 x2 = grind (arith, called, popped, told_is)
+    overflowed e m ends = grind (arith, called, popped, told_is)
 
     pub over_pushed : (e : PushEnd) (m : OneWord) → Over code kinds.Overflow (pushes_over value) base e m w → Pushed (push_answer value m.0 e)
     over_pushed e m (inl ends) = inl (overflowed e m ends)

@@ -105,7 +105,7 @@ module _ {T : Type 0} (code : Coding T) (capacity n : ℕ) where
       → beside_of w.words w.kept w.latest 0 ≡ None
       → over_effects w 0 (popping capacity (pops.MovesRead n)) n
       ≡ HandedOut 0 it ∷ Acted 0 pop_name (answers.PoppedIndex 0) ∷ []
-  pop_tells x0 x1 x2 x3 = grind arith
+  pop_tells same_n w slice_index_is_zero beside_of_is = grind arith
 
 moved_on : (n to : ℕ) → (n == n) ≡ true → written (Exchange n to) n ≡ to
 moved_on n to t = rw t refl
@@ -144,7 +144,7 @@ module _ {T : Type 0} (code : Coding T) (law : IsCoding code) (capacity : ℕ) (
       (alone.opens_here machine law (rw (most, least) refl))
 
   quiet_roles : QuietRoles {T = T} over_effects
-  quiet_roles x0 = grind arith
+  quiet_roles role = grind arith
 
   -- ---- a step that goes on, and tells nothing
 

@@ -72,7 +72,9 @@ module _ {T : Type 0} (code : Coding T) (kd : QueueKind) (base w : View T) where
         by = p;
         mine = mine;
         called = c;
-        oldest = same_item answer (slice_get (waiting xs) 0) told ∙ ap (λ ws. slice_get ws 0) (sym (ap waiting is ∙ still_waits p (Queues Peek) (popped_item answer) xs));
+        oldest =
+            same_item answer (slice_get (waiting xs) 0) told
+            ∙ ap (λ ws. slice_get ws 0) (sym (ap waiting is ∙ still_waits p (Queues Peek) (popped_item answer) xs));
         list =
             ap handed_out is
             ∙ none_to_end (queue_role Consumer) (one_holder Consumer) p (Queues Peek) base.seen c.others c.during

@@ -22,7 +22,7 @@ get_left (z ∷ xs) ys (suc i) x e = get_left xs ys i x e
 -- what an event tells stands at the event's rank
 at_rank : {T A : Type 0} (hit : Event T → List A) (before after : List (Event T)) (e : Event T) (x : A) → hit e ≡ x ∷ []
     → slice_get (flat_map hit (before ++ e ∷ after)) (length (flat_map hit before)) ≡ Some x
-at_rank x0 x1 x2 x3 x4 = grind (arith, length, flat_map-append, get_here)
+at_rank hit before after e x = grind (arith, length, flat_map-append, get_here)
 
 module _ {T : Type 0} (events : List (Event T)) (q j : ℕ) (y : Item T) where
   -- each position is below their number
@@ -62,10 +62,10 @@ module _ {T : Type 0} (p q i : ℕ) (x y : Item T) (events : List (Event T)) whe
 
   -- what stands in a beginning stands in the whole
   pub still_published : (more : List (Event T)) → IsBeginning events more → IsPublished p i x events → IsPublished p i x more
-  still_published x0 x1 x2 = grind (arith, append_assoc)
+  still_published more beginning is_published = grind (arith, append_assoc)
 
   pub still_taken : (more : List (Event T)) → IsBeginning events more → IsTaken p i x events → IsTaken p i x more
-  still_taken x0 x1 x2 = grind (arith, append_assoc)
+  still_taken more beginning taken = grind (arith, append_assoc)
 
 pub sound_history : {T : Type 0} (code : Coding T) (r : Ring) (capacity : ℕ) (events : List (Event T))
     → IsHistory code (machine_kind (kind_of r)) capacity events → IsSound capacity events

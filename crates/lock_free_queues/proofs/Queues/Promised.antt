@@ -79,10 +79,10 @@ module _ {T : Type 0} (code : Coding T) where
 
 module _ {T : Type 0} (old new : View T) where
   pub published_next : (item : Item T) → HasPublished item old new → (p : ℕ) × IsPublished p (length (published old.seen)) item new.seen
-  published_next x0 x1 = grind (arith, length, published_at)
+  published_next item has_published = grind (arith, length, published_at)
 
   pub taken_next : (item : Item T) → HasTakenOut item old new → (p : ℕ) × IsTaken p (length (handed_out old.seen)) item new.seen
-  taken_next x0 x1 = grind (arith, length, taken_at)
+  taken_next item taken_out = grind (arith, length, taken_at)
 
   pub none_later_than : WasEmpty old new → (q j : ℕ) (y : Item T) → IsPublished q j y old.seen → j < length (handed_out old.seen)
   none_later_than h q j y a = subst (λ n. j < n) (ap length h.next) (none_later old new h q j y a)

@@ -25,7 +25,7 @@ module _ {T : Type 0} where
   begins_nothing (x ∷ xs) h = (let no : [] ≡ x ∷ (xs ++ h.rest) = h.is in absurd (cc))
 
   pub then_read : (v w x : View T) → HasRead v w → HasRead w x → HasRead v x
-  then_read x0 x1 x2 x3 x4 = grind (arith, begins_further)
+  then_read v w x first_read second_read = grind (arith, begins_further)
 
   -- before the first load
   pub not_read : (v : View T) → MissesNothing v → HasRead v v
@@ -80,7 +80,7 @@ module _ {T : Type 0} (code : Coding T) (kd : QueueKind) where
 
   -- while no call is under way nothing is late
   calm : (kind : QueueKind) (going : Option (Start T × Flight T)) → going ≡ None → (late : List (Event T)) → IsLate (machine_kind kind) going late → late ≡ []
-  calm x0 x1 x2 x3 x4 = grind arith
+  calm kind going going_is_none late is_late = grind arith
 
   pub owed : (key slots id word : ℕ) (v : View T) (me : Me (Unit {0}) (View T)) → me ≡ (v, []) → v.capacity ≡ key
       → v.going ≡ None → 0 < v.share.part → Owed key slots id word me

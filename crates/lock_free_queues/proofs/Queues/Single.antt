@@ -54,7 +54,7 @@ module _ {T : Type 0} (code : Coding T) (capacity : ℕ) where
 
   pub push_lacks : (r : Ring) (v : Val T (kind_of r)) (roles : Roles) (p : ℕ) → roles.producer ≡ Some p
       → lacks_role roles p (push_of {T = T} (item (kind_of r) v)) ≡ false
-  push_lacks x0 x1 x2 x3 x4 = grind (arith, holds_it)
+  push_lacks r v roles p producer_is = grind (arith, holds_it)
 
   pub push_wants : (r : Ring) (v : Val T (kind_of r)) (stage : PushStage)
       → want_of code (pushing r v capacity stage) ≡ push_asks (encoded code (kind_of r)).words_of stage v
@@ -170,24 +170,24 @@ module _ {T : Type 0} (code : Coding T) (capacity : ℕ) where
   opens_with of_values = refl
 
   pub admits : (r : Ring) → capacity < 2 ^ 32 → capacity_error (machine_kind (kind_of r)) capacity ≡ None
-  admits x0 x1 = grind (arith, false, nat_tests)
+  admits r capacity_below = grind (arith, false, nat_tests)
 
   pub acquire_named : (kd : QueueKind) (role : Role) (kept : Registry T)
       → ◌≡◌ {A = Option (Flight T)} (first_of (machine_kind kd) capacity (Queues (acquire_start role)) kept)
       (Some ((takes_role role).flight (record { word = role_word role }) tt))
-  acquire_named x0 x1 x2 = grind arith
+  acquire_named kd role kept = grind arith
 
   pub release_named : (kd : QueueKind) (role : Role) (kept : Registry T)
       → ◌≡◌ {A = Option (Flight T)} (first_of (machine_kind kd) capacity (Queues (release_start role)) kept)
       (Some ((gives_role role).flight (record { word = role_word role }) tt))
-  release_named x0 x1 x2 = grind arith
+  release_named kd role kept = grind arith
 
   pub acquire_lacks : (role : Role) (roles : Roles) (p : ℕ) → lacks_role {T = T} roles p (acquire_start role) ≡ false
   acquire_lacks Producer roles p = refl
   acquire_lacks Consumer roles p = refl
 
   pub release_lacks : (role : Role) (roles : Roles) (p : ℕ) → holder role roles ≡ Some p → lacks_role {T = T} roles p (release_start role) ≡ false
-  release_lacks x0 x1 x2 x3 = grind (arith, holds_it)
+  release_lacks role roles p holder_is = grind (arith, holds_it)
 
 -- ---- what is so of the words of both
 
@@ -196,4 +196,4 @@ wide_is code of_indices = refl
 wide_is code of_values = refl
 
 pub fresh_long : {T : Type 0} (code : Coding T) (r : Ring) → IsCoding code → words_of_cell code.size (kind_of r) ≤ length (words_in r (fresh r))
-fresh_long x0 x1 x2 = grind (arith, length-replicate)
+fresh_long code r coding = grind (arith, length-replicate)

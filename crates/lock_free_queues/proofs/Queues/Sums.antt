@@ -18,7 +18,7 @@ module _ {T : Type 0} where
   module _ (p : ℕ) (start : Start T) (answer : Answer T) (wrote : List (Event T)) (old new : View T) (c : Called p start answer wrote old new) where
     module _ (f : Event T → ℕ) (none : f (Begun p start) ≡ 0) where
       made_more : (last : ℕ) → f (Finished p start answer) ≡ last → sum_by f new.made ≡ sum_by f old.made + (sum_by f wrote + last)
-      made_more x0 x1 = grind (arith, sum_by-append, sum_first)
+      made_more last f_is = grind (arith, sum_by-append, sum_first)
 
     pub done : HasDone (sum_by puts wrote + 0) (sum_by gets wrote + 0) old new
     done = record { puts_more = made_more puts refl 0 refl; gets_more = made_more gets refl 0 refl }
@@ -137,7 +137,7 @@ module _ {T : Type 0} where
 
   -- one call after another
   pub done_then : (a b c d : ℕ) (u v w : View T) → HasDone a b u v → HasDone c d v w → HasDone (a + c) (b + d) u w
-  done_then x0 x1 x2 x3 x4 x5 x6 x7 x8 = grind arith
+  done_then a b c d u v w first_done second_done = grind arith
 
   -- ---- what they count
 

@@ -24,4 +24,4 @@ pub not_below : (n m : ℕ) → m ≤ n → nat_lt n m ≡ false
 not_below n m low = grind (arith, nat_tests)
 
 pub none_used : (size capacity : ℕ) → size * min 0 capacity ≡ 0
-none_used x0 x1 = grind (arith, min)
+none_used size capacity = grind (arith, min)

@@ -36,7 +36,7 @@ module _ {T : Type 0} (m : Event T → List (Item T)) where
         omega arith
 
     pub nothing_more : flat_map m es ≡ [] → flat_map m new.seen ≡ flat_map m old.seen
-    nothing_more x0 = grind (arith, length, as_many, none_more, flat_map-append)
+    nothing_more flat_map_is_empty = grind (arith, length, as_many, none_more, flat_map-append)
 
 -- where a pop finds nothing, all that was published was taken
 pub all_taken : {T : Type 0} (code : Coding T) (kd : QueueKind) (capacity : ℕ) (old new : View T) → IsAll old.share

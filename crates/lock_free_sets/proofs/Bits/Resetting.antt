@@ -25,10 +25,10 @@ use Rattle.lock_free_sets.specs.Bits.Contracts.{HasReset, AllClearOnce, CameFrom
 use Rattle.lock_free_sets.proofs.Ends.{has_made, before_end, to_end}
 
 place_below : (cap start passed : ℕ) → start ≤ cap → passed < cap → place_after cap start passed < cap
-place_below x0 x1 x2 x3 x4 = grind (arith, by_test, nat_lt, nat_tests)
+place_below cap start passed start_up_to_cap passed_below_cap = grind (arith, by_test, nat_lt, nat_tests)
 
 at_most_below : (cap position : ℕ) → at_most cap position ≤ cap
-at_most_below x0 x1 = grind (arith, by_test, nat_lt, nat_tests)
+at_most_below cap position = grind (arith, by_test, nat_lt, nat_tests)
 
 abbrev at_stage : ℕ → ResetNextStage → Resetting
 at_stage cap stage = record { capacity = cap; stage = stage }
@@ -41,10 +41,10 @@ Stands cap p (GoOn d) es = (d.capacity ≡ cap) × ResetStands cap d.stage × (e
 Stands cap p (Done o) es = IsPlace cap o × (es ≡ reset_wrote p o)
 
 comes_to : (cap p start passed : ℕ) (from : ResetNextStage) → start ≤ cap → Stands cap p (reset_comes_to (at_stage cap from) start passed) []
-comes_to x0 x1 x2 x3 x4 x5 = grind (arith, by_test, nat_lt, nat_tests)
+comes_to cap p start passed from start_up_to_cap = grind (arith, by_test, nat_lt, nat_tests)
 
 tests : (cap p start passed k : ℕ) (from : ResetNextStage) → start ≤ cap → passed < cap → Stands cap p (reset_tests (at_stage cap from) start passed k) []
-tests x0 x1 x2 x3 x4 x5 x6 x7 = grind (arith, by_test, has_flag, place_after, reset_comes_to, comes_to)
+tests cap p start passed k from start_up_to_cap passed_below_cap = grind (arith, by_test, has_flag, place_after, reset_comes_to, comes_to)
 
 -- what a step makes of what the call had written
 takes : (cap p n : ℕ) (m : Unit {0}) (stage : ResetNextStage) → ResetStands cap stage
@@ -63,7 +63,7 @@ takes cap p n m (resets.StoresPosition place) h = (h, refl)
 
 stands_on : (cap p n : ℕ) (m : Unit {0}) (c : Resetting) → (c.capacity ≡ cap) × ResetStands cap c.stage
     → Stands cap p (reset_after c n) (reset_so_far p c.stage ++ set_effects p (resets_next.flight c m) n)
-stands_on x0 x1 x2 x3 x4 x5 = grind (arith, reset_after, reset_so_far, set_effects, resets_next, takes)
+stands_on cap p n m c both = grind (arith, reset_after, reset_so_far, set_effects, resets_next, takes)
 
 -- ---- it is a call of the model
 
@@ -128,7 +128,7 @@ next_keeps =
     reset_after (λ c m n. m) resets_next is_call (λ c n. refl)
 
 pub next_first : (v : View ℕ) (m : Unit {0}) → IsIdle v.capacity v → At one_word kinds.Bits resets_next v v (first_reset v.capacity) m
-next_first x0 x1 x2 = grind (arith, bits_starts, one_word, resets_next, first_reset)
+next_first v m idle = grind (arith, bits_starts, one_word, resets_next, first_reset)
 
 module _ (base w : View ℕ) (o : Option ℕ) (m : Unit {0}) (idle : base.going ≡ None) (ends : Ends one_word kinds.Bits resets_next base o m w) where
   cleared : HasReset o base w

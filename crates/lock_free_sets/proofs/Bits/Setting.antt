@@ -106,7 +106,7 @@ module _ (place : ℕ) where
       (λ c. set_want c place) (λ c n. set_after c place n) (λ c m n. m) (sets_place place) is_call (λ c n. refl)
 
   pub set_first : (v : View ℕ) (m : Unit {0}) → IsIdle v.capacity v → place < v.capacity → At one_word kinds.Bits (sets_place place) v v first_set m
-  set_first x0 x1 x2 x3 = grind (arith, nat_le, nat_tests, bits_starts, one_word, sets_place, first_set)
+  set_first v m idle place_below_capacity = grind (arith, nat_le, nat_tests, bits_starts, one_word, sets_place, first_set)
 
   module _ (base w : View ℕ) (b : Bool) (m : Unit {0}) (idle : base.going ≡ None) (ends : Ends one_word kinds.Bits (sets_place place) base b m w) where
     added : HasSet place b base w

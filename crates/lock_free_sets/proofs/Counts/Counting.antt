@@ -45,7 +45,7 @@ module _ (place : ℕ) where
 
   pub count_first : (v : View ℕ) (c : counting.Set) (m : Unit {0}) → IsIdle v.capacity v → place < v.capacity
       → At one_word kinds.Counts (counts_place place) v v c m
-  count_first x0 x1 x2 x3 x4 = grind (arith, nat_le, nat_tests, counts_starts, one_word, counts_place)
+  count_first v c m idle place_below_capacity = grind (arith, nat_le, nat_tests, counts_starts, one_word, counts_place)
 
   module _ (base w : View ℕ) (number : ℕ) (m : Unit {0}) (idle : base.going ≡ None)
       (ends : Ends one_word kinds.Counts (counts_place place) base number m w) where

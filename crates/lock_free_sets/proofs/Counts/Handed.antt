@@ -16,14 +16,14 @@ pub record Counted {F : Type 0} (R : F → BitState → F → Type 0) (cap low :
 
 module _ {F : Type 0} (R : F → BitState → F → Type 0) (cap : ℕ) (v : F) where
   pub none_counted : (low : ℕ) → Counted R cap low v v
-  none_counted x0 = grind arith
+  none_counted low = grind arith
 
   pub none_states : (low : ℕ) → (none_counted low).states ≡ []
   unfolding none_counted
   none_states low = refl
 
   pub counted_on : (low : ℕ) (p q : F) → q ≡ p → Counted R cap low v p → Counted R cap (low + 1) v q
-  counted_on x0 x1 x2 x3 x4 = grind arith
+  counted_on low p q q_is_p counted = grind arith
 
   pub counted_more : (low count : ℕ) (p q : F) → low < cap → 0 < count → count < 2 ^ 64 → R p (record { bit = low; count = count }) q
       → Counted R cap low v p → Counted R cap (low + 1) v q
@@ -51,7 +51,7 @@ module _ {F : Type 0} (R : F → BitState → F → Type 0) (cap : ℕ) (v : F) 
   found place (suc n) = record { bit = place; count = suc n } ∷ []
 
   pub found_events : (p place n : ℕ) → map (taken_by p) (found place n) ≡ take_events p place n
-  found_events x0 x1 x2 = grind (arith, suc, nat_tests)
+  found_events p place n = grind (arith, suc, nat_tests)
 
   pub counted_found : (low n : ℕ) (p q : F) → low < cap → n < 2 ^ 64 → (0 < n → R p (record { bit = low; count = n }) q)
       → (n ≡ 0 → q ≡ p) → (h : Counted R cap low v p)

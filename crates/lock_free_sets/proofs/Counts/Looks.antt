@@ -43,7 +43,7 @@ module _ (place : ℕ) where
 
   pub look_first : (v : View ℕ) (c : Looking) (m : Unit {0}) → IsIdle v.capacity v → place < v.capacity
       → At one_word kinds.Counts (looks_at place) v v c m
-  look_first x0 x1 x2 x3 x4 = grind (arith, nat_le, nat_tests, counts_starts, one_word, looks_at)
+  look_first v c m idle place_below_capacity = grind (arith, nat_le, nat_tests, counts_starts, one_word, looks_at)
 
   module _ (base w : View ℕ) (number : ℕ) (m : Unit {0}) (idle : base.going ≡ None)
       (ends : Ends one_word kinds.Counts (looks_at place) base number m w) where

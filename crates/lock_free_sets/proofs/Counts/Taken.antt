@@ -58,7 +58,7 @@ module _ {F : Type 0} (R : F → BitState → F → Type 0) (cap : ℕ) (visit :
       next_handed = counted_found R cap visit c.word room.0 f g within small hit miss h.handed
 
       same_events : (p : ℕ) → map (taken_by p) h.handed.states ++ take_events p c.word room.0 ≡ map (taken_by p) next_handed.0.states
-      same_events x0 = grind (arith, map, taken_by, found_events, map-append, found, next_handed)
+      same_events p = grind (arith, map, taken_by, found_events, map-append, found, next_handed)
 
       pub so_far_on : (next : Emptying) → a ≡ GoOn next → SoFar base w next room g
       so_far_on next is =

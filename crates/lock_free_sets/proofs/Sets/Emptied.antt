@@ -29,7 +29,7 @@ word_at_first Counts n = refl
 
 begins_at : (kind : SetKind) (n : ℕ) (c : Emptying) (m : OneWord)
     → first_of (machine_kind kind) n emptying ((opening_of (machine_kind kind)).kept n) ≡ Some (flight_at kind c m) → c.word ≡ first_word kind
-begins_at x0 x1 x2 x3 x4 = grind (arith, flight_at, all_words, fresh, begins, has_word, flight_word, word_at_first)
+begins_at kind n c m first_of_is = grind (arith, flight_at, all_words, fresh, begins, has_word, flight_word, word_at_first)
 
 -- the call stands here, and has written this
 pub record WroteSoFar (kind : SetKind) (cap : ℕ) (wrote : ℕ → List (Event ℕ)) (base v : View ℕ) (c : Emptying) (m : OneWord) : Type 0 where
@@ -59,11 +59,11 @@ module _ (kind : SetKind) where
 
   -- it stands so as of its own view too
   pub itself : (base v : View ℕ) (c : Emptying) (m : OneWord) → AtWord base v c m → AtWord v v c m
-  itself x0 x1 x2 x3 x4 = grind (arith, at_itself, one_word, machine_kind, empties, has_word)
+  itself base v c m at_word = grind (arith, at_itself, one_word, machine_kind, empties, has_word)
 
   -- where it stands is its word
   pub word_now : (base v : View ℕ) (c : Emptying) (m : OneWord) → base.going ≡ v.going → AtWord base v c m → word_of (first_word kind) v.going ≡ c.word
-  word_now x0 x1 x2 x3 x4 x5 = grind (arith, word_of, first_word, begins_at, has_word)
+  word_now base v c m same_going at_word = grind (arith, word_of, first_word, begins_at, has_word)
 
   pub stands : (base v : View ℕ) (c : Emptying) (m : OneWord) → AtWord base v c m
       → (c.end ≡ words_of kind base.capacity) × (first_word kind ≤ c.word) × (c.word < c.end)
@@ -71,7 +71,7 @@ module _ (kind : SetKind) where
   stands base v c m (inr under) = under.standing
 
   pub same_capacity : (base v : View ℕ) (c : Emptying) (m : OneWord) → AtWord base v c m → v.capacity ≡ base.capacity
-  same_capacity x0 x1 x2 x3 x4 = grind arith
+  same_capacity base v c m at_word = grind arith
 
   module _ (base v w : View ℕ) (c : Emptying) (m room : OneWord) (n : ℕ) (f : ℕ → List (Event ℕ))
       (idle : base.going ≡ None) (so_far : MadeSoFar emptying base v f) (at : AtWord base v c m)
@@ -170,7 +170,7 @@ module _ (kind : SetKind) where
       }
 
   pub first_wrote : (cap : ℕ) (v : View ℕ) → IsIdle cap v → 0 < cap → WroteSoFar kind cap (λ p. []) v v (all_words kind cap) fresh
-  first_wrote x0 x1 x2 x3 = grind (arith, all_words, fresh, first_at)
+  first_wrote cap v is_idle cap_positive = grind (arith, all_words, fresh, first_at)
 
   module _ (cap : ℕ) (wrote : ℕ → List (Event ℕ)) (base v : View ℕ) (c : Emptying) (m : OneWord) (h : WroteSoFar kind cap wrote base v c m) where
     pub words_left : (c.end ≡ words_of kind cap) × (first_word kind ≤ c.word) × (c.word < c.end)

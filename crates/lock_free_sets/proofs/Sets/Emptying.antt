@@ -28,10 +28,10 @@ use Rattle.lock_free_sets.proofs.Sets.AtOnce.{owes_once}
 
 module _ (c : Emptying) (n : ℕ) where
   pub goes_next : (d : Emptying) → reset_all_after c n ≡ GoOn d → (d ≡ record { word = c.word + 1; end = c.end }) × (d.word < d.end)
-  goes_next x0 = grind (arith, by_test, nat_lt, nat_tests)
+  goes_next d = grind (arith, by_test, nat_lt, nat_tests)
 
   pub ends_last : (end : Unit {0}) → reset_all_after c n ≡ Done end → c.end ≤ c.word + 1
-  ends_last x0 = grind (arith, by_test, nat_lt, nat_tests)
+  ends_last end = grind (arith, by_test, nat_lt, nat_tests)
 
 wants_word : (c : Emptying) → c.word < c.end → reset_all_want c ≡ wants.Ask (record { word = c.word; op = Swap 0 })
 wants_word c less = let t : nat_lt c.word c.end ≡ true = grind (arith, nat_tests) in rw t refl
@@ -143,10 +143,10 @@ may Counts n p = refl
 
 stands_first : (kind : SetKind) (n : ℕ) → 0 < n
     → ((all_words kind n).end ≡ words_of kind n) × (first_word kind ≤ (all_words kind n).word) × ((all_words kind n).word < (all_words kind n).end)
-stands_first x0 x1 x2 = grind (arith, elements)
+stands_first kind n n_positive = grind (arith, elements)
 
 wrote_first : (kind : SetKind) (n p : ℕ) → (empties {T = ℕ} kind).wrote n p None (all_words kind n) fresh []
-wrote_first x0 x1 x2 = grind arith
+wrote_first kind n p = grind arith
 
 -- it may begin at any time, as the party that the pass was last
 starts : (kind : SetKind) (call : Calling ℕ Emptying OneWord (Unit {0})) (v : View ℕ) (c : Emptying) (m : OneWord)
@@ -165,7 +165,7 @@ module _ (kind : SetKind) (v : View ℕ) (idle : IsIdle v.capacity v) where
   machines = record { code = one_word; kind = machine_kind kind; effects = set_effects; size_of = words_of kind; laws = owes kind }
 
   pub first_at : 0 < v.capacity → At one_word (machine_kind kind) (empties kind) v v (all_words kind v.capacity) fresh
-  first_at x0 = grind (arith, stands_first, begins, starts, empties, all_words, fresh, may, wrote_first)
+  first_at capacity_positive = grind (arith, stands_first, begins, starts, empties, all_words, fresh, may, wrote_first)
 
   -- ---- a set of no place
 

@@ -184,11 +184,11 @@ module _ (base w : View ℕ) (m : Unit {0}) (idle : base.going ≡ None) where
       answered_by base w ends.capacity ends.history t.by Acquire (acquire_answer answer) (claimed_by t.by answer) t.called
 
   pub given : (index : ℕ) (state : ReleaseState) → Ends one_word kinds.Indices (gives_index index) base state m w → HasGiven index state base w
-  given x0 x1 x2 = grind (arith, has_made, gives_index)
+  given index state ends = grind (arith, has_made, gives_index)
 
   pub given_or_locked : (index : ℕ) (state : ReleaseState)
       → Ends one_word kinds.Indices (gives_or_locks index) base state m w → HasGivenOrLocked index state base w
-  given_or_locked x0 x1 x2 = grind (arith, has_made, gives_or_locks, given_by)
+  given_or_locked index state ends = grind (arith, has_made, gives_or_locks, given_by)
 
   pub counted : (n : ℕ) → Ends one_word kinds.Indices counts_out base n m w → HasCounted n base w
   counted n ends =

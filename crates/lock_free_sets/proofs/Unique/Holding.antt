@@ -109,7 +109,7 @@ held_given v w is i state held h j =
 
 -- a join holds what both held
 pub held_joined : (is others : List ℕ) (mine theirs : List (Event ℕ)) → HeldBy is mine → HeldBy others theirs → HeldBy (is ++ others) (mine ++ theirs)
-held_joined x0 x1 x2 x3 x4 x5 x6 = grind (arith, times_both, sum_by-append, claims, frees)
+held_joined is others mine theirs ours_held theirs_held index = grind (arith, times_both, sum_by-append, claims, frees)
 
 -- a look leaves it, and a call that is refused
 pub held_still : (v w : View ℕ) (is : List ℕ) → HeldBy is v.made → ((j : ℕ) → Moves j 0 0 v w) → HeldBy is w.made

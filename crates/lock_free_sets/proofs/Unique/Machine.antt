@@ -133,7 +133,7 @@ module _ (capacity : ℕ) (seen : List (Event ℕ)) (h : IsHistory one_word kind
   past i more = get_or_past hs i None (let long = laws.good.long in omega arith)
 
   pub held_within : (i p : ℕ) → holder_of i seen ≡ Some p → i < capacity
-  held_within x0 x1 x2 = grind (arith, past, holder_is, cases_lt)
+  held_within i p holder_of_is = grind (arith, past, holder_is, cases_lt)
 
   -- nobody holds one once the set is locked
   pub none_held : is_locked seen ≡ true → (i : ℕ) → holder_of i seen ≡ None
@@ -174,7 +174,7 @@ module _ (capacity : ℕ) (seen : List (Event ℕ)) (h : IsHistory one_word kind
     none_under weight = sum_none (weight_at weight t.world.latest) machine.state.seats (λ p below. ap (weight_of weight) (idle p))
 
     times_is : (i : ℕ) → times i is ≡ one_held (holder hs i)
-    times_is x0 = grind (arith, claims, frees, holder_counts, one_held, holder_is)
+    times_is i = grind (arith, claims, frees, holder_counts, one_held, holder_is)
 
     held_is : held_below hs c ≡ length is
     held_is =

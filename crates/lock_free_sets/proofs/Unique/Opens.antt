@@ -14,4 +14,4 @@ module _ (capacity : ℕ) (some : 0 < capacity) (small : capacity < 2 ^ 24 - 1) 
 
   pub indices_open : (words : List ℕ) → words ≡ opening_words capacity ++ 0 ∷ []
       → IsMachine one_word kinds.Indices capacity (opening words [] (first_view capacity))
-  indices_open x0 x1 = grind (arith, opens, one_word, most, least)
+  indices_open words words_are = grind (arith, opens, one_word, most, least)

@@ -87,7 +87,7 @@ module _ (T : Type 0) where
   of_container code p state flight old = grind arith
 
   of_question : (p : ℕ) (given : DeadOwner) (stage : RecoverStage) (old : ℕ) → AllInside {T = T} (container.question_of p given stage old)
-  of_question x0 x1 x2 x3 = grind (arith, either)
+  of_question p given stage old = grind (arith, either)
 
   of_questions : (p : ℕ) (flight : ContainerFlight T) (old : ℕ) → AllInside (container.questions p flight old)
   of_questions p (Recover run) old = of_question p run.given run.call.stage old
@@ -98,5 +98,5 @@ module _ (T : Type 0) where
 
   pub step_inside : (code : Coding T) (words : List ℕ) (beside : Option (ℕ × ℕ)) (p : ℕ) (start : Start T) (flight : Flight T) (old : ℕ)
       (kept : Registry T) → AllInside (step_of code words beside p start flight old kept).wrote
-  step_inside x0 x1 x2 x3 x4 x5 x6 x7 =
+  step_inside code words beside p start flight old kept =
       grind (arith, of_queue, of_value, of_bits, of_indices, of_robust, joined, of_container, of_questions, of_loan)

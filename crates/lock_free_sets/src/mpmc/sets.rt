@@ -16,6 +16,7 @@ use steps::words::Words;
 use threaded::driver::seated::{Home, Seated};
 
 pub(crate) mod calls;
+mod debug;
 pub(crate) mod drives;
 mod fixed;
 mod handles;

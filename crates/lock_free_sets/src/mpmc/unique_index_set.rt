@@ -18,6 +18,7 @@ use history::view::View;
 use threaded::driver::seated::{Home, Seated};
 
 mod calls;
+mod debug;
 mod drives;
 mod fixed;
 mod handles;

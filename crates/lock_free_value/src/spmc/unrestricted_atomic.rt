@@ -19,6 +19,7 @@ use steps::words::Words;
 use threaded::driver::seated::{Home, Seated};
 
 mod calls;
+mod debug;
 mod drives;
 mod ends;
 mod handles;

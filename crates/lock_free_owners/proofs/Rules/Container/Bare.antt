@@ -19,7 +19,7 @@ use Rattle.lock_free_owners.specs.Container.Bare.{IsCounted, Still}
 
 -- an exchange of a number for itself
 pub unchanged : (count found : ℕ) → written (ops.Exchange count count) found ≡ found
-unchanged x0 x1 = grind (arith, by_eq)
+unchanged count found = grind (arith, by_eq)
 
 -- the view of a seat that has asked for one operation more, which is no step of a call
 abbrev pub one_more : {T : Type 0} → View T → View T

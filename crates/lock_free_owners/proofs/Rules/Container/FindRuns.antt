@@ -39,10 +39,10 @@ module _ {T R : Type 0} where
 
   module _ (size : ℕ) (some_words : 1 ≤ size) (capacity : ℕ) (c : Find T R) (same : c.capacity ≡ capacity) where
     comes : (index found : ℕ) → found ≤ index → StillStands size capacity (find_comes_to c index found)
-    comes x0 x1 x2 = grind (arith, by_test, nat_lt, at_find, nat_tests)
+    comes index found found_up_to_index = grind (arith, by_test, nat_lt, at_find, nat_tests)
 
     takes_stands : (stage : finds.FindStage) (owner k : ℕ) → FindStage size capacity stage → StillStands size capacity (find_takes size c stage owner k)
-    takes_stands x0 x1 x2 x3 = grind (arith, by_eq, at_find, one_more, find_comes_to, comes, by_test, is_even, nat_lt, nat_tests)
+    takes_stands stage owner k find_stage = grind (arith, by_eq, at_find, one_more, find_comes_to, comes, by_test, is_even, nat_lt, nat_tests)
 
   pub still_stands : (size : ℕ) → 1 ≤ size → (capacity : ℕ) (c : Find T R) (owner k : ℕ) → FindStands size capacity c
       → StillStands size capacity (find_after size c owner k)
@@ -65,7 +65,7 @@ module _ {T R : Type 0} where
     -- a step at a word is one more
     pub one_taken : (stage : finds.FindStage) (owner k : ℕ) → IsAtWord stage → FindStage size capacity stage
         → taken_at size stage + 1 ≤ taken_after size capacity (find_takes size c stage owner k)
-    one_taken x0 x1 x2 x3 x4 = grind (arith, by_eq, at_find, one_more, past, by_test, is_even, nat_lt, nat_tests)
+    one_taken stage owner k at_word find_stage = grind (arith, by_eq, at_find, one_more, past, by_test, is_even, nat_lt, nat_tests)
 
     -- an answer is none
     pub none_taken : (index found owner k : ℕ) → index < capacity

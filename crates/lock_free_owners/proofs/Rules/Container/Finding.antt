@@ -58,17 +58,17 @@ module _ {T F : Type 0} (step : F → T → ContainerHandle → CallbackProgress
       (before : List (ℕ × T)) × (copies ≡ before ++ (index, value) ∷ []) × Counted index found before p
 
   pub came_none : (low : ℕ) → Came low 0 [] f
-  came_none x0 = grind arith
+  came_none low = grind arith
 
   higher : (low : ℕ) (xs : List (Visit T)) → Below low xs → Below (low + 1) xs
-  higher x0 x1 x2 = grind arith
+  higher low xs below_holds = grind arith
 
   wider : (indices : List ℕ) (index : ℕ) (xs : List (Visit T)) → Among indices xs → Among (indices ++ index ∷ []) xs
   wider indices index xs h = All-weaker (λ (x : Visit T). Contains indices x.handle.index) (λ (x : Visit T). Contains
       (indices ++ index ∷ []) x.handle.index) (λ x i. Contains-append_left indices (index ∷ []) x.handle.index i) xs h
 
   came_on : (low n : ℕ) (visits : List (Visit T)) (p : F) → Came low n visits p → Came (low + 1) n visits p
-  came_on x0 x1 x2 x3 x4 = grind (arith, below_more, higher)
+  came_on low n visits p came = grind (arith, below_more, higher)
 
   pub widen : (low high n : ℕ) (visits : List (Visit T)) (p : F) → low ≤ high → Came low n visits p → Came high n visits p
   widen low high n visits p up h =
@@ -101,7 +101,7 @@ module _ {T F : Type 0} (step : F → T → ContainerHandle → CallbackProgress
       }
 
   pub found_all : (low n : ℕ) (visits : List (Visit T)) (p : F) → Came low n visits p → HasFound step cap mine f n cap visits p
-  found_all x0 x1 x2 x3 x4 = grind arith
+  found_all low n visits p came = grind arith
 
   -- a step at a word, which leaves it
   abbrev pub IsQuiet : finds.FindStage → Type 0
@@ -185,12 +185,12 @@ module _ {T F : Type 0} (step : F → T → ContainerHandle → CallbackProgress
     module _ (size : ℕ) (c : Find T R) where
       comes : (index found : ℕ) (copies : List (ℕ × T)) (value : T) (q : F) → Came index found (told copies) q
           → Onward (find_comes_to c index found) copies value q
-      comes x0 x1 x2 x3 x4 x5 = grind (arith, by_test, nat_lt, at_find, found_all)
+      comes index found copies value q came = grind (arith, by_test, nat_lt, at_find, found_all)
 
       -- past an index that is counted
       passes : (index found : ℕ) (copies : List (ℕ × T)) (value : T) (p : F) → index < cap → Counted index found copies p
           → Onward (find_comes_to c (index + 1) found) copies value p
-      passes x0 x1 x2 x3 x4 x5 x6 = grind (arith, comes, came_by)
+      passes index found copies value p index_below_cap counted = grind (arith, comes, came_by)
 
       -- ---- what a step leaves, by what it did with the closure
 
@@ -201,12 +201,13 @@ module _ {T F : Type 0} (step : F → T → ContainerHandle → CallbackProgress
 
         pub quietly : cap < 2 ^ 32 → (stage : finds.FindStage) → IsQuiet stage → FindStage size cap stage → (copies : List (ℕ × T)) (room : R) (p : F) (k : ℕ)
             → SoFar stage copies (value_of room) p → StepsOnward stage copies room k p
-        quietly x0 x1 x2 x3 x4 x5 x6 x7 x8 = grind (arith, by_eq, at_find, one_more, find_comes_to, comes, came_on, by_test, is_even, passes)
+        quietly cap_below stage quiet find_stage copies room p k so_far =
+            grind (arith, by_eq, at_find, one_more, find_comes_to, comes, came_on, by_test, is_even, passes)
 
       -- it is told to go on
       pub told_on : (index found : ℕ) (copies : List (ℕ × T)) (value : T) (p q : F) → index < cap → step p value (named index owner id) Continue q
           → SoFar (finds.TheVariants.Asks index found) copies value p → Onward (find_comes_to c (index + 1) found) copies value q
-      told_on x0 x1 x2 x3 x4 x5 x6 x7 x8 = grind (arith, told_push, comes, came_more)
+      told_on index found copies value p q index_below_cap step_holds so_far = grind (arith, told_push, comes, came_more)
 
   -- or to stop
   pub told_to_stop : (index found : ℕ) (copies : List (ℕ × T)) (value : T) (p q : F) → index < cap → step p value (named index owner id) Stop q

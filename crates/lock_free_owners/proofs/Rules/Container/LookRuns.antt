@@ -32,10 +32,10 @@ module _ {T : Type 0} (code : Coding T) (value_of : List ℕ → T) (size : ℕ)
 
   -- the next element, or the end
   comes : (index : ℕ) → Here (look_comes_to c index)
-  comes x0 = grind (arith, by_test, nat_lt, at_look, nat_tests)
+  comes index = grind (arith, by_test, nat_lt, at_look, nat_tests)
 
   finds : (index count : ℕ) → index < v.capacity → Here (look_finds c index count)
-  finds x0 x1 x2 = grind (arith, by_test, is_even, look_comes_to, at_look, comes)
+  finds index count index_below_capacity = grind (arith, by_test, is_even, look_comes_to, at_look, comes)
 
   stage_owes : (stage : looks.LookStage) → ((k : ℕ) → look_takes size c stage seen k ≡ look_after size c seen k) → LookStage size v stage
       → Owes (λ (z : View T). z.asked) (IsMachine code kinds.Container cap) words slots id Says (look_asks size c.capacity stage) (v, [])

@@ -19,7 +19,7 @@ before : (size n m at : ℕ) → n + size ≤ m → at < size → n + at < m
 before size n m at l k = omega arith
 
 row : (size index cap : ℕ) → index < cap → size * index + size ≤ size * cap
-row x0 x1 x2 x3 = grind (arith, suc, mul-le-mul_left, mul-suc)
+row size index cap index_below_cap = grind (arith, suc, mul-le-mul_left, mul-suc)
 
 module _ (cap size words : ℕ) (sized : words ≡ total_words cap size + 1) where
   pub cell_fits : (index : ℕ) → index < cap → 1 + index < words
@@ -32,4 +32,4 @@ module _ (cap size words : ℕ) (sized : words ≡ total_words cap size + 1) whe
   count_fits index l = in_counts cap (size * cap) index words sized l
 
   pub element_fits : (index at : ℕ) → index < cap → at < size → element_word cap size index at < words
-  element_fits x0 x1 x2 x3 = grind (arith, in_elements, before, row)
+  element_fits index at index_below_cap at_below_size = grind (arith, in_elements, before, row)

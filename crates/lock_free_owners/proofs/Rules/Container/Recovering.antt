@@ -43,27 +43,27 @@ module _ {T F : Type 0} (step : F → T → Bool → F → Type 0) (cap : ℕ) (
   no_answers = grind arith
 
   none : (low : ℕ) (p : F) → p ≡ f → Asked low [] p
-  none x0 x1 x2 = grind (arith, no_answers)
+  none low p p_is_f = grind (arith, no_answers)
 
   higher : (low high : ℕ) → low ≤ high → (visits : Visits) → AreVisits given.mode low visits → AreVisits given.mode high visits
   higher low high up [] h = tt
   higher low high up (visit ∷ before) h = ((let l = h.0 in omega arith), h.1, h.2)
 
   pub widen : (low high : ℕ) (visits : Visits) (p : F) → low ≤ high → Asked low visits p → Asked high visits p
-  widen x0 x1 x2 x3 x4 x5 = grind (arith, higher, questions_of)
+  widen low high visits p low_up_to_high asked = grind (arith, higher, questions_of)
 
   -- the same of visits with the same questions
   with_same : (low : ℕ) (xs ys : Visits) (p : F) → questions_of xs ≡ questions_of ys → AreVisits given.mode low ys → Asked low xs p → Asked low ys p
-  with_same x0 x1 x2 x3 x4 x5 x6 = grind (arith, asks, length)
+  with_same low xs ys p questions_of_is visits asked = grind (arith, asks, length)
 
   -- it comes further with the last of them, and nothing is asked anew
   further : (index : ℕ) (came next : Came T) (before : Visits) (p : F) → question_at index came ≡ question_at index next → MayCome given.mode next
       → Asked (index + 1) ((index, came) ∷ before) p → Asked (index + 1) ((index, next) ∷ before) p
-  further x0 x1 x2 x3 x4 x5 x6 x7 = grind (arith, with_same, questions_of)
+  further index was next before p same_question may_come asked = grind (arith, with_same, questions_of)
 
   -- it comes to an index at which nothing stands
   comes_none : (index : ℕ) (before : Visits) (p : F) → Asked index before p → Asked (index + 1) ((index, HasFound None) ∷ before) p
-  comes_none x0 x1 x2 x3 = grind (arith, widen, with_same, append-nil, questions_of)
+  comes_none index before p asked = grind (arith, widen, with_same, append-nil, questions_of)
 
   -- one question more
   more : (index : ℕ) (value : T) (answer : Bool) (came : Came T) (before : Visits) (p q : F)
@@ -143,7 +143,7 @@ module _ {T F : Type 0} (step : F → T → Bool → F → Type 0) (cap : ℕ) (
 
     module _ (size : ℕ) (c : Recover T R) where
       so_then : (value : T) (p : F) (r s : After (Recover T R) ReleaseState) (xs ys : Visits) → r ≡ s → xs ≡ ys → Onward s ys value p → Onward r xs value p
-      so_then x0 x1 x2 x3 x4 x5 x6 x7 x8 = grind arith
+      so_then value p r s xs ys r_is_s xs_are_ys onward = grind arith
 
       comes : (index : ℕ) (visits : Visits) (value : T) (p : F) → index ≤ cap → Asked index visits p → Onward (recover_comes_to c index) visits value p
       comes index visits value p within h =
@@ -163,16 +163,16 @@ module _ {T F : Type 0} (step : F → T → Bool → F → Type 0) (cap : ℕ) (
 
       raised : (index : ℕ) (by : ReleaseMode) (visits : Visits) (value : T) (p : F) (a : After raises.Raise ReleaseState) → index < cap → IsFreed index visits
           → Asked (index + 1) visits p → Onward (recover_raised c index by a) visits value p
-      raised x0 x1 x2 x3 x4 x5 x6 x7 x8 = grind (arith, widen, comes)
+      raised index by visits value p a index_below_cap is_freed asked = grind (arith, widen, comes)
 
       locking : (index : ℕ) (visits : Visits) (value : T) (p : F) (a : After Lock ReleaseState) → index < cap → IsFreed index visits
           → Asked (index + 1) visits p → Onward (recover_locked c index a) visits value p
-      locking x0 x1 x2 x3 x4 x5 x6 x7 = grind (arith, comes)
+      locking index visits value p a index_below_cap is_freed asked = grind (arith, comes)
 
       -- it has freed the index: where its number was odd, a value stood there
       freed_on : (index count : ℕ) (now : Came T) (before : Visits) (value : T) (p : F) → IsToFree count now → Asked (index + 1) ((index, told now) ∷ before) p
           → Onward (if is_even count then recover_raises c index else goes_to c (recovers.Hides index count)) ((index, freed now) ∷ before) value p
-      freed_on x0 x1 x2 x3 x4 x5 x6 x7 = grind (arith, so_then, is_even, recover_raises, goes_to, further)
+      freed_on index count now before value p to_free asked = grind (arith, so_then, is_even, recover_raises, goes_to, further)
 
       module _ (value_of : R → T) (with_word : R → ℕ → ℕ → R) where
         abbrev pub StepsOnward : RecoverStage → Visits → R → ℕ → F → Type 0

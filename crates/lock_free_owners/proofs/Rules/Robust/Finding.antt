@@ -9,4 +9,4 @@ pub below_push : (xs : List ℕ) (x : ℕ) → All (λ y. y < x) xs → All (λ 
 below_push xs x below = All-push (λ y. y < x + 1) xs x (All-weaker (λ y. y < x) (λ y. y < x + 1) (λ y l. omega arith) xs below) (omega arith)
 
 pub below_more : (xs : List ℕ) (x : ℕ) → All (λ y. y < x) xs → All (λ y. y < x + 1) xs
-below_more x0 x1 x2 = grind arith
+below_more xs x all = grind arith

@@ -45,7 +45,7 @@ questions_last : (visits : List Visit) (v : Visit) → questions_of (visits ++ v
 questions_last visits v = map-append question_at visits (v ∷ [])
 
 freed_last : (visits : List Visit) (v : Visit) → freed_of (visits ++ v ∷ []) ≡ freed_of visits ++ freed_of (v ∷ [])
-freed_last x0 x1 = grind (arith, map, owned_at, filter-append, was_freed, map-append, filter)
+freed_last visits v = grind (arith, map, owned_at, filter-append, was_freed, map-append, filter)
 
 not_freed : (visits : List Visit) (v : Visit) → freed_of (v ∷ []) ≡ [] → freed_of (visits ++ v ∷ []) ≡ freed_of visits
 not_freed visits v is = freed_last visits v ∙ (ap (λ os. freed_of visits ++ os) is ∙ append-nil (freed_of visits))
@@ -85,11 +85,11 @@ module _ {F S : Type 0} (step : F → ℕ → ℕ → Bool → F → Type 0) (te
 
   -- where nothing was visited yet
   at_none : (visits : List Visit) (p : F) (q : S) → visits ≡ [] → (p ≡ f) × (q ≡ s) → Visits visits 0 0 p q
-  at_none x0 x1 x2 x3 x4 = grind (arith, none)
+  at_none visits p q visits_are_empty both = grind (arith, none)
 
   widen : (asked : List Asked) (told : List Owned) (low high above over : ℕ) (p : F) (q : S) → low ≤ above → high ≤ over → Calls asked told low high p q
       → Calls asked told above over p q
-  widen x0 x1 x2 x3 x4 x5 x6 x7 x8 x9 x10 = grind arith
+  widen asked told low high above over p q low_up_to_above high_up_to_over calls = grind arith
 
   wide : (visits : List Visit) (low high above over : ℕ) (p : F) (q : S) → low ≤ above → high ≤ over → Visits visits low high p q
       → Visits visits above over p q
@@ -98,7 +98,7 @@ module _ {F S : Type 0} (step : F → ℕ → ℕ → Bool → F → Type 0) (te
   -- by other lists that are the same
   as_lists : (asked other : List Asked) (told more : List Owned) (low high : ℕ) (p : F) (q : S) → asked ≡ other → told ≡ more → Calls asked told low high p q
       → Calls other more low high p q
-  as_lists x0 x1 x2 x3 x4 x5 x6 x7 x8 x9 x10 = grind arith
+  as_lists asked other told more low high p q asked_is_other told_is_more calls = grind arith
 
   -- one question more
   asks_more : (asked : List Asked) (told : List Owned) (index owner : ℕ) (answer : Bool) (p p' : F) (q : S) → owner < empty → index < cap
@@ -137,23 +137,23 @@ module _ {F S : Type 0} (step : F → ℕ → ℕ → Bool → F → Type 0) (te
       }
 
   comes : (c : Recover) (index : ℕ) (visits : List Visit) (p : F) (q : S) → Visits visits index index p q → Onward (recover_comes_to c index) visits p q
-  comes x0 x1 x2 x3 x4 x5 = grind (arith, by_test, at_recover, nat_lt)
+  comes c index visits p q visits_holds = grind (arith, by_test, at_recover, nat_lt)
 
   -- ---- what each stage leaves
 
   raised : (c : Recover) (index : ℕ) (mode : ReleaseMode) (visits : List Visit) (p : F) (q : S) (a : After raises.Raise ReleaseState)
       → Visits visits (index + 1) (index + 1) p q → Onward (recover_raised c index mode a) visits p q
-  raised x0 x1 x2 x3 x4 x5 x6 x7 = grind (arith, comes)
+  raised c index mode visits p q a visits_holds = grind (arith, comes)
 
   locking : (c : Recover) (index : ℕ) (visits : List Visit) (p : F) (q : S) (a : After Lock ReleaseState)
       → Visits visits (index + 1) (index + 1) p q → Onward (recover_locked c index a) visits p q
-  locking x0 x1 x2 x3 x4 x5 x6 = grind (arith, comes)
+  locking c index visits p q a visits_holds = grind (arith, comes)
 
   module _ (c : Recover) (mode : ReleaseMode) (visits : List Visit) where
     quietly : (stage : RecoverStage) (k : ℕ) → c.stage ≡ stage → (p p' : F) (q q' : S) (a : After Recover ReleaseState)
         → Onward (recover_takes c stage mode k) (visits_taken stage visits k) p q → GoesQuietly c mode k p q a p' q'
         → Onward a (visits_taken stage visits k) p' q'
-    quietly x0 x1 x2 x3 x4 x5 x6 x7 x8 x9 = grind (arith, visits_taken, recover_takes)
+    quietly stage k same_stage p p' q q' a onward_holds goes_quietly = grind (arith, visits_taken, recover_takes)
 
     answered : (index owner : ℕ) (answer : Bool) (p p' : F) (q : S) → owner < empty → index < cap → step p owner index answer p'
         → Visits visits index index p q
@@ -272,7 +272,7 @@ module _ {F S : Type 0} (step : F → ℕ → ℕ → Bool → F → Type 0) (te
 
   pub looks_on : (call : Recover) (mode : ReleaseMode) (visits : List Visit) (p : F) (q : S) (after : After Recover ReleaseState)
       (stage : RecoverStage) → call.stage ≡ stage → LooksAgain call mode stage after → SoFar call.stage visits p q → Onward after visits p q
-  looks_on x0 x1 x2 x3 x4 x5 x6 x7 x8 x9 = grind (arith, stays, recover_takes)
+  looks_on call mode visits p q after stage same_stage looks_again so_far = grind (arith, stays, recover_takes)
 
   -- each of them has a right owner
   pub well_formed : (visits : List Visit) (low high : ℕ) (p : F) (q : S) → Visits visits low high p q → All (λ (v : Visit). v.owner < empty) visits

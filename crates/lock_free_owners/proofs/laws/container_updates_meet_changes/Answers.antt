@@ -1,3 +1,5 @@
+-- The law `container_updates_meet_changes` (src/laws.rt): an update of a pass's state answers whether a change was counted since the
+-- look before.
 use Rattle.lock_free_owners.proofs.ContainerSet.UpdateAnswers.{history_meets}
 use Rattle.lock_free_owners.proofs.laws.container_updates_meet_changes.Goals as goal
 

@@ -1,3 +1,6 @@
+-- The law `calls_are_counted` (src/laws.rt; clauses `pushed`, `refused`, `added`, `replaced`, `popped`, `none`, `peeked`, `seen`,
+-- `acquired`, `released` and `measured`): the answer of a call says how much it adds to what its pass has published and taken out
+-- itself.
 use Rattle.lock_free_queues.proofs.Queues.Sums.{done_pushed, done_refused, done_added, done_replaced, done_popped}
 use Rattle.lock_free_queues.proofs.Queues.Sums.{done_none, done_peeked, done_seen, done_acquired, done_released, done_measured}
 use Rattle.lock_free_queues.proofs.laws.calls_are_counted.Goals as goal

@@ -1,3 +1,4 @@
+-- The law `histories_are_sound` (src/laws.rt): pops take out what was published, in order, and no more waits than the capacity.
 use Rattle.lock_free_queues.proofs.Queues.Promised.{sound}
 use Rattle.lock_free_queues.proofs.laws.histories_are_sound.Goals as goal
 

@@ -1,3 +1,5 @@
+-- The law `overflowing_takes_in_order` (src/laws.rt; clauses `taken` and `none`): what leaves an overflowing queue stood at a position
+-- above all that its guard had seen taken; where a pop found nothing, each position that its guard had seen published had been taken.
 use Rattle.lock_free_queues.proofs.Queues.Promised.{taken_first, none_waited}
 use Rattle.lock_free_queues.proofs.laws.overflowing_takes_in_order.Goals as goal
 

@@ -1,3 +1,6 @@
+-- The law `passed_goes_on` (src/laws.rt; clauses `acquired`, `popped` and `none`): who knows what was sent and received goes on knowing
+-- it; with the whole share nothing changes as a role is taken, each pop receives one value more, and where a pop finds none all that was
+-- sent was received.
 use Rattle.lock_free_queues.proofs.Queues.Passed.{still_passed, one_passed, all_passed}
 use Rattle.lock_free_queues.proofs.laws.passed_goes_on.Goals as goal
 

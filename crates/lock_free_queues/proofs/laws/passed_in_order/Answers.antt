@@ -1,3 +1,5 @@
+-- The law `passed_in_order` (src/laws.rt; clauses `order`, `few` and `closed`): what was received is a beginning of what was sent, in
+-- order; a bounded queue has at most its capacity left, and the list that `close` returns is what is left.
 use Rattle.lock_free_queues.proofs.Queues.Passed.{in_order, few_left, rest_waits}
 use Rattle.lock_free_queues.proofs.laws.passed_in_order.Goals as goal
 

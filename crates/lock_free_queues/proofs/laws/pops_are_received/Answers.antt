@@ -1,3 +1,6 @@
+-- The law `pops_are_received` (src/laws.rt; clauses `acquired`, `popped`, `none`, `peeked` and `released`): a pop that finds a value
+-- appends it to those that its pass has received; nothing is appended as the role is taken or given back, where a pop finds none, or by
+-- a peek.
 use Rattle.lock_free_queues.proofs.Names.{refl, []}
 use Rattle.lock_free_queues.proofs.Queues.Sent.{received_none, received_one, received_still, received_peeked, received_done}
 use Rattle.lock_free_queues.proofs.laws.pops_are_received.Goals as goal

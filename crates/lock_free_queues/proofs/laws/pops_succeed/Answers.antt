@@ -1,3 +1,4 @@
+-- The law `pops_succeed` (src/laws.rt): a pop succeeds where its pass had seen a value wait.
 use Rattle.lock_free_queues.proofs.Queues.Passed.{pop_succeeds}
 use Rattle.lock_free_queues.proofs.laws.pops_succeed.Goals as goal
 

@@ -1,3 +1,4 @@
+-- The law `positions_are_once` (src/laws.rt; clauses `published` and `taken`): no position is published twice, or taken twice.
 use Rattle.lock_free_queues.proofs.Queues.Positions.{published_once, taken_once}
 use Rattle.lock_free_queues.proofs.laws.positions_are_once.Goals as goal
 

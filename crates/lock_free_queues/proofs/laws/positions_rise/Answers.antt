@@ -1,3 +1,5 @@
+-- The law `positions_rise` (src/laws.rt; clauses `published`, `above`, `taken` and `below`): a push publishes right after all that its
+-- guard had seen published; a pop takes from right after all that its guard had seen taken.
 use Rattle.lock_free_queues.proofs.Queues.Positions.{published_low, taken_low}
 use Rattle.lock_free_queues.proofs.Queues.Promised.{published_next, taken_next}
 use Rattle.lock_free_queues.proofs.laws.positions_rise.Goals as goal

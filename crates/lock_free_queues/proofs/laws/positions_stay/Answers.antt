@@ -1,3 +1,4 @@
+-- The law `positions_stay` (src/laws.rt; clauses `published` and `taken`): what was published or taken stays so.
 use Rattle.lock_free_queues.proofs.Queues.Positions.{still_published, still_taken}
 use Rattle.lock_free_queues.proofs.laws.positions_stay.Goals as goal
 

@@ -1,3 +1,5 @@
+-- The law `pushes_are_sent` (src/laws.rt; clauses `acquired`, `pushed`, `refused` and `released`): a push that succeeds appends its
+-- value to those that its pass has sent; nothing is appended as the role is taken or given back, or where a push is refused.
 use Rattle.lock_free_queues.proofs.Queues.Sent.{sent_none, sent_one, sent_refused, sent_done}
 use Rattle.lock_free_queues.proofs.laws.pushes_are_sent.Goals as goal
 

@@ -1,3 +1,5 @@
+-- The law `pushes_succeed` (src/laws.rt; clauses `seen` and `counted`): a push succeeds where its pass had seen fewer values wait than
+-- the capacity; with the whole share it succeeds where its pass has pushed less than it has popped and the capacity together.
 use Rattle.lock_free_queues.proofs.Queues.Passed.{push_succeeds, counted_push_succeeds}
 use Rattle.lock_free_queues.proofs.laws.pushes_succeed.Goals as goal
 

@@ -1,3 +1,6 @@
+-- The law `refusals_are_right` (src/laws.rt; clauses `empty` and `full`): where a pop found nothing, each position that its guard had
+-- seen published had been taken; where a push found the queue full, each that its guard had seen taken lies more than the capacity below
+-- the next to be published.
 use Rattle.lock_free_queues.proofs.Queues.Promised.{sound, none_later_than, full_above}
 use Rattle.lock_free_queues.proofs.laws.refusals_are_right.Goals as goal
 

@@ -1,3 +1,4 @@
+-- The law `values_agree` (src/laws.rt): equal positions have equal values.
 use Rattle.lock_free_queues.proofs.Queues.Promised.{agree}
 use Rattle.lock_free_queues.proofs.laws.values_agree.Goals as goal
 

@@ -1,3 +1,4 @@
+-- The law `equal_versions_tell` (src/laws.rt): where two looks at the version answer the same, nothing was stored between their ends.
 use Rattle.lock_free_value.proofs.Versions.{equal_tell}
 use Rattle.lock_free_value.proofs.laws.equal_versions_tell.Goals as goal
 

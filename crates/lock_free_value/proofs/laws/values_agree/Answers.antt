@@ -1,3 +1,4 @@
+-- The law `values_agree` (src/laws.rt; clauses `stored` and `loaded`): equal versions have equal values.
 use Rattle.lock_free_value.proofs.Versions.{stored_loaded, loaded_loaded}
 use Rattle.lock_free_value.proofs.laws.values_agree.Goals as goal
 

@@ -1,3 +1,5 @@
+-- The law `versions_rise` (src/laws.rt; clauses `stored` and `loaded`): a store is at a version above all that its guard knew; a load is
+-- at one that is not below any that its pass knew.
 use Rattle.lock_free_value.proofs.Versions.{stored_above, loaded_above}
 use Rattle.lock_free_value.proofs.laws.versions_rise.Goals as goal
 

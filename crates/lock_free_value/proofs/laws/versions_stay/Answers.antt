@@ -1,3 +1,4 @@
+-- The law `versions_stay` (src/laws.rt; clauses `stored` and `loaded`): what was stored or loaded stays so.
 use Rattle.lock_free_value.proofs.Versions.{still_stored, still_loaded}
 use Rattle.lock_free_value.proofs.laws.versions_stay.Goals as goal
 

@@ -1,3 +1,4 @@
+-- The law `whole_loads_newest` (src/laws.rt): who has the whole share loads the last value that it knows.
 use Rattle.lock_free_value.proofs.Versions.{newest}
 use Rattle.lock_free_value.proofs.laws.whole_loads_newest.Goals as goal
 

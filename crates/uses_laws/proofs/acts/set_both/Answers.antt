@@ -1,3 +1,4 @@
+-- `set_both` (src/acts.rt): its return meets what it ensures (`ActedInOrder`).
 use Rattle.std.proofs.Common.{◌≡◌, ℕ, Bool, true, false, [], sym, ap, subst, ◌∙◌, append-nil}
 use Rattle.model.specs.declared.event.Answer.TheVariants.{Truth}
 use Rattle.model.specs.declared.event.Start.TheVariants.{Bits}

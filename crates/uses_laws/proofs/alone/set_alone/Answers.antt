@@ -1,3 +1,4 @@
+-- `set_alone` (src/alone.rt): its return meets the clauses `whole` and `steps`.
 use Rattle.std.proofs.Common.{ℕ, Bool, true, false, ap, subst, ◌∙◌}
 use Rattle.model.specs.declared.event.Answer.TheVariants.{Truth}
 use Rattle.model.specs.declared.event.Start.TheVariants.{Bits}

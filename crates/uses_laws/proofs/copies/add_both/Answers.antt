@@ -1,3 +1,4 @@
+-- `add_both` (src/copies.rt): its return meets what it ensures (`IsContained`).
 use Rattle.std.proofs.Common.{ℕ, rules}
 use Rattle.steps.specs.declared.container.add.Owned.{Owned}
 use Rattle.lock_free.specs.Container.Names.{code_of, container_of, share, view}

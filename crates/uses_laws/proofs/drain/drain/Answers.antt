@@ -1,3 +1,4 @@
+-- `drain` (src/drain.rt): its return meets what it ensures.
 use Rattle.std.proofs.Common.{sym, subst}
 use Rattle.lock_free.specs.Coding.{one_word}
 use Rattle.lock_free.specs.Shares.{IsAll}

@@ -1,3 +1,4 @@
+-- `join_both` (src/ending.rt): its return meets what it ensures (`StepsAreWithinEnds`).
 use Rattle.std.proofs.Common.{◌≡◌, ℕ, ◌*◌, ap, subst, arith}
 use Rattle.model.specs.declared.turn.Kind.TheVariants.{IndexQueue}
 use Rattle.model.specs.LockFree.{AreWithinEnds, ends, steps_in, stretch}

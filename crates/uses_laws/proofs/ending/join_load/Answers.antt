@@ -1,3 +1,4 @@
+-- `join_load` (src/ending.rt): its return meets what it ensures (`StepsAreWithinLoad`).
 use Rattle.std.proofs.Common.{◌≡◌, ◌≤◌, ℕ, ◌*◌, ap, subst, arith}
 use Rattle.model.specs.declared.turn.Kind.TheVariants.{IndexQueue}
 use Rattle.model.specs.Loads.{begun, load}

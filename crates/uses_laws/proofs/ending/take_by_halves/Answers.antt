@@ -1,3 +1,4 @@
+-- `take_by_halves` (src/ending.rt): its return meets what it ensures (`AsksAreWithinLoad`).
 use Rattle.std.proofs.Common.{◌≡◌, ◌≤◌, ℕ, zero, suc, ◌+◌, ◌-◌, ◌*◌, sym, ap, ap₂, subst, ◌∙◌, arith}
 use Rattle.std.proofs.Common.{mul-add, mul_assoc, suc-mul}
 use Rattle.model.specs.declared.turn.Kind.TheVariants.{Indices}

@@ -1,3 +1,4 @@
+-- `free_is_known` (src/known.rt): its return meets what it ensures (`HasFreedInRun`).
 use Rattle.std.proofs.Common.{ℕ, [], ◌∷◌, refl, sym, subst}
 use Rattle.lock_free.specs.HistoryView.View.{View}
 use Rattle.lock_free.specs.Loan.Contracts.{HasFreedInRun}

@@ -1,3 +1,4 @@
+-- `takes_alone` (src/known.rt): its return meets what it ensures (`TakesAtMost`).
 use Rattle.std.proofs.Common.{◌≡◌, ◌≤◌, ℕ, ◌+◌, ◌*◌, Some, sym, subst, ◌∙◌, ap, arith}
 use Rattle.model.specs.declared.party.Progress.{Progress}
 use Rattle.uses_laws.proofs.known.takes_alone.Goals as goal

@@ -1,3 +1,4 @@
+-- `lease` (src/leases.rt): its return meets the clause `full`.
 use Rattle.std.proofs.Common.{rules, subst, IfErr}
 use Rattle.lock_free.specs.Robust.Calls.{AcquireRefused}
 use Rattle.lock_free.specs.RobustUniqueIndexSet.{share, view}

@@ -1,3 +1,4 @@
+-- `lease_apart` (src/leases.rt): its return meets what it ensures.
 use Rattle.std.proofs.Common.{◌≡◌, IfOk, refl, sym, subst}
 use Rattle.lock_free.specs.Event.TheVariants.{Granted}
 use Rattle.lock_free.specs.GrantLaws.{times_freed}

@@ -1,3 +1,4 @@
+-- `push_both` (src/order.rt): its return meets what it ensures (`PushedInOrder`).
 use Rattle.std.proofs.Common.{◌≡◌, true, [], sym, ap, subst, ◌∙◌, append-nil}
 use Rattle.model.specs.declared.event.Answer.TheVariants.{Truth}
 use Rattle.model.specs.declared.event.Start.TheVariants.{Queues}

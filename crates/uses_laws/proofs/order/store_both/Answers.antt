@@ -1,3 +1,4 @@
+-- `store_both` (src/order.rt): its return meets what it ensures (`StoredInOrder`).
 use Rattle.std.proofs.Common.{true, [], ◌∷◌, sym, append-nil}
 use Rattle.model.specs.declared.event.Answer.TheVariants.{Truth}
 use Rattle.model.specs.declared.event.Event.TheVariants.{Acted}

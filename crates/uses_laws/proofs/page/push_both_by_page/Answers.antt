@@ -1,3 +1,4 @@
+-- `push_both_by_page` (src/page.rt): its return meets what it ensures (`HasPushedBoth`).
 use Rattle.std.proofs.Common.{◌≡◌, ◌<◌, ◌^◌, ℕ, true, List, [], ◌∷◌, ◌++◌, ap, length, refl, subst, sym, ◌∙◌}
 use Rattle.std.proofs.lemmas.List.Concat.{flat_map-append}
 use Rattle.std.specs.List.{AllByRecursion}

@@ -1,3 +1,4 @@
+-- `both_ends` (src/parted.rt): its return meets the clauses `queue` and `parted`.
 use Rattle.std.proofs.Common.{◌≡◌}
 use Rattle.lock_free.specs.Queues.Calls.{consumer_queue, consumer_view, producer_queue, producer_view, queue_of, view}
 use Rattle.lock_free_queues.specs.Queues.Ends.{AreEnds}

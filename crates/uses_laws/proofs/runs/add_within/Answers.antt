@@ -1,3 +1,4 @@
+-- `add_within` (src/runs.rt): its return meets what it ensures (`OwnersGoOn`).
 use Rattle.std.proofs.Common.{ℕ, ◌+◌, ap, subst, ◌∙◌}
 use Rattle.threaded.specs.Sets.{SetId}
 use Rattle.laws_container.specs.LockFree.{room_container_bound}

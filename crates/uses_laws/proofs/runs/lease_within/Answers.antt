@@ -1,3 +1,4 @@
+-- `lease_within` (src/runs.rt): its return meets what it ensures (`OwnersGoOn`).
 use Rattle.std.proofs.Common.{ℕ, ◌+◌, ap, subst, ◌∙◌}
 use Rattle.threaded.specs.Sets.{SetId}
 use Rattle.model.specs.declared.turn.Kind.TheVariants.{Robust}

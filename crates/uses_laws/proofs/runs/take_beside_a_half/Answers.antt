@@ -1,3 +1,4 @@
+-- `take_beside_a_half` (src/runs.rt): its return meets what it ensures.
 use Rattle.std.proofs.Common.{◌≡◌, ◌≤◌, ℕ, ◌+◌, ap, subst, ◌∙◌, arith}
 use Rattle.model.specs.declared.turn.Kind.TheVariants.{Indices}
 use Rattle.model.specs.LockFree.{Bound, stretch}

@@ -1,3 +1,4 @@
+-- `is_closed` (src/sole.rt): its return meets the clauses `held` and `claimed`.
 use Rattle.std.proofs.Common.{◌≡◌, true, [], append-nil, ap, sym, ◌∙◌}
 use Rattle.model.proofs.Locks.{locked_later}
 use Rattle.lock_free.specs.Coding.{one_word}

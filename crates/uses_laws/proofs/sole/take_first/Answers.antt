@@ -1,3 +1,4 @@
+-- `take_first` (src/sole.rt): its return meets the clauses `sole` and `claimed`.
 use Rattle.std.proofs.Common.{◌≡◌, ◌<◌, IfOk, None, false, ap, subst, ◌∙◌}
 use Rattle.lock_free.specs.Coding.{one_word}
 use Rattle.lock_free.specs.Event.TheVariants.{Claimed}

@@ -1,3 +1,4 @@
+-- `take_in` (src/sole.rt): its return meets the clauses `few` and `sole`.
 use Rattle.std.proofs.Common.{◌≡◌, ◌≤◌, ◌+◌, is_some, length, sym, ap, subst, ◌∙◌}
 use Rattle.lock_free.specs.Coding.{one_word}
 use Rattle.lock_free.specs.IndexReading.{holder_of}

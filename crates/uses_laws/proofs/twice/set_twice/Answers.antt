@@ -1,3 +1,4 @@
+-- `set_twice` (src/twice.rt): its return meets what it ensures.
 use Rattle.std.proofs.Common.{true, subst}
 use Rattle.lock_free.specs.Coding.{one_word}
 use Rattle.lock_free.specs.Bits.Calls.{view, history, set_of}

@@ -1,3 +1,4 @@
+-- `refused` (src/wrong.rt): its return meets the clauses `oldest`, `closed`, `asked`, `told` and `split`.
 use Rattle.uses_laws.proofs.WrongHistories as wrong
 use Rattle.uses_laws.proofs.wrong.refused.Goals as goal
 

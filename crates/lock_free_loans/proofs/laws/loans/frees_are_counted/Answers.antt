@@ -1,3 +1,5 @@
+-- The law `frees_are_counted` (src/laws/loans.rt; clauses `freed` and `claimed`): a pass that frees a list of indices in turn frees each
+-- as often as it stands there; it claims nothing.
 use Rattle.lock_free_loans.proofs.Loan.Contracts.{claims_in_turn, freed_in_turn}
 use Rattle.lock_free_loans.proofs.laws.loans.frees_are_counted.Goals as goal
 

@@ -1,3 +1,4 @@
+-- `empty_words` (src/spsc/places.rt): its return meets what it ensures.
 use Rattle.lock_free_queues.proofs.Names.{◌≡◌, ℕ, ◌+◌, suc, List, [], ◌∷◌, ◌++◌, set, replicate, ap, ◌∙◌, arith}
 use Rattle.lock_free_queues.proofs.Names.{common_steps, one_more}
 use Rattle.lock_free_queues.proofs.spsc.places.empty_words.Goals as goal

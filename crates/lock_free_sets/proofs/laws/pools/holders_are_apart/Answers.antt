@@ -1,3 +1,5 @@
+-- The law `holders_are_apart` (src/laws/pools.rt; clauses `apart` and `none`): no index is held twice; where a first pass is whole again
+-- and has given all back, none is out.
 use Rattle.lock_free_sets.proofs.Unique.Pools.{holds_apart, none_out}
 use Rattle.lock_free_sets.proofs.laws.pools.holders_are_apart.Goals as goal
 

@@ -1,3 +1,5 @@
+-- The law `wholes_stay` (src/laws/wholes.rt; clauses `first`, `call` and `joined`): who has the whole keeps it over calls; a first pass
+-- has it, and so has a join that leaves no share out.
 use Rattle.lock_free_sets.proofs.Whole.Alone.{first_whole, still_whole, joined_whole}
 use Rattle.lock_free_sets.proofs.laws.wholes.wholes_stay.Goals as goal
 

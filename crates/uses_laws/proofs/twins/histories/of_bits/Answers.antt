@@ -1,3 +1,4 @@
+-- `of_bits` (src/twins/histories.rt): its return meets the clauses `set`, `cleared` and `answers`.
 use Rattle.model.specs.declared.event.Event.TheVariants.{Set, Cleared}
 use Rattle.lock_free.specs.Coding.{one_word}
 use Rattle.lock_free.specs.Sets.Calls.{history, set_of}

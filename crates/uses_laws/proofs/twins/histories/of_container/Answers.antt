@@ -1,3 +1,5 @@
+-- `of_container` (src/twins/histories.rt): its return meets the clauses `filled`, `asked`, `freed`, `looked`, `granted`, `held`, `met`
+-- and `ended`.
 use Rattle.std.proofs.Common.{ℕ, refl, subst}
 use Rattle.model.specs.declared.event.Answer.TheVariants.{Truth}
 use Rattle.model.specs.declared.event.Event.TheVariants.{Filled, Granted, FreedOf, Asked, Finished}

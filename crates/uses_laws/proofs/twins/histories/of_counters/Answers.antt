@@ -1,3 +1,4 @@
+-- `of_counters` (src/twins/histories.rt): its return meets the clauses `set` and `container`.
 use Rattle.std.proofs.Common.{◌-◌, ◌*◌, ◌^◌, ◌≤◌, arith}
 use Rattle.lock_free.specs.OwnerLaws.{changes}
 use Rattle.uses_laws.proofs.twins.histories.of_counters.Goals as goal

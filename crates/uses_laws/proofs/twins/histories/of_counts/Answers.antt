@@ -1,3 +1,4 @@
+-- `of_counts` (src/twins/histories.rt): its return meets what it ensures.
 use Rattle.lock_free.specs.Coding.{one_word}
 use Rattle.lock_free.specs.Sets.Calls.{history, set_of}
 use Rattle.uses_laws.proofs.twins.histories.of_counts.Goals as goal

@@ -1,3 +1,4 @@
+-- `of_indices` (src/twins/histories.rt): its return meets the clauses `claimed`, `freed`, `acquired`, `looked` and `counted`.
 use Rattle.std.proofs.Common.{◌≡◌, Some, sym, ap}
 use Rattle.model.specs.declared.event.Answer.TheVariants.{Index, Truth}
 use Rattle.model.specs.declared.event.Event.TheVariants.{Claimed, Freed, Finished}

@@ -1,3 +1,5 @@
+-- `of_overflowing_queue` (src/twins/histories.rt): its return meets the clauses `book`, `few`, `oldest`, `none`, `measured`, `producer`,
+-- `pushed` and `taken`.
 use Rattle.model.specs.declared.event.Answer.TheVariants.{PoppedNone}
 use Rattle.model.specs.declared.event.Event.TheVariants.{Published, HandedOut, Acted, Finished}
 use Rattle.model.specs.declared.event.Start.TheVariants.{Queues}

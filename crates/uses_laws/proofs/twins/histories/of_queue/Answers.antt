@@ -1,3 +1,5 @@
+-- `of_queue` (src/twins/histories.rt): its return meets the clauses `book`, `few`, `refused`, `none`, `measured`, `producer`,
+-- `consumer`, `peeked`, `looked`, `pushed` and `popped`.
 use Rattle.std.proofs.Common.{false}
 use Rattle.model.specs.declared.event.Answer.TheVariants.{Truth, PoppedNone}
 use Rattle.model.specs.declared.event.Event.TheVariants.{Published, HandedOut, Acted, Finished}

@@ -1,3 +1,4 @@
+-- `of_value` (src/twins/histories.rt): its return meets the clauses `loaded`, `acquired`, `looked`, `counted` and `stored`.
 use Rattle.model.specs.declared.event.Event.TheVariants.{Acted, Finished}
 use Rattle.model.specs.declared.event.Start.TheVariants.{Atomic}
 use Rattle.model.specs.declared.families.atomic.AtomicStart.TheVariants.{AcquireProducer, HasProducer, Load, Store, Version}

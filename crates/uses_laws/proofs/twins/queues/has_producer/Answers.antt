@@ -1,3 +1,4 @@
+-- `has_producer` (src/twins/queues.rt): its return meets the clause `counted`.
 use Rattle.std.proofs.Common.{arith}
 use Rattle.lock_free.specs.Queues.Calls.{view}
 use Rattle.steps.specs.declared.queues.roles.Role.TheVariants.{Producer}

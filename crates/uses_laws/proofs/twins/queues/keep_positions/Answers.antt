@@ -1,3 +1,4 @@
+-- `keep_positions` (src/twins/queues.rt): its return meets the clauses `published` and `taken`.
 use Rattle.lock_free.specs.Queues.Calls.{view}
 use Rattle.uses_laws.proofs.twins.queues.keep_positions.Goals as goal
 

@@ -1,3 +1,4 @@
+-- `of_positions` (src/twins/queues.rt): its return meets the clauses `published`, `taken` and `agree`.
 use Rattle.std.proofs.Common.{length, refl}
 use Rattle.model.specs.declared.families.queues.QueueKind.TheVariants.{IndexQueue}
 use Rattle.model.specs.Families.Queues.Reading.{published, handed_out}

@@ -1,3 +1,4 @@
+-- `peek_and_pop` (src/twins/queues.rt): its return meets the clauses `same`, `taken` and `counted`.
 use Rattle.std.proofs.Common.{IfSome, IfNone, Option, None, Some, ◌≡◌, ℕ, ap, subst, ◌∙◌, ◌++◌, ◌∷◌, [], arith}
 use Rattle.std.specs.Option.{option_map}
 use Rattle.lock_free.specs.HistoryView.View.{View}

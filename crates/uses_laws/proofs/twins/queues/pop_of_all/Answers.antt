@@ -1,3 +1,4 @@
+-- `pop_of_all` (src/twins/queues.rt): its return meets the clauses `emptied` and `seen`.
 use Rattle.std.proofs.Common.{IfNone, subst}
 use Rattle.model.specs.declared.families.queues.QueueKind.TheVariants.{IndexQueue}
 use Rattle.lock_free.specs.Coding.{one_word}

@@ -1,3 +1,4 @@
+-- `pop_what_waits` (src/twins/queues.rt): its return meets the clauses `found`, `next`, `below` and `counted`.
 use Rattle.std.proofs.Common.{IfSome, subst}
 use Rattle.lock_free.specs.Queues.Calls.{consumer_view}
 use Rattle.lock_free.specs.Queues.Contracts.{PopDone}

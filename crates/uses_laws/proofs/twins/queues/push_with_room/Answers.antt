@@ -1,3 +1,4 @@
+-- `push_with_room` (src/twins/queues.rt): its return meets the clauses `taken`, `next`, `above` and `counted`.
 use Rattle.lock_free.specs.Queues.Calls.{producer_queue, producer_view}
 use Rattle.lock_free.specs.Queues.Item.TheVariants.{Index}
 use Rattle.uses_laws.proofs.twins.queues.push_with_room.Goals as goal

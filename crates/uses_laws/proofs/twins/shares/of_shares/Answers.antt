@@ -1,3 +1,4 @@
+-- `of_shares` (src/twins/shares.rt): its return meets the clauses `split` and `joined`.
 use Rattle.std.proofs.Common.{◌≡◌, ◌∷◌, [], refl, arith}
 use Rattle.std.specs.List.{sum}
 use Rattle.lock_free.specs.Shares.{all_shares}

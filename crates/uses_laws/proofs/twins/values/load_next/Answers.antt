@@ -1,3 +1,4 @@
+-- `load_next` (src/twins/values.rt): its return meets what it ensures.
 use Rattle.std.proofs.Common.{◌+◌, length}
 use Rattle.lock_free.specs.Value.Calls.{view}
 use Rattle.lock_free.specs.Value.Contracts.{HasLoaded}

@@ -1,3 +1,4 @@
+-- `load_still` (src/twins/values.rt): its return meets what it ensures.
 use Rattle.std.proofs.Common.{◌≡◌, sym, subst}
 use Rattle.lock_free.specs.Value.Calls.{view}
 use Rattle.lock_free.specs.Value.Contracts.{HasLoaded, HasSeenVersion}

@@ -1,3 +1,4 @@
+-- `of_versions` (src/twins/values.rt): its return meets the clauses `stored` and `loaded`.
 use Rattle.std.proofs.Common.{◌≡◌, ◌+◌, length, refl, arith}
 use Rattle.lock_free.specs.Coding.{one_word}
 use Rattle.lock_free.specs.Value.Calls.{view}

@@ -1,3 +1,4 @@
+-- `store_next` (src/twins/values.rt): its return meets the clauses `next` and `above`.
 use Rattle.lock_free.specs.Value.Calls.{producer_view}
 use Rattle.lock_free.specs.Value.Contracts.{HasStored}
 use Rattle.uses_laws.proofs.twins.values.store_next.Goals as goal

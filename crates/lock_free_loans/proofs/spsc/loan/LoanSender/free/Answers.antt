@@ -1,3 +1,5 @@
+-- `LoanSender::free` (src/spsc/loan/calls.rt): its call of `release_raw_index` meets the requirement `held`, `self` meets the invariant
+-- `book`, and its return meets the clause `freed`.
 use Rattle.lock_free_sets.proofs.Names.{ap, sym, ◌∙◌}
 use Rattle.lock_free_sets.specs.UniqueIndexSet.{SetId}
 use Rattle.lock_free_loans.proofs.Loan.Books.{out_held, is_freed, sent_out}

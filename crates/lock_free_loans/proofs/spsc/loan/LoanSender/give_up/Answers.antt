@@ -1,3 +1,5 @@
+-- `LoanSender::give_up` (src/spsc/loan/calls.rt): its call of `release_raw_index` meets the requirement `held`, `self` meets the
+-- invariant `book`, and its return meets the clause `same`.
 use Rattle.lock_free_sets.proofs.Names.{ap, arith, rules, sym, ◌∙◌}
 use Rattle.lock_free_sets.specs.UniqueIndexSet.{SetId, view}
 use Rattle.lock_free_loans.specs.Loan.Places.{is_out}

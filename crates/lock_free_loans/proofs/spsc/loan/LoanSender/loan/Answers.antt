@@ -1,3 +1,5 @@
+-- `LoanSender::loan` (src/spsc/loan/calls.rt): `self` meets the invariant `book`, and its return meets the clauses `loaned`, `same` and
+-- `steps`.
 use Rattle.lock_free_sets.proofs.Names.{◌+◌, ◌<◌, ℕ, arith, rules, refl, sym, ap, subst, ◌∙◌, View}
 use Rattle.std.proofs.Common.{max}
 use Rattle.history.specs.Steps.{TakesAlone}

@@ -1,3 +1,4 @@
+-- `LoanSender::new` (src/spsc/loan/calls.rt): its result meets the invariant of its type.
 use Rattle.lock_free_sets.proofs.Names.{◌≡◌, rules, subst, sym, ◌∙◌}
 use Rattle.std.proofs.Common.{replicate}
 use Rattle.lock_free_sets.specs.UniqueIndexSet.{view}

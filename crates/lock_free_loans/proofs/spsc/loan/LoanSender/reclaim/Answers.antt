@@ -1,3 +1,5 @@
+-- `LoanSender::reclaim` (src/spsc/loan/calls.rt): each iteration keeps the invariant of its loop, and its return meets the clause
+-- `reclaimed`.
 use Rattle.lock_free_sets.proofs.Names.{rules, arith, ap, subst, sym, ◌∙◌, ◌+◌, ◌<◌, ◌≤◌, ◌≡◌, true, false, length}
 use Rattle.std.proofs.Common.{count_by}
 use Rattle.std.proofs.lemmas.List.{take_all}

@@ -1,3 +1,5 @@
+-- `empty_completion` (src/spsc/loan/calls.rt): the invariant of its loop holds at the start and after each iteration, and its return
+-- meets the clauses `goes` and `emptied`.
 use Rattle.lock_free_sets.proofs.Names.{rules, refl}
 use Rattle.lock_free_queues.specs.Queues.Calls.{consumer_view}
 use Rattle.model.specs.declared.event.Item.TheVariants.{Index}

@@ -1,3 +1,5 @@
+-- `empty_submission` (src/spsc/loan/calls.rt): the invariant of its loop holds at the start and after each iteration, and its return
+-- meets the clauses `same` and `emptied`.
 use Rattle.lock_free_sets.proofs.Names.{ap, refl, subst, sym, ◌∙◌, ◌<◌}
 use Rattle.lock_free_queues.specs.Queues.Overflowing.{QueueId, consumer_queue, consumer_view}
 use Rattle.model.specs.declared.event.Item.TheVariants.{Index}

@@ -1,3 +1,5 @@
+-- `Container::add` (src/mpmc/container/calls.rt): its call of `drive_on` meets the requirements `rule` and `at`, and its return meets
+-- the clauses `same`, `added`, `lock`, `refused` and `steps`.
 use Rattle.lock_free_owners.proofs.Names.{◌≡◌, ◌<◌, Ok, Err, rules, refl, sym, ap, subst, ◌∙◌, true≢false, first_add}
 use Rattle.lock_free_owners.proofs.Names.{Owned, Coding, IsCoding, coding_by, seen, SetId, adds_value}
 use Rattle.steps.specs.declared.container.enums.ContainerAddFailure.TheVariants as failures

@@ -1,3 +1,5 @@
+-- `Container::find` (src/mpmc/container/visits.rt): its call of `find_all` meets the requirements `at` and `visits`, and its return
+-- meets the clauses `same`, `found` and `steps`.
 use Rattle.lock_free_owners.proofs.Names.{◌<◌, [], rules, sym, ap, subst, Coding, IsCoding, coding_by, fresh_cell}
 use Rattle.lock_free_owners.proofs.Names.{seen, SetId}
 use Rattle.steps.specs.Container.Find.{first_find}

@@ -1,3 +1,5 @@
+-- `Container::get_state` (src/mpmc/container/looks.rt): its call of `bring_up` meets the requirement `at`, and its return meets the
+-- clauses `got` and `steps`.
 use Rattle.lock_free_owners.proofs.Names.{◌≡◌, ℕ, rules, sym, ap, subst, ◌∙◌, first_look, no_numbers, shows_nothing}
 use Rattle.lock_free_owners.proofs.Names.{shown_number, Coding, IsCoding, coding_by, Number, GetState, seen, SetId}
 use Rattle.lock_free_owners.proofs.Names.{HasCopied, HasLookedAll}

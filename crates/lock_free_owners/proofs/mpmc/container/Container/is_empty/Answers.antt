@@ -1,3 +1,5 @@
+-- `Container::is_empty` (src/mpmc/container/calls.rt): its call of `count_all` meets the requirement `at`, and its return meets the
+-- clauses `same`, `tested` and `steps`.
 use Rattle.lock_free_owners.proofs.Names.{rules, subst, first_borrowed, Coding, coding_by, seen, counts_values}
 use Rattle.model.specs.declared.families.container.calls.CountOf.TheVariants as counts
 use Rattle.lock_free_owners.specs.Container.Turns.{BeginsCount, CountAt}

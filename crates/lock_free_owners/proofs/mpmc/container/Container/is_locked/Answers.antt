@@ -1,3 +1,5 @@
+-- `Container::is_locked` (src/mpmc/container/calls.rt): its call of `drive` meets the requirements `rule` and `at`, and its return meets
+-- the clauses `same`, `looked` and `steps`.
 use Rattle.lock_free_owners.proofs.Names.{rules, Coding, coding_by, seen, sees_lock}
 use Rattle.lock_free_owners.specs.Container.Turns.{BeginsLock}
 use Rattle.lock_free_owners.proofs.ContainerSet.Begins.{lock_keeps, lock_begins}

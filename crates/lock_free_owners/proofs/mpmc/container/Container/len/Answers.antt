@@ -1,3 +1,5 @@
+-- `Container::len` (src/mpmc/container/calls.rt): its call of `count_all` meets the requirement `at`, and its return meets the clauses
+-- `same`, `counted` and `steps`.
 use Rattle.lock_free_owners.proofs.Names.{◌≤◌, rules, ap, subst, ◌∙◌, first_borrowed, Coding, coding_by, seen, SetId}
 use Rattle.lock_free_owners.proofs.Names.{counts_values}
 use Rattle.model.specs.declared.families.container.calls.CountOf.TheVariants as counts

@@ -1,3 +1,5 @@
+-- `Container::recover` (src/mpmc/container/recovery.rt): its call of `free_all` meets the requirements `at` and `questions`, and its
+-- return meets the clauses `same`, `recovered` and `steps`.
 use Rattle.lock_free_owners.proofs.Names.{[], rules, sym, ap, subst, DeadOwner, Coding, IsCoding, coding_by}
 use Rattle.lock_free_owners.proofs.Names.{fresh_cell, seen, SetId}
 use Rattle.steps.specs.Container.Recover.{first_recover}

@@ -1,3 +1,5 @@
+-- `Container::remove` (src/mpmc/container/calls.rt): its call of `drive_on` meets the requirements `rule` and `at`, and its return meets
+-- the clauses `same`, `removed`, `refused` and `steps`.
 use Rattle.lock_free_owners.proofs.Names.{◌<◌, rules, sym, ap, subst, ◌∙◌, arith, first_remove, GiveBack, Coding}
 use Rattle.lock_free_owners.proofs.Names.{coding_by, seen, SetId, removes_value}
 use Rattle.lock_free_owners.specs.Container.Turns.{BeginsRemove, RemoveAt}

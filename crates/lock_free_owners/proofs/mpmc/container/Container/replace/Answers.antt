@@ -1,3 +1,5 @@
+-- `Container::replace` (src/mpmc/container/calls.rt): its call of `drive` meets the requirements `rule` and `at`, and its return meets
+-- the clauses `same`, `replaced`, `refused` and `steps`.
 use Rattle.lock_free_owners.proofs.Names.{◌<◌, rules, sym, ap, subst, ◌∙◌, arith, first_replace, Replacement, Coding}
 use Rattle.lock_free_owners.proofs.Names.{IsCoding, coding_by, seen, SetId, replaces_value}
 use Rattle.lock_free_owners.specs.Container.Turns.{BeginsReplace, ReplaceAt}

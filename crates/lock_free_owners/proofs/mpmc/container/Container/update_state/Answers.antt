@@ -1,3 +1,5 @@
+-- `Container::update_state` (src/mpmc/container/looks.rt): its call of `bring_up` meets the requirements `decided` and `at`, `pass`
+-- meets the invariants `known`, `idle`, `alone`, `some` and `knows`, and its return meets the clauses `updated`, `beside` and `steps`.
 use Rattle.lock_free_owners.proofs.Names.{◌<◌, ℕ, rules, sym, ap, subst, ◌∙◌, first_look, Coding, IsCoding, coding_by}
 use Rattle.lock_free_owners.proofs.Names.{UpdateState, seen, SetId, looking}
 use Rattle.model.specs.declared.turn.Kind.TheVariants as kinds

@@ -1,3 +1,4 @@
+-- `Pass::history` (src/mpmc/container/passes.rt): its return meets the clauses `history` and `rests`.
 use Rattle.history.proofs.KnownRuns.{known_history}
 use Rattle.lock_free_owners.proofs.mpmc.container.Pass.history.Goals as goal
 

@@ -1,3 +1,5 @@
+-- `Pass::join` (src/mpmc/container/passes.rt): its call of `look` meets the requirements `owes` and `capacity`, that of `join` the
+-- requirement `joins`, `self` meets the invariant `knows`, and its return meets the clause `same`.
 use Rattle.lock_free_owners.proofs.Names.{◌≡◌, ◌<◌, ◌⊎◌, ◌++◌, ℕ, List, [], rules, sym, ap, subst, ◌∙◌, arith, TableId, OwesAsk}
 use Rattle.lock_free_owners.proofs.Names.{Coding, coding_by, View, IsAll, IsBeginning, IsMachine, seen, table_of, key_of}
 use Rattle.lock_free_owners.proofs.Names.{joined_view, Looks, positive, joins}

@@ -1,3 +1,4 @@
+-- `Pass::split` (src/mpmc/container/passes.rt): its call of `split` meets the requirement `splits`.
 use Rattle.lock_free_owners.proofs.Names.{coding_by, splits}
 use Rattle.model.specs.declared.turn.Kind.TheVariants as kinds
 use Rattle.lock_free_owners.proofs.mpmc.container.Pass.split.Goals as goal

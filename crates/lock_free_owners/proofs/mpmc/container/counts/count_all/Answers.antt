@@ -1,3 +1,5 @@
+-- `count_all` (src/mpmc/container/counts.rt): its call of `step_count` meets the requirement `at`, that of `count_next` the requirement
+-- `at`, the invariant of its loop holds at the start and after each iteration, and its return meets the clause `ends`.
 use Rattle.lock_free_owners.proofs.Names.{◌∙◌, sym, subst, Coding, coding_by, seen}
 use Rattle.lock_free_owners.specs.Container.Turns.{CountAt, CountEnds}
 use Rattle.lock_free_owners.proofs.RobustSet.Turns.{gone_on, has_ended}

@@ -1,3 +1,5 @@
+-- `count_cells` (src/mpmc/container/counts.rt): its call of `step_count` meets what that requires, each iteration keeps the invariant of
+-- its loop, and its return meets the clause `goes`.
 use Rattle.lock_free_owners.proofs.Names.{◌∙◌, sym, subst, Coding, coding_by, seen}
 use Rattle.steps.specs.declared.indices.robust.looks.BorrowedIndices.{BorrowedIndices}
 use Rattle.lock_free_owners.specs.Container.Turns.{CountAt, CountEnds}

@@ -1,3 +1,4 @@
+-- `count_next` (src/mpmc/container/counts.rt): its call of `count_cells` meets the requirement `at`.
 use Rattle.lock_free_owners.proofs.Names.{subst, coding_by, seen}
 use Rattle.lock_free_owners.specs.Container.Turns.{CountAt}
 use Rattle.lock_free_owners.proofs.mpmc.container.counts.count_next.Goals as goal

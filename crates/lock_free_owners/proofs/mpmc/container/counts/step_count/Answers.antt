@@ -1,3 +1,4 @@
+-- `step_count` (src/mpmc/container/counts.rt): its call of `step` meets the requirement `rule`.
 use Rattle.lock_free_owners.proofs.Names.{coding_by}
 use Rattle.lock_free_owners.proofs.ContainerSet.Begins.{count_keeps}
 use Rattle.lock_free_owners.proofs.mpmc.container.counts.step_count.Goals as goal

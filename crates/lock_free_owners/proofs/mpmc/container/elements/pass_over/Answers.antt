@@ -1,3 +1,4 @@
+-- `pass_over` (src/mpmc/container/elements.rt): each iteration keeps the invariant of its loop.
 use Rattle.lock_free_owners.proofs.Names.{◌≡◌, ◌∙◌, sym, ap, subst, look_after, GoOn, Coding, coding_by, seen}
 use Rattle.steps.specs.declared.container.look.Look.{Look}
 use Rattle.lock_free_owners.specs.Container.LookTurns.{LookOnAt, at_count}

@@ -1,3 +1,5 @@
+-- `step_on` (src/mpmc/container/elements.rt): its call of `step` meets the requirements `rule` and `at`, and its return meets the clause
+-- `goes`.
 use Rattle.lock_free_owners.proofs.Names.{Coding, IsCoding, coding_by}
 use Rattle.lock_free_owners.proofs.ContainerSet.Looks.{look_on_keeps}
 use Rattle.lock_free_owners.proofs.mpmc.container.elements.step_on.Goals as goal

@@ -1,3 +1,5 @@
+-- `bring_up` (src/mpmc/container/looks.rt): its call of `step` meets the requirements `rule` and `at`, that of `look_on` the requirement
+-- `at`, and its return meets the clause `over`.
 use Rattle.lock_free_owners.proofs.Names.{◌≡◌, false, sym, ap, subst, ◌∙◌, look_after, Coding, IsCoding, coding_by}
 use Rattle.lock_free_owners.proofs.Names.{seen}
 use Rattle.lock_free_owners.specs.Container.LookTurns.{LookAt, LookOver}

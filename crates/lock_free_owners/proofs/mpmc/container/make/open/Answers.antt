@@ -1,3 +1,4 @@
+-- `open` (src/mpmc/container/make.rt): its call of `open` meets what that requires.
 use Rattle.lock_free_owners.proofs.Names.{◌≡◌, ◌+◌, ◌*◌, ◌-◌, [], ◌∷◌, ◌++◌, take, length, rules, ap, ◌∙◌, arith}
 use Rattle.lock_free_owners.proofs.Names.{take_all, length-replicate, vec_len, total_words, empty, Coding, IsCoding}
 use Rattle.lock_free_owners.proofs.Names.{coding_by}

@@ -1,3 +1,6 @@
+-- `free_all` (src/mpmc/container/recovery.rt): its call of `pass_others` meets the requirements `within` and `at`, that of
+-- `recover_next` the requirements `at` and `asks`, the invariant of its loop holds at the start and after each iteration, and its return
+-- meets the clause `recovered`.
 use Rattle.lock_free_owners.proofs.Names.{refl, subst, ◌∙◌, Coding, IsCoding, coding_by, fresh_cell, seen}
 use Rattle.lock_free_owners.proofs.ContainerSet.Recoveries.{Standing, Further, starts, further, may_go, may_pass, passed_on}
 use Rattle.lock_free_owners.proofs.mpmc.container.recovery.free_all.Goals as goal

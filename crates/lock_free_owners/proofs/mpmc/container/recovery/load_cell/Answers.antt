@@ -1,3 +1,4 @@
+-- `load_cell` (src/mpmc/container/recovery.rt): its call of `load_for` meets the requirement `owes`.
 use Rattle.lock_free_owners.proofs.Names.{◌≡◌, ℕ, ◌+◌, List, [], sym, ap, subst, ◌∙◌, total_words, Coding, IsCoding}
 use Rattle.lock_free_owners.proofs.Names.{coding_by, OwesAsk, seen, table_of, key_of, weaker_owes, View, IsMachine}
 use Rattle.steps.specs.Container.Recover.{recover_want}

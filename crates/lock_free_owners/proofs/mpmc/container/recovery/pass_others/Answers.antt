@@ -1,3 +1,5 @@
+-- `pass_others` (src/mpmc/container/recovery.rt): its call of `pass_over` meets the requirement `at`, and its return meets the clause
+-- `goes`.
 use Rattle.lock_free_owners.proofs.Names.{sym, subst, Coding, coding_by, seen}
 use Rattle.steps.specs.declared.container.recover.RecoverStage.{RecoverStage}
 use Rattle.lock_free_owners.specs.Container.RecoverTurns.{RecoverMay, RecoverPasses}

@@ -1,3 +1,5 @@
+-- `pass_over` (src/mpmc/container/recovery.rt): its call of `load_cell` meets the requirement `at`, each iteration keeps the invariant
+-- of its loop, and its return meets the clause `goes`.
 use Rattle.lock_free_owners.proofs.Names.{◌∙◌, sym, subst, arith, Coding, coding_by, seen, Buffer}
 use Rattle.steps.specs.declared.container.recover.Recover.{Recover}
 use Rattle.lock_free_owners.specs.Container.RecoverTurns.{RecoverAt}

@@ -1,3 +1,6 @@
+-- `find_all` (src/mpmc/container/visits.rt): its call of `pass_others` meets the requirements `within` and `at`, that of `find_next` the
+-- requirements `at` and `asks`, the invariant of its loop holds at the start and after each iteration, each iteration makes the measure
+-- of its loop smaller, and its return meets the clause `searched`.
 use Rattle.lock_free_owners.proofs.Names.{◌<◌, ◌^◌, rules, refl, sym, subst, ◌∙◌, Coding, IsCoding, coding_by}
 use Rattle.lock_free_owners.proofs.Names.{GoOn, Done, fresh_cell, seen}
 use Rattle.lock_free_owners.proofs.ContainerSet.Finds.{Further, starts, further, may_go, may_pass, passed_on, goes_lower}

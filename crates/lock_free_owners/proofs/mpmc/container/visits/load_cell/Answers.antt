@@ -1,3 +1,4 @@
+-- `load_cell` (src/mpmc/container/visits.rt): its call of `load_for` meets the requirement `owes`.
 use Rattle.lock_free_owners.proofs.Names.{◌≡◌, ℕ, ◌+◌, List, [], sym, ap, subst, ◌∙◌, find_want, total_words, Coding}
 use Rattle.lock_free_owners.proofs.Names.{IsCoding, coding_by, OwesAsk, seen, table_of, key_of, weaker_owes, View}
 use Rattle.lock_free_owners.proofs.Names.{IsMachine, Buffer}

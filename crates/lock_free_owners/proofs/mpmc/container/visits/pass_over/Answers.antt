@@ -1,3 +1,5 @@
+-- `pass_over` (src/mpmc/container/visits.rt): its call of `load_cell` meets the requirement `at`, each iteration keeps the invariant of
+-- its loop, and its return meets the clauses `goes` and `passed`.
 use Rattle.lock_free_owners.proofs.Names.{◌∙◌, refl, sym, subst, arith, Coding, GoOn, coding_by, seen, Buffer}
 use Rattle.steps.specs.declared.container.find.Find.{Find}
 use Rattle.lock_free_owners.specs.Container.FindTurns.{FindAt, HasPassed}

@@ -1,3 +1,4 @@
+-- `Pass::history` (src/mpmc/robust_unique_index_set/passes.rt): its return meets the clause `history`.
 use Rattle.history.proofs.KnownRuns.{known_history}
 use Rattle.lock_free_owners.proofs.mpmc.robust_unique_index_set.Pass.history.Goals as goal
 

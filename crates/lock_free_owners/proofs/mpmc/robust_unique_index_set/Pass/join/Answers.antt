@@ -1,3 +1,5 @@
+-- `Pass::join` (src/mpmc/robust_unique_index_set/passes.rt): its call of `join` meets the requirement `joins`, that of `look` the
+-- requirement `owes`, and its return meets the clause `same`.
 use Rattle.lock_free_owners.proofs.Names.{◌≡◌, ◌<◌, ℕ, List, [], rules, sym, ap, subst, ◌∙◌, arith, TableId, OwesAsk}
 use Rattle.lock_free_owners.proofs.Names.{one_word, View, IsAll, IsMachine, joined_view, Looks, positive, joins, seen, table_of, key_of}
 use Rattle.steps.specs.declared.ask.Op.TheVariants.{Load}

@@ -1,3 +1,4 @@
+-- `Pass::split` (src/mpmc/robust_unique_index_set/passes.rt): its call of `split` meets the requirement `splits`.
 use Rattle.lock_free_owners.proofs.Names.{one_word, splits}
 use Rattle.model.specs.declared.turn.Kind.TheVariants as kinds
 use Rattle.lock_free_owners.proofs.mpmc.robust_unique_index_set.Pass.split.Goals as goal

@@ -1,3 +1,5 @@
+-- `RobustUniqueIndexSet::acquire` (src/mpmc/robust_unique_index_set/calls.rt): its call of `acquire_all` meets the requirement `at`, and
+-- its return meets the clauses `same`, `acquired`, `lock`, `refused` and `steps`.
 use Rattle.lock_free_owners.proofs.Names.{◌≡◌, Err, IfOk, IfErr, rules, subst, Acquired, first_acquire, one_word}
 use Rattle.lock_free_owners.proofs.Names.{◌∙◌, ap, SetId, ◌+◌}
 use Rattle.lock_free_owners.proofs.Names.{seen, acquire_first}

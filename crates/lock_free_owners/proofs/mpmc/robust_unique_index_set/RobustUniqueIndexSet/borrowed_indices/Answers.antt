@@ -1,3 +1,5 @@
+-- `RobustUniqueIndexSet::borrowed_indices` (src/mpmc/robust_unique_index_set/calls.rt): its call of `count_all` meets the requirement
+-- `at`, and its return meets the clauses `same`, `counted` and `steps`.
 use Rattle.lock_free_owners.proofs.Names.{◌≤◌, rules, ap, subst, ◌∙◌, first_borrowed, one_word, seen, SetId}
 use Rattle.lock_free_owners.proofs.Names.{◌+◌}
 use Rattle.lock_free_owners.proofs.Names.{count_first}

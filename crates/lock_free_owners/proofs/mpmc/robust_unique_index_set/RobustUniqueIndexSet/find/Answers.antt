@@ -1,3 +1,5 @@
+-- `RobustUniqueIndexSet::find` (src/mpmc/robust_unique_index_set/finds.rt): its call of `find_all` meets the requirement `asks`, and its
+-- return meets the clauses `same`, `found` and `steps`.
 use Rattle.lock_free_owners.proofs.Names.{arith, rules, sym, ap, subst, one_word, seen, ◌∙◌, SetId, Looks}
 use Rattle.model.specs.declared.turn.Kind.TheVariants as kinds
 use Rattle.threaded.proofs.Callable.{takes_places_at}

@@ -1,3 +1,5 @@
+-- `RobustUniqueIndexSet::is_locked` (src/mpmc/robust_unique_index_set/calls.rt): its call of `drive` meets the requirements `rule` and
+-- `at`, and its return meets the clauses `same`, `looked` and `steps`.
 use Rattle.lock_free_owners.proofs.Names.{rules, one_word, seen, look_keeps, look_first}
 use Rattle.lock_free_owners.proofs.RobustSet.Facts.{same_pass, looked, looked_answered, looked_lock, look_takes}
 use Rattle.lock_free_owners.proofs.mpmc.robust_unique_index_set.RobustUniqueIndexSet.is_locked.Goals as goal

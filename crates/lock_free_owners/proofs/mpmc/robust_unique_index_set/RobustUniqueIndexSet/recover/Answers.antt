@@ -1,3 +1,5 @@
+-- `RobustUniqueIndexSet::recover` (src/mpmc/robust_unique_index_set/recovers.rt): its call of `recover_all` meets the requirements `at`,
+-- `questions` and `freed`, and its return meets the clauses `same`, `recovered` and `steps`.
 use Rattle.lock_free_owners.proofs.Names.{[], rules, sym, ap, subst, one_word, seen, SetId}
 use Rattle.lock_free_owners.proofs.Names.{◌∙◌}
 use Rattle.lock_free_owners.proofs.Names.{recover_first}

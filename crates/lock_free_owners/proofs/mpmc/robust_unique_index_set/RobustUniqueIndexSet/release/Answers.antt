@@ -1,3 +1,5 @@
+-- `RobustUniqueIndexSet::release` (src/mpmc/robust_unique_index_set/calls.rt): its call of `drive_on` meets the requirements `rule` and
+-- `at`, and its return meets the clauses `same`, `released`, `refused` and `steps`.
 use Rattle.lock_free_owners.proofs.Names.{◌<◌, rules, sym, ap, subst, ◌∙◌, first_release, GiveBack, one_word, seen}
 use Rattle.lock_free_owners.proofs.Names.{SetId, gives_owned, At, release_keeps, release_first}
 use Rattle.model.specs.declared.turn.Kind.TheVariants as kinds

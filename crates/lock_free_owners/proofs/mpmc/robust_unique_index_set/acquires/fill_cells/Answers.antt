@@ -1,3 +1,5 @@
+-- `fill_cells` (src/mpmc/robust_unique_index_set/acquires.rt): its call of `step_acquire` meets what that requires, each iteration keeps
+-- the invariant of its loop, and its return meets the clause `goes`.
 use Rattle.lock_free_owners.proofs.Names.{◌∙◌, sym, subst, seen}
 use Rattle.steps.specs.declared.indices.robust.acquire.Acquire.{Acquire}
 use Rattle.lock_free_owners.specs.Robust.Turns.{AcquireAt, AcquireEnds}

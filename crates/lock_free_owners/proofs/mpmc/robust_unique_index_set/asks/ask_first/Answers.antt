@@ -1,3 +1,5 @@
+-- `ask_first` (src/mpmc/robust_unique_index_set/asks.rt): its call of `ask_over` meets the requirement `asks`, and its return meets the
+-- clause `goes`.
 use Rattle.lock_free_owners.proofs.Names.{sym, subst, at_recover, seen}
 use Rattle.steps.specs.declared.indices.robust.recover.RecoverStage.{RecoverStage}
 use Rattle.lock_free_owners.specs.Robust.Recovering.{MayAsk, LeadsOn}

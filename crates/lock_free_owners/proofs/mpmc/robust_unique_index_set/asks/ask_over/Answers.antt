@@ -1,3 +1,6 @@
+-- `ask_over` (src/mpmc/robust_unique_index_set/asks.rt): its call of `load_cell` meets the requirements `within` and `at`, its calls of
+-- `ask_found` and `passed_next` meet what those require, each iteration keeps the invariant of its loop, its cast loses nothing, and its
+-- return meets the clause `goes`.
 use Rattle.lock_free_owners.proofs.Names.{ℕ, ◌+◌, ◌∙◌, sym, ap, subst, arith, rules, recover_after, After, ReleaseState, seen}
 use Rattle.steps.specs.Indices.Robust.Recover.{recover_comes_to}
 use Rattle.steps.specs.declared.indices.robust.recover.Recover.{Recover}

@@ -1,3 +1,4 @@
+-- `load_cell` (src/mpmc/robust_unique_index_set/asks.rt): its call of `load_for` meets the requirement `owes`.
 use Rattle.lock_free_owners.proofs.Names.{◌+◌, ℕ, List, sym, ap, subst, ◌∙◌, one_word, OwesAsk, seen, table_of}
 use Rattle.lock_free_owners.proofs.Names.{key_of, View, IsMachine, recover_tells}
 use Rattle.steps.specs.declared.ask.Op.TheVariants.{Load}

@@ -1,3 +1,5 @@
+-- `count_all` (src/mpmc/robust_unique_index_set/counts.rt): its call of `count_next` meets the requirement `at`, the invariant of its
+-- loop holds at the start and after each iteration, and its return meets the clause `ends`.
 use Rattle.lock_free_owners.proofs.Names.{◌∙◌, sym, subst, seen}
 use Rattle.lock_free_owners.specs.Robust.Turns.{CountAt, CountEnds}
 use Rattle.lock_free_owners.proofs.RobustSet.Turns.{gone_on, has_ended}

@@ -1,3 +1,4 @@
+-- `count_next` (src/mpmc/robust_unique_index_set/counts.rt): its return meets the clause `goes`.
 use Rattle.std.proofs.Common.{sym, subst}
 use Rattle.threaded.specs.Seats.{seen}
 use Rattle.lock_free_owners.specs.Robust.Turns.{BorrowedGoes}

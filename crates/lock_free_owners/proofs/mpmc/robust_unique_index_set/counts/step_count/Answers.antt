@@ -1,3 +1,4 @@
+-- `step_count` (src/mpmc/robust_unique_index_set/counts.rt): its call of `step` meets the requirement `rule`.
 use Rattle.lock_free_owners.proofs.Names.{one_word, count_keeps}
 use Rattle.lock_free_owners.proofs.mpmc.robust_unique_index_set.counts.step_count.Goals as goal
 

@@ -1,3 +1,6 @@
+-- `find_all` (src/mpmc/robust_unique_index_set/finds.rt): its call of `find_next` meets the requirement `asks`, the invariant of its
+-- loop holds at the start and after each iteration, each iteration makes the measure of its loop smaller, and its return meets the
+-- clauses `looked`, `found` and `steps`.
 use Rattle.lock_free_owners.proofs.Names.{refl, ◌∙◌, subst, seen}
 use Rattle.lock_free_owners.specs.Robust.Finding.{GoesDown, Onward}
 use Rattle.lock_free_owners.proofs.RobustSet.Finding.{starts, may_go}

@@ -1,3 +1,4 @@
+-- `find_next` (src/mpmc/robust_unique_index_set/finds.rt): its return meets the clause `goes`.
 use Rattle.lock_free_owners.proofs.Names.{◌≡◌, ◌<◌, ◌^◌, ℕ, ◌∙◌, sym, ap, subst, rules, empty, After, seen}
 use Rattle.steps.specs.Indices.Robust.Find.{find_takes}
 use Rattle.steps.specs.declared.indices.robust.find.Find.{Find}

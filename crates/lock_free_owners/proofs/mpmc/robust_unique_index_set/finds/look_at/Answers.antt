@@ -1,3 +1,4 @@
+-- `look_at` (src/mpmc/robust_unique_index_set/finds.rt): its call of `look` meets the requirement `owes`.
 use Rattle.lock_free_owners.proofs.Names.{◌<◌, ◌+◌, ℕ, List, [], sym, subst, arith, OwesAsk}
 use Rattle.lock_free_owners.proofs.Names.{one_word, seen, table_of, key_of, View, IsMachine, LooksAt}
 use Rattle.steps.specs.declared.ask.Op.TheVariants.{Load}

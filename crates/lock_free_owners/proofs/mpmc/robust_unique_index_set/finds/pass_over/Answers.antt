@@ -1,3 +1,5 @@
+-- `pass_over` (src/mpmc/robust_unique_index_set/finds.rt): each iteration keeps the invariant of its loop, and its return meets the
+-- clauses `less` and `goes`.
 use Rattle.lock_free_owners.proofs.Names.{◌≡◌, ◌<◌, ◌^◌, ◌-◌, ℕ, ◌∙◌, sym, ap, refl, subst, rules, arith, empty}
 use Rattle.lock_free_owners.proofs.Names.{After, seen}
 use Rattle.steps.specs.Indices.Robust.Find.{find_after, find_left}

@@ -1,3 +1,4 @@
+-- `open` (src/mpmc/robust_unique_index_set/make.rt): its call of `open` meets what that requires.
 use Rattle.lock_free_owners.proofs.Names.{◌≡◌, ◌+◌, ◌-◌, [], ◌∷◌, ◌++◌, take, rules, ap, ◌∙◌, arith, take_all}
 use Rattle.lock_free_owners.proofs.Names.{vec_len, empty}
 use Rattle.std.specs.Prelude.{replicate}

@@ -1,3 +1,4 @@
+-- `look_again` (src/mpmc/robust_unique_index_set/recovers.rt): its return meets the clause `goes`.
 use Rattle.lock_free_owners.proofs.Names.{ℕ, subst, seen, View, visits_taken}
 use Rattle.steps.specs.declared.indices.robust.recover.RecoverStage.{RecoverStage}
 use Rattle.threaded.specs.Driver.{Next}

@@ -1,3 +1,6 @@
+-- `recover_all` (src/mpmc/robust_unique_index_set/recovers.rt): its call of `step_recover` meets the requirement `at`, that of
+-- `ask_first` the requirement `asks`, that of `look_again` the requirement `at`, that of `recover_next` the requirements `at` and
+-- `asks`, the invariant of its loop holds at the start and after each iteration, and its return meets the clause `ends`.
 use Rattle.lock_free_owners.proofs.Names.{refl, ◌∙◌, is_locked, seen}
 use Rattle.lock_free_owners.proofs.RobustSet.Recoveries.{stands_first, first_leads_on, first_leads_end, moves_on, moves_end, leads_on, leads_end}
 use Rattle.lock_free_owners.proofs.RobustSet.Recoveries.{stays_on, stays_end, may_ask_on, asks_there}

@@ -1,3 +1,4 @@
+-- `recover_next` (src/mpmc/robust_unique_index_set/recovers.rt): its return meets the clause `goes`.
 use Rattle.lock_free_owners.proofs.Names.{◌≡◌, ℕ, ◌<◌, rules, refl, sym, ap, subst, ◌∙◌, empty}
 use Rattle.lock_free_owners.proofs.Names.{recover_after, After, ReleaseState, number_of, seen, View}
 use Rattle.steps.specs.declared.indices.robust.recover.Recover.{Recover}

@@ -1,3 +1,5 @@
+-- `step_recover` (src/mpmc/robust_unique_index_set/recovers.rt): its call of `step_telling` meets the requirements `owes` and
+-- `capacity`, and its return meets the clause `goes`.
 use Rattle.lock_free_owners.proofs.Names.{◌+◌, ℕ, List, sym, ap, subst, ◌∙◌, After, ReleaseState, one_word, Owes}
 use Rattle.lock_free_owners.proofs.Names.{seen, table_of, key_of, View, IsMachine, recover_tells}
 use Rattle.steps.specs.Indices.Robust.Recover.{recover_want}

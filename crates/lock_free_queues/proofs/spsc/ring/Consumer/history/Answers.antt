@@ -1,3 +1,4 @@
+-- `Consumer::history` (src/spsc/ring/passes.rt): its return meets the clause `history`.
 use Rattle.history.proofs.KnownRuns.{known_history}
 use Rattle.lock_free_queues.proofs.spsc.ring.Consumer.history.Goals as goal
 

@@ -1,3 +1,4 @@
+-- `Pass::history` (src/spsc/ring/passes.rt): its return meets the clauses `history` and `each`.
 use Rattle.history.proofs.KnownRuns.{known_history}
 use Rattle.lock_free_queues.proofs.spsc.ring.Pass.history.Goals as goal
 

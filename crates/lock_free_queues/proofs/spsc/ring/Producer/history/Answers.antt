@@ -1,3 +1,4 @@
+-- `Producer::history` (src/spsc/ring/passes.rt): its return meets the clause `history`.
 use Rattle.history.proofs.KnownRuns.{known_history}
 use Rattle.lock_free_queues.proofs.spsc.ring.Producer.history.Goals as goal
 

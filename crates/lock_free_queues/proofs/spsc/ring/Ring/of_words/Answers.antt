@@ -1,3 +1,4 @@
+-- `Ring::of_words` (src/spsc/ring/make.rt): its call of `open` meets what that requires, and its result meets the invariant of its type.
 use Rattle.lock_free_queues.proofs.Names.{rules, ◌≡◌, [], sym, subst, opening, Coding, coding_by, Producer, Consumer}
 use Rattle.lock_free_queues.proofs.Names.{IsMachine}
 use Rattle.lock_free_queues.specs.Queues.Bounded.{machine_kind}

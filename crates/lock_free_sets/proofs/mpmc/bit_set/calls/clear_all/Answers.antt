@@ -1,3 +1,6 @@
+-- `clear_all` (src/mpmc/bit_set/calls.rt): its call of `step` meets the requirements `rule` and `at`, that of `visit_word` the
+-- requirement `visits`, the invariant of its loop holds at the start and after each iteration, and its return meets the clauses `done`,
+-- `cleared` and `steps`.
 use Rattle.lock_free_sets.proofs.Names.{refl, sym, subst, ◌∙◌, fresh, seen}
 use Rattle.lock_free_sets.specs.Sets.Kinds.{Flags}
 use Rattle.lock_free_sets.proofs.Sets.Emptying.{keeps}

@@ -1,3 +1,5 @@
+-- `visit_word` (src/mpmc/bit_set/calls.rt): its call of `call_where` meets what that requires, each iteration keeps the invariant of its
+-- loop, and its return meets what it ensures.
 use Rattle.lock_free_sets.proofs.Names.{◌≡◌, ◌≢◌, ◌+◌, ◌-◌, rules, sym, ap, subst, ◌∙◌, arith, has_flag}
 use Rattle.steps.specs.Bits.Words.{bit_of}
 use Rattle.steps.proofs.Flags.Words.{none_stands}

@@ -1,3 +1,6 @@
+-- `take_all` (src/mpmc/counting_bit_set/calls.rt): its call of `step` meets the requirements `rule` and `at`, its call of `call_where`
+-- meets what that requires, the invariant of its loop holds at the start and after each iteration, and its return meets the clauses
+-- `done`, `taken` and `steps`.
 use Rattle.lock_free_sets.proofs.Names.{refl, sym, subst, ◌∙◌, fresh, seen}
 use Rattle.lock_free_sets.specs.Sets.Kinds.{Counts}
 use Rattle.lock_free_sets.proofs.Sets.Emptying.{keeps}

@@ -1,3 +1,4 @@
+-- `Set::of` (src/mpmc/sets/make.rt): its call of `open` meets what that requires.
 use Rattle.lock_free_sets.proofs.Names.{rules, arith}
 use Rattle.lock_free_sets.proofs.Sets.Opens.{opens}
 use Rattle.lock_free_sets.proofs.mpmc.sets.Set.of.Goals as goal

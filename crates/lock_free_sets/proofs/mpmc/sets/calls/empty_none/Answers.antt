@@ -1,3 +1,5 @@
+-- `empty_none` (src/mpmc/sets/calls.rt): its call of `look` meets the requirement `owes`, and its return meets the clauses `done`,
+-- `called` and `steps`.
 use Rattle.lock_free_sets.proofs.Names.{◌<◌, ℕ, List, [], refl, sym, subst, ◌∙◌, arith, Me, one_word, OwesAsk}
 use Rattle.lock_free_sets.proofs.Names.{seen, View, IsMachine, Ends}
 use Rattle.steps.specs.declared.ask.Op.TheVariants.{Load}

@@ -1,3 +1,4 @@
+-- `Pass::history` (src/mpmc/unique_index_set/passes.rt): its return meets the clause `history`.
 use Rattle.history.proofs.KnownRuns.{known_history}
 use Rattle.lock_free_sets.proofs.mpmc.unique_index_set.Pass.history.Goals as goal
 

@@ -1,3 +1,5 @@
+-- `Pass::join` (src/mpmc/unique_index_set/passes.rt): its call of `join` meets the requirement `joins`, that of `look` the requirement
+-- `owes`, `self` meets the invariants `sound`, `done` and `knows`, and its return meets the clauses `apart` and `same`.
 use Rattle.lock_free_sets.proofs.Names.{◌≡◌, ◌<◌, ℕ, ◌++◌, rules, sym, ap, subst, ◌∙◌, arith, TableId, one_word, View, seen}
 use Rattle.lock_free_sets.proofs.Names.{joined_view, Looks, IsAll, joins}
 use Rattle.model.specs.declared.turn.Kind.TheVariants as kinds

@@ -1,3 +1,5 @@
+-- `Pass::split` (src/mpmc/unique_index_set/passes.rt): its call of `split` meets the requirement `splits`, and `self` meets the
+-- invariants `sound`, `done` and `knows`.
 use Rattle.lock_free_sets.proofs.Names.{ℕ, Option, Some, None, IfSome, refl, sym, subst, one_word, View, splits}
 use Rattle.std.specs.Prelude.{IfNone}
 use Rattle.model.specs.declared.turn.Kind.TheVariants as kinds

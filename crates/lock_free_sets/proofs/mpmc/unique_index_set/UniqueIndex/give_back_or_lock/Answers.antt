@@ -1,3 +1,4 @@
+-- `UniqueIndex::give_back_or_lock` (src/mpmc/unique_index_set/handles/index.rt): its return meets the clause `given`.
 use Rattle.lock_free_sets.proofs.Names.{sym, subst}
 use Rattle.lock_free_sets.specs.Unique.Calls.{ReleaseOrLockDone}
 use Rattle.lock_free_sets.specs.UniqueIndexSet.{index_view, value_of, view}

@@ -1,3 +1,4 @@
+-- `UniqueIndex::join` (src/mpmc/unique_index_set/index.rt): `self` meets the invariant of its type.
 use Rattle.lock_free_sets.proofs.Names.{ap, subst, sym, ◌∙◌, Holds}
 use Rattle.lock_free_sets.specs.UniqueIndexSet.{SetId}
 use Rattle.lock_free_sets.proofs.Unique.Holding.{holds_joined}

@@ -1,3 +1,4 @@
+-- `UniqueIndex::value` (src/mpmc/unique_index_set/index.rt): its return meets the clause `below`.
 use Rattle.lock_free_sets.proofs.Names.{◌<◌, subst}
 use Rattle.lock_free_sets.proofs.mpmc.unique_index_set.UniqueIndex.value.Goals as goal
 

@@ -1,3 +1,6 @@
+-- `UniqueIndexSet::acquire_raw_index` (src/mpmc/unique_index_set/calls.rt): its call of `drive_on` meets the requirements `rule` and
+-- `at`, `pass` meets the invariants `sound`, `done` and `knows`, and its return meets the clauses `same`, `acquired`, `refused` and
+-- `steps`.
 use Rattle.lock_free_sets.proofs.Names.{rules, arith, ◌<◌, sym, ap, subst, ◌∙◌, one_word, seen, At, takes_index}
 use Rattle.steps.specs.Indices.Unique.{first_acquire}
 use Rattle.model.specs.declared.turn.Kind.TheVariants as kinds

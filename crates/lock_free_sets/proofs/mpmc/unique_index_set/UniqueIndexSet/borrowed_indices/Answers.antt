@@ -1,3 +1,5 @@
+-- `UniqueIndexSet::borrowed_indices` (src/mpmc/unique_index_set/calls.rt): its call of `drive` meets the requirements `rule` and `at`,
+-- `pass` meets the invariants `sound`, `done` and `knows`, and its return meets the clauses `same`, `counted` and `steps`.
 use Rattle.lock_free_sets.proofs.Names.{rules, arith, one_word, seen, counts_out}
 use Rattle.history.proofs.IndexCalls.{count_keeps, count_first}
 use Rattle.lock_free_sets.proofs.Unique.Facts.{counted, knows_still, same_pass, same_size, sound_after}

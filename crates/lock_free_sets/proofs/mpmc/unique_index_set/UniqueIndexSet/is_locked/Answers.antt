@@ -1,3 +1,5 @@
+-- `UniqueIndexSet::is_locked` (src/mpmc/unique_index_set/calls.rt): its call of `drive` meets the requirements `rule` and `at`, `pass`
+-- meets the invariants `sound`, `done` and `knows`, and its return meets the clauses `same`, `looked` and `steps`.
 use Rattle.lock_free_sets.proofs.Names.{rules, arith, one_word, seen, looks_locked}
 use Rattle.history.proofs.IndexCalls.{look_keeps, look_first}
 use Rattle.lock_free_sets.proofs.Unique.Facts.{looked, knows_still, same_pass, same_size, sound_after}

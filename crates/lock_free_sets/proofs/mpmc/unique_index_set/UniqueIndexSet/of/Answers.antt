@@ -1,3 +1,5 @@
+-- `UniqueIndexSet::of` (src/mpmc/unique_index_set/make.rt): its call of `open` meets what that requires, and each iteration keeps the
+-- invariant of its loop.
 use Rattle.lock_free_sets.proofs.Names.{◌≡◌, ℕ, zero, suc, ◌+◌, ◌-◌, [], ◌∷◌, ◌++◌, length, take, sym, ap, ◌∙◌, append_assoc}
 use Rattle.lock_free_sets.proofs.Names.{arith, range_with_len}
 use Rattle.std.proofs.Common.{◌/◌}

@@ -1,3 +1,5 @@
+-- `UniqueIndexSet::release_or_lock` (src/mpmc/unique_index_set/calls.rt): its call of `drive_on` meets the requirements `rule` and `at`,
+-- `pass` meets the invariants `sound`, `done` and `knows`, and its return meets the clauses `same`, `given` and `steps`.
 use Rattle.lock_free_sets.proofs.Names.{rules, arith, sym, ap, subst, ◌∙◌, first_release, one_word, seen, At, gives_or_locks}
 use Rattle.model.specs.declared.turn.Kind.TheVariants as kinds
 use Rattle.history.proofs.IndexCalls.{lock_keeps, lock_first}

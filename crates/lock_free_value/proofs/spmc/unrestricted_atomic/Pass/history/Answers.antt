@@ -1,3 +1,4 @@
+-- `Pass::history` (src/spmc/unrestricted_atomic/passes.rt): its return meets the clause `history`.
 use Rattle.history.proofs.KnownRuns.{known_history}
 use Rattle.lock_free_value.proofs.spmc.unrestricted_atomic.Pass.history.Goals as goal
 

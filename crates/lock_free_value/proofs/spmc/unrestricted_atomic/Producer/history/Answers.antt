@@ -1,3 +1,4 @@
+-- `Producer::history` (src/spmc/unrestricted_atomic/passes.rt): its return meets the clause `history`.
 use Rattle.history.proofs.KnownRuns.{known_history}
 use Rattle.lock_free_value.proofs.spmc.unrestricted_atomic.Producer.history.Goals as goal
 

@@ -1,3 +1,6 @@
+-- `UnrestrictedAtomic::of` (src/spmc/unrestricted_atomic/make.rt): its call of `open` meets what that requires, the invariant of its
+-- loop holds at the start and after each iteration, `token` meets the invariants `begun` and `knows`, and its result meets the invariant
+-- of its type.
 use Rattle.std.proofs.Common.{rules, ◌≡◌, ◌<◌, ◌+◌, ◌*◌, length, replicate, slice_set, refl, sym, ap, subst, ◌∙◌, arith}
 use Rattle.lock_free_value.proofs.Names.{Coding, IsCoding, coding_by, stored, View}
 use Rattle.history.specs.ValueOpened.{first_stores, opened_view}

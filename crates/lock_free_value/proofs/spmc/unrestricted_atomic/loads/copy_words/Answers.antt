@@ -1,3 +1,5 @@
+-- `copy_words` (src/spmc/unrestricted_atomic/loads.rt): its call of `step_load` meets what that requires, each iteration keeps the
+-- invariant of its loop, and its return meets the clause `goes`.
 use Rattle.std.proofs.Common.{◌∙◌, subst}
 use Rattle.lock_free_value.proofs.Names.{at_load, first_load, After, Coding, coding_by}
 use Rattle.steps.specs.declared.atomic.Load.{Load}

@@ -1,3 +1,5 @@
+-- `load_all` (src/spmc/unrestricted_atomic/loads.rt): each iteration keeps the invariant of its loop, and its return meets the clause
+-- `ends`.
 use Rattle.std.proofs.Common.{◌∙◌, subst}
 use Rattle.lock_free_value.proofs.Names.{After, Coding, coding_by}
 use Rattle.steps.specs.declared.atomic.Load.{Load}

@@ -1,3 +1,4 @@
+-- `step_load` (src/spmc/unrestricted_atomic/loads.rt): its call of `step` meets the requirement `rule`.
 use Rattle.lock_free_value.proofs.Names.{Coding, IsCoding, coding_by}
 use Rattle.history.proofs.ValueCalls.{load_keeps_rule}
 use Rattle.lock_free_value.proofs.spmc.unrestricted_atomic.loads.step_load.Goals as goal

@@ -1,3 +1,5 @@
+-- `StateEntries::next` (src/mpmc/container/listing.rt): each iteration keeps the invariant of its loop, and where it returns an entry,
+-- its return meets the clauses `steps` and `goes`.
 use Rattle.std.proofs.Common.{rules, ◌≡◌, ◌+◌, ◌∷◌, sym, subst, ◌∙◌}
 use Rattle.lock_free_owners.specs.Container.Entries.{entries_from}
 use Rattle.lock_free_owners.proofs.ContainerSet.Entries.{entries_give, entries_pass}

@@ -1,3 +1,5 @@
+-- `Held::peek` (src/spsc/index_queue/calls.rt): its call of `drive` meets the requirements `rule` and `at`, and its return meets the
+-- clauses `peeked`, `roles` and `steps`.
 use Rattle.lock_free_queues.proofs.Names.{◌<◌, ◌^◌, sym, ap, subst, ◌∙◌, option_map, one_word}
 use Rattle.lock_free_queues.proofs.Names.{IndexQueue, seen, At, peeks_index, peek_keep_all, peek_first}
 use Rattle.steps.specs.Queues.Peek.{first_peek}

@@ -1,3 +1,5 @@
+-- `Held::pop` (src/spsc/index_queue/calls.rt): its call of `drive` meets the requirements `rule` and `at`, and its return meets the
+-- clauses `popped`, `empty`, `taken` and `steps`.
 use Rattle.lock_free_queues.proofs.Names.{◌<◌, ◌^◌, IfSome, IfNone, sym, ap, subst, ◌∙◌, option_map, one_word, Index}
 use Rattle.lock_free_queues.proofs.Names.{IndexQueue, seen, of_indices, At, pops_index, pop_keep_all, pop_first}
 use Rattle.steps.specs.Queues.Ring.{first_pop, pop_answer}

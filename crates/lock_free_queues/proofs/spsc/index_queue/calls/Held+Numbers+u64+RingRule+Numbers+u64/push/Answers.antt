@@ -1,3 +1,5 @@
+-- `Held::push` (src/spsc/index_queue/calls.rt): its call of `drive` meets the requirements `rule` and `at`, and its return meets the
+-- clauses `full`, `published`, `pushed`, `same` and `steps`.
 use Rattle.lock_free_queues.proofs.Names.{rules, ◌≡◌, ◌<◌, ◌^◌, ◌⊎◌, false, sym, ap, subst, ◌∙◌, one_word, Index}
 use Rattle.lock_free_queues.proofs.Names.{seen, of_indices, At, pushes_index, push_keeps, push_first}
 use Rattle.steps.specs.Queues.Ring.{first_push}

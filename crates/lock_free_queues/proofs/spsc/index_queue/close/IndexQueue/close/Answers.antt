@@ -1,3 +1,5 @@
+-- `IndexQueue::close` (src/spsc/index_queue/close.rt): its call of `of_words` meets what that requires, and its return meets the clauses
+-- `list` and `waits`.
 use Rattle.lock_free_queues.proofs.Names.{refl, sym, subst, Index, IndexQueue, one_word}
 use Rattle.lock_free_queues.specs.Queues.Calls.{view}
 use Rattle.lock_free_queues.specs.Queues.Closes.{Closes, IsWhatWaits}

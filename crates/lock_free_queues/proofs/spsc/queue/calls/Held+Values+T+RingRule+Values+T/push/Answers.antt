@@ -1,3 +1,5 @@
+-- `Held::push` (src/spsc/queue/calls.rt): its call of `drive` meets the requirements `rule` and `at`, and its return meets the clauses
+-- `full`, `published`, `pushed`, `same` and `steps`.
 use Rattle.lock_free_queues.proofs.Names.{rules, ◌≡◌, ◌<◌, ◌^◌, ◌⊎◌, false, sym, ap, subst, ◌∙◌, Coding, IsCoding}
 use Rattle.lock_free_queues.proofs.Names.{coding_by, Value, of_values, At, pushes_value, value_push_keeps}
 use Rattle.lock_free_queues.proofs.Names.{value_push_first}

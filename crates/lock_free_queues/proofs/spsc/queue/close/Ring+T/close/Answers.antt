@@ -1,3 +1,5 @@
+-- `Ring::close` (src/spsc/queue/close.rt): its call of `of_words` meets what that requires, and its return meets the clauses `list` and
+-- `waits`.
 use Rattle.lock_free_queues.proofs.Names.{refl, sym, subst, Value, Queue, Coding, IsCoding, coding_by}
 use Rattle.lock_free_queues.specs.Queues.Values.{view}
 use Rattle.lock_free_queues.specs.Queues.Closes.{Closes, IsWhatWaits}

@@ -1,3 +1,4 @@
+-- `Queue::new` (src/spsc/queue/make.rt): its return meets the clause `pass`.
 use Rattle.lock_free_queues.proofs.Names.{◌≡◌, true, IfOk, replicate, subst, Truth, Value}
 use Rattle.lock_free_queues.specs.Queues.Values.{inner, IsPassOf, view}
 use Rattle.lock_free_queues.proofs.Queues.Opened.{opens_at_first}

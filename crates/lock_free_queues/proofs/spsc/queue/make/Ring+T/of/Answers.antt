@@ -1,3 +1,5 @@
+-- `Ring::of` (src/spsc/queue/make.rt): its call of `of_words` meets the requirements `opens` and `knows`, and the invariant of its loop
+-- holds at the start and after each iteration.
 use Rattle.lock_free_queues.proofs.Names.{rules, ◌≡◌, ◌≤◌, ◌+◌, ◌*◌, ◌%◌, min, slice_index, [], ◌∷◌, ◌++◌, set}
 use Rattle.lock_free_queues.proofs.Names.{replicate, refl, ap, ◌∙◌, arith, mul-le-mul_left, Coding, IsCoding}
 use Rattle.lock_free_queues.proofs.Names.{coding_by, of_values}

@@ -1,3 +1,4 @@
+-- `Held::peek` (src/spsc/queue/peeks.rt): its call of `peek_by` meets the requirement `room`.
 use Rattle.lock_free_queues.proofs.Names.{rules, refl, arith}
 use Rattle.lock_free_queues.proofs.spsc.queue.peeks.Held+Values+T+RingRule+Values+T.peek.Goals as goal
 

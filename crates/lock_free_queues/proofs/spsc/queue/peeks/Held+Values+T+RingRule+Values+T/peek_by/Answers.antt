@@ -1,3 +1,5 @@
+-- `Held::peek_by` (src/spsc/queue/peeks.rt): its call of `drive` meets the requirements `rule` and `at`, and its return meets the
+-- clauses `peeked`, `roles` and `steps`.
 use Rattle.lock_free_queues.proofs.Names.{◌<◌, ◌^◌, sym, ap, subst, ◌∙◌, option_map, Coding, IsCoding}
 use Rattle.lock_free_queues.proofs.Names.{coding_by, Queue, At, value_there, peeks_value}
 use Rattle.lock_free_queues.proofs.Names.{value_peek_keeps, value_peek_first}

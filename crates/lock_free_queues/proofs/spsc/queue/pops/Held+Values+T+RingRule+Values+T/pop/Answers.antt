@@ -1,3 +1,4 @@
+-- `Held::pop` (src/spsc/queue/pops.rt): its call of `pop_by` meets the requirement `room`.
 use Rattle.lock_free_queues.proofs.Names.{rules, refl, arith}
 use Rattle.lock_free_queues.proofs.spsc.queue.pops.Held+Values+T+RingRule+Values+T.pop.Goals as goal
 

@@ -1,3 +1,5 @@
+-- `Held::pop_by` (src/spsc/queue/pops.rt): its call of `drive` meets the requirements `rule` and `at`, and its return meets the clauses
+-- `popped`, `empty`, `taken` and `steps`.
 use Rattle.lock_free_queues.proofs.Names.{◌<◌, ◌^◌, IfSome, IfNone, sym, ap, subst, ◌∙◌, option_map, Coding, IsCoding}
 use Rattle.lock_free_queues.proofs.Names.{coding_by, Value, Queue, of_values, At, value_there, pops_value}
 use Rattle.lock_free_queues.proofs.Names.{value_pop_keeps, value_pop_first}

@@ -1,3 +1,5 @@
+-- `Held::is_taken` (src/spsc/ring/calls.rt): its call of `drive` meets the requirements `rule` and `at`, and its return meets the
+-- clauses `answer`, `roles` and `steps`.
 use Rattle.lock_free_queues.proofs.Names.{sym, subst, ◌∙◌, Coding, IsCoding, coding_by, looks_role, At}
 use Rattle.lock_free_queues.proofs.Names.{look_first_on}
 use Rattle.lock_free_queues.specs.Queues.Bounded.{machine_kind}

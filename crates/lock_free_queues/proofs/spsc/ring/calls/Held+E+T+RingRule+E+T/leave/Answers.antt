@@ -1,3 +1,5 @@
+-- `Held::leave` (src/spsc/ring/calls.rt): its call of `drive` meets the requirements `rule` and `at`, and its return meets the clauses
+-- `left`, `list`, `mine`, `other` and `steps`.
 use Rattle.lock_free_queues.proofs.Names.{sym, subst, ◌∙◌, Coding, IsCoding, coding_by, gives_role, At}
 use Rattle.lock_free_queues.proofs.Names.{release_first_on}
 use Rattle.lock_free_queues.specs.Queues.Bounded.{machine_kind}

@@ -1,3 +1,5 @@
+-- `Held::measure` (src/spsc/ring/lengths.rt): its call of `drive_on` meets the requirements `rule` and `at`, and its return meets the
+-- clauses `measured`, `few` and `steps`.
 use Rattle.lock_free_queues.proofs.Names.{◌≤◌, refl, sym, ap, subst, ◌∙◌, first_len, Coding, IsCoding, coding_by}
 use Rattle.lock_free_queues.proofs.Names.{length_answer, At, counts_waiting, len_first_on}
 use Rattle.lock_free_queues.specs.Queues.Bounded.{machine_kind}

@@ -1,3 +1,4 @@
+-- `Ring::of_numbers` (src/spsc/ring/make.rt): its call of `of_words` meets the requirements `opens` and `knows`.
 use Rattle.lock_free_queues.proofs.Names.{rules, ◌<◌, ◌^◌}
 use Rattle.lock_free_queues.proofs.Queues.Numbers.{numbers_open, numbers_know}
 use Rattle.lock_free_queues.proofs.spsc.ring.make.Ring+E+u64.of_numbers.Goals as goal

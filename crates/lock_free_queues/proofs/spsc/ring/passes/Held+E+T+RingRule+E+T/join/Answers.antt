@@ -1,3 +1,4 @@
+-- `Held::join` (src/spsc/ring/passes.rt): its call of `join` meets the requirement `joins`, and that of `look` the requirement `owes`.
 use Rattle.lock_free_queues.proofs.Names.{◌≡◌, ◌<◌, sym, ap, subst, ◌∙◌, arith, rules, TableId, coding_by, Coding, View, IsMachine}
 use Rattle.lock_free_queues.proofs.Names.{LooksAt, joined_view, joins}
 use Rattle.lock_free_queues.specs.Queues.Bounded.{machine_kind}

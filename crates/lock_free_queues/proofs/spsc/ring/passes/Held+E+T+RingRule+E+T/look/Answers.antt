@@ -1,3 +1,4 @@
+-- `Held::look` (src/spsc/ring/passes.rt): its call of `look` meets the requirement `owes`, and its return meets the clause `looked`.
 use Rattle.lock_free_queues.proofs.Names.{◌<◌, ◌∙◌, sym, arith, coding_by, LooksAt}
 use Rattle.lock_free_queues.specs.Queues.Bounded.{machine_kind}
 use Rattle.threaded.specs.Seats.{seen, table_of, key_of}

@@ -1,3 +1,4 @@
+-- `Held::split` (src/spsc/ring/passes.rt): its call of `split` meets the requirement `splits`.
 use Rattle.lock_free_queues.proofs.Names.{coding_by, splits}
 use Rattle.lock_free_queues.specs.Queues.Bounded.{machine_kind}
 use Rattle.lock_free_queues.proofs.spsc.ring.passes.Held+E+T+RingRule+E+T.split.Goals as goal

@@ -1,3 +1,5 @@
+-- `Held::last_words` (src/spsc/ring/reads.rt): each iteration makes the measure of its loop smaller, and its return meets what it
+-- ensures.
 use Rattle.lock_free_queues.proofs.Names.{rules, ◌≡◌, ◌≢◌, sym, ap, subst, ◌∙◌, arith, Coding, coding_by}
 use Rattle.lock_free_queues.specs.Queues.Bounded.{machine_kind}
 use Rattle.lock_free_queues.specs.Queues.Calls.{QueueId}

@@ -1,3 +1,5 @@
+-- `Held::read` (src/spsc/ring/reads.rt): its call of `look` meets the requirement `owes`, and its return meets the clauses `read`,
+-- `found` and `last`.
 use Rattle.lock_free_queues.proofs.Names.{◌<◌, ◌∙◌, sym, arith, coding_by}
 use Rattle.threaded.specs.Seats.{seen, table_of, key_of}
 use Rattle.lock_free_queues.proofs.Queues.Reads.{owes_look, was_read, was_read_last, has_read}

@@ -1,3 +1,5 @@
+-- `Held::read_cells` (src/spsc/ring/reads.rt): its call of `read` meets what that requires, the invariant of its loop holds at the start
+-- and after each iteration, and its return meets the clause `cells`.
 use Rattle.lock_free_queues.proofs.Names.{◌≡◌, ◌<◌, ◌+◌, sym, ap, subst, ◌∙◌, arith, Coding, coding_by, refl}
 use Rattle.lock_free_queues.proofs.Names.{length-set}
 use Rattle.lock_free_queues.specs.Queues.Bounded.{machine_kind}

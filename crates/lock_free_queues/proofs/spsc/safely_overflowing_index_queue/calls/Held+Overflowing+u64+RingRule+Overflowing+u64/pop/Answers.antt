@@ -1,3 +1,5 @@
+-- `Held::pop` (src/spsc/safely_overflowing_index_queue/calls.rt): its call of `drive_on` meets the requirements `rule` and `at`, and its
+-- return meets the clauses `popped`, `empty` and `steps`.
 use Rattle.lock_free_queues.proofs.Names.{◌<◌, ◌^◌, IfSome, IfNone, sym, ap, subst, ◌∙◌, one_word, Index}
 use Rattle.lock_free_queues.proofs.Names.{pops_over, At}
 use Rattle.steps.specs.Queues.Overflow.{first_pop, pop_answer}

@@ -1,3 +1,5 @@
+-- `Held::push` (src/spsc/safely_overflowing_index_queue/calls.rt): its call of `drive` meets the requirements `rule` and `at`, and its
+-- return meets the clauses `same`, `added`, `handed_back`, `steps` and `roles`.
 use Rattle.lock_free_queues.proofs.Names.{rules, ◌≡◌, ◌<◌, ◌^◌, ◌⊎◌, IfSome, IfNone, sym, ap, subst, ◌∙◌}
 use Rattle.lock_free_queues.proofs.Names.{push_answer, one_word, At}
 use Rattle.steps.specs.Queues.Overflow.{first_push}

@@ -1,3 +1,5 @@
+-- `BitSet::reset_all` (src/mpmc/bit_set/calls.rt): its call of `clear_all` meets the requirement `visits`, and its return meets the
+-- clause `cleared`.
 use Rattle.lock_free_sets.proofs.Names.{rules, ap, sym}
 use Rattle.threaded.proofs.Callable.{takes_places_at}
 use Rattle.lock_free_sets.specs.Sets.Calls.{SetId}

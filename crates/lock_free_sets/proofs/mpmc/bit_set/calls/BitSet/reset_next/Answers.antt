@@ -1,3 +1,5 @@
+-- `BitSet::reset_next` (src/mpmc/bit_set/calls.rt): its call of `drive_on` meets the requirements `rule` and `at`, and its return meets
+-- the clauses `cleared`, `clear` and `steps`.
 use Rattle.lock_free_sets.proofs.Names.{refl, sym, subst, ap, ◌∙◌, one_word, seen, At, arith}
 use Rattle.steps.specs.Bits.BitSet.{first_reset}
 use Rattle.model.specs.declared.turn.Kind.TheVariants as kinds

@@ -1,3 +1,5 @@
+-- `BitSet::set` (src/mpmc/bit_set/calls.rt): its call of `drive_on` meets the requirements `rule` and `at`, and its return meets the
+-- clauses `same`, `added` and `steps`.
 use Rattle.lock_free_sets.proofs.Names.{rules, ◌<◌, refl, sym, subst, one_word, seen, At, arith}
 use Rattle.model.specs.declared.turn.Kind.TheVariants as kinds
 use Rattle.lock_free_sets.specs.Bits.Contracts.{SetDone}

@@ -1,3 +1,5 @@
+-- `CountingBitSet::count` (src/mpmc/counting_bit_set/calls.rt): its call of `drive` meets the requirements `rule` and `at`, and its
+-- return meets the clauses `same`, `answer` and `steps`.
 use Rattle.lock_free_sets.proofs.Names.{rules, ◌<◌, refl, sym, subst, seen, arith}
 use Rattle.model.specs.declared.turn.Kind.TheVariants as kinds
 use Rattle.lock_free_sets.specs.Counts.Looks.{looks_at, CountDone}

@@ -1,3 +1,5 @@
+-- `CountingBitSet::reset_all` (src/mpmc/counting_bit_set/calls.rt): its call of `take_all` meets the requirement `states`, and its
+-- return meets the clause `taken`.
 use Rattle.lock_free_sets.proofs.Names.{rules, ap, sym}
 use Rattle.lock_free_sets.proofs.Counts.Handed.{takes_counts_at}
 use Rattle.lock_free_sets.specs.Sets.Calls.{SetId}

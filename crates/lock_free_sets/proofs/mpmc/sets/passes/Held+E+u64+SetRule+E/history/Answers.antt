@@ -1,3 +1,4 @@
+-- `Held::history` (src/mpmc/sets/passes.rt): its return meets the clause `history`.
 use Rattle.history.proofs.KnownRuns.{known_history}
 use Rattle.lock_free_sets.proofs.mpmc.sets.passes.Held+E+u64+SetRule+E.history.Goals as goal
 

@@ -1,3 +1,4 @@
+-- `Held::join` (src/mpmc/sets/passes.rt): its call of `join` meets the requirement `joins`, and that of `look` the requirement `owes`.
 use Rattle.lock_free_sets.proofs.Names.{◌≡◌, ◌<◌, rules, sym, ap, ◌∙◌, arith, TableId, one_word, seen, joined_view, joins}
 use Rattle.threaded.specs.Seats.{table_of, key_of}
 use Rattle.threaded.proofs.Shares.{positive}

@@ -1,3 +1,4 @@
+-- `Held::split` (src/mpmc/sets/passes.rt): its call of `split` meets the requirement `splits`.
 use Rattle.lock_free_sets.proofs.Names.{one_word, splits}
 use Rattle.lock_free_sets.specs.Sets.Kinds.{machine_kind}
 use Rattle.lock_free_sets.proofs.mpmc.sets.passes.Held+E+u64+SetRule+E.split.Goals as goal

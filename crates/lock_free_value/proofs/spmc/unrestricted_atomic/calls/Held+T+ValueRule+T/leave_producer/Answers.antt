@@ -1,3 +1,5 @@
+-- `Held::leave_producer` (src/spmc/unrestricted_atomic/calls.rt): its call of `drive` meets the requirements `rule` and `at`, and its
+-- return meets the clauses `left` and `steps`.
 use Rattle.std.proofs.Common.{arith}
 use Rattle.lock_free_value.proofs.Names.{coding_by}
 use Rattle.history.specs.Value.{releases_producer}

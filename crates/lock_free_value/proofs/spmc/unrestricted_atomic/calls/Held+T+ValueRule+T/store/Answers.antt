@@ -1,3 +1,5 @@
+-- `Held::store` (src/spmc/unrestricted_atomic/calls.rt): its call of `drive` meets the requirements `rule` and `at`, and its return
+-- meets the clauses `stored`, `end`, `same` and `steps`.
 use Rattle.std.proofs.Common.{rules, sym, ◌∙◌, subst}
 use Rattle.model.specs.declared.turn.Kind.TheVariants as kinds
 use Rattle.lock_free_value.proofs.Names.{Coding, IsCoding, coding_by, stores_value}

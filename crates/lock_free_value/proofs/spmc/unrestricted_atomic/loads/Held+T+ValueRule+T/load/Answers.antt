@@ -1,3 +1,4 @@
+-- `Held::load` (src/spmc/unrestricted_atomic/loads.rt): its call of `load_by` meets what that requires.
 use Rattle.std.proofs.Common.{rules, refl, arith}
 use Rattle.lock_free_value.proofs.spmc.unrestricted_atomic.loads.Held+T+ValueRule+T.load.Goals as goal
 

@@ -1,3 +1,5 @@
+-- `Held::load_by` (src/spmc/unrestricted_atomic/loads.rt): its call of `load_all` meets the requirement `at`, and its return meets the
+-- clauses `loaded` and `steps`.
 use Rattle.std.proofs.Common.{ap, sym, subst, ◌∙◌, arith}
 use Rattle.lock_free_value.proofs.Names.{Coding, IsCoding, coding_by}
 use Rattle.history.specs.Rooms.{room_of}

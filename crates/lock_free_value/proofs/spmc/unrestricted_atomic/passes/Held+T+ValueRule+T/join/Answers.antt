@@ -1,3 +1,5 @@
+-- `Held::join` (src/spmc/unrestricted_atomic/passes.rt): its call of `join` meets the requirement `joins`, and that of `look` the
+-- requirement `owes`.
 use Rattle.std.proofs.Common.{◌≡◌, ◌<◌, ℕ, List, [], sym, ap, subst, arith}
 use Rattle.lock_free_value.proofs.Names.{TableId, Coding, coding_by, View, IsMachine, LooksOnce, OwesAsk, Load, owes_look}
 use Rattle.model.specs.declared.turn.Kind.TheVariants as kinds

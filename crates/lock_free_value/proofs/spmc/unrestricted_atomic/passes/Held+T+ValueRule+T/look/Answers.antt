@@ -1,3 +1,4 @@
+-- `Held::look` (src/spmc/unrestricted_atomic/passes.rt): its call of `look` meets the requirement `owes`.
 use Rattle.std.proofs.Common.{◌<◌, ℕ, List, sym, subst, arith}
 use Rattle.lock_free_value.proofs.Names.{Coding, coding_by, View, IsMachine, LooksOnce, OwesAsk, Load, owes_look}
 use Rattle.model.specs.declared.turn.Kind.TheVariants as kinds

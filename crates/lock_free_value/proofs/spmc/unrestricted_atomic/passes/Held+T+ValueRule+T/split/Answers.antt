@@ -1,3 +1,4 @@
+-- `Held::split` (src/spmc/unrestricted_atomic/passes.rt): its call of `split` meets the requirement `splits`.
 use Rattle.lock_free_value.proofs.Names.{coding_by}
 use Rattle.model.specs.declared.turn.Kind.TheVariants as kinds
 use Rattle.history.proofs.Passes.{splits}
