@@ -32,6 +32,7 @@ module _ {T V : Type 0} (named : V → Item T) where
         (sym (take_more values n value below ∙ ap (λ x. take n values ++ x ∷ []) (sym is)))
         (in_turn_more (λ x was next. PushDone (named x) was next) (take n values) value old now new so_far pushed)
 
+    -- where a value is refused, those before it were pushed
     pub pushed_so_many : (capacity : ℕ) → PushRefused capacity (named value) now new → WerePushedUpTo named capacity n values old new
     pushed_so_many capacity full =
         record {
@@ -42,6 +43,7 @@ module _ {T V : Type 0} (named : V → Item T) where
               (sym (drop_more values n value below ∙ ap (λ x. x ∷ drop (n + 1) values) (sym is))) full;
         }
 
+  -- where as many were pushed as there are, all were pushed
   pub pushed_them_all : (values : List V) (n m : ℕ) (old now : View T) → WerePushed named (take n values) old now → n ≡ m
       → length values ≤ m → (capacity : ℕ) → WerePushedUpTo named capacity m values old now
   pushed_them_all values n m old now so_far same past capacity =
@@ -53,6 +55,7 @@ module _ {T V : Type 0} (named : V → Item T) where
 
   -- ---- pops into a list
 
+  -- a value that is popped is written at its place in the list
   pub popped_next : (values : List V) (n : ℕ) (value : V) (old now new : View T) → n < length values
       → WerePopped named (take n values) old now → PopDone (named value) now new
       → WerePopped named (take (n + 1) (set values n value)) old new
@@ -64,6 +67,7 @@ module _ {T V : Type 0} (named : V → Item T) where
   emptied [] now new some empty = absurd (omega arith)
   emptied (x ∷ room) now new some empty = empty
 
+  -- where a pop finds nothing, the list has what was popped before, and its rest as it was
   pub popped_so_many : (values : List V) (n : ℕ) (old now new : View T) → n < length values
       → WerePopped named (take n values) old now → PopEmpty now new
       → WerePoppedUpTo named (take n values) (drop n values) old new
@@ -74,6 +78,7 @@ module _ {T V : Type 0} (named : V → Item T) where
         stopped = emptied (drop n values) now new (let long = length-drop n values in omega arith) empty;
       }
 
+  -- where as many were popped as the list has places, all of them were
   pub popped_them_all : (values : List V) (n m : ℕ) (old now : View T) → WerePopped named (take n values) old now → n ≡ m
       → length values ≤ m → WerePoppedUpTo named (take m values) (drop m values) old now
   popped_them_all values n m old now so_far same past =
@@ -96,6 +101,7 @@ module _ {E T : Type 0} {kind : kinds.Ghosts E} {words : Ghosts T} (named : T �
       subst (λ xs. Sending named first xs now) (sym (take_more values n value below ∙ ap (λ x. take n values ++ x ∷ []) (sym is)))
       (sending_one {first = first} {was = was} {now = now} {taken = true} (take n values) value s same refl (λ is_true. pushed))
 
+  -- a consumer that pops one value more has received one more
   pub receives_next : (first was now : Consumer E T kind words) → Receiving named first (take n values) was
       → SameConsumer was now → PopDone (named value) (consumer_view was) (consumer_view now)
       → Receiving named first (take (n + 1) (set values n value)) now

@@ -35,6 +35,7 @@ module _ {A : Type 0} where
   pub last_none : (n : ℕ) (xs : List A) → n ≡ 0 → last_ones n xs ≡ []
   last_none n xs none = drop_all (length xs - n) xs (omega arith)
 
+  -- with one element more in the list, the last ones are one more too
   pub last_push : (k n : ℕ) (xs ys : List A) (x : A) → k ≤ length xs → n ≡ k + 1 → ys ≡ xs ++ x ∷ []
       → last_ones n ys ≡ last_ones k xs ++ x ∷ []
   last_push k n xs ys x few more is =
@@ -76,6 +77,7 @@ module _ {T : Type 0} where
   begins (Value elements.End ∷ xs) ys = refl
   begins (Index i ∷ xs) ys = refl
 
+  -- behind the end no value counts, and the end stays
   pub end_stays : (xs ys : List (Item (Element T))) → has_end xs ≡ true
       → (values_in (xs ++ ys) ≡ values_in xs) × (has_end (xs ++ ys) ≡ true)
   end_stays [] ys e = absurd (true≢false (sym e))
@@ -83,6 +85,7 @@ module _ {T : Type 0} where
   end_stays (Value elements.End ∷ xs) ys e = (refl, refl)
   end_stays (Index i ∷ xs) ys e = absurd (true≢false (sym e))
 
+  -- a value behind values alone is the last of them
   pub one_value : (xs : List (Item (Element T))) (x : T) → has_values xs ≡ true
       → (values_in (xs ++ Value (elements.Value x) ∷ []) ≡ values_in xs ++ x ∷ [])
       × (has_values (xs ++ Value (elements.Value x) ∷ []) ≡ true) × (has_end (xs ++ Value (elements.Value x) ∷ []) ≡ false)
@@ -91,6 +94,7 @@ module _ {T : Type 0} where
   one_value (Value elements.End ∷ xs) x e = absurd (true≢false (sym e))
   one_value (Index i ∷ xs) x e = absurd (true≢false (sym e))
 
+  -- the end behind values alone adds no value, and comes once
   pub one_end : (xs : List (Item (Element T))) → has_values xs ≡ true
       → (values_in (xs ++ Value elements.End ∷ []) ≡ values_in xs)
       × (has_values (xs ++ Value elements.End ∷ []) ≡ false) × (has_end (xs ++ Value elements.End ∷ []) ≡ true)
@@ -112,6 +116,7 @@ module _ {T : Type 0} where
   still_half v w goes h = (ap (λ (s : Share). s.part) goes.share ∙ h.0, ap (λ (s : Share). s.parts) goes.share ∙ h.1)
 
   module _ (v w : View (Element T)) (goes : Goes v w) where
+    -- a push of one item, by who only pushes, adds it to what this pass pushed
     pushed_more : (item : Item (Element T)) → OnlyPushes v → HasDone 1 0 v w → published w.seen ≡ published v.seen ++ item ∷ []
         → OnlyPushes w × (pushed_by w ≡ pushed_by v ++ item ∷ [])
     pushed_more item h done list =
@@ -125,6 +130,7 @@ module _ {T : Type 0} where
           last_push (sum_by puts v.made) (sum_by puts w.made) (published v.seen) (published w.seen) item few p list,
         )
 
+    -- a call that moves nothing leaves what this pass pushed
     pushed_same : OnlyPushes v → HasDone 0 0 v w → published w.seen ≡ published v.seen → OnlyPushes w × (pushed_by w ≡ pushed_by v)
     pushed_same h done list =
         let p = done.puts_more in
@@ -136,6 +142,7 @@ module _ {T : Type 0} where
           last_same (sum_by puts v.made) (sum_by puts w.made) (published v.seen) (published w.seen) (omega arith) list,
         )
 
+    -- a pop of one item, by who only pops, adds it to what this pass popped
     popped_more : (item : Item (Element T)) → OnlyPops v → HasDone 0 1 v w → handed_out w.seen ≡ handed_out v.seen ++ item ∷ []
         → OnlyPops w × (popped_by w ≡ popped_by v ++ item ∷ [])
     popped_more item h done list =
@@ -149,6 +156,7 @@ module _ {T : Type 0} where
           last_push (sum_by gets v.made) (sum_by gets w.made) (handed_out v.seen) (handed_out w.seen) item few g list,
         )
 
+    -- a call that moves nothing leaves what this pass popped
     popped_same : OnlyPops v → HasDone 0 0 v w → handed_out w.seen ≡ handed_out v.seen → OnlyPops w × (popped_by w ≡ popped_by v)
     popped_same h done list =
         let p = done.puts_more in
@@ -162,6 +170,7 @@ module _ {T : Type 0} where
 
     -- ---- who pushes
 
+    -- a fresh half that has acquired the role of the producer only pushes, and has pushed nothing
     pub begins_pushing : (role : Role) → IsFreshHalf v → HasAcquired role true v w → OnlyPushes w × (pushed_by w ≡ [])
     begins_pushing role h acquired =
         let done = done_acquired v w role true acquired in
@@ -171,6 +180,7 @@ module _ {T : Type 0} where
         let none_got = h.2 in
         ((still_half v w goes h.0, omega arith, omega arith), last_none (sum_by puts w.made) (published w.seen) (omega arith))
 
+    -- a push of a value adds it to the values that this pass pushed
     pub pushes_value : (x : T) → OnlyPushes v → has_values (pushed_by v) ≡ true → PushDone (Value (elements.Value x)) v w
         → OnlyPushes w × (has_values (pushed_by w) ≡ true) × (values_in (pushed_by w) ≡ values_in (pushed_by v) ++ x ∷ [])
     pushes_value x h going pushed =
@@ -178,6 +188,7 @@ module _ {T : Type 0} where
         let one = one_value (pushed_by v) x going in
         (more.0, ap has_values more.1 ∙ one.1, ap values_in more.1 ∙ one.0)
 
+    -- a push of the end ends what this pass pushed
     pub pushes_end : OnlyPushes v → has_values (pushed_by v) ≡ true → PushDone (Value elements.End) v w
         → OnlyPushes w × (values_in (pushed_by w) ≡ values_in (pushed_by v)) × (has_end (pushed_by w) ≡ true)
         × (ends_once (pushed_by w) ≡ true)
@@ -208,6 +219,7 @@ module _ {T : Type 0} where
 
     -- ---- who pops
 
+    -- a fresh half that has acquired the role of the consumer only pops, and has popped nothing
     pub begins_popping : (role : Role) → IsFreshHalf v → HasAcquired role true v w → OnlyPops w × (popped_by w ≡ [])
     begins_popping role h acquired =
         let done = done_acquired v w role true acquired in
@@ -241,6 +253,7 @@ module _ {T : Type 0} where
           ap has_end more.1 ∙ one.2,
         )
 
+    -- a pop of the end adds no value, and ends what this pass popped
     pub receives_end : (ended : Bool) → ended ≡ false → OnlyPops v → CameUpTo ended (popped_by v) → PopDone (Value elements.End) v w
         → OnlyPops w × CameUpTo true (popped_by w) × (values_in (popped_by w) ≡ values_in (popped_by v) ++ [])
         × (has_end (popped_by w) ≡ true)
@@ -253,6 +266,7 @@ module _ {T : Type 0} where
           ap has_end more.1 ∙ one.2,
         )
 
+    -- a pop that finds nothing leaves what this pass popped
     pub receives_nothing : (ended : Bool) → ended ≡ false → OnlyPops v → CameUpTo ended (popped_by v) → PopEmpty v w
         → OnlyPops w × CameUpTo ended (popped_by w) × (values_in (popped_by w) ≡ values_in (popped_by v) ++ [])
         × (has_end (popped_by w) ≡ false)
@@ -266,6 +280,7 @@ module _ {T : Type 0} where
 
   -- ---- by what a pop has found, where no end had come
 
+  -- a receiver to which no end had come has received what its pop found
   pub receives : (v w : View (Element T)) → Goes v w → (found : Option (Element T)) (ended : Bool) → ended ≡ false → OnlyPops v
       → CameUpTo ended (popped_by v) → IfSome found (λ x. PopDone (Value x) v w) → IfNone found (PopEmpty v w)
       → OnlyPops w × CameUpTo (is_end (arrival_of found)) (popped_by w)
@@ -293,6 +308,7 @@ module _ {T : Type 0} where
 
   -- ---- the end, and then the role is given back
 
+  -- a sender that pushes the end, and gives its role back, has ended what it pushed
   pub finishes : (v w u : View (Element T)) (role : Role) → OnlyPushes v → has_values (pushed_by v) ≡ true → Goes v w
       → PushDone (Value elements.End) v w → Goes w u → HasReleased role w u → published u.seen ≡ published w.seen
       → OnlyPushes u × (values_in (pushed_by u) ≡ values_in (pushed_by v)) × (has_end (pushed_by u) ≡ true)
@@ -304,6 +320,7 @@ module _ {T : Type 0} where
 
   -- ---- a first pass that is split
 
+  -- the halves of a first pass are fresh
   pub halves_fresh : (n : ℕ) (first left right : View (Element T)) → first ≡ first_view n → HasSplit first left right
       → IsFreshHalf left × IsFreshHalf right
   halves_fresh n first left right opens cut =

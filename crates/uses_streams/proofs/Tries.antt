@@ -1,12 +1,15 @@
 -- What a call with a limit of tries has done after one try more.
-use Rattle.std.proofs.Common.{◌≡◌, ◌+◌, ◌*◌, ◌<◌, ◌≤◌, ℕ, suc, sym, ap, subst, ◌∙◌, suc-mul, arith}
+use Rattle.std.proofs.Common.{◌≡◌, ◌+◌, ◌*◌, ◌<◌, ◌≤◌, ℕ, zero, suc, Option, Some, None, is_some, true≢false, refl, sym, ap, subst, ◌∙◌, suc-mul, arith}
 use Rattle.std.proofs.lemmas.Nat.{mul-le}
 use Rattle.model.specs.declared.event.Item.{Item}
 use Rattle.history.specs.declared.view.View.{View}
 use Rattle.history.specs.Steps.{TakesAtMost}
-use Rattle.lock_free_queues.specs.Queues.Contracts.{PushDone, PushRefused, PopDone, PopEmpty}
-use Rattle.lock_free_queues.specs.Queues.Rings.{QueueId}
-use Rattle.uses_streams.specs.Tries.{Times, WereRefused, WereEmpty, WasPushedWithin, WasPoppedWithin}
+use Rattle.lock_free_queues.specs.Queues.Contracts.{PushDone, PushRefused, PopDone, PopEmpty, PopOldest, PopFoundNone}
+use Rattle.steps.specs.declared.words.Words.{Ghosts}
+use Rattle.lock_free_queues.specs.declared.spsc.ring.rule.Kind as kinds
+use Rattle.lock_free_queues.specs.declared.spsc.ring.Consumer.{Consumer}
+use Rattle.lock_free_queues.specs.Queues.Rings.{QueueId, consumer_queue, consumer_view, SameConsumerByCapacity}
+use Rattle.uses_streams.specs.Tries.{Times, WereRefused, WereEmpty, WasPushedWithin, WasPoppedWithin, WasTakenWithin}
 
 module _ {A : Type 0} (Step : A → A → Type 0) where
   times_more : (n : ℕ) (old between new : A) → Times n Step old between → Step between new → Times (n + 1) Step old new
@@ -45,6 +48,7 @@ module _ {T : Type 0} where
 
   -- the steps of tries, each of which takes so many at most
   module _ (each n : ℕ) (old : View T) where
+    -- one try more takes the steps of one try more
     pub steps_more : (between new : View T) → TakesAtMost (n * each) old between → TakesAtMost each between new
         → TakesAtMost ((n + 1) * each) old new
     steps_more between new so_far next =
@@ -54,3 +58,30 @@ module _ {T : Type 0} where
 
     pub steps_within : (tries : ℕ) (new : View T) → n ≤ tries → TakesAtMost (n * each) old new → TakesAtMost (tries * each) old new
     steps_within tries new few steps = (let most = mul-le n each tries each few (omega arith) in omega arith)
+
+  -- ---- of an overflowing queue
+
+  module _ (n : ℕ) (old between new : View T) (so_far : Times n PopFoundNone old between) where
+    pub none_more : PopFoundNone between new → Times (n + 1) PopFoundNone old new
+    none_more none = times_more PopFoundNone n old between new so_far none
+
+    pub taken_within : (tries : ℕ) (item : Item T) → n < tries → PopOldest item between new → WasTakenWithin tries item old new
+    taken_within tries item few taken = record { empty = n; few = few; last = between; before = so_far; taken = taken }
+
+  pub none_all : (n tries : ℕ) (old new : View T) → n ≡ tries → Times n PopFoundNone old new → Times tries PopFoundNone old new
+  none_all n tries old new all so_far = times_all PopFoundNone n tries old new all so_far
+
+by_capacity : {A : Type 0} (capacity : ℕ) → (0 < capacity → A) → (capacity ≡ 0 → A) → A
+by_capacity zero some none = none refl
+by_capacity (suc n) some none = some (omega arith)
+
+-- a pop that answers a number was of a queue with a capacity
+pub has_capacity : {A : Type 0} (capacity : ℕ) (answer : Option A) (x : A) → answer ≡ Some x → (capacity ≡ 0 → answer ≡ None) → 0 < capacity
+has_capacity capacity answer x is none =
+    by_capacity capacity (λ some. some) (λ empty. absurd (true≢false (ap is_some (sym is ∙ none empty))))
+
+-- a call that takes no step without a capacity keeps the share
+pub keeps_share : {E T : Type 0} {kind : kinds.Ghosts E} {words : Ghosts T} (old new : Consumer E T kind words)
+    → SameConsumerByCapacity old new → (consumer_view new).share ≡ (consumer_view old).share
+keeps_share old new same =
+    by_capacity (consumer_queue old).capacity (λ some. (same.goes some).share) (λ none. ap (λ v. v.share) (same.none none))

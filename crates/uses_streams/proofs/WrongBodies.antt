@@ -1,5 +1,5 @@
 -- What a wrong body of a call would leave or answer, and the clause that refuses it. A name says what the body does.
-use Rattle.std.proofs.Common.{◌≡◌, ◌≢◌, inl, inr, ◌+◌, ◌-◌, ◌^◌, ◌<◌, ◌≤◌, ℕ, Bool, true, false, Some, None, List, [], ◌∷◌, ◌++◌, length}
+use Rattle.std.proofs.Common.{◌≡◌, ◌≢◌, inl, inr, ◌+◌, ◌-◌, ◌^◌, ◌<◌, ◌≤◌, ℕ, zero, suc, Bool, true, false, Some, None, List, [], ◌∷◌, ◌++◌, length}
 use Rattle.std.proofs.Common.{refl, sym, ap, subst, ◌∙◌, arith, length-append, append-nil, true≢false}
 use Rattle.std.proofs.lemmas.List.{append_cancel_left}
 use Rattle.model.specs.declared.event.Event.{Event}
@@ -15,7 +15,7 @@ use Rattle.steps.specs.declared.words.Words.{Ghosts}
 use Rattle.lock_free_queues.specs.declared.spsc.ring.rule.Kind as kinds
 use Rattle.lock_free_queues.specs.declared.spsc.ring.Producer.{Producer}
 use Rattle.lock_free_queues.specs.declared.spsc.ring.Consumer.{Consumer}
-use Rattle.lock_free_queues.specs.Queues.Contracts.{PushDone, PushRefused, PopDone, PopEmpty, HasReleased}
+use Rattle.lock_free_queues.specs.Queues.Contracts.{PushDone, PushRefused, PopDone, PopEmpty, PopFoundNone, HasReleased}
 use Rattle.lock_free_queues.specs.Queues.Relays.{Sending, Receiving}
 use Rattle.lock_free_queues.specs.Queues.Rings.{producer_view, consumer_view}
 use Rattle.model.specs.Families.Queues.Reading.{published, handed_out}
@@ -24,7 +24,7 @@ use Rattle.uses_streams.specs.declared.element.Element.TheVariants as elements
 use Rattle.uses_streams.specs.Streams.{values_in, has_end, has_values, pushed_by, popped_by, OnlyPushes, OnlyPops, CameUpTo}
 use Rattle.uses_streams.specs.declared.ends.values.Values.{Values}
 use Rattle.uses_streams.specs.Ends.{GainAlike}
-use Rattle.uses_streams.specs.Tries.{WereRefused, WereEmpty, WasPushedWithin, WasPoppedWithin, WerePushedUpTo, WerePoppedUpTo}
+use Rattle.uses_streams.specs.Tries.{WereRefused, WereEmpty, Times, WasPushedWithin, WasPoppedWithin, WasTakenWithin, WerePushedUpTo, WerePoppedUpTo}
 use Rattle.uses_streams.specs.Values.{GivesNext, given_so_far, has_given_all}
 use Rattle.uses_streams.proofs.Streams.{pushes_value, pushes_none, stops_pushing, none_ended, receives_value, receives_end, receives_nothing}
 
@@ -236,6 +236,29 @@ module _ {E T : Type 0} {kind : kinds.Ghosts E} {words : Ghosts T} (named : T �
         → handed_out (consumer_view now).seen ≡ handed_out (consumer_view first).seen ++ named x ∷ [] → ⊥
     pop_all_drops_a_value s came =
         one_more (handed_out (consumer_view first).seen) (named x) (sym (append-nil (handed_out (consumer_view first).seen)) ∙ (sym s.list ∙ came))
+
+-- ---- calls of an overflowing queue's consumer
+
+module _ {T : Type 0} where
+  -- pops that find none make more events, if any
+  finding_none_makes_more : (n : ℕ) (v w : View T) → Times n PopFoundNone v w → length v.made ≤ length w.made
+  finding_none_makes_more zero v w h = (let same = ap (λ (u : View T). length u.made) h in omega arith)
+  finding_none_makes_more (suc n) v w h =
+      let so_far = finding_none_makes_more n v h.0 h.1 in
+      let made = ap length h.2.0.called.made ∙ length-append h.0.made _ in
+      omega arith
+
+module _ {T : Type 0} (item : Item T) (v w : View T) where
+  -- `pop_overflowing_within` takes a number out where no try is allowed
+  pub pop_overflowing_within_takes_without_a_try : WasTakenWithin 0 item v w → ⊥
+  pop_overflowing_within_takes_without_a_try h = (let few = h.few in absurd (omega arith))
+
+  -- `pop_overflowing_waiting` answers a number, and has taken none out
+  pub pop_overflowing_waiting_takes_none : (tries : ℕ) → WasTakenWithin tries item v w → length w.made ≡ length v.made → ⊥
+  pop_overflowing_waiting_takes_none tries h none =
+      let so_far = finding_none_makes_more h.empty v h.last h.before in
+      let made = ap length h.taken.0.called.made ∙ length-append h.last.made _ in
+      absurd (omega arith)
 
 -- ---- `both_ends`
 

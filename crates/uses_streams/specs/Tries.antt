@@ -2,7 +2,7 @@
 use Rattle.std.specs.Prelude.{◌≡◌, ◌<◌, ℕ, zero, suc, List, [], ◌∷◌, take, drop}
 use Rattle.model.specs.declared.event.Item.{Item}
 use Rattle.history.specs.declared.view.View.{View}
-use Rattle.lock_free_queues.specs.Queues.Contracts.{PushDone, PushRefused, PopDone, PopEmpty}
+use Rattle.lock_free_queues.specs.Queues.Contracts.{PushDone, PushRefused, PopDone, PopEmpty, PopOldest, PopFoundNone}
 
 module _ {A : Type 0} where
   -- so many steps, one after the other
@@ -40,6 +40,14 @@ module _ {T : Type 0} where
     pub last : View T
     pub before : WereEmpty empty old last
     pub popped : PopDone item last new
+
+  -- of an overflowing queue: one of so many pops took the oldest item out, and all before it found none
+  pub record WasTakenWithin (tries : ℕ) (item : Item T) (old new : View T) : Type 0 where
+    pub empty : ℕ
+    pub few : empty < tries
+    pub last : View T
+    pub before : Times empty PopFoundNone old last
+    pub taken : PopOldest item last new
 
 module _ {T V : Type 0} where
   -- the queue was found empty, if there is room left

@@ -33,7 +33,7 @@ impl Short for (u64, u64) {
 }
 
 /// A value of the stream, or the end, after which no value comes.
-#[derive(Clone, Copy)]
+#[derive(Debug, Clone, Copy)]
 pub enum Element<T> {
     Value(T),
     End,

@@ -9,6 +9,7 @@ use lock_free_queues::spsc::queue::{Consumer, Pass, Producer};
 use steps::words::Words;
 
 mod calls;
+mod debug;
 mod tries;
 mod values;
 mod waits;

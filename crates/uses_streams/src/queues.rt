@@ -1,5 +1,5 @@
 //! Calls of a queue's ends that push or pop many values, that wait, or that try so many times: for the queue of numbers and that of
-//! values, which refuse a push where they are full.
+//! values, which refuse a push where they are full. Two of them are for the consumer of an overflowing queue.
 ghost use Rattle.std.specs.Prelude.{◌≡◌, ℕ, IsTrue, IsFalse, IfSome, IfNone};
 ghost use Rattle.model.specs.declared.event.Item.{Item};
 ghost use Rattle.history.specs.Steps.{TakesAtMost};
@@ -10,9 +10,11 @@ use lock_free_queues::spsc::ring::rule::{Kind, Numbers, Values};
 use lock_free_queues::spsc::ring::{Consumer, Producer};
 use steps::words::Words;
 
+mod overflowing;
 mod pops;
 mod pushes;
 
+pub use overflowing::{pop_overflowing_waiting, pop_overflowing_within};
 pub use pops::{pop_all, pop_waiting, pop_within};
 pub use pushes::{push_all, push_waiting, push_within};
 

@@ -1,3 +1,4 @@
+-- `receive` (src/main.rt): its return meets the clause `came`.
 use Rattle.std.proofs.Common.{sym, ap, ◌∙◌, ◌++◌}
 use Rattle.uses_transfers.proofs.receive.Goals as goal
 

@@ -1,3 +1,5 @@
+-- `Receiver::leave` (src/ends/calls.rt): its result meets the invariant of its type, and its return meets the clauses `received` and
+-- `end`.
 use Rattle.std.proofs.Common.{ap}
 use Rattle.steps.specs.declared.queues.roles.Role.TheVariants as roles
 use Rattle.lock_free_queues.specs.Queues.Rings.{view, consumer_view}

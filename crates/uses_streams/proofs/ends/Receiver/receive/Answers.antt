@@ -1,3 +1,5 @@
+-- `Receiver::receive` (src/ends/calls.rt): `self` meets the invariant of its type, and its return meets the clauses `received`, `end`,
+-- `again`, `still`, `popped` and `nothing`.
 use Rattle.std.proofs.Common.{◌++◌, sym, ap, subst, ◌∙◌, true≢false}
 use Rattle.model.specs.declared.event.Item.TheVariants.{Value}
 use Rattle.lock_free_queues.specs.Queues.Contracts.{PopDone, PopEmpty}

@@ -1,3 +1,5 @@
+-- `Receiver::receive_all` (src/ends/waits.rt): the invariant of its loop holds at the start and after each iteration, and its return
+-- meets the clauses `queue` and `came`.
 use Rattle.std.proofs.Common.{refl, ◌∙◌}
 use Rattle.uses_streams.proofs.Streams.{gain_none, gain_more, gain_same}
 use Rattle.uses_streams.proofs.ends.Receiver.receive_all.Goals as goal

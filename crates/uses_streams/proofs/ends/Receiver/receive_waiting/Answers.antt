@@ -1,3 +1,5 @@
+-- `Receiver::receive_waiting` (src/ends/waits.rt): each iteration keeps the invariant of its loop, and its return meets the clauses
+-- `queue`, `value` and `none`.
 use Rattle.std.proofs.Common.{ap, ◌∙◌, ◌++◌, ◌∷◌, [], append-nil}
 use Rattle.uses_streams.proofs.ends.Receiver.receive_waiting.Goals as goal
 

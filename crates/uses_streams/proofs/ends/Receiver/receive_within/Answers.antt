@@ -1,3 +1,5 @@
+-- `Receiver::receive_within` (src/ends/tries.rt): the invariant of its loop holds at the start and after each iteration, and its return
+-- meets the clauses `queue`, `received`, `again`, `still`, `popped`, `steps` and `nothing`.
 use Rattle.std.proofs.Common.{refl, sym, ap, ◌∙◌, ◌++◌, ◌∷◌, [], ◌+◌, append-nil, true≢false, arith}
 use Rattle.model.specs.declared.event.Item.TheVariants.{Value}
 use Rattle.uses_streams.specs.declared.element.Element.TheVariants as elements

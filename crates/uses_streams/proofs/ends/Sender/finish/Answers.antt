@@ -1,3 +1,4 @@
+-- `Sender::finish` (src/ends/calls.rt): its return meets the clauses `sent`, `finished` and `end`.
 use Rattle.steps.specs.declared.queues.roles.Role.TheVariants as roles
 use Rattle.lock_free_queues.specs.Queues.Rings.{view, producer_view}
 use Rattle.uses_streams.proofs.Streams.{finishes}

@@ -1,3 +1,5 @@
+-- `Sender::finish_waiting` (src/ends/waits.rt): each iteration keeps the invariant of its loop, its result meets the invariant of its
+-- type, and its return meets the clauses `sent`, `finished` and `end`.
 use Rattle.std.proofs.Common.{ap, ◌∙◌}
 use Rattle.steps.specs.declared.queues.roles.Role.TheVariants as roles
 use Rattle.lock_free_queues.specs.Queues.Rings.{view, producer_view, producer_queue}

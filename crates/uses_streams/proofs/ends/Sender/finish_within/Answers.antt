@@ -1,3 +1,5 @@
+-- `Sender::finish_within` (src/ends/tries.rt): the invariant of its loop holds at the start and after each iteration, its result meets
+-- the invariant of its type, and its return meets the clauses `sent`, `finished`, `end`, `steps`, `same`, `full` and `tried`.
 use Rattle.std.proofs.Common.{refl, ap, ◌∙◌, ◌+◌, ◌*◌, arith}
 use Rattle.history.specs.Steps.{TakesAtMost}
 use Rattle.model.specs.declared.event.Item.TheVariants.{Value}

@@ -1,3 +1,4 @@
+-- `Sender::send` (src/ends/calls.rt): `self` meets the invariant of its type, and its return meets the clauses `sent` and `same`.
 use Rattle.std.proofs.Common.{ap}
 use Rattle.lock_free_queues.specs.Queues.Rings.{producer_view, producer_queue}
 use Rattle.uses_streams.specs.Streams.{values_in}

@@ -1,3 +1,4 @@
+-- `Sender::send_all` (src/ends/waits.rt): the invariant of its loop holds at the start and after each iteration.
 use Rattle.std.proofs.Common.{refl, sym, append-nil, append_assoc, rules}
 use Rattle.std.proofs.lemmas.List.{take_more}
 use Rattle.uses_streams.proofs.ends.Sender.send_all.Goals as goal

@@ -1,3 +1,5 @@
+-- `Sender::send_waiting` (src/ends/waits.rt): each iteration keeps the invariant of its loop, and its return meets the clauses `queue`
+-- and `sent`.
 use Rattle.std.proofs.Common.{ap, ◌∙◌, ◌++◌, ◌∷◌, []}
 use Rattle.uses_streams.proofs.ends.Sender.send_waiting.Goals as goal
 

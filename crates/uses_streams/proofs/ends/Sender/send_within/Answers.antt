@@ -1,3 +1,5 @@
+-- `Sender::send_within` (src/ends/tries.rt): the invariant of its loop holds at the start and after each iteration, and its return meets
+-- the clauses `queue`, `sent`, `pushed`, `steps` and `full`.
 use Rattle.std.proofs.Common.{refl, ap, ◌∙◌, ◌++◌, ◌∷◌, [], ◌+◌, arith}
 use Rattle.model.specs.declared.event.Item.TheVariants.{Value}
 use Rattle.uses_streams.specs.declared.element.Element.TheVariants as elements

@@ -1,3 +1,4 @@
+-- `Sent::join` (src/ends/calls.rt): its return meets the clauses `whole`, `beginning`, `all` and `finished`.
 use Rattle.std.proofs.Common.{ap}
 use Rattle.lock_free_queues.specs.Queues.Rings.{view, queue_of, code_of}
 use Rattle.uses_streams.proofs.Streams.{joined_whole, joined_begins, joined_all, joined_ends}

@@ -1,3 +1,4 @@
+-- `halves` (src/ends/calls.rt): its return meets the clause `fresh`.
 use Rattle.lock_free_queues.specs.Queues.Rings.{view}
 use Rattle.uses_streams.proofs.Streams.{halves_fresh}
 use Rattle.uses_streams.proofs.ends.calls.halves.Goals as goal

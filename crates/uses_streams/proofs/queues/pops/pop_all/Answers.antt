@@ -1,3 +1,5 @@
+-- `pop_all` (src/queues/pops.rt): the invariant of its loop holds at the start and after each iteration, and its return meets the
+-- clauses `received`, `tried`, `steps` and `rest`.
 use Rattle.std.proofs.Common.{◌≡◌, ◌+◌, ◌<◌, ◌≤◌, Some, None, length, take, drop, refl, ap, subst, sym, ◌∙◌, arith}
 use Rattle.lock_free_queues.specs.Queues.Relays.{Receiving}
 use Rattle.lock_free_queues.specs.Queues.Rings.{consumer_view}

@@ -1,3 +1,5 @@
+-- `pop_waiting` (src/queues/pops.rt): the invariant of its loop holds at the start and after each iteration, and its return meets what
+-- it ensures (`Receiving`).
 use Rattle.std.proofs.Common.{[], ◌∷◌, Some, None, refl}
 use Rattle.lock_free_queues.proofs.Queues.Relays.{receiving_none, receiving_one, receiving_still}
 use Rattle.uses_streams.proofs.queues.pops.pop_waiting.Goals as goal

@@ -1,3 +1,5 @@
+-- `pop_within` (src/queues/pops.rt): the invariant of its loop holds at the start and after each iteration, and its return meets the
+-- clauses `received`, `popped`, `steps` and `empty`.
 use Rattle.std.proofs.Common.{[], ◌∷◌, Some, None, ◌+◌, refl, arith}
 use Rattle.lock_free_queues.specs.Queues.Rings.{consumer_view}
 use Rattle.lock_free_queues.proofs.Queues.Relays.{receiving_none, receiving_one, receiving_still}

@@ -1,3 +1,5 @@
+-- `push_all` (src/queues/pushes.rt): the invariant of its loop holds at the start and after each iteration, and its return meets the
+-- clauses `sent`, `tried` and `steps`.
 use Rattle.std.proofs.Common.{◌≡◌, ◌+◌, ◌<◌, ◌≤◌, length, take, refl, subst, arith}
 use Rattle.lock_free_queues.specs.Queues.Contracts.{PushRefused}
 use Rattle.lock_free_queues.specs.Queues.Relays.{Sending}

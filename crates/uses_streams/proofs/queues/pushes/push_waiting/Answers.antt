@@ -1,3 +1,5 @@
+-- `push_waiting` (src/queues/pushes.rt): the invariant of its loop holds at the start and after each iteration, and its return meets
+-- what it ensures (`Sending`).
 use Rattle.std.proofs.Common.{[], refl}
 use Rattle.lock_free_queues.proofs.Queues.Relays.{sending_none, sending_one, sending_still}
 use Rattle.uses_streams.proofs.queues.pushes.push_waiting.Goals as goal

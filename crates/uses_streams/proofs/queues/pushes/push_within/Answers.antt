@@ -1,3 +1,5 @@
+-- `push_within` (src/queues/pushes.rt): the invariant of its loop holds at the start and after each iteration, and its return meets the
+-- clauses `sent`, `pushed`, `steps` and `full`.
 use Rattle.std.proofs.Common.{[], ◌+◌, refl, arith}
 use Rattle.lock_free_queues.specs.Queues.Rings.{producer_queue, producer_view}
 use Rattle.lock_free_queues.proofs.Queues.Relays.{sending_none, sending_one, sending_still}

@@ -1,0 +1,43 @@
+-- The pops before found none. The last one took the oldest number, so the queue has a capacity.
+use Rattle.std.proofs.Common.{◌<◌, refl, sym, ◌∙◌, subst, arith}
+use Rattle.model.specs.declared.event.Item.TheVariants.{Index}
+use Rattle.lock_free_queues.specs.Queues.Overflowing.{consumer_queue, consumer_view}
+use Rattle.lock_free_queues.specs.Queues.Rings.{QueueId}
+use Rattle.uses_streams.proofs.Tries.{has_capacity, keeps_share, none_all, none_more, taken_within}
+use Rattle.uses_streams.proofs.queues.overflowing.pop_overflowing_within.Goals as goal
+
+pub loop-empty-init : goal.loop-empty-init
+loop-empty-init g c = record { queue = refl; share = refl; none = λ some. refl }
+
+pub loop-empty-preserved : goal.loop-empty-preserved
+loop-empty-preserved g c =
+    let l = c.loop-empty in
+    let was = l.invariant in
+    record {
+      queue = c.pop.ensures.same.queue ∙ was.queue;
+      share = keeps_share c.loop-empty.consumer c.pop.new.self c.pop.ensures.same ∙ was.share;
+      none =
+          λ some.
+          none_more l._empty (consumer_view c.args.consumer.now) (consumer_view l.consumer) (consumer_view c.pop.new.self) (was.none some)
+          (c.in-None.ensures.empty (subst (λ (q : QueueId). 0 < q.capacity) (sym was.queue) some));
+    }
+
+pub returns-in-Some-clause-queue : goal.returns-in-Some-clause-queue
+returns-in-Some-clause-queue g c = c.pop.ensures.same.queue ∙ c.loop-empty.invariant.queue
+
+pub returns-in-Some-clause-share : goal.returns-in-Some-clause-share
+returns-in-Some-clause-share g c = keeps_share c.loop-empty.consumer c.pop.new.self c.pop.ensures.same ∙ c.loop-empty.invariant.share
+
+pub returns-in-Some-clause-taken : goal.returns-in-Some-clause-taken
+returns-in-Some-clause-taken g c =
+    let l = c.loop-empty in
+    let was = l.invariant in
+    let here = has_capacity (consumer_queue l.consumer).capacity c.pop.result c.in-Some.number c.in-Some.is c.pop.ensures.none in
+    taken_within l._empty (consumer_view c.args.consumer.now) (consumer_view l.consumer) (consumer_view c.pop.new.self)
+    (was.none (subst (λ (q : QueueId). 0 < q.capacity) was.queue here)) c.args.tries (Index c.in-Some.number) (omega arith)
+    c.in-Some.ensures.popped
+
+pub returns-clause-empty : goal.returns-clause-empty
+returns-clause-empty g c some =
+    let l = c.loop-empty in
+    none_all l._empty c.args.tries (consumer_view c.args.consumer.now) (consumer_view l.consumer) (omega arith) (l.invariant.none some)

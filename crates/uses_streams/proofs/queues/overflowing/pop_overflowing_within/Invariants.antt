@@ -1,0 +1,14 @@
+-- each pop so far found none, if the queue has a capacity
+use Rattle.std.proofs.Common.{◌≡◌, ◌<◌}
+use Rattle.lock_free_queues.specs.Queues.Contracts.{PopFoundNone}
+use Rattle.lock_free_queues.specs.Queues.Overflowing.{consumer_queue, consumer_view}
+use Rattle.uses_streams.specs.Tries.{Times}
+use Rattle.uses_streams.proofs.queues.overflowing.pop_overflowing_within.Given as given
+
+abbrev pub invariant-loop-empty : given.invariant-loop-empty
+invariant-loop-empty g l = record {
+  queue : consumer_queue l.consumer ≡ consumer_queue l.fn.consumer;
+  share : (consumer_view l.consumer).share ≡ (consumer_view l.fn.consumer).share;
+  none : 0 < (consumer_queue l.fn.consumer).capacity
+      → Times l._empty PopFoundNone (consumer_view l.fn.consumer) (consumer_view l.consumer);
+}
