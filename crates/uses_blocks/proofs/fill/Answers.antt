@@ -1,3 +1,4 @@
+-- `fill` (src/main.rt): its return meets what it ensures (`IsBlockOf`).
 use Rattle.std.proofs.Common.{◌+◌, ◌*◌, ap, sym, ◌∙◌, replicate}
 use Rattle.uses_blocks.specs.Marks.{IsBlockOf}
 use Rattle.uses_blocks.proofs.fill.Goals as goal

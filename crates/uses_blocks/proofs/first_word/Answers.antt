@@ -1,3 +1,4 @@
+-- `first_word` (src/main.rt): its return meets what it ensures.
 use Rattle.std.proofs.Common.{refl}
 use Rattle.uses_blocks.specs.Marks.{IsBlockOf}
 use Rattle.uses_blocks.proofs.first_word.Goals as goal

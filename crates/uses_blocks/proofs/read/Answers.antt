@@ -1,3 +1,4 @@
+-- `read` (src/main.rt): the invariant of its loop holds at the start and after each iteration, and its return meets the clause `marks`.
 use Rattle.std.proofs.Common.{◌≡◌, ◌++◌, ◌∷◌, [], refl, ◌∙◌, ap, sym, rules}
 use Rattle.uses_blocks.specs.Marks.{marks_of}
 use Rattle.uses_blocks.proofs.Marks.{next_read}

@@ -1,3 +1,4 @@
+-- `relay` (src/main.rt): its call of `join` meets what that requires, and its return meets what it ensures.
 use Rattle.std.proofs.Common.{sym, ap, ◌∙◌}
 use Rattle.uses_blocks.specs.Marks.{marks_of}
 use Rattle.uses_blocks.proofs.relay.Goals as goal

@@ -1,3 +1,4 @@
+-- `send` (src/main.rt): the invariant of its loop holds at the start and after each iteration.
 use Rattle.std.proofs.Common.{◌∙◌, refl, ap}
 use Rattle.uses_blocks.specs.Marks.{marks_of}
 use Rattle.uses_blocks.proofs.Marks.{next_sent}

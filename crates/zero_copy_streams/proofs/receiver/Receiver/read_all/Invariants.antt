@@ -1,0 +1,10 @@
+-- all that was received so far was told
+use Rattle.std.proofs.Common.{◌≡◌, []}
+use Rattle.zero_copy_streams.specs.Ends.{receiver_queue, HasRead}
+use Rattle.zero_copy_streams.proofs.receiver.Receiver.read_all.Given as given
+
+abbrev pub invariant-loop : given.invariant-loop
+invariant-loop g l = record {
+  queue : receiver_queue l.self ≡ receiver_queue l.fn.self;
+  read : HasRead g.R.Reads.tells [] l.fn.told.items l.told.items l.fn.self l.self;
+}

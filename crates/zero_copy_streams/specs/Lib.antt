@@ -1,0 +1,4 @@
+-- What the contracts of this crate speak of.
+pub mod Ends
+pub mod Tickets
+pub mod Streams

@@ -1,0 +1,23 @@
+-- What clauses see of a stream that has no ends yet.
+use Rattle.std.specs.Prelude.{◌≡◌, ℕ}
+use Rattle.history.specs.Views.{first_view}
+use Rattle.lock_free_queues.specs.Queues.Values.{QueueId, inner, queue_id, view, IsPassOf}
+use Rattle.zero_copy_slots.specs.declared.Keeps.{Ghosts}
+use Rattle.zero_copy_slots.specs.Slots.{slots_in}
+use Rattle.zero_copy_streams.specs.declared.stream.Passes.{Passes}
+use Rattle.zero_copy_streams.specs.declared.stream.Stream.{Stream}
+
+module _ {X K : Type 0} {CAPACITY : ℕ} {rule : Ghosts K X} where
+  -- how many slots it has
+  abbrev pub slots_of : Stream X CAPACITY K rule → ℕ
+  slots_of s = slots_in s.slots
+
+  -- the queue of its tickets
+  abbrev pub tickets_of : Stream X CAPACITY K rule → QueueId
+  tickets_of s = queue_id (inner s.tickets)
+
+  -- these are the first passes of both queues
+  abbrev pub ArePassesOf : Stream X CAPACITY K rule → Passes → Type 0
+  ArePassesOf s passes =
+      IsPassOf (inner s.tickets) passes.tickets × (view passes.tickets ≡ first_view CAPACITY)
+      × IsPassOf (inner s.places) passes.places × (view passes.places ≡ first_view CAPACITY)
